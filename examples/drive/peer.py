@@ -12,6 +12,15 @@ import socket
 import sys
 
 HERE = os.path.dirname(os.path.abspath(__file__))
+# What a peer says in place of its port, by what is wrong with it.
+SAYS = {
+    "says no port": "port",
+    "says an empty line": "",
+    "says too great a port": "65536",
+    "says a zero first": "08080",
+    "says too many digits": "000001",
+    "says a port where nobody listens": "1",
+}
 
 
 def frames_of(role):
@@ -72,9 +81,9 @@ def main():
         sys.exit(2)
     if role != wrong:
         number, how = 0, "is right"
-    if how in ("says no port", "says nothing"):
-        if how == "says no port":
-            print("port", flush=True)
+    if how in SAYS or how == "says nothing":
+        if how in SAYS:
+            print(SAYS[how], flush=True)
         signal.pause()
     elif how != "is silent":
         with contextlib.suppress(ConnectionError):

@@ -1,6 +1,7 @@
 """Where keys and ciphers come from: proved code, as a library in this process or as the program `calc` in a pipe.
 
-Nothing else of this package computes a key, a MAC or a cipher.
+Nothing else of this package computes a key, a MAC or a cipher. A library that was built without its proofs has the same code:
+`library.proved()` says which it is.
 """
 from __future__ import annotations
 

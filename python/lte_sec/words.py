@@ -21,7 +21,7 @@ from .wireshark import rows
 from .written import annotate, as_json
 
 USAGE = {
-    "check-trace": "check-trace [--plain] [--json] [--annotate FILE] [--cells FILE] CAPTURE.. KASME..   judges each key and NAS message of a capture",
+    "check-trace": "check-trace [--plain] [--json] [--annotate FILE] [--cells FILE] CAPTURE.. KASME..   judges each KeNB, KeNB* and NH, and each NAS message, of a capture",
     "explain": "explain [--cells FILE] [--cell PCI,EARFCN].. [--counts N] [--depth N] [--keys FILE] KASME..   says which derivation each key of a text is",
     "wireshark": "wireshark [--cells FILE] CAPTURE.. KASME..   prints the PDCP keys of a capture as Wireshark's table",
     "vectors": "vectors [--seed N] [--count N]   prints test vectors",

@@ -118,7 +118,11 @@ going_on whole left part rest o x y so_far parts more = record {
 }
 
 -- it was cut
-pub going_cut : (whole left part rest : List Act) (fault : DriveFault) (o x y : Outside) → Going whole left o x → left ≡ part ++ rest → CutAt part fault x y → CutAt whole fault o y
+pub going_cut : (whole left part rest : List Act) (fault : DriveFault) (o x y : Outside)
+    → Going whole left o x
+    → left ≡ part ++ rest
+    → CutAt part fault x y
+    → CutAt whole fault o y
 going_cut whole left part rest fault o x y so_far parts cut =
     let P : List Act → Type 0 = λ acts. CutAt acts fault o y in
     subst P (sym (so_far.is ∙ ap (λ (acts : List Act). so_far.made ++ acts) parts))

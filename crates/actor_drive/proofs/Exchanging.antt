@@ -19,14 +19,21 @@ rest_part step size rest = record { step = step; before = size; octets = rest; b
 -- the reply by its parts
 abbrev by_parts : Option ℕ → ℕ → List ℕ → List ℕ → List ℕ → List Act
 by_parts step peer frame size rest =
-    (Calling (Sending peer frame) ∷ []) ++ ((Calling (Receiving peer (length_part step size rest)) ∷ []) ++ (Calling (Receiving peer (rest_part step size rest)) ∷ []))
+    (Calling (Sending peer frame) ∷ [])
+    ++ ((Calling (Receiving peer (length_part step size rest)) ∷ [])
+    ++ (Calling (Receiving peer (rest_part step size rest)) ∷ []))
 
-pub send_failed : (written : Option (List ℕ)) (peer : ℕ) (octets frame : List ℕ) (old new : Option PeersTold) → octets ≡ frame → SendFailed peer octets old new → CutAt (Calling (Sending peer frame) ∷ []) PeerFault (outside written old) (outside written new)
+pub send_failed : (written : Option (List ℕ)) (peer : ℕ) (octets frame : List ℕ) (old new : Option PeersTold)
+    → octets ≡ frame
+    → SendFailed peer octets old new
+    → CutAt (Calling (Sending peer frame) ∷ []) PeerFault (outside written old) (outside written new)
 send_failed written peer octets frame old new is failed =
     let P : List ℕ → Type 0 = λ xs. SendFailed peer xs old new in
     cut_at (Calling (Sending peer frame)) PeerFault (outside written old) (outside written new) (refl, subst P is failed)
 
-pub send_cut : (step : Option ℕ) (peer : ℕ) (frame reply : List ℕ) (fault : DriveFault) (x y : Outside) → CutAt (Calling (Sending peer frame) ∷ []) fault x y → CutAt (exchange step peer frame reply) fault x y
+pub send_cut : (step : Option ℕ) (peer : ℕ) (frame reply : List ℕ) (fault : DriveFault) (x y : Outside)
+    → CutAt (Calling (Sending peer frame) ∷ []) fault x y
+    → CutAt (exchange step peer frame reply) fault x y
 send_cut step peer frame reply fault x y cut = cut_before (Calling (Sending peer frame) ∷ []) _ fault x y cut
 
 pub length_cut : (step : Option ℕ) (peer : ℕ) (frame reply size rest : List ℕ) (fault : DriveFault) (x y z : Outside)

@@ -16,7 +16,7 @@ use Rattle.lte_events.specs.declared.setups.Setup.{Setup}
 use Rattle.actor_frames.specs.declared.frames.RoleSetup.{RoleSetup}
 use Rattle.actor_drive.proofs.Composing.{calls-append}
 use Rattle.actor_drive.proofs.Peerwise.{there, kept_by, all_made}
-use Rattle.actor_drive.specs.declared.faults.DriveFault.TheVariants.{Memory, PeerFault, Differs, Chance, WriteFault}
+use Rattle.actor_drive.specs.declared.faults.DriveFault.TheVariants.{Memory, PeerFault, Differs, Coincidence, WriteFault}
 use Rattle.actor_drive.specs.Acts.{Wanted, Call, Starting, Sending, Receiving, Act, Writing, Calling, calls}
 use Rattle.actor_drive.specs.Driven.{Plan, Driven, WhereTold, AllStopped, FailedNext, GivesAll}
 use Rattle.actor_drive.specs.Outside.{Outside, outside, all_done, Did, HasStarted, stopped_below}
@@ -26,7 +26,9 @@ use Rattle.actor_drive.specs.Went.{CallFails, ActFails, CutAt, Differed, Went}
 
 -- STOPS
 
-stop_field : {A : Type 0} (field : PeerTold → A) (d : A) (q count : ℕ) (t : PeersTold) → ((p : PeerTold) → field (record p { stopped = true }) ≡ field p) → option_map_or field (slice_get (stopped_below count t).peers q) d ≡ option_map_or field (slice_get t.peers q) d
+stop_field : {A : Type 0} (field : PeerTold → A) (d : A) (q count : ℕ) (t : PeersTold)
+    → ((p : PeerTold) → field (record p { stopped = true }) ≡ field p)
+    → option_map_or field (slice_get (stopped_below count t).peers q) d ≡ option_map_or field (slice_get t.peers q) d
 stop_field field d q zero t same = refl
 stop_field field d q (suc count) t same =
     kept_by field d q count (λ p. record p { stopped = true }) same (stopped_below count t).peers ∙ stop_field field d q count t same
@@ -70,13 +72,19 @@ below_stopped : (q count : ℕ) (t : PeersTold) → q < count → q < length t.p
 below_stopped q zero t below within = absurd (omega (arith, below))
 below_stopped q (suc count) t below within = one (eq-or-lt_of_le (omega (arith, below))) (below_stopped q count t)
   where
-    one : (q ≡ count) ⊎ (q < count) → (q < count → q < length t.peers → is_stopped q (stopped_below count t).peers ≡ true) → is_stopped q (stopped_below (suc count) t).peers ≡ true
+    one : (q ≡ count) ⊎ (q < count)
+        → (q < count → q < length t.peers → is_stopped q (stopped_below count t).peers ≡ true)
+        → is_stopped q (stopped_below (suc count) t).peers ≡ true
     one (inl same) before =
         let P : ℕ → Type 0 = λ k. is_stopped q (change k (λ p. record p { stopped = true }) (stopped_below count t).peers) ≡ true in
         subst P same (stopped_at_once q (stopped_below count t).peers (omega (arith, within, stop_many count t)))
     one (inr lower) before = stopped_already q count (stopped_below count t).peers (before lower within)
 
-pub all_stopped : (count : ℕ) (last after : Option PeersTold) → HasStarted count last → after ≡ option_map (stopped_below count) last → IfSome after (λ t. length t.roles ≤ length t.peers) → IfSome after AllStopped
+pub all_stopped : (count : ℕ) (last after : Option PeersTold)
+    → HasStarted count last
+    → after ≡ option_map (stopped_below count) last
+    → IfSome after (λ t. length t.roles ≤ length t.peers)
+    → IfSome after AllStopped
 all_stopped count None after started is within =
     let P : Option PeersTold → Type 0 = λ told. IfSome told AllStopped in
     subst P (sym is) tt
@@ -90,18 +98,26 @@ all_stopped count (Some t) after started is within =
 -- WHAT WAS MADE
 
 -- calls that were made, and then the stops
-did_made : (made : List Call) (count : ℕ) (old last after : Option PeersTold) → Did made old last → after ≡ option_map (stopped_below count) last → WhereTold (Made made) old after
+did_made : (made : List Call) (count : ℕ) (old last after : Option PeersTold)
+    → Did made old last
+    → after ≡ option_map (stopped_below count) last
+    → WhereTold (Made made) old after
 did_made made count None last after did is = tt
 did_made made count (Some o) last after did is =
     let P : Option PeersTold → Type 0 = λ told. WhereTold (Made made) (Some o) told in
     let there : after ≡ Some (stopped_below count (all_done made o)) = is ∙ ap (λ (t : Option PeersTold). option_map (stopped_below count) t) did.told in
     subst P (sym there) (made_stopped made count o (all_done made o) (all_made made o did.gave))
 
-pub whole_made : {A : Type 0} (plan : Plan) (done : A) (before after : Outside) → Driven plan (Ok done) before after → WhereTold (Made (calls plan.acts)) before.peers after.peers
+pub whole_made : {A : Type 0} (plan : Plan) (done : A) (before after : Outside)
+    → Driven plan (Ok done) before after
+    → WhereTold (Made (calls plan.acts)) before.peers after.peers
 whole_made plan done before after driven = did_made (calls plan.acts) driven.started before.peers driven.last after.peers driven.went.0.did driven.stopped
 
-pub whole_made_at_chance : {A : Type 0} (plan : Plan) (before after : Outside) → Driven {A = A} plan (Err Chance) before after → WhereTold (Made (calls plan.acts)) before.peers after.peers
-whole_made_at_chance plan before after driven = did_made (calls plan.acts) driven.started before.peers driven.last after.peers driven.went.0.did driven.stopped
+pub whole_made_at_coincidence : {A : Type 0} (plan : Plan) (before after : Outside)
+    → Driven {A = A} plan (Err Coincidence) before after
+    → WhereTold (Made (calls plan.acts)) before.peers after.peers
+whole_made_at_coincidence plan before after driven =
+    did_made (calls plan.acts) driven.started before.peers driven.last after.peers driven.went.0.did driven.stopped
 
 -- THE CALL THAT FAILED
 
@@ -120,7 +136,12 @@ named (Receiving peer w) (Some t) new fails =
 calls_cut : (acts made more : List Act) (call : Call) → acts ≡ made ++ Calling call ∷ more → calls acts ≡ calls made ++ call ∷ calls more
 calls_cut acts made more call is = ap calls is ∙ calls-append made (Calling call ∷ more)
 
-failed_told : (whole made more : List Call) (call : Call) (count : ℕ) (old between last after : Option PeersTold) → whole ≡ made ++ call ∷ more → Did made old between → CallFails call between last → after ≡ option_map (stopped_below count) last → WhereTold (FailedNext whole) old after
+failed_told : (whole made more : List Call) (call : Call) (count : ℕ) (old between last after : Option PeersTold)
+    → whole ≡ made ++ call ∷ more
+    → Did made old between
+    → CallFails call between last
+    → after ≡ option_map (stopped_below count) last
+    → WhereTold (FailedNext whole) old after
 failed_told whole made more call count None between last after is did fails stops = tt
 failed_told whole made more call count (Some o) between last after is did fails stops = at_last last refl
   where
@@ -145,15 +166,25 @@ failed_told whole made more call count (Some o) between last after is did fails 
           failed = stop_failed count u ∙ failed;
         })
 
-by_act : (whole : List Act) (cut_made cut_more : List Act) (act : Act) (count : ℕ) (x y : Outside) (before : Option PeersTold) (after : Option PeersTold) → whole ≡ cut_made ++ act ∷ cut_more → Did (calls cut_made) before x.peers → ActFails act PeerFault x y → after ≡ option_map (stopped_below count) y.peers → WhereTold (FailedNext (calls whole)) before after
+by_act : (whole : List Act) (cut_made cut_more : List Act) (act : Act) (count : ℕ) (x y : Outside)
+    (before : Option PeersTold) (after : Option PeersTold)
+    → whole ≡ cut_made ++ act ∷ cut_more
+    → Did (calls cut_made) before x.peers
+    → ActFails act PeerFault x y
+    → after ≡ option_map (stopped_below count) y.peers
+    → WhereTold (FailedNext (calls whole)) before after
 by_act whole cut_made cut_more (Writing text) count x y before after is did fails stops = absurd fails
 by_act whole cut_made cut_more (Calling call) count x y before after is did fails stops =
-    failed_told (calls whole) (calls cut_made) (calls cut_more) call count before x.peers y.peers after (calls_cut whole cut_made cut_more call is) did fails.1 stops
+    failed_told (calls whole) (calls cut_made) (calls cut_more) call count before x.peers y.peers after
+    (calls_cut whole cut_made cut_more call is) did fails.1 stops
 
-pub failed_next : {A : Type 0} (plan : Plan) (before after : Outside) → Driven {A = A} plan (Err PeerFault) before after → WhereTold (FailedNext (calls plan.acts)) before.peers after.peers
+pub failed_next : {A : Type 0} (plan : Plan) (before after : Outside)
+    → Driven {A = A} plan (Err PeerFault) before after
+    → WhereTold (FailedNext (calls plan.acts)) before.peers after.peers
 failed_next plan before after driven =
     let cut : CutAt plan.acts PeerFault before (outside after.written driven.last) = driven.went in
-    by_act plan.acts cut.made cut.more cut.next driven.started cut.between (outside after.written driven.last) before.peers after.peers cut.is cut.did.did cut.fails driven.stopped
+    by_act plan.acts cut.made cut.more cut.next driven.started cut.between (outside after.written driven.last)
+    before.peers after.peers cut.is cut.did.did cut.fails driven.stopped
 
 -- A DIFFERENCE
 
@@ -166,7 +197,10 @@ receives-append q (Receiving peer w ∷ a) b =
     ∙ sym (append_assoc (if peer == q then w.octets else []) (receives q a) (receives q b))
 
 -- what a peer has to give where it begins with all that is to come, and some of it was taken
-left_to_give : (p : ℕ) (made more : List Call) (w : Wanted) (given left : List ℕ) → StartsWith given (receives p (made ++ Receiving p w ∷ more)) → given ≡ receives p made ++ left → take (length w.octets) left ≡ w.octets
+left_to_give : (p : ℕ) (made more : List Call) (w : Wanted) (given left : List ℕ)
+    → StartsWith given (receives p (made ++ Receiving p w ∷ more))
+    → given ≡ receives p made ++ left
+    → take (length w.octets) left ≡ w.octets
 left_to_give p made more w given left begins taken =
     let first : List ℕ = receives p made in
     let rest : List ℕ = receives p more in
@@ -181,7 +215,13 @@ left_to_give p made more w given left begins taken =
     ap (λ (xs : List ℕ). take (length w.octets) xs) (append_cancel_left first left (w.octets ++ (rest ++ behind)) whole)
     ∙ take_at w.octets (rest ++ behind) (length w.octets) refl
 
-no_other : (whole made more : List Call) (p : ℕ) (w : Wanted) (step : Option ℕ) (wanted got : List ℕ) (old between last : Option PeersTold) → whole ≡ made ++ Receiving p w ∷ more → Did made old between → Differed p w step wanted got between last → IfSome old (GivesAll whole) → IfSome old (λ o. ⊥)
+no_other : (whole made more : List Call) (p : ℕ) (w : Wanted) (step : Option ℕ) (wanted got : List ℕ)
+    (old between last : Option PeersTold)
+    → whole ≡ made ++ Receiving p w ∷ more
+    → Did made old between
+    → Differed p w step wanted got between last
+    → IfSome old (GivesAll whole)
+    → IfSome old (λ o. ⊥)
 no_other whole made more p w step wanted got None between last is did differs gives = tt
 no_other whole made more p w step wanted got (Some o) between last is did differs gives =
     let P : Option PeersTold → Type 0 = λ told. IfSome told (λ t. take (length w.octets) (to_give_of p t.peers) ≡ differs.received) in
@@ -192,18 +232,29 @@ no_other whole made more p w step wanted got (Some o) between last is did differ
     left_to_give p made more w (to_give_of p o.peers) (to_give_of p b.peers) (subst Q is (gives p)) ((all_made made o did.gave).taken p) in
     differs.other (sym came ∙ wanted_here)
 
-other_by_act : (whole : List Act) (cut_made cut_more : List Act) (act : Act) (step : Option ℕ) (wanted got : List ℕ) (x y : Outside) (before : Option PeersTold) → whole ≡ cut_made ++ act ∷ cut_more → Did (calls cut_made) before x.peers → ActFails act (Differs step wanted got) x y → IfSome before (GivesAll (calls whole)) → IfSome before (λ o. ⊥)
+other_by_act : (whole : List Act) (cut_made cut_more : List Act) (act : Act) (step : Option ℕ) (wanted got : List ℕ)
+    (x y : Outside) (before : Option PeersTold)
+    → whole ≡ cut_made ++ act ∷ cut_more
+    → Did (calls cut_made) before x.peers
+    → ActFails act (Differs step wanted got) x y
+    → IfSome before (GivesAll (calls whole))
+    → IfSome before (λ o. ⊥)
 other_by_act whole cut_made cut_more (Writing text) step wanted got x y before is did fails gives = absurd fails
 other_by_act whole cut_made cut_more (Calling (Starting role)) step wanted got x y before is did fails gives = absurd fails
 other_by_act whole cut_made cut_more (Calling (Sending peer octets)) step wanted got x y before is did fails gives = absurd fails
 other_by_act whole cut_made cut_more (Calling (Receiving peer w)) step wanted got x y before is did fails gives =
-    no_other (calls whole) (calls cut_made) (calls cut_more) peer w step wanted got before x.peers y.peers (calls_cut whole cut_made cut_more (Receiving peer w) is) did fails.1 gives
+    no_other (calls whole) (calls cut_made) (calls cut_more) peer w step wanted got before x.peers y.peers
+    (calls_cut whole cut_made cut_more (Receiving peer w) is) did fails.1 gives
 
 -- where each peer gives what is to come, no reply differs
-pub no_difference : {A : Type 0} (plan : Plan) (step : Option ℕ) (wanted got : List ℕ) (before after : Outside) → Driven {A = A} plan (Err (Differs step wanted got)) before after → IfSome before.peers (GivesAll (calls plan.acts)) → IfSome before.peers (λ o. ⊥)
+pub no_difference : {A : Type 0} (plan : Plan) (step : Option ℕ) (wanted got : List ℕ) (before after : Outside)
+    → Driven {A = A} plan (Err (Differs step wanted got)) before after
+    → IfSome before.peers (GivesAll (calls plan.acts))
+    → IfSome before.peers (λ o. ⊥)
 no_difference plan step wanted got before after driven gives =
     let cut : CutAt plan.acts (Differs step wanted got) before (outside after.written driven.last) = driven.went in
-    other_by_act plan.acts cut.made cut.more cut.next step wanted got cut.between (outside after.written driven.last) before.peers cut.is cut.did.did cut.fails gives
+    other_by_act plan.acts cut.made cut.more cut.next step wanted got cut.between (outside after.written driven.last)
+    before.peers cut.is cut.did.did cut.fails gives
 
 -- HOW MANY ARE STARTED
 
@@ -224,7 +275,11 @@ none_started_all (Starting role ∷ made) t none = absurd cc
 none_started_all (Sending peer octets ∷ made) t none = none_started_all made (sent_to peer octets t) none
 none_started_all (Receiving peer w ∷ made) t none = none_started_all made (taken_from peer (length w.octets) t) none
 
-kept_in : (count : ℕ) (f : PeersTold → PeersTold) (old new : Option PeersTold) → ((t : PeersTold) → (f t).roles ≡ t.roles) → HasStarted count old → new ≡ option_map f old → HasStarted count new
+kept_in : (count : ℕ) (f : PeersTold → PeersTold) (old new : Option PeersTold)
+    → ((t : PeersTold) → (f t).roles ≡ t.roles)
+    → HasStarted count old
+    → new ≡ option_map f old
+    → HasStarted count new
 kept_in count f None new same has is =
     let P : Option PeersTold → Type 0 = λ told. HasStarted count told in
     subst P (sym is) tt
@@ -232,7 +287,11 @@ kept_in count f (Some t) new same has is =
     let P : Option PeersTold → Type 0 = λ told. HasStarted count told in
     subst P (sym is) (ap length (same t) ∙ has)
 
-pub started_did : (count : ℕ) (made : List Call) (old new : Option PeersTold) → roles_started made ≡ [] → HasStarted count old → Did made old new → HasStarted count new
+pub started_did : (count : ℕ) (made : List Call) (old new : Option PeersTold)
+    → roles_started made ≡ []
+    → HasStarted count old
+    → Did made old new
+    → HasStarted count new
 started_did count made old new none has did = kept_in count (all_done made) old new (λ t. none_started_all made t none) has did.told
 
 started_failed : (count : ℕ) (call : Call) (old new : Option PeersTold) → HasStarted count old → CallFails call old new → HasStarted count new
@@ -256,12 +315,20 @@ started_cut count (Calling (Receiving peer w)) (Differs step wanted got) x y has
 started_cut count act fault x y has fails = absurd fails
 
 -- acts that start nobody start nobody, however far they go
-pub started_went : {A : Type 0} (count : ℕ) (acts : List Act) (result : Result A DriveFault) (x y : Outside) → roles_started (calls acts) ≡ [] → HasStarted count x.peers → Went acts result x y → HasStarted count y.peers
+pub started_went : {A : Type 0} (count : ℕ) (acts : List Act) (result : Result A DriveFault) (x y : Outside)
+    → roles_started (calls acts) ≡ []
+    → HasStarted count x.peers
+    → Went acts result x y
+    → HasStarted count y.peers
 started_went count acts (Ok done) x y none has went = started_did count (calls acts) x.peers y.peers none has went.did
 started_went count acts (Err fault) x y none has went =
     let parts : calls acts ≡ calls went.made ++ calls (went.next ∷ went.more) = ap calls went.is ∙ calls-append went.made (went.next ∷ went.more) in
     let first : roles_started (calls went.made) ≡ [] =
-    first_none (roles_started (calls went.made)) (roles_started (calls (went.next ∷ went.more))) (sym (roles_started-append (calls went.made) (calls (went.next ∷ went.more))) ∙ ap roles_started (sym parts) ∙ none) in
+    first_none (roles_started (calls went.made)) (roles_started (calls (went.next ∷ went.more)))
+    (sym (roles_started-append (calls went.made) (calls (went.next ∷ went.more)))
+    ∙ ap roles_started (sym parts)
+    ∙ none)
+    in
     started_cut count went.next fault went.between y (started_did count (calls went.made) x.peers went.between.peers first has went.did.did) went.fails
 
 pub set_ups_start : (peer : ℕ) (seeds : List RoleSetup) → roles_started (calls (set_ups peer seeds)) ≡ []

@@ -24,7 +24,11 @@ change_other (suc k) (suc q) f (x ∷ xs) other = change_other k q f xs (λ same
 
 -- SENT
 
-sent_at : (octets : List ℕ) (found : Option PeerTold) → found ≢ None → option_map_or (λ (p : PeerTold). p.sent) (option_map (λ (p : PeerTold). record p { sent = p.sent ++ octets }) found) [] ≡ option_map_or (λ (p : PeerTold). p.sent) found [] ++ octets
+sent_at : (octets : List ℕ) (found : Option PeerTold)
+    → found ≢ None
+    → option_map_or (λ (p : PeerTold). p.sent)
+    (option_map (λ (p : PeerTold). record p { sent = p.sent ++ octets }) found) []
+    ≡ option_map_or (λ (p : PeerTold). p.sent) found [] ++ octets
 sent_at octets None there = absurd (there refl)
 sent_at octets (Some p) there = refl
 
@@ -42,11 +46,15 @@ sent_by q peer octets peers true same below =
     (ap (λ (found : Option PeerTold). option_map_or (λ (p : PeerTold). p.sent) found []) (change_at q (λ p. record p { sent = p.sent ++ octets }) peers)
     ∙ sent_at octets (slice_get peers q) (there peers q below))
 sent_by q peer octets peers false other below =
-    ap (λ (found : Option PeerTold). option_map_or (λ (p : PeerTold). p.sent) found []) (change_other peer q (λ p. record p { sent = p.sent ++ octets }) peers (eqb-false peer q other))
+    ap (λ (found : Option PeerTold). option_map_or (λ (p : PeerTold). p.sent) found [])
+    (change_other peer q (λ p. record p { sent = p.sent ++ octets }) peers (eqb-false peer q other))
     ∙ sym (append-nil (sent_of q peers))
 
 -- a change that keeps a field of each keeps it of all
-pub kept_by : {A : Type 0} (field : PeerTold → A) (d : A) (q k : ℕ) (f : PeerTold → PeerTold) → ((p : PeerTold) → field (f p) ≡ field p) → (peers : List PeerTold) → option_map_or field (slice_get (change k f peers) q) d ≡ option_map_or field (slice_get peers q) d
+pub kept_by : {A : Type 0} (field : PeerTold → A) (d : A) (q k : ℕ) (f : PeerTold → PeerTold)
+    → ((p : PeerTold) → field (f p) ≡ field p)
+    → (peers : List PeerTold)
+    → option_map_or field (slice_get (change k f peers) q) d ≡ option_map_or field (slice_get peers q) d
 kept_by field d q k f same [] = refl
 kept_by field d zero zero f same (p ∷ peers) = same p
 kept_by field d (suc q) zero f same (p ∷ peers) = refl
@@ -55,7 +63,10 @@ kept_by field d (suc q) (suc k) f same (p ∷ peers) = kept_by field d q k f sam
 
 -- TAKEN
 
-left_at : (count : ℕ) (found : Option PeerTold) → option_map_or (λ (p : PeerTold). p.to_give) (option_map (λ (p : PeerTold). record p { to_give = drop count p.to_give }) found) [] ≡ drop count (option_map_or (λ (p : PeerTold). p.to_give) found [])
+left_at : (count : ℕ) (found : Option PeerTold)
+    → option_map_or (λ (p : PeerTold). p.to_give)
+    (option_map (λ (p : PeerTold). record p { to_give = drop count p.to_give }) found) []
+    ≡ drop count (option_map_or (λ (p : PeerTold). p.to_give) found [])
 left_at count None = sym (drop-nil count)
 left_at count (Some p) = refl
 
@@ -67,14 +78,16 @@ taken_by q peer count octets peers true same gave =
     let Q : ℕ → Type 0 = λ k. to_give_of q peers ≡ octets ++ to_give_of q (change k (λ p. record p { to_give = drop count p.to_give }) peers) in
     let here : take count (to_give_of q peers) ≡ octets = subst P is gave in
     let left : to_give_of q (change q (λ p. record p { to_give = drop count p.to_give }) peers) ≡ drop count (to_give_of q peers) =
-    ap (λ (found : Option PeerTold). option_map_or (λ (p : PeerTold). p.to_give) found []) (change_at q (λ p. record p { to_give = drop count p.to_give }) peers)
+    ap (λ (found : Option PeerTold). option_map_or (λ (p : PeerTold). p.to_give) found [])
+    (change_at q (λ p. record p { to_give = drop count p.to_give }) peers)
     ∙ left_at count (slice_get peers q) in
     subst Q (sym is)
     (sym (take-append-drop count (to_give_of q peers))
     ∙ ap (λ (xs : List ℕ). xs ++ drop count (to_give_of q peers)) here
     ∙ ap (λ (xs : List ℕ). octets ++ xs) (sym left))
 taken_by q peer count octets peers false other gave =
-    ap (λ (found : Option PeerTold). option_map_or (λ (p : PeerTold). p.to_give) found []) (sym (change_other peer q (λ p. record p { to_give = drop count p.to_give }) peers (eqb-false peer q other)))
+    ap (λ (found : Option PeerTold). option_map_or (λ (p : PeerTold). p.to_give) found [])
+    (sym (change_other peer q (λ p. record p { to_give = drop count p.to_give }) peers (eqb-false peer q other)))
 
 -- ALL CALLS
 

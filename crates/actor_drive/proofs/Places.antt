@@ -35,7 +35,10 @@ use Rattle.actor_drive.specs.Exchanges.{core_seed, exchange, roles_of, seeds_of,
 use Rattle.actor_drive.specs.Went.{CutAt}
 
 -- behind two items stand those of a list
-behind_two : {X Y : Type 0} (a b : Y) (f : X → Y) (xs : List X) (place : ℕ) (d : X) → 2 ≤ place → place < 2 + length xs → slice_get (a ∷ b ∷ map f xs) place ≡ Some (f (get_or xs (place - 2) d))
+behind_two : {X Y : Type 0} (a b : Y) (f : X → Y) (xs : List X) (place : ℕ) (d : X)
+    → 2 ≤ place
+    → place < 2 + length xs
+    → slice_get (a ∷ b ∷ map f xs) place ≡ Some (f (get_or xs (place - 2) d))
 behind_two a b f xs zero d low below = absurd (omega (arith, low))
 behind_two a b f xs (suc zero) d low below = absurd (omega (arith, low))
 behind_two a b f xs (suc (suc k)) d low below =
@@ -44,7 +47,12 @@ behind_two a b f xs (suc (suc k)) d low below =
     rw place (slice_get-map f xs k ∙ ap (option_map f) (slice_get-get_or xs k d within))
 
 -- the role of a station
-pub station_role : (setup : Setup) (ss : List StationSetup) (place : ℕ) (d : StationSetup) → ss ≡ setup.stations → place ≢ 0 → place ≢ 1 → place < length (roles_of setup) → slice_get (roles_of setup) place ≡ Some (role.Station (get_or ss (place - 2) d).id)
+pub station_role : (setup : Setup) (ss : List StationSetup) (place : ℕ) (d : StationSetup)
+    → ss ≡ setup.stations
+    → place ≢ 0
+    → place ≢ 1
+    → place < length (roles_of setup)
+    → slice_get (roles_of setup) place ≡ Some (role.Station (get_or ss (place - 2) d).id)
 station_role setup ss place d same not_0 not_1 below =
     let f : StationSetup → Role = λ s. role.Station s.id in
     let P : List StationSetup → Type 0 = λ xs. slice_get (roles_of setup) place ≡ Some (f (get_or xs (place - 2) d)) in
@@ -52,7 +60,13 @@ station_role setup ss place d same not_0 not_1 below =
     subst P (sym same) (behind_two role.Phone role.Core f setup.stations place d (omega (arith, not_0, not_1)) within)
 
 -- what a station starts with
-pub station_seed : (setup : Setup) (ss : List StationSetup) (cells : List Site) (place : ℕ) (x : StationSetup) → ss ≡ setup.stations → cells ≡ setup.cells → x ≡ get_or ss (place - 2) x → place ≢ 0 → place ≢ 1 → place < length (seeds_of setup)
+pub station_seed : (setup : Setup) (ss : List StationSetup) (cells : List Site) (place : ℕ) (x : StationSetup)
+    → ss ≡ setup.stations
+    → cells ≡ setup.cells
+    → x ≡ get_or ss (place - 2) x
+    → place ≢ 0
+    → place ≢ 1
+    → place < length (seeds_of setup)
     → slice_get (seeds_of setup) place ≡ Some (first.Station x.priority x.first cells)
 station_seed setup ss cells place x same same_cells is not_0 not_1 below =
     let f : StationSetup → RoleSetup = λ s. first.Station s.priority s.first setup.cells in
@@ -63,7 +77,9 @@ station_seed setup ss cells place x same same_cells is not_0 not_1 below =
     subst Q (sym same_cells)
     (subst R (sym is)
     (subst P (sym same)
-    (behind_two (first.Phone setup.caps) (core_seed setup.core_first_ncc setup.core_priority setup.core_first setup.cells) f setup.stations place x (omega (arith, not_0, not_1)) within)))
+    (behind_two (first.Phone setup.caps)
+    (core_seed setup.core_first_ncc setup.core_priority setup.core_first setup.cells) f setup.stations place x
+    (omega (arith, not_0, not_1)) within)))
 
 -- what is left begins with the item at its place
 pub drop_next : {X : Type 0} (xs : List X) (place : ℕ) (x : X) → slice_get xs place ≡ Some x → drop place xs ≡ x ∷ drop (place + 1) xs
@@ -79,7 +95,10 @@ same_told None = refl
 same_told (Some t) = refl
 
 -- a start for which memory was wanting
-pub start_lacked : (written : Option (List ℕ)) (role : Role) (f : StartFault) (old new : Option PeersTold) → f ≡ fault.Memory → new ≡ option_map (started role (Err f)) old → CutAt (Calling (Starting role) ∷ []) Memory (outside written old) (outside written new)
+pub start_lacked : (written : Option (List ℕ)) (role : Role) (f : StartFault) (old new : Option PeersTold)
+    → f ≡ fault.Memory
+    → new ≡ option_map (started role (Err f)) old
+    → CutAt (Calling (Starting role) ∷ []) Memory (outside written old) (outside written new)
 start_lacked written role f old new is told =
     let P : StartFault → Type 0 = λ g. new ≡ option_map (started role (Err g)) old in
     let lacked : new ≡ option_map (started role (Err fault.Memory)) old = subst P is told in
@@ -87,7 +106,10 @@ start_lacked written role f old new is told =
     (ap (λ (t : Option PeersTold). outside written t) (lacked ∙ same_told old))
 
 -- a start that failed
-pub start_failed : (written : Option (List ℕ)) (role : Role) (f : StartFault) (old new : Option PeersTold) → f ≡ fault.Failed → new ≡ option_map (started role (Err f)) old → CutAt (Calling (Starting role) ∷ []) PeerFault (outside written old) (outside written new)
+pub start_failed : (written : Option (List ℕ)) (role : Role) (f : StartFault) (old new : Option PeersTold)
+    → f ≡ fault.Failed
+    → new ≡ option_map (started role (Err f)) old
+    → CutAt (Calling (Starting role) ∷ []) PeerFault (outside written old) (outside written new)
 start_failed written role f old new is told =
     let P : StartFault → Type 0 = λ g. new ≡ option_map (started role (Err g)) old in
     cut_at (Calling (Starting role)) PeerFault (outside written old) (outside written new) (refl, subst P is told)
@@ -95,7 +117,10 @@ start_failed written role f old new is told =
 -- STOPS
 
 -- one more is stopped
-pub stop_next : (count : ℕ) (first old new : Option PeersTold) → old ≡ option_map (stopped_below count) first → new ≡ option_map (stopped_at count) old → new ≡ option_map (stopped_below (count + 1)) first
+pub stop_next : (count : ℕ) (first old new : Option PeersTold)
+    → old ≡ option_map (stopped_below count) first
+    → new ≡ option_map (stopped_at count) old
+    → new ≡ option_map (stopped_below (count + 1)) first
 stop_next count None old new so_far told = told ∙ ap (λ (t : Option PeersTold). option_map (stopped_at count) t) so_far
 stop_next count (Some t) old new so_far told =
     let more : suc count ≡ count + 1 = omega arith in
@@ -103,7 +128,10 @@ stop_next count (Some t) old new so_far told =
     ∙ ap (λ n. Some (stopped_below n t)) more
 
 -- and those behind it run
-pub others_run : (count : ℕ) (old new : Option PeersTold) (most : ℕ) → new ≡ option_map (stopped_at count) old → IfSome old (λ t. (peer : ℕ) → count ≤ peer → peer < most → IsRunning peer t) → IfSome new (λ t. (peer : ℕ) → count + 1 ≤ peer → peer < most → IsRunning peer t)
+pub others_run : (count : ℕ) (old new : Option PeersTold) (most : ℕ)
+    → new ≡ option_map (stopped_at count) old
+    → IfSome old (λ t. (peer : ℕ) → count ≤ peer → peer < most → IsRunning peer t)
+    → IfSome new (λ t. (peer : ℕ) → count + 1 ≤ peer → peer < most → IsRunning peer t)
 others_run count None new most told run =
     let P : Option PeersTold → Type 0 = λ told. IfSome told (λ t. (peer : ℕ) → count + 1 ≤ peer → peer < most → IsRunning peer t) in
     subst P (sym told) tt
@@ -116,7 +144,9 @@ others_run count (Some t) new most told run =
 
 -- WHAT IS LEFT TO DO
 
-pub starts_next : (roles : List Role) (place : ℕ) (role : Role) → slice_get roles place ≡ Some role → starts (drop place roles) ≡ (Calling (Starting role) ∷ []) ++ starts (drop (place + 1) roles)
+pub starts_next : (roles : List Role) (place : ℕ) (role : Role)
+    → slice_get roles place ≡ Some role
+    → starts (drop place roles) ≡ (Calling (Starting role) ∷ []) ++ starts (drop (place + 1) roles)
 starts_next roles place role is = ap starts (drop_next roles place role is)
 
 pub no_starts : (roles : List Role) (place : ℕ) → length roles ≤ place → starts (drop place roles) ≡ []
@@ -130,10 +160,16 @@ all_at P xs place x is all =
 pub as_many : (setup : Setup) → length (roles_of setup) ≡ length (seeds_of setup)
 as_many setup =
     let roles : length (map (λ (s : StationSetup). role.Station s.id) setup.stations) ≡ length setup.stations = length-map setup.stations _ in
-    let seeds : length (map (λ (s : StationSetup). first.Station s.priority s.first setup.cells) setup.stations) ≡ length setup.stations = length-map setup.stations _ in
+    let seeds : length (map (λ (s : StationSetup). first.Station s.priority s.first setup.cells) setup.stations)
+    ≡ length setup.stations =
+    length-map setup.stations _ in
     omega (arith, roles, seeds)
 
-pub set_ups_next : (seeds : List RoleSetup) (place : ℕ) (seed : RoleSetup) (frame reply : List ℕ) → slice_get seeds place ≡ Some seed → frame ≡ frame_spelling (SetupFrame seed) → reply ≡ reply_spelling (reply_of Done) → set_ups place (drop place seeds) ≡ exchange None place frame reply ++ set_ups (place + 1) (drop (place + 1) seeds)
+pub set_ups_next : (seeds : List RoleSetup) (place : ℕ) (seed : RoleSetup) (frame reply : List ℕ)
+    → slice_get seeds place ≡ Some seed
+    → frame ≡ frame_spelling (SetupFrame seed)
+    → reply ≡ reply_spelling (reply_of Done)
+    → set_ups place (drop place seeds) ≡ exchange None place frame reply ++ set_ups (place + 1) (drop (place + 1) seeds)
 set_ups_next seeds place seed frame reply is spelled ready =
     let more : suc place ≡ place + 1 = omega arith in
     ap (set_ups place) (drop_next seeds place seed is)
@@ -153,7 +189,9 @@ replied_next setup step replies place i out peer frame reply is of spelled answe
     ∙ ap (λ (f : List ℕ). exchange (Some step) peer f (reply_spelling out) ++ replied setup step (drop (place + 1) replies)) (sym spelled)
     ∙ ap (λ (r : List ℕ). exchange (Some step) peer frame r ++ replied setup step (drop (place + 1) replies)) (sym answered)
 
-pub none_replied : (setup : Setup) (step : ℕ) (replies : List (ActorIn × ActorOut)) (place : ℕ) → length replies ≤ place → replied setup step (drop place replies) ≡ []
+pub none_replied : (setup : Setup) (step : ℕ) (replies : List (ActorIn × ActorOut)) (place : ℕ)
+    → length replies ≤ place
+    → replied setup step (drop place replies) ≡ []
 none_replied setup step replies place past = ap (replied setup step) (drop_all place replies past)
 
 -- a frame begins with its length
@@ -162,7 +200,10 @@ unfolding framed
 has_length body = omega (arith, length-append (octets_of 2 (length body)) body, length-octets_of 2 (length body))
 
 -- the peer of a station is one of the peers
-here_or_there : (from id : ℕ) (s : StationSetup) (ss : List StationSetup) (b : Bool) → (IsTrue (has_station ss id) → station_peer (suc from) id ss < suc from + length ss) → IsTrue (b || has_station ss id) → (if b then from else station_peer (suc from) id ss) < from + length (s ∷ ss)
+here_or_there : (from id : ℕ) (s : StationSetup) (ss : List StationSetup) (b : Bool)
+    → (IsTrue (has_station ss id) → station_peer (suc from) id ss < suc from + length ss)
+    → IsTrue (b || has_station ss id)
+    → (if b then from else station_peer (suc from) id ss) < from + length (s ∷ ss)
 here_or_there from id s ss true behind has = omega arith
 here_or_there from id s ss false behind has = omega (arith, behind has)
 

@@ -10,7 +10,8 @@ use Rattle.edge_io.specs.Peers.{PeersTold}
 use Rattle.edge_io.specs.Told.{Told}
 use Rattle.edge_io.specs.declared.peers.Role.{Role}
 use Rattle.edge_io.specs.declared.peers.Role.TheVariants as role
-use Rattle.lte_events.specs.Conditions.{CanStart, IsStation}
+use Rattle.lte_events.specs.Ranges.{IsStation}
+use Rattle.lte_events.specs.Ranges as range
 use Rattle.lte_events.specs.Site.{Site}
 use Rattle.lte_events.specs.declared.inputs.ActorIn.{ActorIn}
 use Rattle.lte_events.specs.declared.replies.ActorOut.{ActorOut}
@@ -30,7 +31,7 @@ use Rattle.actor_drive.proofs.Composing.{calls-append, done_twice, cut_after, cu
 use Rattle.actor_drive.proofs.Gone.{roles_started-append, started_did, started_went, replied_start}
 use Rattle.actor_drive.proofs.Running.{all_run_did, all_run_went}
 use Rattle.actor_drive.specs.declared.faults.DriveFault.{DriveFault}
-use Rattle.actor_drive.specs.declared.faults.DriveFault.TheVariants.{Memory, PeerFault, Differs, Chance, WriteFault}
+use Rattle.actor_drive.specs.declared.faults.DriveFault.TheVariants.{Memory, PeerFault, Differs, Coincidence, WriteFault}
 use Rattle.actor_drive.specs.Acts.{Starting, Act, Calling, calls}
 use Rattle.actor_drive.specs.Driven.{Plan, then_plan, PlanWent, Driven}
 use Rattle.actor_drive.specs.Exchanges.{core_seed, roles_of, starts, seeds_of, set_ups}
@@ -38,7 +39,7 @@ use Rattle.actor_drive.specs.Outside.{Outside, outside, AllDone, AllRun, HasStar
 use Rattle.actor_drive.specs.Peerwise.{roles_started}
 use Rattle.actor_drive.specs.Went.{CutAt}
 use Rattle.actor_drive.specs.Plan.{event_plan, replies_at, turned, unless_ended, followed, events_plan, plan_of}
-use Rattle.actor_drive.proofs.Event.{fails_by_chance, writing_done}
+use Rattle.actor_drive.proofs.Event.{fails_by_coincidence, writing_done}
 
 -- some of a plan is done, and this is to do
 pub record PlanGoing (whole rest : Plan) (first now : Outside) : Type 0 where
@@ -54,7 +55,10 @@ goes_by first rest true is false_is = absurd cc
 goes_by first rest false is false_is = ap (λ (b : Bool). unless_ended b first rest) is
 
 -- a part of it was done, which no coincidence ended
-pub plan_on : {A : Type 0} (whole first rest : Plan) (done : A) (o x y : Outside) → PlanGoing whole (followed first rest) o x → PlanWent first (Ok done) x y → PlanGoing whole rest o y
+pub plan_on : {A : Type 0} (whole first rest : Plan) (done : A) (o x y : Outside)
+    → PlanGoing whole (followed first rest) o x
+    → PlanWent first (Ok done) x y
+    → PlanGoing whole rest o y
 plan_on whole first rest done o x y so_far went = record {
   made = so_far.made ++ first.acts;
   is = so_far.is ∙ ap (then_plan so_far.made) (goes_by first rest first.coincides refl went.1) ∙ then_twice so_far.made first.acts rest;
@@ -62,16 +66,22 @@ plan_on whole first rest done o x y so_far went = record {
 }
 
 -- acts before a plan that went so
-pub then_went : {A : Type 0} (made : List Act) (plan : Plan) (result : Result A DriveFault) (o x y : Outside) → AllDone made o x → PlanWent plan result x y → PlanWent (then_plan made plan) result o y
+pub then_went : {A : Type 0} (made : List Act) (plan : Plan) (result : Result A DriveFault) (o x y : Outside)
+    → AllDone made o x
+    → PlanWent plan result x y
+    → PlanWent (then_plan made plan) result o y
 then_went made plan (Ok done) o x y did went = (done_twice made plan.acts o x y did went.0, went.1)
 then_went made plan (Err Memory) o x y did went = cut_after made plan.acts Memory o x y did went
 then_went made plan (Err PeerFault) o x y did went = cut_after made plan.acts PeerFault o x y did went
 then_went made plan (Err (Differs step wanted got)) o x y did went = cut_after made plan.acts (Differs step wanted got) o x y did went
-then_went made plan (Err Chance) o x y did went = (done_twice made plan.acts o x y did went.0, went.1)
+then_went made plan (Err Coincidence) o x y did went = (done_twice made plan.acts o x y did went.0, went.1)
 then_went made plan (Err WriteFault) o x y did went = cut_after made plan.acts WriteFault o x y did went
 
 -- the rest went so
-pub plan_goes : {A : Type 0} (whole rest : Plan) (result : Result A DriveFault) (o x y : Outside) → PlanGoing whole rest o x → PlanWent rest result x y → PlanWent whole result o y
+pub plan_goes : {A : Type 0} (whole rest : Plan) (result : Result A DriveFault) (o x y : Outside)
+    → PlanGoing whole rest o x
+    → PlanWent rest result x y
+    → PlanWent whole result o y
 plan_goes {A} whole rest result o x y so_far went =
     let P : Plan → Type 0 = λ plan. PlanWent {A = A} plan result o y in
     subst P (sym so_far.is) (then_went so_far.made rest result o x y so_far.did went)
@@ -80,22 +90,28 @@ cut_by : (first rest : Plan) (b : Bool) (fault : DriveFault) (x y : Outside) →
 cut_by first rest true fault x y cut = cut
 cut_by first rest false fault x y cut = cut_before first.acts rest.acts fault x y cut
 
-chance_by : (first rest : Plan) (b : Bool) → b ≡ true → unless_ended b first rest ≡ first
-chance_by first rest true is = refl
-chance_by first rest false is = absurd cc
+coincidence_by : (first rest : Plan) (b : Bool) → b ≡ true → unless_ended b first rest ≡ first
+coincidence_by first rest true is = refl
+coincidence_by first rest false is = absurd cc
 
 -- a part of it was cut, or ended by a coincidence
-followed_went : (A : Type 0) (first rest : Plan) (fault : DriveFault) (x y : Outside) → PlanWent {A = A} first (Err fault) x y → PlanWent {A = A} (followed first rest) (Err fault) x y
+followed_went : (A : Type 0) (first rest : Plan) (fault : DriveFault) (x y : Outside)
+    → PlanWent {A = A} first (Err fault) x y
+    → PlanWent {A = A} (followed first rest) (Err fault) x y
 followed_went A first rest Memory x y went = cut_by first rest first.coincides Memory x y went
 followed_went A first rest PeerFault x y went = cut_by first rest first.coincides PeerFault x y went
 followed_went A first rest (Differs step wanted got) x y went = cut_by first rest first.coincides (Differs step wanted got) x y went
-followed_went A first rest Chance x y went =
-    let P : Plan → Type 0 = λ plan. PlanWent {A = A} plan (Err Chance) x y in
-    subst P (sym (chance_by first rest first.coincides went.1)) went
+followed_went A first rest Coincidence x y went =
+    let P : Plan → Type 0 = λ plan. PlanWent {A = A} plan (Err Coincidence) x y in
+    subst P (sym (coincidence_by first rest first.coincides went.1)) went
 followed_went A first rest WriteFault x y went = cut_by first rest first.coincides WriteFault x y went
 
-pub plan_ends : (A : Type 0) (whole first rest : Plan) (fault : DriveFault) (o x y : Outside) → PlanGoing whole (followed first rest) o x → PlanWent {A = A} first (Err fault) x y → PlanWent {A = A} whole (Err fault) o y
-plan_ends A whole first rest fault o x y so_far went = plan_goes {A = A} whole (followed first rest) (Err fault) o x y so_far (followed_went A first rest fault x y went)
+pub plan_ends : (A : Type 0) (whole first rest : Plan) (fault : DriveFault) (o x y : Outside)
+    → PlanGoing whole (followed first rest) o x
+    → PlanWent {A = A} first (Err fault) x y
+    → PlanWent {A = A} whole (Err fault) o y
+plan_ends A whole first rest fault o x y so_far went =
+    plan_goes {A = A} whole (followed first rest) (Err fault) o x y so_far (followed_went A first rest fault x y went)
 
 -- THE WHOLE
 
@@ -104,72 +120,97 @@ pub err_went : (A : Type 0) (plan : Plan) (fault : DriveFault) (x y : Outside) �
 err_went A plan Memory x y cut = cut
 err_went A plan PeerFault x y cut = cut
 err_went A plan (Differs step wanted got) x y cut = cut
-err_went A plan Chance x y cut = absurd (fails_by_chance cut.next cut.between y cut.fails)
+err_went A plan Coincidence x y cut = absurd (fails_by_coincidence cut.next cut.between y cut.fails)
 err_went A plan WriteFault x y cut = cut
 
 abbrev pub firsts : Setup → List Act
 firsts setup = starts (roles_of setup) ++ set_ups 0 (seeds_of setup)
 
-pub starts_cut : (A : Type 0) (setup : Setup) (events : List Event) (fault : DriveFault) (x y : Outside) → CutAt (starts (roles_of setup)) fault x y → PlanWent {A = A} (plan_of setup events) (Err fault) x y
+pub starts_cut : (A : Type 0) (setup : Setup) (events : List Event) (fault : DriveFault) (x y : Outside)
+    → CutAt (starts (roles_of setup)) fault x y
+    → PlanWent {A = A} (plan_of setup events) (Err fault) x y
 unfolding plan_of
 starts_cut A setup events fault x y cut =
     let rest : Plan = events_plan setup 0 (Running (first_world setup)) events in
     err_went A (then_plan (firsts setup) rest) fault x y
     (cut_before (firsts setup) rest.acts fault x y (cut_before (starts (roles_of setup)) (set_ups 0 (seeds_of setup)) fault x y cut))
 
-pub set_ups_cut : (A : Type 0) (setup : Setup) (events : List Event) (fault : DriveFault) (x y z : Outside) → AllDone (starts (roles_of setup)) x y → CutAt (set_ups 0 (seeds_of setup)) fault y z → PlanWent {A = A} (plan_of setup events) (Err fault) x z
+pub set_ups_cut : (A : Type 0) (setup : Setup) (events : List Event) (fault : DriveFault) (x y z : Outside)
+    → AllDone (starts (roles_of setup)) x y
+    → CutAt (set_ups 0 (seeds_of setup)) fault y z
+    → PlanWent {A = A} (plan_of setup events) (Err fault) x z
 unfolding plan_of
 set_ups_cut A setup events fault x y z did cut =
     let rest : Plan = events_plan setup 0 (Running (first_world setup)) events in
     err_went A (then_plan (firsts setup) rest) fault x z
     (cut_before (firsts setup) rest.acts fault x z (cut_after (starts (roles_of setup)) (set_ups 0 (seeds_of setup)) fault x y z did cut))
 
-pub whole_went : {A : Type 0} (setup : Setup) (events : List Event) (result : Result A DriveFault) (x y z o : Outside) → AllDone (starts (roles_of setup)) x y → AllDone (set_ups 0 (seeds_of setup)) y z
+pub whole_went : {A : Type 0} (setup : Setup) (events : List Event) (result : Result A DriveFault) (x y z o : Outside)
+    → AllDone (starts (roles_of setup)) x y
+    → AllDone (set_ups 0 (seeds_of setup)) y z
     → PlanWent (events_plan setup 0 (Running (first_world setup)) events) result z o → PlanWent (plan_of setup events) result x o
 unfolding plan_of
 whole_went setup events result x y z o did more went =
-    then_went (firsts setup) (events_plan setup 0 (Running (first_world setup)) events) result x z o (done_twice (starts (roles_of setup)) (set_ups 0 (seeds_of setup)) x y z did more) went
+    then_went (firsts setup) (events_plan setup 0 (Running (first_world setup)) events) result x z o
+    (done_twice (starts (roles_of setup)) (set_ups 0 (seeds_of setup)) x y z did more) went
 
 -- memory ran out before the first act
 pub nothing_done : (A : Type 0) (setup : Setup) (events : List Event) (x : Outside) → PlanWent {A = A} (plan_of setup events) (Err Memory) x x
 unfolding plan_of
-nothing_done A setup events x = starts_cut A setup events Memory x x (cut_before (Calling (Starting role.Phone) ∷ []) _ Memory x x (cut_at (Calling (Starting role.Phone)) Memory x x refl))
+nothing_done A setup events x =
+    starts_cut A setup events Memory x x
+    (cut_before (Calling (Starting role.Phone) ∷ []) _ Memory x x
+    (cut_at (Calling (Starting role.Phone)) Memory x x refl))
 
 -- what each starts with is in its ranges
-stations_good : (cells : List Site) (ss : List StationSetup) → ((i : ℕ) (d : StationSetup) → i < length ss → IsStation (get_or ss i d)) → 1 ≤ length cells → (k : ℕ) (d : RoleSetup) → k < length (map (λ (s : StationSetup). first.Station s.priority s.first cells) ss) → IsSetup (get_or (map (λ (s : StationSetup). first.Station s.priority s.first cells) ss) k d)
+stations_good : (cells : List Site) (ss : List StationSetup)
+    → ((i : ℕ) (d : StationSetup) → i < length ss → IsStation (get_or ss i d))
+    → 1 ≤ length cells
+    → (k : ℕ) (d : RoleSetup)
+    → k < length (map (λ (s : StationSetup). first.Station s.priority s.first cells) ss)
+    → IsSetup (get_or (map (λ (s : StationSetup). first.Station s.priority s.first cells) ss) k d)
 stations_good cells [] all some k d below = absurd (omega (arith, below))
-stations_good cells (s ∷ ss) all some zero d below = ((all 0 s (omega arith)).1, some)
-stations_good cells (s ∷ ss) all some (suc k) d below = stations_good cells ss (λ i e under. all (suc i) e (omega (arith, under))) some k d (omega (arith, below))
+stations_good cells (s ∷ ss) all some zero d below = ((all 0 s (omega arith)).1.0, some)
+stations_good cells (s ∷ ss) all some (suc k) d below =
+    stations_good cells ss (λ i e under. all (suc i) e (omega (arith, under))) some k d (omega (arith, below))
 
-core_good : (first_ncc : FirstNcc) (priority : List Eea) (number : ℕ) (cells : List Site) → 1 ≤ number → 1 ≤ length cells → IsSetup (core_seed first_ncc priority number cells)
+core_good : (first_ncc : FirstNcc) (priority : List Eea) (number : ℕ) (cells : List Site)
+    → 1 ≤ number
+    → 1 ≤ length cells
+    → IsSetup (core_seed first_ncc priority number cells)
 core_good One priority number cells least some = (least, some)
 core_good Two priority number cells least some = (least, some)
 
-pub seeds_good : (setup : Setup) → CanStart setup → 1 ≤ length setup.cells → All IsSetup (seeds_of setup)
-seeds_good setup can some = λ k d below. at k d below
+pub seeds_good : (setup : Setup) → range.IsSetup setup → 1 ≤ length setup.cells → All IsSetup (seeds_of setup)
+seeds_good setup is some = λ k d below. at k d below
   where
     at : (k : ℕ) (d : RoleSetup) → k < length (seeds_of setup) → IsSetup (get_or (seeds_of setup) k d)
     at zero d below = tt
-    at (suc zero) d below = core_good setup.core_first_ncc setup.core_priority setup.core_first setup.cells can.core_first some
-    at (suc (suc k)) d below = stations_good setup.cells setup.stations can.stations some k d (omega (arith, below))
+    at (suc zero) d below = core_good setup.core_first_ncc setup.core_priority setup.core_first setup.cells is.core_first.0 some
+    at (suc (suc k)) d below = stations_good setup.cells setup.stations is.stations some k d (omega (arith, below))
 
 -- WHO IS STARTED
 
 -- the events start nobody
-told_start : (setup : Setup) (step : ℕ) (told : EventReport (List ℕ)) (replies : List (ActorIn × ActorOut)) → roles_started (calls (event_plan setup step told replies).acts) ≡ []
+told_start : (setup : Setup) (step : ℕ) (told : EventReport (List ℕ)) (replies : List (ActorIn × ActorOut))
+    → roles_started (calls (event_plan setup step told replies).acts) ≡ []
 told_start setup step (Reported line) replies = replied_start setup step replies
-told_start setup step (Coincided chance) replies = refl
+told_start setup step (Coincided coincidence) replies = refl
 
 none_twice : (a b : List Act) → roles_started (calls a) ≡ [] → roles_started (calls b) ≡ [] → roles_started (calls (a ++ b)) ≡ []
 none_twice a b first second =
     ap roles_started (calls-append a b) ∙ roles_started-append (calls a) (calls b)
     ∙ ap (λ (roles : List Role). roles ++ roles_started (calls b)) first ∙ second
 
-followed_start : (p rest : Plan) (b : Bool) → roles_started (calls p.acts) ≡ [] → roles_started (calls rest.acts) ≡ [] → roles_started (calls (unless_ended b p rest).acts) ≡ []
+followed_start : (p rest : Plan) (b : Bool)
+    → roles_started (calls p.acts) ≡ []
+    → roles_started (calls rest.acts) ≡ []
+    → roles_started (calls (unless_ended b p rest).acts) ≡ []
 followed_start p rest true first second = first
 followed_start p rest false first second = none_twice p.acts rest.acts first second
 
-events_start : (setup : Setup) (events : List Event) (step : ℕ) (run : RunState (List ℕ) ℕ Kept) → roles_started (calls (events_plan setup step run events).acts) ≡ []
+events_start : (setup : Setup) (events : List Event) (step : ℕ) (run : RunState (List ℕ) ℕ Kept)
+    → roles_started (calls (events_plan setup step run events).acts) ≡ []
 events_start setup [] step run = refl
 events_start setup (e ∷ events) step run =
     let p : Plan = event_plan setup step (told_of run e) (replies_at run e) in
@@ -177,17 +218,36 @@ events_start setup (e ∷ events) step run =
     followed_start p rest p.coincides (told_start setup step (told_of run e) (replies_at run e)) (events_start setup events (suc step) (turned run e))
 
 -- a plan of events starts nobody, however far it goes, and stops nobody
-pub events_count : {A : Type 0} (setup : Setup) (events : List Event) (count : ℕ) (run : RunState (List ℕ) ℕ Kept) (result : Result A DriveFault) (x y : Outside) → HasStarted count x.peers → PlanWent (events_plan setup 0 run events) result x y → HasStarted count y.peers
-events_count setup events count run (Ok done) x y has went = started_did count (calls (events_plan setup 0 run events).acts) x.peers y.peers (events_start setup events 0 run) has went.0.did
-events_count setup events count run (Err Chance) x y has went = started_did count (calls (events_plan setup 0 run events).acts) x.peers y.peers (events_start setup events 0 run) has went.0.did
-events_count {A} setup events count run (Err Memory) x y has went = started_went {A = A} count (events_plan setup 0 run events).acts (Err Memory) x y (events_start setup events 0 run) has went
-events_count {A} setup events count run (Err PeerFault) x y has went = started_went {A = A} count (events_plan setup 0 run events).acts (Err PeerFault) x y (events_start setup events 0 run) has went
-events_count {A} setup events count run (Err (Differs step wanted got)) x y has went = started_went {A = A} count (events_plan setup 0 run events).acts (Err (Differs step wanted got)) x y (events_start setup events 0 run) has went
-events_count {A} setup events count run (Err WriteFault) x y has went = started_went {A = A} count (events_plan setup 0 run events).acts (Err WriteFault) x y (events_start setup events 0 run) has went
+pub events_count : {A : Type 0} (setup : Setup) (events : List Event) (count : ℕ) (run : RunState (List ℕ) ℕ Kept)
+    (result : Result A DriveFault) (x y : Outside)
+    → HasStarted count x.peers
+    → PlanWent (events_plan setup 0 run events) result x y
+    → HasStarted count y.peers
+events_count setup events count run (Ok done) x y has went =
+    started_did count (calls (events_plan setup 0 run events).acts) x.peers y.peers
+    (events_start setup events 0 run) has went.0.did
+events_count setup events count run (Err Coincidence) x y has went =
+    started_did count (calls (events_plan setup 0 run events).acts) x.peers y.peers
+    (events_start setup events 0 run) has went.0.did
+events_count {A} setup events count run (Err Memory) x y has went =
+    started_went {A = A} count (events_plan setup 0 run events).acts (Err Memory) x y
+    (events_start setup events 0 run) has went
+events_count {A} setup events count run (Err PeerFault) x y has went =
+    started_went {A = A} count (events_plan setup 0 run events).acts (Err PeerFault) x y
+    (events_start setup events 0 run) has went
+events_count {A} setup events count run (Err (Differs step wanted got)) x y has went =
+    started_went {A = A} count (events_plan setup 0 run events).acts (Err (Differs step wanted got)) x y
+    (events_start setup events 0 run) has went
+events_count {A} setup events count run (Err WriteFault) x y has went =
+    started_went {A = A} count (events_plan setup 0 run events).acts (Err WriteFault) x y
+    (events_start setup events 0 run) has went
 
-pub plan_runs : {A : Type 0} (plan : Plan) (count : ℕ) (result : Result A DriveFault) (x y : Outside) → AllRun count x.peers → PlanWent plan result x y → AllRun count y.peers
+pub plan_runs : {A : Type 0} (plan : Plan) (count : ℕ) (result : Result A DriveFault) (x y : Outside)
+    → AllRun count x.peers
+    → PlanWent plan result x y
+    → AllRun count y.peers
 plan_runs plan count (Ok done) x y run went = all_run_did count (calls plan.acts) x.peers y.peers run went.0.did
-plan_runs plan count (Err Chance) x y run went = all_run_did count (calls plan.acts) x.peers y.peers run went.0.did
+plan_runs plan count (Err Coincidence) x y run went = all_run_did count (calls plan.acts) x.peers y.peers run went.0.did
 plan_runs {A} plan count (Err Memory) x y run went = all_run_went {A = A} count plan.acts (Err Memory) x y run went
 plan_runs {A} plan count (Err PeerFault) x y run went = all_run_went {A = A} count plan.acts (Err PeerFault) x y run went
 plan_runs {A} plan count (Err (Differs step wanted got)) x y run went = all_run_went {A = A} count plan.acts (Err (Differs step wanted got)) x y run went
@@ -195,7 +255,14 @@ plan_runs {A} plan count (Err WriteFault) x y run went = all_run_went {A = A} co
 
 -- THE END
 
-pub end_done : (A : Type 0) (setup : Setup) (events : List Event) (i n : ℕ) (run : RunState (List ℕ) ℕ Kept) (first now : Told) (peers : Option PeersTold) → length events ≤ i → n ≡ i → Grows first.written now.written (end_of n run) → (done : A) → PlanWent (events_plan setup i run (drop i events)) (Ok done) (outside first.written peers) (outside now.written peers)
+pub end_done : (A : Type 0) (setup : Setup) (events : List Event) (i n : ℕ) (run : RunState (List ℕ) ℕ Kept)
+    (first now : Told) (peers : Option PeersTold)
+    → length events ≤ i
+    → n ≡ i
+    → Grows first.written now.written (end_of n run)
+    → (done : A)
+    → PlanWent (events_plan setup i run (drop i events)) (Ok done) (outside first.written peers)
+    (outside now.written peers)
 end_done A setup events i n run first now peers past number grown done =
     let P : List Event → Type 0 = λ es. PlanWent {A = A} (events_plan setup i run es) (Ok done) (outside first.written peers) (outside now.written peers) in
     let Q : ℕ → Type 0 = λ k. Grows first.written now.written (end_of k run) in
@@ -205,10 +272,13 @@ end_done A setup events i n run first now peers past number grown done =
 
 -- what is left begins with the event at its place
 pub event_left : (setup : Setup) (run : RunState (List ℕ) ℕ Kept) (events : List Event) (i n : ℕ) (e : Event) → slice_get events i ≡ Some e → n ≡ i
-    → events_plan setup i run (drop i events) ≡ followed (event_plan setup n (told_of run e) (replies_at run e)) (events_plan setup (i + 1) (turned run e) (drop (i + 1) events))
+    → events_plan setup i run (drop i events)
+    ≡ followed (event_plan setup n (told_of run e) (replies_at run e))
+    (events_plan setup (i + 1) (turned run e) (drop (i + 1) events))
 event_left setup run events i n e at number =
     let more : suc i ≡ i + 1 = omega arith in
-    ap (events_plan setup i run) (drop-cons events i e (slice_get_within events i e at) ∙ ap (λ d. d ∷ drop (suc i) events) (get_or_from_slice_get events i e e at))
+    ap (events_plan setup i run) (drop-cons events i e (slice_get_within events i e at)
+    ∙ ap (λ d. d ∷ drop (suc i) events) (get_or_from_slice_get events i e e at))
     ∙ ap (λ k. followed (event_plan setup i (told_of run e) (replies_at run e)) (events_plan setup k (turned run e) (drop k events))) more
     ∙ ap (λ k. followed (event_plan setup k (told_of run e) (replies_at run e)) (events_plan setup (i + 1) (turned run e) (drop (i + 1) events))) (sym number)
 
@@ -221,7 +291,9 @@ none_are_started None none = tt
 none_are_started (Some t) none = ap length none
 
 -- memory ran out before any peer was started
-pub nothing_driven : (setup : Setup) (events : List Event) (written : Option (List ℕ)) (peers : Option PeersTold) → IfSome peers (λ t. t.roles ≡ []) → Driven {A = Unit {0}} (plan_of setup events) (Err Memory) (outside written peers) (outside written peers)
+pub nothing_driven : (setup : Setup) (events : List Event) (written : Option (List ℕ)) (peers : Option PeersTold)
+    → IfSome peers (λ t. t.roles ≡ [])
+    → Driven {A = Unit {0}} (plan_of setup events) (Err Memory) (outside written peers) (outside written peers)
 nothing_driven setup events written peers none = record {
   started = 0;
   last = peers;

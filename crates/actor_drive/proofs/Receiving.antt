@@ -9,7 +9,10 @@ use Rattle.actor_drive.specs.Acts.{Wanted, Receiving, Calling}
 use Rattle.actor_drive.specs.Outside.{outside}
 use Rattle.actor_drive.specs.Went.{CutAt, Differed}
 
-pub receive_failed : (written : Option (List ℕ)) (peer size : ℕ) (w : Wanted) (old new : Option PeersTold) → size ≡ length w.octets → ReceiveFailed peer size old new → CutAt (Calling (Receiving peer w) ∷ []) PeerFault (outside written old) (outside written new)
+pub receive_failed : (written : Option (List ℕ)) (peer size : ℕ) (w : Wanted) (old new : Option PeersTold)
+    → size ≡ length w.octets
+    → ReceiveFailed peer size old new
+    → CutAt (Calling (Receiving peer w) ∷ []) PeerFault (outside written old) (outside written new)
 receive_failed written peer size w old new is failed =
     let P : ℕ → Type 0 = λ n. ReceiveFailed peer n old new in
     cut_at (Calling (Receiving peer w)) PeerFault (outside written old) (outside written new) (refl, subst P is failed)

@@ -23,7 +23,11 @@ runs_all_done peer [] t runs = runs
 runs_all_done peer (call ∷ made) t runs = runs_all_done peer made (done call t) (runs_done peer call t runs)
 
 -- what runs in a state that another is made of runs in that
-run_in : (count : ℕ) (f : PeersTold → PeersTold) (old new : Option PeersTold) → ((peer : ℕ) (t : PeersTold) → IsRunning peer t → IsRunning peer (f t)) → AllRun count old → new ≡ option_map f old → AllRun count new
+run_in : (count : ℕ) (f : PeersTold → PeersTold) (old new : Option PeersTold)
+    → ((peer : ℕ) (t : PeersTold) → IsRunning peer t → IsRunning peer (f t))
+    → AllRun count old
+    → new ≡ option_map f old
+    → AllRun count new
 run_in count f None new keeps run is =
     let P : Option PeersTold → Type 0 = λ told. AllRun count told in
     subst P (sym is) tt
@@ -39,9 +43,17 @@ run_failed : (count : ℕ) (call : Call) (old new : Option PeersTold) → AllRun
 run_failed count (Starting role) old new run fails =
     run_in count _ old new (λ peer t runs. record { started = runs.started; not_stopped = runs.not_stopped }) run fails
 run_failed count (Sending q octets) old new run fails =
-    run_in count _ old new (λ peer t runs. let now : IsRunning peer (sent_to q (take fails.count octets) t) = runs_done peer (Sending q (take fails.count octets)) t runs in record { started = now.started; not_stopped = now.not_stopped }) run fails.told
+    run_in count _ old new (λ peer t runs.
+    let now : IsRunning peer (sent_to q (take fails.count octets) t) =
+    runs_done peer (Sending q (take fails.count octets)) t runs in
+    record { started = now.started; not_stopped = now.not_stopped })
+    run fails.told
 run_failed count (Receiving q w) old new run fails =
-    run_in count _ old new (λ peer t runs. let now : IsRunning peer (taken_from q fails.count t) = running_taken peer q fails.count (Some t) (Some (taken_from q fails.count t)) runs refl in record { started = now.started; not_stopped = now.not_stopped }) run fails.told
+    run_in count _ old new (λ peer t runs.
+    let now : IsRunning peer (taken_from q fails.count t) =
+    running_taken peer q fails.count (Some t) (Some (taken_from q fails.count t)) runs refl in
+    record { started = now.started; not_stopped = now.not_stopped })
+    run fails.told
 
 run_cut : (count : ℕ) (act : Act) (fault : DriveFault) (x y : Outside) → AllRun count x.peers → ActFails act fault x y → AllRun count y.peers
 run_cut count (Writing text) Memory x y run fails =
@@ -59,7 +71,10 @@ run_cut count (Calling (Receiving q w)) (Differs step wanted got) x y run fails 
 run_cut count act fault x y run fails = absurd fails
 
 -- whatever comes of acts
-pub all_run_went : {A : Type 0} (count : ℕ) (acts : List Act) (result : Result A DriveFault) (x y : Outside) → AllRun count x.peers → Went acts result x y → AllRun count y.peers
+pub all_run_went : {A : Type 0} (count : ℕ) (acts : List Act) (result : Result A DriveFault) (x y : Outside)
+    → AllRun count x.peers
+    → Went acts result x y
+    → AllRun count y.peers
 all_run_went count acts (Ok _) x y run went = all_run_did count (calls acts) x.peers y.peers run went.did
 all_run_went count acts (Err fault) x y run went =
     run_cut count went.next fault went.between y

@@ -13,7 +13,7 @@ use Rattle.lte_machine.specs.Run.{RunState, Running, EventReport, Reported, Coin
 use Rattle.report_text.specs.Line.{line_text}
 use Rattle.actor_frames.specs.declared.frames.RoleSetup.{RoleSetup}
 use Rattle.run_report.specs.Events.{told_of}
-use Rattle.run_report.specs.Ready.{Ready}
+use Rattle.lte_events.specs.Scenario.{IsScenario}
 use Rattle.run_report.specs.Report.{Report, told_from, end_of, report_of}
 use Rattle.run_report.proofs.Telling.{report_from, report_is}
 use Rattle.actor_drive.proofs.Composing.{writes-append}
@@ -39,17 +39,24 @@ pub record Reports (plan : Plan) (r : Report) : Type 0 where
   pub text : writes plan.acts ≡ r.text
   pub coincides : plan.coincides ≡ r.coincides
 
-one_event : (setup : Setup) (step : ℕ) (told : EventReport (List ℕ)) (replies : List (ActorIn × ActorOut)) (rest : Plan) (reports : List (EventReport (List ℕ))) (end : List ℕ) → Reports rest (told_from (suc step) reports end) → Reports (followed (event_plan setup step told replies) rest) (told_from step (told ∷ reports) end)
+one_event : (setup : Setup) (step : ℕ) (told : EventReport (List ℕ)) (replies : List (ActorIn × ActorOut)) (rest : Plan)
+    (reports : List (EventReport (List ℕ))) (end : List ℕ)
+    → Reports rest (told_from (suc step) reports end)
+    → Reports (followed (event_plan setup step told replies) rest) (told_from step (told ∷ reports) end)
 one_event setup step (Reported line) replies rest reports end more =
     let text : List ℕ = line_text (line_out line) in
     record {
       text = ap (λ (octets : List ℕ). text ++ octets)
-          (writes-append (replied setup step replies) rest.acts ∙ ap (λ (octets : List ℕ). octets ++ writes rest.acts) (replied_write setup step replies) ∙ more.text);
+          (writes-append (replied setup step replies) rest.acts
+          ∙ ap (λ (octets : List ℕ). octets ++ writes rest.acts) (replied_write setup step replies)
+          ∙ more.text);
       coincides = more.coincides;
     }
-one_event setup step (Coincided chance) replies rest reports end more = record { text = append-nil _; coincides = refl }
+one_event setup step (Coincided coincidence) replies rest reports end more = record { text = append-nil _; coincides = refl }
 
-pub events_report : (setup : Setup) (events : List Event) (step count : ℕ) (run : RunState (List ℕ) ℕ Kept) → count ≡ step + length events → Reports (events_plan setup step run events) (report_from count step run events)
+pub events_report : (setup : Setup) (events : List Event) (step count : ℕ) (run : RunState (List ℕ) ℕ Kept)
+    → count ≡ step + length events
+    → Reports (events_plan setup step run events) (report_from count step run events)
 events_report setup [] step count run is =
     let same : step ≡ count = omega (arith, is) in
     record { text = append-nil (end_of step run) ∙ ap (λ n. end_of n run) same; coincides = refl }
@@ -59,9 +66,9 @@ events_report setup (e ∷ events) step count run is =
     (end_of count (replay (open_octets annex_b) (machine_in_octets annex_b) (turned run e) events))
     (events_report setup events (suc step) count (turned run e) (omega (arith, is)))
 
-pub plan_report : (setup : Setup) (events : List Event) → Ready setup events → Reports (plan_of setup events) (report_of setup events)
+pub plan_report : (setup : Setup) (events : List Event) → IsScenario setup events → Reports (plan_of setup events) (report_of setup events)
 unfolding plan_of
-plan_report setup events ready =
+plan_report setup events scenario =
     let P : Report → Type 0 = λ r. Reports (plan_of setup events) r in
     let first : List Act = starts (roles_of setup) ++ set_ups 0 (seeds_of setup) in
     let none : writes first ≡ [] =
@@ -69,8 +76,9 @@ plan_report setup events ready =
     ∙ ap (λ (octets : List ℕ). octets ++ writes (set_ups 0 (seeds_of setup))) (starts_write (roles_of setup))
     ∙ set_ups_write 0 (seeds_of setup) in
     let rest : Plan = events_plan setup 0 (Running (first_world setup)) events in
-    let more : Reports rest (report_from (length events) 0 (Running (first_world setup)) events) = events_report setup events 0 (length events) (Running (first_world setup)) (omega arith) in
-    subst P (sym (report_is ready)) (record {
+    let more : Reports rest (report_from (length events) 0 (Running (first_world setup)) events) =
+    events_report setup events 0 (length events) (Running (first_world setup)) (omega arith) in
+    subst P (sym (report_is scenario)) (record {
       text = writes-append first rest.acts ∙ ap (λ (octets : List ℕ). octets ++ writes rest.acts) none ∙ more.text;
       coincides = more.coincides;
     })

@@ -4,7 +4,7 @@ use Rattle.std.specs.Io.{StartsWith}
 use Rattle.std.specs.Option.{option_map}
 use Rattle.edge_io.specs.Peers.{PeersTold, is_stopped, to_give_of}
 use Rattle.actor_drive.specs.declared.faults.DriveFault.{DriveFault}
-use Rattle.actor_drive.specs.declared.faults.DriveFault.TheVariants.{Chance}
+use Rattle.actor_drive.specs.declared.faults.DriveFault.TheVariants.{Coincidence}
 use Rattle.actor_drive.specs.Acts.{Call, Act}
 use Rattle.actor_drive.specs.Outside.{Outside, outside, AllDone, HasStarted, stopped_below}
 use Rattle.actor_drive.specs.Peerwise.{Made, name_of, receives}
@@ -21,7 +21,7 @@ then_plan acts plan = record { acts = acts ++ plan.acts; coincides = plan.coinci
 
 abbrev pub PlanWent : {A : Type 0} → Plan → Result A DriveFault → Outside → Outside → Type 0
 PlanWent plan (Ok done) before after = AllDone plan.acts before after × (plan.coincides ≡ false)
-PlanWent plan (Err Chance) before after = AllDone plan.acts before after × (plan.coincides ≡ true)
+PlanWent plan (Err Coincidence) before after = AllDone plan.acts before after × (plan.coincides ≡ true)
 PlanWent plan (Err fault) before after = CutAt plan.acts fault before after
 
 -- it was gone through as far as the answer says, and then the peers that were started were stopped

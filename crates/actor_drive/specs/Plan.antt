@@ -11,7 +11,7 @@ use Rattle.lte_machine.specs.Machines.{Kept, machine_in_octets}
 use Rattle.lte_machine.specs.Opening.{open_octets}
 use Rattle.lte_machine.specs.Run.{RunState, Running, Stopped, EventReport, Reported, Coincided, turn, first_world}
 use Rattle.lte_world.specs.Replies.{replies_of}
-use Rattle.report_text.specs.Chance.{chance_text}
+use Rattle.report_text.specs.Coincidence.{coincidence_text}
 use Rattle.report_text.specs.Line.{line_text}
 use Rattle.run_report.specs.Events.{told_of}
 use Rattle.run_report.specs.Report.{end_of}
@@ -27,12 +27,12 @@ turned run e = turn (open_octets annex_b) (machine_in_octets annex_b) run e
 -- the inputs of an event with the local actors' replies
 abbrev pub replies_at : RunState (List ℕ) ℕ Kept → Event → List (ActorIn × ActorOut)
 replies_at (Running w) e = replies_of w e
-replies_at (Stopped chance) e = []
+replies_at (Stopped coincidence) e = []
 
 -- what is done for one event: its line before its replies; a coincidence is written and no peer is told
 abbrev pub event_plan : Setup → ℕ → EventReport (List ℕ) → List (ActorIn × ActorOut) → Plan
 event_plan setup step (Reported line) replies = record { acts = Writing (line_text (line_out line)) ∷ replied setup step replies; coincides = false }
-event_plan setup step (Coincided chance) replies = record { acts = Writing (chance_text step (proof_of chance)) ∷ []; coincides = true }
+event_plan setup step (Coincided coincidence) replies = record { acts = Writing (coincidence_text step (proof_of coincidence)) ∷ []; coincides = true }
 
 -- a plan, and another where no coincidence ends it
 abbrev pub unless_ended : Bool → Plan → Plan → Plan

@@ -10,7 +10,7 @@ ghost use Rattle.actor_drive.specs.Driven.{PlanWent, Driven, WhereTold, AllStopp
 ghost use Rattle.actor_drive.specs.Exchanges.{roles_of};
 ghost use Rattle.actor_drive.specs.Outside.{AllRun, HasStarted, LacksMemory, outside};
 ghost use Rattle.actor_drive.specs.Peerwise.{Made};
-ghost use Rattle.run_report.specs.Ready.{Ready};
+ghost use Rattle.lte_events.specs.Scenario.{IsScenario};
 ghost use Rattle.run_report.specs.Report.{report_of};
 ghost use Rattle.actor_drive.specs.Plan.{events_plan, plan_of};
 
@@ -28,7 +28,7 @@ use std::alloc::Global;
 /// report is written. All peers that were started are stopped, whatever it answers.
 ///
 /// `Memory` where std refused memory or a start of a peer lacked it, `PeerFault` where a call on a peer failed, `Differs` at the first reply that is
-/// not the local one, `Chance` at a coincidence, `WriteFault` where the output failed.
+/// not the local one, `Coincidence` where an event was one, `WriteFault` where the output failed.
 pub fn drive<P: Peers, W: Sink>(
     alloc: Global,
     setup: &Setup,
@@ -36,7 +36,7 @@ pub fn drive<P: Peers, W: Sink>(
     peers: &mut P,
     out: &mut W,
 ) -> Result<(), DriveFault>
-    requires ready { Ready setup.now events.now.items }
+    requires is_scenario { IsScenario setup.now events.now.items }
     requires cells { 1 ≤ length setup.now.cells }
     requires none { IfSome (P.told peers.old) (λ t. t.roles ≡ []) }
     requires out_ready { IsTrue (W.told out.old).ready }
@@ -49,14 +49,14 @@ pub fn drive<P: Peers, W: Sink>(
     // something was still to be written.
     ensures report { OnOk result (Grows (W.told out.old).written (W.told out.new).written (report_of setup.now events.now.items).text) }
     ensures no_coincidence { OnOk result ((report_of setup.now events.now.items).coincides ≡ false) }
-    ensures coincidence { result ≡ Err DriveFault.Chance →
+    ensures coincidence { result ≡ Err DriveFault.Coincidence →
         Grows (W.told out.old).written (W.told out.new).written (report_of setup.now events.now.items).text × ((report_of setup.now events.now.items).coincides ≡ true) }
     ensures prefix { OnErr result (GrowsByPrefix (W.told out.old).written (W.told out.new).written (report_of setup.now events.now.items).text) }
     ensures short { result ≡ Err DriveFault.WriteFault → GrowsByProperPrefix (W.told out.old).written (W.told out.new).written (report_of setup.now events.now.items).text }
 
     // The roles that were started, and what each peer was sent and gave.
     ensures made { OnOk result (WhereTold (Made (calls (plan_of setup.now events.now.items).acts)) (P.told peers.old) (P.told peers.new)) }
-    ensures made_to_chance { result ≡ Err DriveFault.Chance → WhereTold (Made (calls (plan_of setup.now events.now.items).acts)) (P.told peers.old) (P.told peers.new) }
+    ensures made_to_coincidence { result ≡ Err DriveFault.Coincidence → WhereTold (Made (calls (plan_of setup.now events.now.items).acts)) (P.told peers.old) (P.told peers.new) }
     // The call that failed is the next one of the plan.
     ensures failed { result ≡ Err DriveFault.PeerFault → WhereTold (FailedNext (calls (plan_of setup.now events.now.items).acts)) (P.told peers.old) (P.told peers.new) }
     ensures stopped { IfSome (P.told peers.new) AllStopped }
@@ -88,7 +88,7 @@ fn drive_plan<P: Peers, W: Sink>(
     peers: &mut P,
     out: &mut W,
 ) -> Result<(), DriveFault>
-    requires ready { Ready setup.now events.now.items }
+    requires is_scenario { IsScenario setup.now events.now.items }
     requires cells { 1 ≤ length setup.now.cells }
     requires none { IfSome (P.told peers.old) (λ t. t.roles ≡ []) }
     requires out_ready { IsTrue (W.told out.old).ready }
@@ -119,7 +119,7 @@ fn play<P: Peers, W: Sink>(
     peers: &mut P,
     out: &mut W,
 ) -> (u8, Result<(), DriveFault>)
-    requires ready { Ready setup.now events.now.items }
+    requires is_scenario { IsScenario setup.now events.now.items }
     requires cells { 1 ≤ length setup.now.cells }
     requires none { IfSome (P.told peers.old) (λ t. t.roles ≡ []) }
     requires out_ready { IsTrue (W.told out.old).ready }
@@ -157,7 +157,7 @@ fn run_all<P: Peers, W: Sink>(
     peers: &mut P,
     out: &mut W,
 ) -> Result<(), DriveFault>
-    requires ready { Ready setup.now events.now.items }
+    requires is_scenario { IsScenario setup.now events.now.items }
     requires running { AllRun (length (roles_of setup.now)) (P.told peers.old) }
     requires out_ready { IsTrue (W.told out.old).ready }
     requires begun { world.old ≡ begun setup.now }

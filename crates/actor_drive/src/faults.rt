@@ -17,7 +17,7 @@ pub enum DriveFault {
         got: Frame,
     },
     /// A step was a coincidence.
-    Chance,
+    Coincidence,
     /// The output failed.
     WriteFault,
 }

@@ -5,7 +5,7 @@ ghost use Rattle.edge_io.specs.Cause.{NoFault, Rose};
 ghost use Rattle.edge_io.specs.Used.{UsedAsSink};
 ghost use Rattle.lte_world.specs.Whole.{run_of};
 ghost use Rattle.run_report.specs.Events.{told_of};
-ghost use Rattle.run_report.specs.Ready.{CanTake, Takes};
+ghost use Rattle.run_report.specs.Takes.{CanTake, Takes};
 ghost use Rattle.actor_drive.specs.Driven.{PlanWent};
 ghost use Rattle.actor_drive.specs.Exchanges.{roles_of};
 ghost use Rattle.actor_drive.specs.Outside.{AllRun, outside};
@@ -57,7 +57,7 @@ pub(crate) fn happen<P: Peers, W: Sink>(
     let step = world.journal().len() as u32;
     match write_event(alloc, world, event, out) {
         Ok(false) => {}
-        Ok(true) => return Err(DriveFault::Chance),
+        Ok(true) => return Err(DriveFault::Coincidence),
         Err(fault) => return Err(fault_of(fault)),
     }
     tell_all(peers, setup, step, world.replies())

@@ -212,7 +212,10 @@ pub cell_takes : (octets : List ℕ) (place : ℕ) (x : Place) → AreOctets oct
     → (drop place octets ≡ cell_octets x ++ drop (place + 6) octets) × (place + 6 ≤ length octets) × IsCell x
 unfolding cell_at
 cell_takes octets place x fit e =
-    let a = bind_ok (number_in 0 greatest_pci octets place 2) (λ pci. number_in 0 greatest_earfcn octets (place + 2) 4 >>= λ earfcn. Ok (record { pci = pci; earfcn = earfcn })) x e in
+    let a = bind_ok (number_in 0 greatest_pci octets place 2)
+    (λ pci.
+    number_in 0 greatest_earfcn octets (place + 2) 4 >>= λ earfcn. Ok (record { pci = pci; earfcn = earfcn }))
+    x e in
     let b = bind_ok (number_in 0 greatest_earfcn octets (place + 2) 4) (λ earfcn. Ok (record { pci = a.0; earfcn = earfcn })) x a.2 in
     let p = number_takes_in 0 greatest_pci 2 octets place a.0 a.1 in
     let q = number_takes_in 0 greatest_earfcn 4 octets (place + 2) b.0 b.1 in
@@ -239,8 +242,10 @@ cell_again octets rest place x fits e =
     let size = length-octets_of 4 x.earfcn in
     let within = stands octets (octets_of 4 x.earfcn) rest (place + 2) (omega arith) next in
     let six : place + 2 + 4 ≡ place + 6 = omega arith in
-    let pci = number_reads 0 greatest_pci 2 octets place x.pci (omega arith) (number_is octets (octets_of 4 x.earfcn ++ rest) place 2 x.pci small_pci split) (omega arith) fits.0 in
-    let earfcn = number_reads 0 greatest_earfcn 4 octets (place + 2) x.earfcn (omega arith) (number_is octets rest (place + 2) 4 x.earfcn small_earfcn next) (omega arith) fits.1 in (
+    let pci = number_reads 0 greatest_pci 2 octets place x.pci (omega arith)
+    (number_is octets (octets_of 4 x.earfcn ++ rest) place 2 x.pci small_pci split) (omega arith) fits.0 in
+    let earfcn = number_reads 0 greatest_earfcn 4 octets (place + 2) x.earfcn (omega arith)
+    (number_is octets rest (place + 2) 4 x.earfcn small_earfcn next) (omega arith) fits.1 in (
       λ j. pci j >>= λ pci. earfcn j >>= λ earfcn. Ok (record { pci = pci; earfcn = earfcn }),
       ap (λ n. drop n octets) (sym six) ∙ behind octets (octets_of 4 x.earfcn) rest (place + 2) 4 size next,
     )

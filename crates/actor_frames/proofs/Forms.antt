@@ -93,7 +93,9 @@ auth_form = of_layout auth_body (small_is_field 6, key_is_field) (λ vs. (vs.0, 
 
 pub auth_caps_form : IsLaidOut auth_caps_of auth_caps_body (λ x. (x.0, (x.1, x.2)))
 unfolding auth_caps_of
-auth_caps_form = of_layout auth_caps_body (small_is_field 6, (key_is_field, caps_is_field)) (λ vs. (vs.0, vs.1.0, vs.1.1)) (λ x. (x.0, (x.1, x.2))) (λ vs. refl) (λ x. refl)
+auth_caps_form =
+    of_layout auth_caps_body (small_is_field 6, (key_is_field, caps_is_field)) (λ vs. (vs.0, vs.1.0, vs.1.1))
+    (λ x. (x.0, (x.1, x.2))) (λ vs. refl) (λ x. refl)
 
 pub pdu_form : IsLaidOut pdu_of pdu_body (λ x. x)
 unfolding pdu_of
@@ -112,7 +114,9 @@ air_form = of_layout air_body air_fields (λ vs. (vs.0, vs.1.0, vs.1.1)) (λ x. 
 
 pub station_air_form : IsLaidOut station_air_of station_air_body (λ x. (x.0, (x.1, (x.2, x.3))))
 unfolding station_air_of
-station_air_form = of_layout station_air_body (small_is_field 7, air_fields) (λ vs. (vs.0, vs.1.0, vs.1.1.0, vs.1.1.1)) (λ x. (x.0, (x.1, (x.2, x.3)))) (λ vs. refl) (λ x. refl)
+station_air_form =
+    of_layout station_air_body (small_is_field 7, air_fields) (λ vs. (vs.0, vs.1.0, vs.1.1.0, vs.1.1.1))
+    (λ x. (x.0, (x.1, (x.2, x.3)))) (λ vs. refl) (λ x. refl)
 
 pub user_form : IsLaidOut user_of user_body (λ x. (x.0, x.1))
 unfolding user_of
@@ -122,10 +126,13 @@ pub rrc_form : IsLaidOut rrc_of rrc_body (λ x. (x.0, x.1))
 unfolding rrc_of
 rrc_form = of_layout rrc_body (code_is_field octet_of IsSrb srbs srb_coding, tt) (λ vs. (vs.0, vs.1)) (λ x. (x.0, x.1)) (λ vs. refl) (λ x. refl)
 
-skip_form : {A : Type 0} (octet : A → ℕ) (codes : Codes A) → IsCoding octet (λ x. Unit {0}) codes → IsLaidOut (skip_of octet codes) (skip_body octet codes) (λ s. (s.0, s.1))
+skip_form : {A : Type 0} (octet : A → ℕ) (codes : Codes A)
+    → IsCoding octet (λ x. Unit {0}) codes
+    → IsLaidOut (skip_of octet codes) (skip_body octet codes) (λ s. (s.0, s.1))
 unfolding skip_of
 skip_form octet codes is =
-    of_layout (skip_body octet codes) (code_is_field octet (λ x. Unit {0}) codes is, word_is_field 0) (λ vs. (vs.0, vs.1)) (λ s. (s.0, s.1)) (λ vs. refl) (λ s. refl)
+    of_layout (skip_body octet codes) (code_is_field octet (λ x. Unit {0}) codes is, word_is_field 0)
+    (λ vs. (vs.0, vs.1)) (λ s. (s.0, s.1)) (λ vs. refl) (λ s. refl)
 
 pub skip_any_form : IsLaidOut (skip_of skip_octet nas_or_bearer) (skip_body skip_octet nas_or_bearer) (λ s. (s.0, s.1))
 skip_any_form = skip_form skip_octet nas_or_bearer skip_coding
@@ -142,4 +149,6 @@ connect_form = of_layout connect_body cell_is_field (λ x. x) (λ x. x) (λ vs. 
 
 pub start_form : IsLaidOut start_of start_body (λ x. (x.0, x.1))
 unfolding start_of
-start_form = of_layout start_body (code_is_field ho_octet (λ k. Unit {0}) ho_kinds ho_coding, cell_is_field) (λ vs. (vs.0, vs.1)) (λ x. (x.0, x.1)) (λ vs. refl) (λ x. refl)
+start_form =
+    of_layout start_body (code_is_field ho_octet (λ k. Unit {0}) ho_kinds ho_coding, cell_is_field) (λ vs. (vs.0, vs.1))
+    (λ x. (x.0, x.1)) (λ vs. refl) (λ x. refl)

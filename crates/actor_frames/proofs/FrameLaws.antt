@@ -113,7 +113,8 @@ whole_answers role first taken rest answer is e =
     let c : ltb body_limit (size_of octets) ≡ false = le-ltb _ _ (omega arith) in
     let d : ltb (length octets) (2 + size_of octets) ≡ false = le-ltb _ _ (omega arith) in
     let size : length (drop 2 taken) ≡ size_of octets = omega (arith, length-drop 2 taken) in
-    let body : field_at octets 2 (size_of octets) ≡ drop 2 taken = field_is octets (drop 2 taken) rest 2 (size_of octets) size (drop-append-le 2 taken rest two) in
+    let body : field_at octets 2 (size_of octets) ≡ drop 2 taken =
+    field_is octets (drop 2 taken) rest 2 (size_of octets) size (drop-append-le 2 taken rest two) in
     rw (a, b, c, d) (ap of_body (ap (body_of role first) body ∙ e))
 
 answers : (role : Role) (first : Bool) (result : Result FrameIn FrameFault) (taken rest : List ℕ) → IsTaken role first result taken (Some rest)

@@ -176,7 +176,8 @@ body_found (Role.Station id) false octets frame is fit e =
     let b = bind_ok (body_by station_rows octets) (λ input. Ok (ActorIn.Station id input)) a.0 a.1 in
     let t = read_takes station_octets (λ x. StationTakes x × StationInSized x) station_rows octets b.0 station_are fit b.1 in
     let input_is = ok_is (ActorIn.Station id b.0) a.0 b.2 in
-    subst (FrameFound (Role.Station id) false octets) (ap Input input_is ∙ ok_is (Input a.0) frame a.2) (t.0, record { of = refl; input = (is, t.1.0); sized = t.1.1 })
+    subst (FrameFound (Role.Station id) false octets) (ap Input input_is ∙ ok_is (Input a.0) frame a.2)
+    (t.0, record { of = refl; input = (is, t.1.0); sized = t.1.1 })
 body_found Role.Core false octets frame is fit e =
     let a = bind_ok (input_of Role.Core octets) (λ input. Ok (Input input)) frame e in
     let b = bind_ok (body_by core_rows octets) (λ input. Ok (ActorIn.Core input)) a.0 a.1 in
@@ -191,10 +192,18 @@ phone_again (PhoneIn.Auth ksi kasme) h =
     read_on phone_rows 0x01 (ksi ∷ kasme) ∙ ap (λ r. r >>= λ a. Ok (PhoneIn.Auth a.0 a.1)) (auth_form.again 0x01 (ksi, kasme) h)
 phone_again (PhoneIn.Nas pdu) h = read_on phone_rows 0x02 pdu ∙ ap (λ r. r >>= λ pdu. Ok (PhoneIn.Nas pdu)) (pdu_form.again 0x02 pdu h.1)
 phone_again (PhoneIn.Air station air bearer pdu) h =
-    read_on phone_rows 0x03 _ ∙ ap (λ r. r >>= λ a. Ok (PhoneIn.Air a.0 a.1 a.2 a.3)) (station_air_form.again 0x03 (station, air, bearer, pdu) (h.0, ((omega arith, h.1.0), (tt, h.1.1))))
-phone_again (PhoneIn.Act PhoneAct.ServiceRequest) h = read_on phone_rows 0x10 [] ∙ ap (λ r. r >>= λ none. Ok (PhoneIn.Act PhoneAct.ServiceRequest)) (nothing_form.again 0x10 tt tt)
-phone_again (PhoneIn.Act PhoneAct.ResendComplete) h = read_on phone_rows 0x11 [] ∙ ap (λ r. r >>= λ none. Ok (PhoneIn.Act PhoneAct.ResendComplete)) (nothing_form.again 0x11 tt tt)
-phone_again (PhoneIn.Act PhoneAct.GoIdle) h = read_on phone_rows 0x12 [] ∙ ap (λ r. r >>= λ none. Ok (PhoneIn.Act PhoneAct.GoIdle)) (nothing_form.again 0x12 tt tt)
+    read_on phone_rows 0x03 _
+    ∙ ap (λ r. r >>= λ a. Ok (PhoneIn.Air a.0 a.1 a.2 a.3))
+    (station_air_form.again 0x03 (station, air, bearer, pdu) (h.0, ((omega arith, h.1.0), (tt, h.1.1))))
+phone_again (PhoneIn.Act PhoneAct.ServiceRequest) h =
+    read_on phone_rows 0x10 []
+    ∙ ap (λ r. r >>= λ none. Ok (PhoneIn.Act PhoneAct.ServiceRequest)) (nothing_form.again 0x10 tt tt)
+phone_again (PhoneIn.Act PhoneAct.ResendComplete) h =
+    read_on phone_rows 0x11 []
+    ∙ ap (λ r. r >>= λ none. Ok (PhoneIn.Act PhoneAct.ResendComplete)) (nothing_form.again 0x11 tt tt)
+phone_again (PhoneIn.Act PhoneAct.GoIdle) h =
+    read_on phone_rows 0x12 []
+    ∙ ap (λ r. r >>= λ none. Ok (PhoneIn.Act PhoneAct.GoIdle)) (nothing_form.again 0x12 tt tt)
 phone_again (PhoneIn.Act (PhoneAct.SendUser bearer text)) h =
     read_on phone_rows 0x13 _ ∙ ap (λ r. r >>= λ u. Ok (PhoneIn.Act (PhoneAct.SendUser u.0 u.1))) (user_form.again 0x13 (bearer, text) h)
 phone_again (PhoneIn.Act (PhoneAct.SendRrc bearer text)) h =
@@ -207,7 +216,9 @@ phone_again (PhoneIn.Act (PhoneAct.Skip bearer n)) h =
 station_again : (x : StationIn) → StationTakes x × StationInSized x → body_by station_rows (station_octets x) ≡ Ok x
 unfolding octets_of
 station_again (StationIn.Air air bearer pdu) h =
-    read_on station_rows 0x03 _ ∙ ap (λ r. r >>= λ a. Ok (StationIn.Air a.0 a.1 a.2)) (air_form.again 0x03 (air, bearer, pdu) ((omega arith, h.1.0), (tt, h.1.1)))
+    read_on station_rows 0x03 _
+    ∙ ap (λ r. r >>= λ a. Ok (StationIn.Air a.0 a.1 a.2))
+    (air_form.again 0x03 (air, bearer, pdu) ((omega arith, h.1.0), (tt, h.1.1)))
 station_again (StationIn.S1 pdu) h = read_on station_rows 0x04 pdu ∙ ap (λ r. r >>= λ pdu. Ok (StationIn.S1 pdu)) (pdu_form.again 0x04 pdu h.1)
 station_again (StationIn.X2 pdu) h = read_on station_rows 0x05 pdu ∙ ap (λ r. r >>= λ pdu. Ok (StationIn.X2 pdu)) (pdu_form.again 0x05 pdu h.1)
 station_again (StationIn.Act (StationAct.SendUser bearer text)) h =
@@ -215,12 +226,20 @@ station_again (StationIn.Act (StationAct.SendUser bearer text)) h =
 station_again (StationIn.Act (StationAct.SendRrc bearer text)) h =
     read_on station_rows 0x14 _ ∙ ap (λ r. r >>= λ u. Ok (StationIn.Act (StationAct.SendRrc u.0 u.1))) (rrc_form.again 0x14 (bearer, text) h)
 station_again (StationIn.Act (StationAct.Skip bearer n)) h =
-    read_on station_rows 0x16 _ ∙ ap (λ r. r >>= λ s. Ok (StationIn.Act (StationAct.Skip s.0 s.1))) (skip_bearer_form.again 0x16 (bearer, n) (tt, (omega arith, h.1)))
+    read_on station_rows 0x16 _
+    ∙ ap (λ r. r >>= λ s. Ok (StationIn.Act (StationAct.Skip s.0 s.1)))
+    (skip_bearer_form.again 0x16 (bearer, n) (tt, (omega arith, h.1)))
 station_again (StationIn.Act (StationAct.Start kind cell)) h =
     read_on station_rows 0x30 _ ∙ ap (λ r. r >>= λ s. Ok (StationIn.Act (StationAct.Start s.0 s.1))) (start_form.again 0x30 (kind, cell) (tt, h.1))
-station_again (StationIn.Act StationAct.Command) h = read_on station_rows 0x31 [] ∙ ap (λ r. r >>= λ none. Ok (StationIn.Act StationAct.Command)) (nothing_form.again 0x31 tt tt)
-station_again (StationIn.Act StationAct.Cancel) h = read_on station_rows 0x32 [] ∙ ap (λ r. r >>= λ none. Ok (StationIn.Act StationAct.Cancel)) (nothing_form.again 0x32 tt tt)
-station_again (StationIn.Act StationAct.Ask) h = read_on station_rows 0x33 [] ∙ ap (λ r. r >>= λ none. Ok (StationIn.Act StationAct.Ask)) (nothing_form.again 0x33 tt tt)
+station_again (StationIn.Act StationAct.Command) h =
+    read_on station_rows 0x31 []
+    ∙ ap (λ r. r >>= λ none. Ok (StationIn.Act StationAct.Command)) (nothing_form.again 0x31 tt tt)
+station_again (StationIn.Act StationAct.Cancel) h =
+    read_on station_rows 0x32 []
+    ∙ ap (λ r. r >>= λ none. Ok (StationIn.Act StationAct.Cancel)) (nothing_form.again 0x32 tt tt)
+station_again (StationIn.Act StationAct.Ask) h =
+    read_on station_rows 0x33 []
+    ∙ ap (λ r. r >>= λ none. Ok (StationIn.Act StationAct.Ask)) (nothing_form.again 0x33 tt tt)
 
 core_again : (x : CoreIn) → CoreTakes x × CoreInSized x → body_by core_rows (core_octets x) ≡ Ok x
 unfolding octets_of
@@ -232,7 +251,8 @@ core_again (CoreIn.Act (CoreAct.SendNas text)) h =
     read_on core_rows 0x15 text ∙ ap (λ r. r >>= λ text. Ok (CoreIn.Act (CoreAct.SendNas text))) (nas_form.again 0x15 text h.1)
 core_again (CoreIn.Act (CoreAct.Skip n)) h =
     read_on core_rows 0x16 _ ∙ ap (λ r. r >>= λ s. Ok (CoreIn.Act (CoreAct.Skip s.1))) (skip_nas_form.again 0x16 (tt, n) (tt, (omega arith, h.1)))
-core_again (CoreIn.Act CoreAct.StartSmc) h = read_on core_rows 0x20 [] ∙ ap (λ r. r >>= λ none. Ok (CoreIn.Act CoreAct.StartSmc)) (nothing_form.again 0x20 tt tt)
+core_again (CoreIn.Act CoreAct.StartSmc) h =
+    read_on core_rows 0x20 [] ∙ ap (λ r. r >>= λ none. Ok (CoreIn.Act CoreAct.StartSmc)) (nothing_form.again 0x20 tt tt)
 core_again (CoreIn.Act (CoreAct.Connect cell)) h =
     read_on core_rows 0x21 _ ∙ ap (λ r. r >>= λ cell. Ok (CoreIn.Act (CoreAct.Connect cell))) (connect_form.again 0x21 cell h.1)
 core_again (CoreIn.Act CoreAct.Release) h = read_on core_rows 0x22 [] ∙ ap (λ r. r >>= λ none. Ok (CoreIn.Act CoreAct.Release)) (nothing_form.again 0x22 tt tt)
@@ -241,11 +261,17 @@ setup_again : (role : Role) (x : RoleSetup) → IsOf role true (Setup x) → Set
 setup_again Role.Phone (RoleSetup.Phone caps) of h =
     read_on (setup_rows Role.Phone) 0x00 _ ∙ ap (λ r. r >>= λ caps. Ok (RoleSetup.Phone caps)) (caps_form.again 0x00 caps h.1)
 setup_again (Role.Station id) (RoleSetup.Station order first cells) of h =
-    read_on (setup_rows (Role.Station id)) 0x00 _ ∙ ap (λ r. r >>= λ f. Ok (RoleSetup.Station f.0 f.1 f.2)) (first_form.again 0x00 (order, first, cells) (h.0.0, h.0.1, h.1))
+    read_on (setup_rows (Role.Station id)) 0x00 _
+    ∙ ap (λ r. r >>= λ f. Ok (RoleSetup.Station f.0 f.1 f.2))
+    (first_form.again 0x00 (order, first, cells) (h.0.0, h.0.1, h.1))
 setup_again Role.Core (RoleSetup.Core order first cells) of h =
-    read_on (setup_rows Role.Core) 0x00 _ ∙ ap (λ r. r >>= λ f. Ok (RoleSetup.Core f.0 f.1 f.2)) (first_form.again 0x00 (order, first, cells) (h.0.0, h.0.1, h.1))
+    read_on (setup_rows Role.Core) 0x00 _
+    ∙ ap (λ r. r >>= λ f. Ok (RoleSetup.Core f.0 f.1 f.2))
+    (first_form.again 0x00 (order, first, cells) (h.0.0, h.0.1, h.1))
 setup_again Role.Core (RoleSetup.StandardCore order first cells) of h =
-    read_on (setup_rows Role.Core) 0x06 _ ∙ ap (λ r. r >>= λ f. Ok (RoleSetup.StandardCore f.0 f.1 f.2)) (first_form.again 0x06 (order, first, cells) (h.0.0, h.0.1, h.1))
+    read_on (setup_rows Role.Core) 0x06 _
+    ∙ ap (λ r. r >>= λ f. Ok (RoleSetup.StandardCore f.0 f.1 f.2))
+    (first_form.again 0x06 (order, first, cells) (h.0.0, h.0.1, h.1))
 setup_again Role.Phone (RoleSetup.Station order first cells) of h = absurd of
 setup_again Role.Phone (RoleSetup.Core order first cells) of h = absurd of
 setup_again Role.Phone (RoleSetup.StandardCore order first cells) of h = absurd of
@@ -255,7 +281,11 @@ setup_again (Role.Station id) (RoleSetup.StandardCore order first cells) of h = 
 setup_again Role.Core (RoleSetup.Phone caps) of h = absurd of
 setup_again Role.Core (RoleSetup.Station order first cells) of h = absurd of
 
-frame_again : (role : Role) (first : Bool) (frame : FrameIn) → IsOf role first frame → IsFrameIn frame → IsSized frame → body_of role first (body_spelling frame) ≡ Ok frame
+frame_again : (role : Role) (first : Bool) (frame : FrameIn)
+    → IsOf role first frame
+    → IsFrameIn frame
+    → IsSized frame
+    → body_of role first (body_spelling frame) ≡ Ok frame
 unfolding body_of body_spelling
 frame_again role true (Setup x) of is sized = ap (λ r. r >>= λ setup. Ok (Setup setup)) (setup_again role x of (is, sized))
 frame_again Role.Phone false (Input (ActorIn.Phone x)) of is sized =

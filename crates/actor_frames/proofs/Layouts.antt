@@ -16,7 +16,11 @@ pub record IsForm {A : Type 0} (read : List ℕ → Result A ℕ) (spell : A →
 abbrev pub IsLaidOut : {A : Type 0} → (List ℕ → Result A ℕ) → (l : Layout ℕ) → (A → Values l) → Type 0
 IsLaidOut read l back = IsForm read (λ x. spelled_by l (back x)) (λ x. FitBy l (back x))
 
-pub of_layout : {A : Type 0} (l : Layout ℕ) → AreFields Anywhere l → (make : Values l → A) (back : A → Values l) → ((vs : Values l) → back (make vs) ≡ vs) → ((x : A) → make (back x) ≡ x)
+pub of_layout : {A : Type 0} (l : Layout ℕ)
+    → AreFields Anywhere l
+    → (make : Values l → A) (back : A → Values l)
+    → ((vs : Values l) → back (make vs) ≡ vs)
+    → ((x : A) → make (back x) ≡ x)
     → IsLaidOut (λ octets. read_by ending l octets 1 (λ vs. Ok (make vs))) l back
 of_layout l law make back there here = record {
   takes = λ octets x fit e.

@@ -67,8 +67,14 @@ order_by false octets place count first order fit one two e f k =
 order_takes : (octets : List ℕ) (place : ℕ) (order : List Eea) → AreOctets octets → order_at octets place ≡ Ok order → OrderFound octets place order
 unfolding order_at
 order_takes octets place order fit e =
-    let a = bind_ok (number_in 1 2 octets place 1) (λ count. coded_at eeas octets (place + 1) >>= λ first. cond (eqb count 1) (Ok (first ∷ [])) (coded_at (eeas_but first) octets (place + 2) >>= λ second. Ok (first ∷ second ∷ []))) order e in
-    let b = bind_ok (coded_at eeas octets (place + 1)) (λ first. cond (eqb a.0 1) (Ok (first ∷ [])) (coded_at (eeas_but first) octets (place + 2) >>= λ second. Ok (first ∷ second ∷ []))) order a.2 in
+    let a = bind_ok (number_in 1 2 octets place 1)
+    (λ count. coded_at eeas octets (place + 1) >>= λ first. cond (eqb count 1) (Ok (first ∷ []))
+    (coded_at (eeas_but first) octets (place + 2) >>= λ second. Ok (first ∷ second ∷ [])))
+    order e in
+    let b = bind_ok (coded_at eeas octets (place + 1))
+    (λ first. cond (eqb a.0 1) (Ok (first ∷ []))
+    (coded_at (eeas_but first) octets (place + 2) >>= λ second. Ok (first ∷ second ∷ [])))
+    order a.2 in
     let n = number_takes_in 1 2 1 octets place a.0 a.1 in
     let t = code_takes identity_of (λ e. Unit {0}) eeas eea_coding octets (place + 1) b.0 fit b.1 in
     let two : place + 1 + 1 ≡ place + 2 = omega arith in
@@ -79,24 +85,34 @@ order_takes octets place order fit e =
 abbrev OrderRead : List ℕ → List ℕ → ℕ → List Eea → Type 0
 OrderRead octets rest place order = (order_at octets place ≡ Ok order) × (drop (place + 1 + length order) octets ≡ rest)
 
-order_again : (octets rest : List ℕ) (place : ℕ) (order : List Eea) → IsOrder order → drop place octets ≡ order_octets order ++ rest → OrderRead octets rest place order
+order_again : (octets rest : List ℕ) (place : ℕ) (order : List Eea)
+    → IsOrder order
+    → drop place octets ≡ order_octets order ++ rest
+    → OrderRead octets rest place order
 unfolding order_at
 order_again octets rest place [] is e = absurd is
 order_again octets rest place (first ∷ []) is e =
     let within = stands octets (1 ∷ identity_of first ∷ []) rest place (lit< tt) e in
     let count = number_reads 1 2 1 octets place 1 (omega arith) (octet_there octets (identity_of first ∷ rest) place 1 e) (omega arith) (omega arith) in
     let next = behind octets (1 ∷ []) (identity_of first ∷ rest) place 1 refl e in
-    let t = code_again identity_of (λ e. Unit {0}) eeas eea_coding octets rest (place + 1) first tt next in
-    (λ j. count j >>= λ count. t.0 j >>= λ first. cond (eqb count 1) (Ok (first ∷ [])) (coded_at (eeas_but first) octets (place + 2) >>= λ second. Ok (first ∷ second ∷ [])), t.1)
+    let t = code_again identity_of (λ e. Unit {0}) eeas eea_coding octets rest (place + 1) first tt next in (
+      λ j.
+          count j >>= λ count. t.0 j >>= λ first. cond (eqb count 1) (Ok (first ∷ []))
+          (coded_at (eeas_but first) octets (place + 2) >>= λ second. Ok (first ∷ second ∷ [])),
+      t.1,
+    )
 order_again octets rest place (first ∷ second ∷ []) is e =
     let within = stands octets (2 ∷ identity_of first ∷ identity_of second ∷ []) rest place (lit< tt) e in
-    let count = number_reads 1 2 1 octets place 2 (omega arith) (octet_there octets (identity_of first ∷ identity_of second ∷ rest) place 2 e) (omega arith) (omega arith) in
+    let count = number_reads 1 2 1 octets place 2 (omega arith)
+    (octet_there octets (identity_of first ∷ identity_of second ∷ rest) place 2 e) (omega arith) (omega arith) in
     let next = behind octets (2 ∷ []) (identity_of first ∷ identity_of second ∷ rest) place 1 refl e in
     let t = code_again identity_of (λ e. Unit {0}) eeas eea_coding octets (identity_of second ∷ rest) (place + 1) first tt next in
     let place_is : place + 1 + 1 ≡ place + 2 = omega arith in
-    let s = code_again identity_of (λ second. second ≢ first) (eeas_but first) (but_coding first) octets rest (place + 2) second is (ap (λ n. drop n octets) (sym place_is) ∙ t.1) in
+    let s = code_again identity_of (λ second. second ≢ first) (eeas_but first) (but_coding first) octets rest
+    (place + 2) second is (ap (λ n. drop n octets) (sym place_is) ∙ t.1) in
     let end_is : place + 1 + 2 ≡ place + 2 + 1 = omega arith in (
-      (λ j. count j >>= λ count. t.0 j >>= λ first. cond (eqb count 1) (Ok (first ∷ [])) (coded_at (eeas_but first) octets (place + 2) >>= λ second. Ok (first ∷ second ∷ [])))
+      (λ j. count j >>= λ count. t.0 j >>= λ first. cond (eqb count 1) (Ok (first ∷ []))
+          (coded_at (eeas_but first) octets (place + 2) >>= λ second. Ok (first ∷ second ∷ [])))
           ∙ ap (λ r. r >>= λ second. Ok (first ∷ second ∷ [])) s.0,
       ap (λ n. drop n octets) end_is ∙ s.1,
     )
@@ -109,13 +125,27 @@ Cells sites = IsCellTable sites × All (λ (s : Site). IsCell s.cell) sites
 -- one more
 abbrev SiteFound : List Site → List ℕ → ℕ → List Site → Type 0
 SiteFound before octets place sites =
-    (site : Site) × (sites ≡ before ++ site ∷ []) × (drop place octets ≡ site_octets site ++ drop (place + 7) octets) × (site.station ≤ 7) × IsCell site.cell × (list_any (is_site site.cell) before ≡ false)
+    (site : Site)
+    × (sites ≡ before ++ site ∷ [])
+    × (drop place octets ≡ site_octets site ++ drop (place + 7) octets)
+    × (site.station ≤ 7)
+    × IsCell site.cell
+    × (list_any (is_site site.cell) before ≡ false)
 
-site_takes : (before : List Site) (octets : List ℕ) (place : ℕ) (sites : List Site) → AreOctets octets → site_at before octets place ≡ Ok sites → SiteFound before octets place sites
+site_takes : (before : List Site) (octets : List ℕ) (place : ℕ) (sites : List Site)
+    → AreOctets octets
+    → site_at before octets place ≡ Ok sites
+    → SiteFound before octets place sites
 unfolding site_at
 site_takes before octets place sites fit e =
-    let a = bind_ok (number_in 0 7 octets place 1) (λ station. cell_at octets (place + 1) >>= λ cell. cond (list_any (is_site cell) before) (Err (place + 1)) (Ok (before ++ record { station = station; cell = cell } ∷ []))) sites e in
-    let b = bind_ok (cell_at octets (place + 1)) (λ cell. cond (list_any (is_site cell) before) (Err (place + 1)) (Ok (before ++ record { station = a.0; cell = cell } ∷ []))) sites a.2 in
+    let a = bind_ok (number_in 0 7 octets place 1)
+    (λ station. cell_at octets (place + 1) >>= λ cell. cond (list_any (is_site cell) before) (Err (place + 1))
+    (Ok (before ++ record { station = station; cell = cell } ∷ [])))
+    sites e in
+    let b = bind_ok (cell_at octets (place + 1))
+    (λ cell. cond (list_any (is_site cell) before) (Err (place + 1))
+    (Ok (before ++ record { station = a.0; cell = cell } ∷ [])))
+    sites a.2 in
     let site : Site = record { station = a.0; cell = b.0 } in
     let fresh = passes (list_any (is_site b.0) before) (place + 1) (Ok (before ++ site ∷ [])) sites b.2 in
     let s = small_takes 7 octets place a.0 fit a.1 in
@@ -126,7 +156,11 @@ site_takes before octets place sites fit e =
 -- and so many more
 abbrev SitesFound : ℕ → List Site → List ℕ → ℕ → List Site → Type 0
 SitesFound n before octets place sites =
-    (more : List Site) × (sites ≡ before ++ more) × (length more ≡ n) × (drop place octets ≡ flat_map site_octets more ++ drop (place + 7 * n) octets) × Cells sites
+    (more : List Site)
+    × (sites ≡ before ++ more)
+    × (length more ≡ n)
+    × (drop place octets ≡ flat_map site_octets more ++ drop (place + 7 * n) octets)
+    × Cells sites
 
 sites_take : (n : ℕ) (before : List Site) (octets : List ℕ) (place : ℕ) (sites : List Site) → AreOctets octets → Cells before → length before + n ≤ 32
     → sites_at n before octets place ≡ Ok sites → SitesFound n before octets place sites
@@ -168,7 +202,9 @@ cells_take octets place cells fit e =
     let size : length cells ≡ a.0 = ap length t.1 ∙ t.2 in
     let front : drop place octets ≡ a.0 ∷ drop (place + 1) octets = octet_takes octets place (omega arith) ∙ ap (λ m. m ∷ drop (place + 1) octets) n.1 in
     let back : drop (place + 1) octets ≡ flat_map site_octets cells ++ drop (place + 1 + 7 * length cells) octets =
-    t.3 ∙ ap (λ (l : List Site). flat_map site_octets l ++ drop (place + 1 + 7 * a.0) octets) (sym t.1) ∙ ap (λ n. flat_map site_octets cells ++ drop (place + 1 + 7 * n) octets) (sym size) in
+    t.3
+    ∙ ap (λ (l : List Site). flat_map site_octets l ++ drop (place + 1 + 7 * a.0) octets) (sym t.1)
+    ∙ ap (λ n. flat_map site_octets cells ++ drop (place + 1 + 7 * n) octets) (sym size) in
     (front ∙ ap (λ m. m ∷ drop (place + 1) octets) (sym size) ∙ ap (λ t. length cells ∷ t) back, omega arith, t.4)
 
 -- a cell that stands behind others is none of them
@@ -200,7 +236,8 @@ site_again before more site octets rest place are e =
     let s = small_again 7 octets (cell_octets site.cell ++ rest) place site.station station e in
     let c = cell_again octets rest (place + 1) site.cell is_cell s.1 in
     let seven : place + 7 ≡ place + 1 + 6 = omega arith in (
-      (λ j. s.0 j >>= λ station. c.0 j >>= λ cell. cond (list_any (is_site cell) before) (Err (place + 1)) (Ok (before ++ record { station = station; cell = cell } ∷ [])))
+      (λ j. s.0 j >>= λ station. c.0 j >>= λ cell. cond (list_any (is_site cell) before) (Err (place + 1))
+          (Ok (before ++ record { station = station; cell = cell } ∷ [])))
           ∙ ap (λ b. cond b (Err (place + 1)) (Ok (before ++ site ∷ []))) (fresh before more site are.0),
       ap (λ n. drop n octets) seven ∙ c.1,
     )
@@ -235,14 +272,24 @@ cells_again octets rest place cells some are e =
 abbrev FirstFits : List Eea × ℕ × List Site → Type 0
 FirstFits f = (1 ≤ f.1) × (1 ≤ length f.2) × IsFirst f.0 f.1 f.2
 
-first_takes : (octets : List ℕ) (x : List Eea × ℕ × List Site) → AreOctets octets → first_of octets ≡ Ok x → (drop 1 octets ≡ first_octets x.0 x.1 x.2) × FirstFits x
+first_takes : (octets : List ℕ) (x : List Eea × ℕ × List Site)
+    → AreOctets octets
+    → first_of octets ≡ Ok x
+    → (drop 1 octets ≡ first_octets x.0 x.1 x.2) × FirstFits x
 unfolding first_of
 first_takes octets x fit e =
-    let a = bind_ok (order_at octets 1) (λ order. number_in 1 (2 ^ 32 - 1) octets (2 + length order) 4 >>= λ first. cells_at octets (6 + length order) >>= λ cells. ends_at octets (7 + length order + 7 * length cells) >>= λ end. Ok (order, first, cells)) x e in
+    let a = bind_ok (order_at octets 1)
+    (λ order. number_in 1 (2 ^ 32 - 1) octets (2 + length order) 4 >>= λ first. cells_at octets (6 + length order)
+    >>= λ cells. ends_at octets (7 + length order + 7 * length cells) >>= λ end. Ok (order, first, cells))
+    x e in
     let order = a.0 in
-    let b = bind_ok (number_in 1 (2 ^ 32 - 1) octets (2 + length order) 4) (λ first. cells_at octets (6 + length order) >>= λ cells. ends_at octets (7 + length order + 7 * length cells) >>= λ end. Ok (order, first, cells)) x a.2 in
+    let b = bind_ok (number_in 1 (2 ^ 32 - 1) octets (2 + length order) 4)
+    (λ first. cells_at octets (6 + length order) >>= λ cells.
+    ends_at octets (7 + length order + 7 * length cells) >>= λ end. Ok (order, first, cells))
+    x a.2 in
     let first = b.0 in
-    let c = bind_ok (cells_at octets (6 + length order)) (λ cells. ends_at octets (7 + length order + 7 * length cells) >>= λ end. Ok (order, first, cells)) x b.2 in
+    let c = bind_ok (cells_at octets (6 + length order))
+    (λ cells. ends_at octets (7 + length order + 7 * length cells) >>= λ end. Ok (order, first, cells)) x b.2 in
     let cells = c.0 in
     let d = bind_ok (ends_at octets (7 + length order + 7 * length cells)) (λ end. Ok (order, first, cells)) x c.2 in
     let o = order_takes octets 1 order fit a.1 in
@@ -275,7 +322,9 @@ first_again kind x fits =
     let s = cells_again octets [] (6 + length order) cells fits.1 (is.is_table, is.are_cells) (ap (λ n. drop n octets) six ∙ w.1 ∙ sym (append-nil listed)) in
     let last : 7 + length order + 7 * length cells ≡ 6 + length order + 1 + 7 * length cells = omega arith in
     let end = end_again octets (7 + length order + 7 * length cells) (ap (λ n. drop n octets) last ∙ s.1) in
-    ap (λ r. r >>= λ o. number_in 1 (2 ^ 32 - 1) octets (2 + length o) 4 >>= λ f. cells_at octets (6 + length o) >>= λ c. ends_at octets (7 + length o + 7 * length c) >>= λ end. Ok (o, f, c)) o.0
+    ap (λ r. r >>= λ o. number_in 1 (2 ^ 32 - 1) octets (2 + length o) 4 >>= λ f.
+    cells_at octets (6 + length o) >>= λ c. ends_at octets (7 + length o + 7 * length c) >>= λ end. Ok (o, f, c))
+    o.0
     ∙ ap (λ r. r >>= λ f. cells_at octets (6 + length order) >>= λ c. ends_at octets (7 + length order + 7 * length c) >>= λ end. Ok (order, f, c)) w.0
     ∙ ap (λ r. r >>= λ c. ends_at octets (7 + length order + 7 * length c) >>= λ end. Ok (order, first, c)) s.0
     ∙ ap (λ r. r >>= λ end. Ok (order, first, cells)) end

@@ -28,4 +28,8 @@ two_is (x ∷ y ∷ z ∷ xs) a b first second few = absurd (omega arith)
 -- two pieces appended to what was written so far
 pub put_more : (first front more x mid new a b : List ℕ) → x ≡ first ++ front → mid ≡ x ++ a → new ≡ mid ++ b → more ≡ front ++ (a ++ b) → new ≡ first ++ more
 put_more first front more x mid new a b is once twice all =
-    twice ∙ ap (λ t. t ++ b) (once ∙ ap (λ t. t ++ a) is) ∙ append_assoc (first ++ front) a b ∙ append_assoc first front (a ++ b) ∙ ap (λ t. first ++ t) (sym all)
+    twice
+    ∙ ap (λ t. t ++ b) (once ∙ ap (λ t. t ++ a) is)
+    ∙ append_assoc (first ++ front) a b
+    ∙ append_assoc first front (a ++ b)
+    ∙ ap (λ t. first ++ t) (sym all)

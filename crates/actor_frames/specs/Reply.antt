@@ -87,7 +87,8 @@ alarm_octets true = 0x01 ∷ []
 -- the body of a reply
 abbrev pub reply_octets : ActorOut → List ℕ
 reply_octets reply =
-    0x80 ∷ answer_octets reply.answer ++ sent_octets reply.sent ++ opened_octets reply.opened ++ derived_octets reply.derived ++ note_octets reply.note ++ alarm_octets reply.alarm
+    0x80 ∷ answer_octets reply.answer ++ sent_octets reply.sent ++ opened_octets reply.opened
+    ++ derived_octets reply.derived ++ note_octets reply.note ++ alarm_octets reply.alarm
 
 -- the octets of its frame
 abbrev pub reply_spelling : ActorOut → List ℕ

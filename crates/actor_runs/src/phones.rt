@@ -283,6 +283,8 @@ fn forged_and_late_records_change_nothing(rt: HostRuntime) {
     same(&rt, phone.kenb(), None);
     let out = phone.step(&signal(0, 1, &SECURITY));
     same(&rt, out.answer, Answer::Done);
+    let reserved = phone.step(&signal(0, 1, &[0x20, 0, 0, 0, 0]));
+    same(&rt, reserved.answer, Answer::BadHeader(0x20));
     let out = phone.step(&signal(0, 1, &SECURITY));
     let late = Answer::MacFails(32, [0x12, 0xdc, 0x48, 0x12], [0x6e, 0x7c, 0x04, 0x2f]);
     same(&rt, out.answer, late);

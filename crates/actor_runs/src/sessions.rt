@@ -1,11 +1,9 @@
-// Sessions over memory. The frames and replies of a run of the ordinary scenario were computed by another
-// implementation; all others were written down from the table of frames (`docs/FRAMES.md`) and the rows of the
-// written machine.
+// Sessions over memory, written down from the table of frames (`docs/FRAMES.md`) and the rows of the written machine. Those of an
+// ordinary run stand in examples/serve.
 ghost use Rattle.actor_frames.specs.Ranges.{IsRole};
 
 mod ends;
 mod kinds;
-mod ordinary;
 
 use actor_serve::{ServeEnd, serve};
 use edge_io::{MemPort, MemSink, MemSource, Port, Role};

@@ -45,7 +45,10 @@ record Behind (role : Role) (first : Bool) (read given : List FrameIn) (rest : L
   good : AreFrames role (still first read) more
 
 -- a good frame has octets
-some_octets : (role : Role) (first : Bool) (frame : FrameIn) (frames : List FrameIn) (rest : List ℕ) → IsFrame role first frame → spelled (frame ∷ frames) ++ rest ≡ [] → ⊥
+some_octets : (role : Role) (first : Bool) (frame : FrameIn) (frames : List FrameIn) (rest : List ℕ)
+    → IsFrame role first frame
+    → spelled (frame ∷ frames) ++ rest ≡ []
+    → ⊥
 some_octets role first frame frames rest good none =
     let size = frame_size role first frame good in
     let all = length-append (spelled (frame ∷ frames)) rest in
@@ -60,7 +63,9 @@ behind role first (f ∷ fs) [] rest good other same = absurd (some_octets role 
 behind role first (f ∷ fs) (g ∷ gs) rest good other same =
     let whole : frame_spelling f ++ (spelled fs ++ rest) ≡ frame_spelling g ++ spelled gs = sym (append_assoc (frame_spelling f) (spelled fs) rest) ∙ same in
     let one : found f ≡ Ok g =
-    sym (spelled_again role first f (spelled fs ++ rest) good.0) ∙ ap (λ (octets : List ℕ). frame_at role first octets) whole ∙ spelled_again role first g (spelled gs) other.0 in
+    sym (spelled_again role first f (spelled fs ++ rest) good.0)
+    ∙ ap (λ (octets : List ℕ). frame_at role first octets) whole
+    ∙ spelled_again role first g (spelled gs) other.0 in
     let is : f ≡ g = cc in
     let tail : spelled fs ++ rest ≡ spelled gs =
     append_cancel_left (frame_spelling f) (spelled fs ++ rest) (spelled gs) (whole ∙ ap (λ (x : FrameIn). frame_spelling x ++ spelled gs) (sym is)) in
@@ -73,7 +78,11 @@ behind role first (f ∷ fs) (g ∷ gs) rest good other same =
     }
 
 -- the octets of good frames begin with no bad frame
-none_bad : (role : Role) (first : Bool) (more : List FrameIn) (fault : FrameFault) → AreFrames role first more → refused fault ≡ frame_at role first (spelled more) → IsBad fault → ⊥
+none_bad : (role : Role) (first : Bool) (more : List FrameIn) (fault : FrameFault)
+    → AreFrames role first more
+    → refused fault ≡ frame_at role first (spelled more)
+    → IsBad fault
+    → ⊥
 unfolding frame_at
 none_bad role first [] fault good is bad =
     let ended : refused fault ≡ Err faults.Ended = is in
@@ -108,7 +117,9 @@ left_of old (Some rest) octets taken told gives =
 
 -- the frames that were read, and what stands behind them
 split : (role : Role) (read given : List FrameIn) (rest : List ℕ) (old new : Option (List ℕ)) → AreFrames role true read → AreFrames role true given
-    → old ≡ Some (spelled given) → Gives old new (spelled read ++ rest) → (l : Left new (spelled given) (spelled read ++ rest)) × Behind role true read given (rest ++ l.rest)
+    → old ≡ Some (spelled given)
+    → Gives old new (spelled read ++ rest)
+    → (l : Left new (spelled given) (spelled read ++ rest)) × Behind role true read given (rest ++ l.rest)
 split role read given rest old new good other told gives =
     let l : Left new (spelled given) (spelled read ++ rest) = left_of old new (spelled given) (spelled read ++ rest) told gives in
     (l, behind role true read given (rest ++ l.rest) good other (sym (append_assoc (spelled read) rest l.rest) ∙ sym l.is))

@@ -29,12 +29,18 @@ pub record Going (role : Role) (actor : Option Actor) (place : ℕ) (before now 
 pub spelled_more : (frames : List FrameIn) (frame : FrameIn) → spelled (frames ++ frame ∷ []) ≡ spelled frames ++ frame_spelling frame
 spelled_more frames frame = flat_map-append frame_spelling frames (frame ∷ []) ∙ ap (λ (xs : List ℕ). spelled frames ++ xs) (append-nil (frame_spelling frame))
 
-later_more : (role : Role) (frames : List FrameIn) (frame : FrameIn) → AreFrames role false frames → IsFrame role false frame → AreFrames role false (frames ++ frame ∷ [])
+later_more : (role : Role) (frames : List FrameIn) (frame : FrameIn)
+    → AreFrames role false frames
+    → IsFrame role false frame
+    → AreFrames role false (frames ++ frame ∷ [])
 later_more role [] frame good is = (is, tt)
 later_more role (f ∷ fs) frame good is = (good.0, later_more role fs frame good.1 is)
 
 -- one more frame is good in its place
-pub good_more : (role : Role) (frames : List FrameIn) (frame : FrameIn) → AreFrames role true frames → IsFrame role (opens frames) frame → AreFrames role true (frames ++ frame ∷ [])
+pub good_more : (role : Role) (frames : List FrameIn) (frame : FrameIn)
+    → AreFrames role true frames
+    → IsFrame role (opens frames) frame
+    → AreFrames role true (frames ++ frame ∷ [])
 good_more role [] frame good is = (is, tt)
 good_more role (f ∷ fs) frame good is = (good.0, later_more role fs frame good.1 is)
 
@@ -60,7 +66,9 @@ replies_more role actor frames frame reply next is =
     ∙ ap (λ (r : ActorOut). replies role frames ++ reply_spelling r) (sym is)
 
 next_more : (role : Role) (actor after : Option Actor) (frames : List FrameIn) (frame : FrameIn) (reply : ActorOut)
-    → ((more : List FrameIn) → replies role (frames ++ more) ≡ replies role frames ++ replies_from role actor more) → after ≡ (turn role actor frame).0 → reply ≡ (turn role actor frame).1
+    → ((more : List FrameIn) → replies role (frames ++ more) ≡ replies role frames ++ replies_from role actor more)
+    → after ≡ (turn role actor frame).0
+    → reply ≡ (turn role actor frame).1
     → (more : List FrameIn) → replies role ((frames ++ frame ∷ []) ++ more) ≡ replies role (frames ++ frame ∷ []) ++ replies_from role after more
 next_more role actor after frames frame reply next then is more =
     let done = turn role actor frame in
@@ -93,8 +101,13 @@ going_on role actor after frame reply place behind before now mid new going read
     record {
       frames = frames ++ frame ∷ [];
       good = good_more role frames frame going.good good;
-      gives = subst (λ (xs : List ℕ). Gives before.left new.left xs) (sym octets) (gives_twice before.left now.left new.left (spelled frames) (frame_spelling frame) going.gives taken);
-      grows = subst (λ (xs : List ℕ). Grows before.written new.written xs) (sym all) (grows_twice before.written now.written new.written (replies role frames) (reply_spelling reply) going.grows out);
+      gives =
+          subst (λ (xs : List ℕ). Gives before.left new.left xs) (sym octets)
+          (gives_twice before.left now.left new.left (spelled frames) (frame_spelling frame) going.gives taken);
+      grows =
+          subst (λ (xs : List ℕ). Grows before.written new.written xs) (sym all)
+          (grows_twice before.written now.written new.written (replies role frames) (reply_spelling reply)
+          going.grows out);
       ended = ended ∙ going.ended;
       next = next_more role actor after frames frame reply going.next then is;
       first = ap (λ (a : Option Actor). waits a) then ∙ waits_no_more role actor frame read.is.1.of ∙ sym (opens_no_more frames frame);

@@ -18,7 +18,11 @@ use Rattle.actor_serve.proofs.Going.{Going, spelled_more, good_more, replies_mor
 
 -- a reply is not written
 pub cut : (role : Role) (actor after : Option Actor) (frame : FrameIn) (reply : ActorOut) (place : ℕ) (before now mid new : Told)
-    → Going role actor place before now → NoFault before now → FrameRead role (waits actor) (Ok frame) now.left mid.left → NoFault now mid → mid.written ≡ now.written
+    → Going role actor place before now
+    → NoFault before now
+    → FrameRead role (waits actor) (Ok frame) now.left mid.left
+    → NoFault now mid
+    → mid.written ≡ now.written
     → (after, reply) ≡ turn role actor frame → GrowsByProperPrefix mid.written new.written (reply_spelling reply) → new.left ≡ mid.left → new.ended ≡ now.ended
     → Rose mid.write_faults new.write_faults
     → Session role ends.WriteFault before new
@@ -31,17 +35,23 @@ cut role actor after frame reply place before now mid new going quiet read none 
     let front : Grows before.written mid.written (replies role frames) = same ∙ going.grows in
     let all = replies_more role actor frames frame reply going.next is in
     let octets = spelled_more frames frame in
-    let whole : spelled frames ++ frame_spelling frame ≡ spelled (frames ++ frame ∷ []) ++ [] = sym octets ∙ sym (append-nil (spelled (frames ++ frame ∷ []))) in
-    let out : (replies role frames ++ reply_spelling reply) ++ [] ≡ replies role (frames ++ frame ∷ []) = append-nil (replies role frames ++ reply_spelling reply) ∙ sym all in
+    let whole : spelled frames ++ frame_spelling frame ≡ spelled (frames ++ frame ∷ []) ++ [] =
+    sym octets ∙ sym (append-nil (spelled (frames ++ frame ∷ []))) in
+    let out : (replies role frames ++ reply_spelling reply) ++ [] ≡ replies role (frames ++ frame ∷ []) =
+    append-nil (replies role frames ++ reply_spelling reply) ∙ sym all in
     record {
       frames = frames ++ frame ∷ [];
       rest = [];
       good = good_more role frames frame going.good good;
-      gives = subst (λ (xs : List ℕ). Gives before.left new.left xs) whole (gives_twice before.left now.left new.left (spelled frames) (frame_spelling frame) going.gives taken);
+      gives =
+          subst (λ (xs : List ℕ). Gives before.left new.left xs) whole
+          (gives_twice before.left now.left new.left (spelled frames) (frame_spelling frame) going.gives taken);
       ends = (
         subst (λ (n : ℕ). Rose n new.write_faults) (none.writes ∙ quiet.writes) rose,
         refl,
         ended ∙ going.ended,
-        subst (λ (xs : List ℕ). GrowsByProperPrefix before.written new.written xs) out (proper_prefix_on before.written mid.written new.written (replies role frames) (reply_spelling reply) [] front grows),
+        subst (λ (xs : List ℕ). GrowsByProperPrefix before.written new.written xs) out
+            (proper_prefix_on before.written mid.written new.written (replies role frames)
+            (reply_spelling reply) [] front grows),
       );
     }

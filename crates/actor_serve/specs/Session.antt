@@ -52,14 +52,20 @@ SessionAt role Done frames rest before after =
     (rest ≡ []) × HasEnded after × Grows before.written after.written (replies role frames)
 -- the next frame is none, and each frame before it has its reply
 SessionAt role (BadFrame place fault) frames rest before after =
-    IsBad fault × (place ≡ place_behind frames) × IsTaken role (opens frames) (Err fault) rest after.left × Grows before.written after.written (replies role frames)
+    IsBad fault
+    × (place ≡ place_behind frames)
+    × IsTaken role (opens frames) (Err fault) rest after.left
+    × Grows before.written after.written (replies role frames)
     × MetEnd (Err fault) before.ended after.ended
 -- a read failed before the end was met: less than a frame was taken of the next one, and each frame before it has its reply
 SessionAt role ReadFault frames rest before after =
     Rose before.read_faults after.read_faults × IsLess rest × (after.ended ≡ before.ended) × Grows before.written after.written (replies role frames)
 -- a write failed: of the replies a prefix is written, and something of them was still to be written
 SessionAt role WriteFault frames rest before after =
-    Rose before.write_faults after.write_faults × (rest ≡ []) × (after.ended ≡ before.ended) × GrowsByProperPrefix before.written after.written (replies role frames)
+    Rose before.write_faults after.write_faults
+    × (rest ≡ [])
+    × (after.ended ≡ before.ended)
+    × GrowsByProperPrefix before.written after.written (replies role frames)
 
 -- A session of this role with this end: the octets left begin with those of good frames and then the rest that was taken.
 pub record Session (role : Role) (end : ServeEnd) (before after : Told) : Type 0 where

@@ -92,7 +92,10 @@ pub mixed_entries : (t u v w p q r s : ℕ)
     → word_octets v ≡ turned_down 2 (column_product r) → word_octets w ≡ turned_down 3 (column_product s)
     → word_octets (bit_xor (bit_xor (bit_xor t u) v) w) ≡ mixed_column (p ∷ q ∷ r ∷ s ∷ [])
 mixed_entries t u v w p q r s e f g h =
-    let sum : word_octets (bit_xor (bit_xor (bit_xor t u) v) w) ≡ add_words (add_words (add_words (turned_down 0 (column_product p)) (turned_down 1 (column_product q))) (turned_down 2 (column_product r))) (turned_down 3 (column_product s)) =
+    let sum : word_octets (bit_xor (bit_xor (bit_xor t u) v) w)
+    ≡ add_words (add_words (add_words (turned_down 0 (column_product p)) (turned_down 1 (column_product q)))
+    (turned_down 2 (column_product r)))
+    (turned_down 3 (column_product s)) =
     rw (word_octets-xor (bit_xor (bit_xor t u) v) w, word_octets-xor (bit_xor t u) v, word_octets-xor t u, e, f, g, h) refl in
     sum
     ∙ four_same _ _ _ _ _ _ _ _ refl
@@ -132,4 +135,5 @@ words_of_octets (w ∷ ws) h =
 pub sums_turned : (v v' w : List ℕ) → v ≡ v' → add_words v w ≡ add_words w v'
 sums_turned v v' w e =
     ap (λ u. add_words u w) e
-    ∙ four_same _ _ _ _ _ _ _ _ (xor_comm (get_or v' 0 0) (get_or w 0 0)) (xor_comm (get_or v' 1 0) (get_or w 1 0)) (xor_comm (get_or v' 2 0) (get_or w 2 0)) (xor_comm (get_or v' 3 0) (get_or w 3 0))
+    ∙ four_same _ _ _ _ _ _ _ _ (xor_comm (get_or v' 0 0) (get_or w 0 0)) (xor_comm (get_or v' 1 0) (get_or w 1 0))
+    (xor_comm (get_or v' 2 0) (get_or w 2 0)) (xor_comm (get_or v' 3 0) (get_or w 3 0))

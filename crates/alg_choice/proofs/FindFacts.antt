@@ -16,7 +16,11 @@ pub list_any-find : {X : Type 0} (test : X → Bool) (xs : List X) (x : X) → f
 list_any-find test [] x found = cc
 list_any-find test (y ∷ ys) x found = by_test (test y) refl found (list_any-find test ys x)
   where
-    by_test : (b : Bool) → test y ≡ b → cond b (Some y) (find test ys) ≡ Some x → (find test ys ≡ Some x → list_any test ys ≡ true) → list_any test (y ∷ ys) ≡ true
+    by_test : (b : Bool)
+        → test y ≡ b
+        → cond b (Some y) (find test ys) ≡ Some x
+        → (find test ys ≡ Some x → list_any test ys ≡ true)
+        → list_any test (y ∷ ys) ≡ true
     by_test true e h later = rw e refl
     by_test false e h later = rw e (later h)
 
@@ -25,6 +29,10 @@ pub list_any-find_none : {X : Type 0} (test : X → Bool) (xs : List X) → find
 list_any-find_none test [] none = refl
 list_any-find_none test (y ∷ ys) none = by_test (test y) refl none (list_any-find_none test ys)
   where
-    by_test : (b : Bool) → test y ≡ b → cond b (Some y) (find test ys) ≡ None → (find test ys ≡ None → list_any test ys ≡ false) → list_any test (y ∷ ys) ≡ false
+    by_test : (b : Bool)
+        → test y ≡ b
+        → cond b (Some y) (find test ys) ≡ None
+        → (find test ys ≡ None → list_any test ys ≡ false)
+        → list_any test (y ∷ ys) ≡ false
     by_test true e h later = cc
     by_test false e h later = rw e (later h)

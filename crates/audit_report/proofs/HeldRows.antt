@@ -3,12 +3,12 @@ use Rattle.std.proofs.Common.{◌≡◌, ℕ, ◌<◌, zero, suc, Bool, true, fa
 use Rattle.std.proofs.lemmas.Bool.{false≢true}
 use Rattle.std.proofs.lemmas.List.{length-set}
 use Rattle.std.specs.Prelude.{◌↔◌, IsTrue, IsSome, slice_index_or, unwrap_or}
+use Rattle.std.specs.List.{AllByRecursion as AllOf}
 use Rattle.key_audit.specs.Derives.{held_by, holds}
 use Rattle.key_terms.specs.declared.row.LadderRow.{LadderRow}
 use Rattle.key_terms.specs.Ladder.{unheld, holding, row_of}
 use Rattle.key_terms.specs.Ladder as ladder
 use Rattle.lte_machine.specs.Ladder.{RowOrigin, row_key}
-use Rattle.lte_machine.specs.Ranges.{AllOf}
 use Rattle.lte_machine.specs.World.{Holder, AtPhone, AtCore, AtStation, Holding}
 use Rattle.store_laws.specs.Joins.{HasRow}
 use Rattle.store_laws.specs.Rows.{origin_in, numbered_after, noted, all_noted, holder_of}
@@ -35,7 +35,9 @@ free_more (x ∷ rows) r all one = (all.0, free_more rows r all.1 one)
 
 pub all_free : (rows : List LadderRow) (os : List (RowOrigin (List ℕ))) → AllOf IsFree rows → AllOf IsFree (numbered_after rows os)
 all_free rows [] all = all
-all_free rows (o ∷ os) all = all_free (rows ++ unheld (origin_in rows o) (row_key o) ∷ []) os (free_more rows (unheld (origin_in rows o) (row_key o)) all (refl, λ s. no_flag 8 s))
+all_free rows (o ∷ os) all =
+    all_free (rows ++ unheld (origin_in rows o) (row_key o) ∷ []) os
+    (free_more rows (unheld (origin_in rows o) (row_key o)) all (refl, λ s. no_flag 8 s))
 
 pub free_flags : (rows : List LadderRow) → AllOf IsFree rows → AllOf HasFlags rows
 free_flags [] all = tt
@@ -59,7 +61,9 @@ later_place {A} {B} i s both = (there, back)
     back (inl l) = both.1 (inl l)
     back (inr e) = both.1 (inr (omega (arith, e)))
 
-flag_set : (flags : List Bool) (i s : ℕ) → s < length flags → IsTrue (slice_index_or (set flags i true) s false) ↔ (IsTrue (slice_index_or flags s false) ⊎ (i ≡ s))
+flag_set : (flags : List Bool) (i s : ℕ)
+    → s < length flags
+    → IsTrue (slice_index_or (set flags i true) s false) ↔ (IsTrue (slice_index_or flags s false) ⊎ (i ≡ s))
 flag_set [] i s within = absurd (omega (arith, within))
 flag_set (x ∷ flags) zero zero within = (λ h. inr refl, λ h. refl)
 flag_set (x ∷ flags) zero (suc s) within = (λ h. inl h, back)
@@ -75,7 +79,10 @@ flag_set (x ∷ flags) (suc i) zero within = (λ h. inl h, back)
 flag_set (x ∷ flags) (suc i) (suc s) within = later_place i s (flag_set flags i s (omega (arith, within)))
 
 -- of one row
-row_held : (who : Holder) (r : LadderRow) (s : ℕ) → HasFlags r → s < 8 → IsTrue (held_by s (ladder.held_by (holder_of who) r)) ↔ (IsTrue (held_by s r) ⊎ (who ≡ AtStation s))
+row_held : (who : Holder) (r : LadderRow) (s : ℕ)
+    → HasFlags r
+    → s < 8
+    → IsTrue (held_by s (ladder.held_by (holder_of who) r)) ↔ (IsTrue (held_by s r) ⊎ (who ≡ AtStation s))
 row_held AtPhone r s flags few = (λ h. inl h, back)
   where
     back : IsTrue (held_by s r) ⊎ (AtPhone ≡ AtStation s) → IsTrue (held_by s r)
@@ -153,12 +160,20 @@ IsNoted s k rows [] = ⊥
 IsNoted s k rows (h ∷ held) = ((h.holder ≡ AtStation s) × (row_of rows h.key ≡ Some k)) ⊎ IsNoted s k rows held
 
 -- rows in which the same keys stand
-same_noted : (s k : ℕ) (rows after : List LadderRow) → ((key : List ℕ) → row_of after key ≡ row_of rows key) → (held : List (Holding (List ℕ))) → IsNoted s k after held → IsNoted s k rows held
+same_noted : (s k : ℕ) (rows after : List LadderRow)
+    → ((key : List ℕ) → row_of after key ≡ row_of rows key)
+    → (held : List (Holding (List ℕ)))
+    → IsNoted s k after held
+    → IsNoted s k rows held
 same_noted s k rows after same [] n = n
 same_noted s k rows after same (h ∷ held) (inl e) = inl (e.0, sym (same h.key) ∙ e.1)
 same_noted s k rows after same (h ∷ held) (inr n) = inr (same_noted s k rows after same held n)
 
-same_rows : (rows after : List LadderRow) → ((key : List ℕ) → row_of after key ≡ row_of rows key) → (held : List (Holding (List ℕ))) → AllOf (λ h. HasRow rows h.key) held → AllOf (λ h. HasRow after h.key) held
+same_rows : (rows after : List LadderRow)
+    → ((key : List ℕ) → row_of after key ≡ row_of rows key)
+    → (held : List (Holding (List ℕ)))
+    → AllOf (λ h. HasRow rows h.key) held
+    → AllOf (λ h. HasRow after h.key) held
 same_rows rows after same [] all = tt
 same_rows rows after same (h ∷ held) all = (subst IsSome (sym (same h.key)) all.0, same_rows rows after same held all.1)
 

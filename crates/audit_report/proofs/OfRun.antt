@@ -1,6 +1,7 @@
 -- The ladder of a run, and the marks of its audit, are those of the written run.
 use Rattle.std.proofs.Common.{◌≡◌, refl, sym, ap, subst, ◌∙◌, ℕ, Bool, true, false, Option, Some, None, List, [], ◌∷◌, ◌++◌, map}
 use Rattle.std.specs.Str.{bytes_eq}
+use Rattle.std.specs.List.{AllByRecursion as AllOf}
 use Rattle.key_model.specs.Term.{Term}
 use Rattle.key_model.specs.Value.{value_of, same_value}
 use Rattle.key_terms.specs.declared.row.LadderRow.{LadderRow}
@@ -15,10 +16,8 @@ use Rattle.lte_machine.specs.Distinct.{keys_of, Member, distinct_terms}
 use Rattle.lte_machine.specs.Ladder.{RowOrigin, OfRoot, Of, row_key, Clash, Ladder, Hit, hit, same_origin, stands_or_not, added_at, added_unless, add_next, add_rows, no_rows, ladder_of}
 use Rattle.lte_machine.specs.Machines.{Kept, written_machine, written_in_values}
 use Rattle.lte_machine.specs.Opening.{open_octets, open_by_uses}
-use Rattle.lte_machine.specs.Ranges.{AllOf}
 use Rattle.lte_machine.specs.Run.{RunState, Running, run, first_world}
-use Rattle.lte_machine.specs.Wire.{Outgoing}
-use Rattle.lte_machine.specs.World.{World, Holding}
+use Rattle.lte_machine.specs.World.{Holding}
 use Rattle.lte_machine.proofs.AnnexB.{annex_b_ciphers}
 use Rattle.lte_machine.proofs.History.{Stand, among_distinct}
 use Rattle.lte_machine.proofs.KnownWorld.{Grounds}
@@ -26,11 +25,12 @@ use Rattle.lte_machine.proofs.LadderMap.{rows-map}
 use Rattle.lte_machine.proofs.LadderRun.{still_grounds}
 use Rattle.lte_machine.proofs.StillRun.{still_calm, still_is_run}
 use Rattle.lte_machine.proofs.WholeRun.{run_is_value}
+use Rattle.lte_machine.proofs.Worlds.{TheWorld}
 use Rattle.lte_properties.specs.Accounts.{IsRowOf}
 use Rattle.lte_properties.proofs.AccountsHold.{rows_are}
 use Rattle.lte_world.specs.Whole.{InRun}
-use Rattle.run_report.specs.Ready.{Ready}
-use Rattle.run_report.proofs.Telling.{is_setup, are_events}
+use Rattle.lte_events.specs.Scenario.{IsScenario}
+use Rattle.lte_events.proofs.InRange.{in_range}
 use Rattle.store_laws.specs.Additions.{CanKeep}
 use Rattle.store_laws.specs.Rows.{numbered, all_noted, world_rows}
 use Rattle.store_laws.proofs.Adding.{valued}
@@ -38,9 +38,6 @@ use Rattle.store_laws.proofs.EveryRun.{world_keeps}
 use Rattle.audit_report.specs.OfRun.{AreOf, AuditIsOfRun}
 use Rattle.audit_report.proofs.Rooted.{AllRooted, rows_rooted}
 use Rattle.audit_report.proofs.RowKeys.{IsKasme, RunRows, rows_are_of}
-
-abbrev TheWorld : Type 0
-TheWorld = World Term ℕ (Outgoing Term ℕ)
 
 -- WHAT IS SO OF A HISTORY IS SO OF ITS ROWS
 
@@ -74,7 +71,11 @@ all_kasmes : (history : List (RowOrigin Term)) → AllOf (IsRowOf (written_machi
 all_kasmes [] all = tt
 all_kasmes (o ∷ history) all = (is_kasme o all.0, all_kasmes history all.1)
 
-all_members : (ts us : List Term) → ((t : Term) → Member t ts → Member t us) → (held : List (Holding Term)) → AllOf (λ h. Member h.key ts) held → AllOf (λ h. Member h.key us) held
+all_members : (ts us : List Term)
+    → ((t : Term) → Member t ts → Member t us)
+    → (held : List (Holding Term))
+    → AllOf (λ h. Member h.key ts) held
+    → AllOf (λ h. Member h.key us) held
 all_members ts us more [] all = tt
 all_members ts us more (h ∷ held) all = (more h.key all.0, all_members ts us more held all.1)
 
@@ -86,7 +87,9 @@ module _ (setup : Setup) (events : List Event) (w : TheWorld) (runs : written_ru
   os = (ladder_of same_value w.history).rows
 
   grounds : Grounds w
-  grounds = still_grounds (under_keys value_of annex_b) written_in_values (open_by_uses same_value (under_keys value_of annex_b)) (open_octets annex_b_terms) setup events w runs
+  grounds =
+      still_grounds (under_keys value_of annex_b) written_in_values
+      (open_by_uses same_value (under_keys value_of annex_b)) (open_octets annex_b_terms) setup events w runs
 
   stand : Stand os (distinct_terms w.history)
   stand = grounds.ladder (still_calm (open_octets annex_b_terms) (written_machine annex_b) (first_world setup) events w refl runs)
@@ -96,7 +99,8 @@ module _ (setup : Setup) (events : List Event) (w : TheWorld) (runs : written_ru
 
   is_rows_of : AllOf (IsRowOf (written_machine annex_b)) w.history
   is_rows_of =
-      subst (λ (v : TheWorld). AllOf (IsRowOf (written_machine annex_b)) v.history) (sym (still_is_run (open_octets annex_b_terms) (written_machine annex_b) (first_world setup) events w runs))
+      subst (λ (v : TheWorld). AllOf (IsRowOf (written_machine annex_b)) v.history)
+      (sym (still_is_run (open_octets annex_b_terms) (written_machine annex_b) (first_world setup) events w runs))
       (rows_are (written_machine annex_b) (first_world setup) events tt)
 
   run_rows : RunRows os w.held rows
@@ -106,7 +110,9 @@ module _ (setup : Setup) (events : List Event) (w : TheWorld) (runs : written_ru
     rooted = subst (AllRooted []) in_values (rows_rooted no_rows (valued w.history) tt keeps.history);
     well = stand.well;
     roots = all_rows IsKasme no_rows w.history tt (all_kasmes w.history is_rows_of);
-    among = all_members (keys_of w.history) (keys_of os) (λ t m. subst (Member t) (sym stand.keys) (among_distinct [] (keys_of w.history) t m)) w.held grounds.keys.held;
+    among =
+        all_members (keys_of w.history) (keys_of os)
+        (λ t m. subst (Member t) (sym stand.keys) (among_distinct [] (keys_of w.history) t m)) w.held grounds.keys.held;
   }
 
   pub run_is_of : AreOf (distinct_terms w.history) w.held rows
@@ -114,12 +120,20 @@ module _ (setup : Setup) (events : List Event) (w : TheWorld) (runs : written_ru
 
 -- THE AUDIT OF A RUN
 
-pub audit_of_run : (setup : Setup) (events : List Event) (run : RunState (List ℕ) ℕ Kept) (rows : List LadderRow) → Ready setup events → run ≡ octet_run setup events → InRun (λ w. rows ≡ world_rows w) run → IsLadder rows → AuditIsOfRun setup events
-audit_of_run setup events run rows ready state are ladder w runs =
-    subst (AreOf (distinct_terms w.history) w.held) rows_is (run_is_of setup events w runs rows (world_keeps setup events (in_octets w) (is_setup ready) (are_events ready) octets) rows_is ladder)
+pub audit_of_run : (setup : Setup) (events : List Event) (run : RunState (List ℕ) ℕ Kept) (rows : List LadderRow)
+    → IsScenario setup events
+    → run ≡ octet_run setup events
+    → InRun (λ w. rows ≡ world_rows w) run
+    → IsLadder rows
+    → AuditIsOfRun setup events
+audit_of_run setup events run rows scenario state are ladder w runs =
+    subst (AreOf (distinct_terms w.history) w.held) rows_is
+    (run_is_of setup events w runs rows
+    (world_keeps setup events (in_octets w) scenario.can_start (in_range setup events scenario.can_happen) octets)
+    rows_is ladder)
   where
     octets : octet_run setup events ≡ Running (in_octets w)
-    octets = run_is_value annex_b annex_b_ciphers setup (is_setup ready) events (are_events ready) ∙ ap (run_value annex_b) runs
+    octets = run_is_value annex_b annex_b_ciphers setup scenario.can_start events (in_range setup events scenario.can_happen) ∙ ap (run_value annex_b) runs
 
     rows_is : rows ≡ world_rows (in_octets w)
     rows_is = subst (InRun (λ v. rows ≡ world_rows v)) (state ∙ octets) are

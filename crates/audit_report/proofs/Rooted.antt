@@ -25,7 +25,10 @@ abbrev pub AllRooted : List LadderRow → Origins → Type 0
 AllRooted rows [] = Unit {0}
 AllRooted rows (o ∷ os) = Rooted rows o × AllRooted (rows ++ unheld (origin_in rows o) (row_key o) ∷ []) os
 
-rooted_more : (rows : List LadderRow) (os : Origins) (o : RowOrigin (List ℕ)) → AllRooted rows os → Rooted (numbered_after rows os) o → AllRooted rows (os ++ o ∷ [])
+rooted_more : (rows : List LadderRow) (os : Origins) (o : RowOrigin (List ℕ))
+    → AllRooted rows os
+    → Rooted (numbered_after rows os) o
+    → AllRooted rows (os ++ o ∷ [])
 rooted_more rows [] o all one = (one, tt)
 rooted_more rows (x ∷ os) o all one = (all.0, rooted_more (rows ++ unheld (origin_in rows x) (row_key x) ∷ []) os o all.1 one)
 
@@ -34,7 +37,10 @@ can_rooted : (os : Origins) (o : RowOrigin (List ℕ)) → CanAddTo os o → Roo
 can_rooted os (OfRoot key) can = tt
 can_rooted os (Of d) can = (can.key, can.sync)
 
-added_rooted : (os : Origins) (o : RowOrigin (List ℕ)) (h : Option (Hit (List ℕ))) → AllRooted [] os → Rooted (numbered os) o → AllRooted [] (added_at bytes_eq os o h).rows
+added_rooted : (os : Origins) (o : RowOrigin (List ℕ)) (h : Option (Hit (List ℕ)))
+    → AllRooted [] os
+    → Rooted (numbered os) o
+    → AllRooted [] (added_at bytes_eq os o h).rows
 added_rooted os o None all one = rooted_more [] os o all one
 added_rooted os o (Some h) all one = by (same_origin bytes_eq h.found o)
   where
@@ -42,7 +48,10 @@ added_rooted os o (Some h) all one = by (same_origin bytes_eq h.found o)
     by true = all
     by false = all
 
-next_rooted : (c : Option (Clash (List ℕ))) (os : Origins) (o : RowOrigin (List ℕ)) → AllRooted [] os → (c ≡ None → CanAddTo os o) → AllRooted [] (added_unless c bytes_eq os o).rows
+next_rooted : (c : Option (Clash (List ℕ))) (os : Origins) (o : RowOrigin (List ℕ))
+    → AllRooted [] os
+    → (c ≡ None → CanAddTo os o)
+    → AllRooted [] (added_unless c bytes_eq os o).rows
 next_rooted None os o all can = added_rooted os o (hit bytes_eq (row_key o) os) all (can_rooted os o (can refl))
 next_rooted (Some c) os o all can = all
 
@@ -82,7 +91,10 @@ comes_earlier : (rows more : List LadderRow) (o : RowOrigin (List ℕ)) → Root
 comes_earlier rows more (OfRoot key) r = tt
 comes_earlier rows more (Of d) r = (earlier rows more d.key r.0, sync_earlier rows more d.input r.1)
 
-pub earlier_at : (rows : List LadderRow) (os : Origins) (k : ℕ) (o : RowOrigin (List ℕ)) → AllRooted rows os → slice_get os k ≡ Some o → ComesEarlier (numbered_after rows os) (length rows + k) o
+pub earlier_at : (rows : List LadderRow) (os : Origins) (k : ℕ) (o : RowOrigin (List ℕ))
+    → AllRooted rows os
+    → slice_get os k ≡ Some o
+    → ComesEarlier (numbered_after rows os) (length rows + k) o
 earlier_at rows [] k o all at = absurd (none-some o at)
 earlier_at rows (x ∷ os) zero o all at =
     let one : LadderRow = unheld (origin_in rows x) (row_key x) in

@@ -5,6 +5,7 @@ use Rattle.std.proofs.lemmas.List.{length-map}
 use Rattle.std.proofs.lemmas.Option.{none-some, slice_get-map, slice_get_within}
 use Rattle.std.specs.Prelude.{◌↔◌, IsTrue, IsSome, slice_get, unwrap_or}
 use Rattle.std.specs.Option.{option_map}
+use Rattle.std.specs.List.{AllByRecursion as AllOf}
 use Rattle.key_audit.specs.Derives.{held_by, held_in, holds}
 use Rattle.key_audit.specs.Local.{exact_mark}
 use Rattle.key_audit.specs.Terms.{if_before, sync_row, sync_term, origin_term, term_at}
@@ -24,7 +25,6 @@ use Rattle.key_terms.proofs.LadderLemmas.{stands}
 use Rattle.lte_machine.specs.Carried.{map_holding}
 use Rattle.lte_machine.specs.Distinct.{keys_of, Member}
 use Rattle.lte_machine.specs.Ladder.{RowOrigin, OfRoot, Of, map_row, row_key}
-use Rattle.lte_machine.specs.Ranges.{AllOf}
 use Rattle.lte_machine.specs.World.{Holder, AtPhone, AtCore, AtStation, Holding}
 use Rattle.lte_machine.proofs.Rows.{Well, From, SyncIn, made_of}
 use Rattle.lte_properties.specs.Separation.{IsStationOf}
@@ -136,7 +136,11 @@ module _ (os : List (RowOrigin Term)) (held : List (Holding Term)) (rows : List 
   sync_at k (FromCell pci earfcn) e m = tt
   sync_at k (FromAlg type id) e m = tt
 
-  comes_by : (k : ℕ) (o : RowOrigin Term) (origin : Origin) → slice_get os k ≡ Some o → origin ≡ origin_in first (map_row value_of o) → ComesEarlier first k (map_row value_of o) → Comes k o origin
+  comes_by : (k : ℕ) (o : RowOrigin Term) (origin : Origin)
+      → slice_get os k ≡ Some o
+      → origin ≡ origin_in first (map_row value_of o)
+      → ComesEarlier first k (map_row value_of o)
+      → Comes k o origin
   comes_by k (OfRoot key) origin at is e = (is, all_at IsKasme os k (OfRoot key) run.roots at)
   comes_by k (Of d) origin at is e =
       let ok = all_at (RowIs (keys_of os)) os k (Of d) run.well.made at in (
@@ -152,14 +156,21 @@ module _ (os : List (RowOrigin Term)) (held : List (Holding Term)) (rows : List 
       let place : 0 + k ≡ k = omega arith in
       let stood = origin_stands [] (valued os) k (map_row value_of o) (rooted_placed [] (valued os) run.rooted) there in
       let origin : Some r.origin ≡ Some (origin_in first (map_row value_of o)) =
-      sym (ap (option_map (λ x. x.origin)) row_at) ∙ ap (λ rs. origin_at rs k) run.are ∙ origin_noted first holders k ∙ subst (λ n. origin_at first n ≡ Some (origin_in first (map_row value_of o))) place stood.0 in
+      sym (ap (option_map (λ x. x.origin)) row_at)
+      ∙ ap (λ rs. origin_at rs k) run.are
+      ∙ origin_noted first holders k
+      ∙ subst (λ n. origin_at first n ≡ Some (origin_in first (map_row value_of o))) place stood.0 in
       let is : r.origin ≡ origin_in first (map_row value_of o) = cc in
-      comes_by k o r.origin at is (subst (λ n. ComesEarlier first n (map_row value_of o)) place (earlier_at [] (valued os) k (map_row value_of o) run.rooted there))
+      comes_by k o r.origin at is (subst (λ n. ComesEarlier first n (map_row value_of o)) place
+      (earlier_at [] (valued os) k (map_row value_of o) run.rooted there))
 
   -- the origin of a row that stands
-  origin_there : (k : ℕ) (r : LadderRow) → slice_get rows k ≡ Some r → (o : RowOrigin Term) × (slice_get os k ≡ Some o) × (slice_get (keys_of os) k ≡ Some (row_key o))
+  origin_there : (k : ℕ) (r : LadderRow)
+      → slice_get rows k ≡ Some r
+      → (o : RowOrigin Term) × (slice_get os k ≡ Some o) × (slice_get (keys_of os) k ≡ Some (row_key o))
   origin_there k r row_at =
-      let octets : slice_get (map value_of (keys_of os)) k ≡ Some r.octets = slice_get-map value_of (keys_of os) k ∙ sym (octets_first k) ∙ ap (option_map (λ x. x.octets)) row_at in
+      let octets : slice_get (map value_of (keys_of os)) k ≡ Some r.octets =
+      slice_get-map value_of (keys_of os) k ∙ sym (octets_first k) ∙ ap (option_map (λ x. x.octets)) row_at in
       let key = mapped value_of (keys_of os) k r.octets octets in
       let origin = mapped row_key os k key.0 key.1 in
       (origin.0, origin.1, key.1 ∙ ap Some (sym origin.2))
@@ -177,11 +188,17 @@ module _ (os : List (RowOrigin Term)) (held : List (Holding Term)) (rows : List 
 
   -- THE KEY THAT IS REBUILT FROM THE ROWS
 
-  module _ (k : ℕ) (octets : List ℕ) (before : (j : ℕ) (u : Term) → j < k → slice_get (keys_of os) j ≡ Some u → unnumbered (term_at rows j) ≡ unnumbered u) where
+  module _ (k : ℕ) (octets : List ℕ)
+      (before : (j : ℕ) (u : Term)
+      → j < k
+      → slice_get (keys_of os) j ≡ Some u
+      → unnumbered (term_at rows j) ≡ unnumbered u) where
     abbrev rebuilt_of : Origin → Term
     rebuilt_of origin = unnumbered (origin_term rows (term_at rows) k octets origin)
 
-    made_rebuilt : (key : Term) (i : Input Term) (at : KeyAt k key) → SyncAt k i → rebuilt_of (origins.From (row at.0) (kdf_input (map_input value_of i))) ≡ unnumbered (made_of key i)
+    made_rebuilt : (key : Term) (i : Input Term) (at : KeyAt k key)
+        → SyncAt k i
+        → rebuilt_of (origins.From (row at.0) (kdf_input (map_input value_of i))) ≡ unnumbered (made_of key i)
     made_rebuilt key (FromCount n) at sync = ap (λ u. Kenb u n) (before at.0 key at.2 at.1)
     made_rebuilt key (FromSync u) at sync =
         let other : unnumbered (sync_term rows (value_of u) (term_at rows) (sync_row rows k (value_of u))) ≡ unnumbered u =
@@ -202,7 +219,8 @@ module _ (os : List (RowOrigin Term)) (held : List (Holding Term)) (rows : List 
       let r = stands (λ x. x.octets) rows k (value_of t) (octets_first k ∙ ap (option_map value_of) at) in
       let o = mapped row_key os k t at in
       ap unnumbered (term_is rows run.ladder.made k r.0 r.1)
-      ∙ one_rebuilt k r.0.octets (λ j u less there. rebuilt_below n j u (omega (arith, less, below)) there) o.0 r.0.origin (comes k o.0 r.0 o.1 r.1) (r.2 ∙ ap value_of (sym o.2))
+      ∙ one_rebuilt k r.0.octets (λ j u less there. rebuilt_below n j u (omega (arith, less, below)) there) o.0
+      r.0.origin (comes k o.0 r.0 o.1 r.1) (r.2 ∙ ap value_of (sym o.2))
       ∙ ap unnumbered o.2
 
   -- WHO CAN DERIVE THE KEY OF A ROW
@@ -216,7 +234,12 @@ module _ (os : List (RowOrigin Term)) (held : List (Holding Term)) (rows : List 
 
   module _ (s : ℕ) (few : s < 8) where
     -- a station is noted in the row of a key that it held
-    noted_held : (k : ℕ) (t : Term) → slice_get (keys_of os) k ≡ Some t → (hs : List (Holding Term)) → AllOf (λ h. Member h.key (keys_of os)) hs → IsNoted s k first (map (map_holding value_of) hs) → HeldAlone s hs t
+    noted_held : (k : ℕ) (t : Term)
+        → slice_get (keys_of os) k ≡ Some t
+        → (hs : List (Holding Term))
+        → AllOf (λ h. Member h.key (keys_of os)) hs
+        → IsNoted s k first (map (map_holding value_of) hs)
+        → HeldAlone s hs t
     noted_held k t at [] all n = absurd n
     noted_held k t at (h ∷ hs) all (inl e) =
         let both : Some h.key ≡ Some t = sym (one_key h.key k all.0 e.1) ∙ at in
@@ -229,7 +252,11 @@ module _ (os : List (RowOrigin Term)) (held : List (Holding Term)) (rows : List 
     is_station AtCore is = absurd is
     is_station (AtStation id) is = ap AtStation is
 
-    held_noted : (k : ℕ) (t : Term) → slice_get (keys_of os) k ≡ Some t → (hs : List (Holding Term)) → HeldAlone s hs t → IsNoted s k first (map (map_holding value_of) hs)
+    held_noted : (k : ℕ) (t : Term)
+        → slice_get (keys_of os) k ≡ Some t
+        → (hs : List (Holding Term))
+        → HeldAlone s hs t
+        → IsNoted s k first (map (map_holding value_of) hs)
     held_noted k t at [] h = absurd h
     held_noted k t at (h ∷ hs) (inl e) =
         inl (is_station h.holder e.0, sym (row_first (value_of h.key)) ∙ ap (λ u. row_of rows (value_of u)) e.1 ∙ row_number k t at)
@@ -272,7 +299,10 @@ module _ (os : List (RowOrigin Term)) (held : List (Holding Term)) (rows : List 
     up_made k key (FromCell pci earfcn) at sync d = elim (star_in key pci earfcn d) [ inl h ↦ inl h | inr e ↦ inr (key, at.1, e) ]
     up_made k key (FromAlg type id) at sync d = elim (alg_in key type id d) [ inl h ↦ inl h | inr e ↦ inr (key, at.1, e) ]
 
-    up_by : (k : ℕ) (o : RowOrigin Term) (origin : Origin) → Comes k o origin → Derivable (HeldAlone s held) (row_key o) → HeldAlone s held (row_key o) ⊎ Above rows Can k origin
+    up_by : (k : ℕ) (o : RowOrigin Term) (origin : Origin)
+        → Comes k o origin
+        → Derivable (HeldAlone s held) (row_key o)
+        → HeldAlone s held (row_key o) ⊎ Above rows Can k origin
     up_by k (OfRoot key) origin c d =
         let kasme : key ≡ Root c.1.0 c.1.1 = c.1.2 in
         inl (subst (HeldAlone s held) (sym kasme) (root_in c.1.0 c.1.1 (subst (Derivable (HeldAlone s held)) kasme d)))
@@ -283,7 +313,10 @@ module _ (os : List (RowOrigin Term)) (held : List (Holding Term)) (rows : List 
         ]
 
     -- and down
-    down_made : (k : ℕ) (key : Term) (i : Input Term) (at : KeyAt k key) → SyncAt k i → Above rows Can k (origins.From (row at.0) (kdf_input (map_input value_of i))) → Derivable (HeldAlone s held) (made_of key i)
+    down_made : (k : ℕ) (key : Term) (i : Input Term) (at : KeyAt k key)
+        → SyncAt k i
+        → Above rows Can k (origins.From (row at.0) (kdf_input (map_input value_of i)))
+        → Derivable (HeldAlone s held) (made_of key i)
     down_made k key (FromCount n) at sync above = by_kenb (place_derives at.0 key at.1 above)
     down_made k key (FromSync u) at sync above =
         by_nh (place_derives at.0 key at.1 above.0) (place_derives sync.0 u sync.1 (subst (AtSync Can) (sync_is k u sync) above.1))

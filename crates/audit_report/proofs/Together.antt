@@ -75,7 +75,9 @@ together : (sites : _) (w : World Term ℕ (Outgoing Term ℕ)) → Separates si
 together sites w s test t is = (one, all)
   where
     one : Derivable (HeldBy (Those test) w.held) t → OneDerives test w.held t
-    one d = let from = one_from test w.held t ((s.holding test t (s.all_held t is)).0 d) in (from.0, from.1, from_set_derivable (HeldAlone from.0 w.held) t from.2)
+    one d =
+        let from = one_from test w.held t ((s.holding test t (s.all_held t is)).0 d) in
+        (from.0, from.1, from_set_derivable (HeldAlone from.0 w.held) t from.2)
 
     all : OneDerives test w.held t → Derivable (HeldBy (Those test) w.held) t
     all (id, among, d) = more_derive (λ u h. all_held test id among u w.held h) d
@@ -83,7 +85,9 @@ together sites w s test t is = (one, all)
 pub each_alone : (setup : Setup) (events : List Event) → EachAlone setup events
 each_alone setup events n w runs =
     together setup.cells w
-    (subst (λ (v : World Term ℕ (Outgoing Term ℕ)). Separates setup.cells v) (sym (still_is_run (open_octets annex_b_terms) (written_machine annex_b) (first_world setup) (take n events) w runs))
+    (subst (λ (v : World Term ℕ (Outgoing Term ℕ)). Separates setup.cells v)
+    (sym
+    (still_is_run (open_octets annex_b_terms) (written_machine annex_b) (first_world setup) (take n events) w runs))
     (separation_holds same_value annex_b_terms written_in_values setup (take n events)))
 
 -- the marks of a ladder are exact
@@ -94,9 +98,13 @@ is_exact rows ladder = record {
 }
 
 -- and so in the run of which it is the ladder
-pub exact_in : (rows : List LadderRow) (run run' : RunState (List ℕ) ℕ Kept) → run ≡ run' → InRun (λ w. rows ≡ world_rows w) run → IsExact rows → InRun (λ w. IsExact (world_rows w)) run'
+pub exact_in : (rows : List LadderRow) (run run' : RunState (List ℕ) ℕ Kept)
+    → run ≡ run'
+    → InRun (λ w. rows ≡ world_rows w) run
+    → IsExact rows
+    → InRun (λ w. IsExact (world_rows w)) run'
 exact_in rows run run' same are exact = subst (InRun (λ w. IsExact (world_rows w))) same (by run are)
   where
     by : (r : RunState (List ℕ) ℕ Kept) → InRun (λ w. rows ≡ world_rows w) r → InRun (λ w. IsExact (world_rows w)) r
     by (Running w) is = subst IsExact is exact
-    by (Stopped chance) is = tt
+    by (Stopped coincidence) is = tt

@@ -8,7 +8,7 @@ use Rattle.lte_machine.specs.Carried.{run_value, report_value}
 use Rattle.lte_machine.specs.Ciphers.{annex_b}
 use Rattle.lte_machine.specs.Machines.{Kept}
 use Rattle.lte_machine.specs.Run.{RunState, Running, Stopped}
-use Rattle.report_text.specs.Chance.{chance_text}
+use Rattle.report_text.specs.Coincidence.{coincidence_text}
 use Rattle.run_report.specs.Report.{Report}
 use Rattle.run_report.specs.Summary.{Outcome, AllLines, Coincides, outcome_from}
 use Rattle.store_laws.specs.Rows.{world_rows}
@@ -16,11 +16,11 @@ use Rattle.store_laws.specs.Rows.{world_rows}
 -- the text of the exact audit of the ladder of a run
 abbrev pub audit_in : RunState (List ℕ) ℕ Kept → List ℕ
 audit_in (Running w) = audit_text (world_rows w)
-audit_in (Stopped chance) = []
+audit_in (Stopped coincidence) = []
 
 abbrev pub audit_with : List ℕ → Outcome → Report
 audit_with text (AllLines lines) = record { text = text; coincides = false }
-audit_with text (Coincides step proof) = record { text = chance_text step proof; coincides = true }
+audit_with text (Coincides step proof) = record { text = coincidence_text step proof; coincides = true }
 
 -- the audit of the written machine's run over key terms, printed in values
 unfoldable pub audit_report_of : Setup → List Event → Report

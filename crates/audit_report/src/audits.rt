@@ -1,7 +1,7 @@
 ghost use Rattle.std.specs.Prelude.{◌≡◌, false, Ok, IsTrue};
 ghost use Rattle.key_audit.specs.Text.{audit_text};
 ghost use Rattle.lte_world.specs.Whole.{begun};
-ghost use Rattle.run_report.specs.Ready.{Ready};
+ghost use Rattle.lte_events.specs.Scenario.{IsScenario};
 ghost use Rattle.run_report.specs.Written.{WritesReport, WritesText};
 ghost use Rattle.audit_report.specs.Alone.{EachAlone};
 ghost use Rattle.audit_report.specs.Audited.{IsExact, AuditIsExact};
@@ -16,7 +16,7 @@ use key_terms::Ladder;
 use lte_events::{Events, Setup};
 use lte_world::World;
 use report_text::Tally;
-use run_report::{Course, Unwritten, run_through, write_chance};
+use run_report::{Course, Unwritten, run_through, write_coincidence};
 use std::alloc::Global;
 
 /// Lets these events happen to a system, and writes the exact audit of its keys, each line by one `write_all`: which
@@ -31,7 +31,7 @@ pub fn write_audit<W: Sink>(
     out: &mut W,
 ) -> Result<bool, Unwritten>
     requires out_ready { IsTrue (W.told out.old).ready }
-    requires ready { Ready setup.now events.now.items }
+    requires is_scenario { IsScenario setup.now events.now.items }
     ensures report { WritesReport (audit_report_of setup.now events.now.items) result (W.told out.old) (W.told out.new) }
     // What the stations of a set held lets them derive a key of the run exactly where one of them can by itself.
     ensures alone { EachAlone setup.now events.now.items }
@@ -57,7 +57,7 @@ fn audit_run<W: Sink>(
 ) -> Result<bool, Unwritten>
     requires out_ready { IsTrue (W.told out.old).ready }
     requires begun { world.old ≡ begun world.old.setup }
-    requires ready { Ready world.old.setup events.now.items }
+    requires is_scenario { IsScenario world.old.setup events.now.items }
     ensures report { WritesReport (audit_report_of world.old.setup events.now.items) result (W.told out.old) (W.told out.new) }
     ensures exact { result ≡ Ok false → AuditIsExact world.old.setup events.now.items }
     ensures of_run { result ≡ Ok false → AuditIsOfRun world.old.setup events.now.items }
@@ -68,7 +68,7 @@ fn audit_run<W: Sink>(
             Ok(()) => Ok(false),
             Err(fault) => Err(fault),
         },
-        Ok(Course::Chance(step, proof)) => match write_chance(alloc, step, proof, out) {
+        Ok(Course::Coincidence(step, proof)) => match write_coincidence(alloc, step, proof, out) {
             Ok(()) => Ok(true),
             Err(fault) => Err(fault),
         },

@@ -89,7 +89,10 @@ nas_opens_line header count text checked =
 -- a MAC that differs: the COUNT at which it was computed, both MACs, and the text at that COUNT all the same
 unfoldable pub mac_fails_line : ℕ → List ℕ → List ℕ → List ℕ → List ℕ
 mac_fails_line count wanted got text =
-    codes "mac fails " ++ (decimal count ++ (codes " wanted " ++ (encode_lower wanted ++ (codes " got " ++ (encode_lower got ++ (codes " text " ++ written text))))))
+    codes "mac fails "
+    ++ (decimal count
+    ++ (codes " wanted "
+    ++ (encode_lower wanted ++ (codes " got " ++ (encode_lower got ++ (codes " text " ++ written text))))))
 
 -- a first octet that is none of such a PDU
 unfoldable pub bad_header_line : ℕ → List ℕ

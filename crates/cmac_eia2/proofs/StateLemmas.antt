@@ -42,7 +42,10 @@ xor_blocks-same a b b' h =
 xor_blocks-assoc : (a b c : List ℕ) → xor_blocks (xor_blocks a b) c ≡ xor_blocks a (xor_blocks b c)
 xor_blocks-assoc a b c =
     same_blocks _ _ (length-xor_blocks (xor_blocks a b) c) (length-xor_blocks a (xor_blocks b c))
-    (λ i l. xor_blocks-at (xor_blocks a b) c i l ∙ ap (λ x. bit_xor x (get_or c i 0)) (xor_blocks-at a b i l) ∙ xor_assoc (get_or a i 0) (get_or b i 0) (get_or c i 0) ∙ sym (xor_blocks-at a (xor_blocks b c) i l ∙ ap (bit_xor (get_or a i 0)) (xor_blocks-at b c i l)))
+    (λ i l. xor_blocks-at (xor_blocks a b) c i l
+    ∙ ap (λ x. bit_xor x (get_or c i 0)) (xor_blocks-at a b i l)
+    ∙ xor_assoc (get_or a i 0) (get_or b i 0) (get_or c i 0)
+    ∙ sym (xor_blocks-at a (xor_blocks b c) i l ∙ ap (bit_xor (get_or a i 0)) (xor_blocks-at b c i l)))
 
 -- the sum with no octet
 xor_blocks-nil : (a : List ℕ) → length a ≡ 16 → xor_blocks a [] ≡ a
@@ -121,7 +124,8 @@ absorbed-within key text n h room =
     let long : length last ≡ n - 16 * b = length-drop (16 * b) (take n text) ∙ ap (λ k. k - 16 * b) taken in
     let more : drop (16 * b) (take (n + 1) text) ≡ last ++ x ∷ [] =
     ap (drop (16 * b)) (take_more text n 0 h) ∙ drop-append-le (16 * b) (take n text) (x ∷ []) (omega arith) in
-    let mixed : xor_blocks (after_blocks key text b) (drop (16 * b) (take (n + 1) text)) ≡ mixed_with (xor_blocks (after_blocks key text b) last) (n - 16 * b) x =
+    let mixed : xor_blocks (after_blocks key text b) (drop (16 * b) (take (n + 1) text))
+    ≡ mixed_with (xor_blocks (after_blocks key text b) last) (n - 16 * b) x =
     ap (xor_blocks (after_blocks key text b)) more
     ∙ xor_blocks-push (after_blocks key text b) last x (omega arith)
     ∙ ap (λ k. mixed_with (xor_blocks (after_blocks key text b) last) k x) long in

@@ -1,5 +1,6 @@
 -- One event of two cores, from what its calls say.
 use Rattle.std.proofs.Common.{◌≡◌, ◌≢◌, sym, ap, ◌∙◌, subst, ℕ, List, [], ◌∷◌, ◌++◌, true, Option, Some, None, Result, Ok, Err, option_map}
+use Rattle.lte_events.specs.Ranges.{IsEvent}
 use Rattle.lte_events.specs.declared.events.Event.{Event}
 use Rattle.lte_events.specs.declared.inputs.ActorIn.{ActorIn}
 use Rattle.lte_events.specs.declared.lines.Line.{Line}
@@ -8,7 +9,6 @@ use Rattle.key_terms.specs.declared.proof.Proof.{Proof}
 use Rattle.lte_machine.specs.BothRuns.{octet_run, written_run}
 use Rattle.lte_machine.specs.Carried.{run_value}
 use Rattle.lte_machine.specs.Ciphers.{annex_b}
-use Rattle.lte_machine.specs.Ranges.{IsEvent}
 use Rattle.lte_machine.specs.Run.{GoesOn}
 use Rattle.s1x2_rec.specs.declared.records.CoreRecord.{CoreRecord}
 use Rattle.lte_world.specs.declared.faults.WorldFault.{WorldFault}
@@ -25,24 +25,36 @@ use Rattle.core_relocation.proofs.Taking.{held_told}
 use Rattle.core_relocation.proofs.Told.{none_over, with_line}
 
 -- what is answered by the system is answered in the written run
-pub in_written : (v now : TwoWhole) → v ≡ now → Keeps v → (e : Event) → IsEvent e → StillRuns now → answer_in now.cores (state_of now) (run_of now.world) (told_of now.world e) e ≡ next_answer now.world.setup now.cores.core_of (state_written now) e
+pub in_written : (v now : TwoWhole)
+    → v ≡ now
+    → Keeps v
+    → (e : Event)
+    → IsEvent e
+    → StillRuns now
+    → answer_in now.cores (state_of now) (run_of now.world) (told_of now.world e) e
+    ≡ next_answer now.world.setup now.cores.core_of (state_written now) e
 in_written v now view k e is runs = answer_written now (subst Keeps view k) e is runs
 
 -- with room in the system, and who sent the record that the event delivers
 module _ (v : TwoWhole) (k : Keeps v) (e : Event) (is : IsEvent e) (reserved : Whole) (same : reserved ≡ record v.world { ready = true })
-    (events : List Event) (events_same : events ≡ v.events) (senders : List Sender) (senders_same : senders ≡ v.senders) (from : Option ℕ) (from_is : from ≡ station_in senders e) where
+    (events : List Event) (events_same : events ≡ v.events) (senders : List Sender) (senders_same : senders ≡ v.senders)
+    (from : Option ℕ) (from_is : from ≡ station_in senders e) where
   from_same : from ≡ station_in v.senders e
   from_same = from_is ∙ ap (λ s. station_in s e) senders_same
 
   pub away_keeps : (core : ℕ) → Some core ≡ away v.cores from e → (after : List Event) → after ≡ events ++ e ∷ [] → (sent : List Sender) → sent ≡ senders
       → Keeps (record { world = reserved; cores = v.cores; events = after; senders = sent })
   away_keeps core asks after more sent kept =
-      keeps_away v e core (sym (asks ∙ ap (λ o. away v.cores o e) from_same)) reserved same after (more ∙ ap (λ es. es ++ e ∷ []) events_same) sent (kept ∙ senders_same) k is
+      keeps_away v e core (sym (asks ∙ ap (λ o. away v.cores o e) from_same)) reserved same after
+      (more ∙ ap (λ es. es ++ e ∷ []) events_same) sent (kept ∙ senders_same) k is
 
   -- and a line of the system
-  module _ (here : None ≡ away v.cores from e) (line : Line) (told : Ok line ≡ told_of reserved e) (w : Whole) (turns : run_of w ≡ turned reserved e) (set : w.setup ≡ reserved.setup) (longer : w.journal ≡ reserved.journal ++ e ∷ [])
+  module _ (here : None ≡ away v.cores from e) (line : Line) (told : Ok line ≡ told_of reserved e) (w : Whole)
+      (turns : run_of w ≡ turned reserved e) (set : w.setup ≡ reserved.setup)
+      (longer : w.journal ≡ reserved.journal ++ e ∷ [])
       (core : ℕ) (core_is : core ≡ acting v.cores from) (replies : List (ActorIn × ActorOut)) (last : w.over ≡ None → RepliedLast w.setup w.journal replies)
-      (came : Option CoreRecord) (came_is : option_map fields_of came ≡ fields_told replies) (held : Held) (held_is : held ≡ held_after v.cores core e (option_map fields_of came) line)
+      (came : Option CoreRecord) (came_is : option_map fields_of came ≡ fields_told replies) (held : Held)
+      (held_is : held ≡ held_after v.cores core e (option_map fields_of came) line)
       (after : List Event) (more : after ≡ events ++ e ∷ []) (sent : List Sender) (grown : sent ≡ senders ++ sent_by line.who line.sent) where
     here_is : away v.cores (station_in v.senders e) e ≡ None
     here_is = sym (here ∙ ap (λ o. away v.cores o e) from_same)
@@ -94,14 +106,21 @@ module _ (v : TwoWhole) (k : Keeps v) (e : Event) (is : IsEvent e) (reserved : W
 -- A COINCIDENCE
 
 -- what is answered with a coincidence is what the system tells
-pub chance_told : (o : Option ℕ) (acts step : ℕ) (told : Result Line WorldFault) (fault : WorldFault) (proof : Proof) → fault ≡ WorldFault.Chance proof
-    → (◌≢◌ {A = Result TwoLine WorldFault} (Err fault) (Err WorldFault.Memory) → Err fault ≡ answer_by o acts step told) → Err (WorldFault.Chance proof) ≡ told
-chance_told o acts step told fault proof is says = by o told (sym (ap Err is) ∙ says (λ e. let no : WorldFault.Chance proof ≡ WorldFault.Memory = sym is ∙ same_err e in cc))
+pub coincidence_told : (o : Option ℕ) (acts step : ℕ) (told : Result Line WorldFault)
+    (fault : WorldFault) (proof : Proof)
+    → fault ≡ WorldFault.Coincidence proof
+    → (◌≢◌ {A = Result TwoLine WorldFault} (Err fault) (Err WorldFault.Memory) → Err fault ≡ answer_by o acts step told)
+    → Err (WorldFault.Coincidence proof) ≡ told
+coincidence_told o acts step told fault proof is says =
+    by o told (sym (ap Err is)
+    ∙ says (λ e. let no : WorldFault.Coincidence proof ≡ WorldFault.Memory = sym is ∙ same_err e in cc))
   where
     same_err : ◌≡◌ {A = Result TwoLine WorldFault} (Err fault) (Err WorldFault.Memory) → fault ≡ WorldFault.Memory
     same_err e = cc
 
-    by : (o : Option ℕ) (told : Result Line WorldFault) → Err (WorldFault.Chance proof) ≡ answer_by o acts step told → Err (WorldFault.Chance proof) ≡ told
+    by : (o : Option ℕ) (told : Result Line WorldFault)
+        → Err (WorldFault.Coincidence proof) ≡ answer_by o acts step told
+        → Err (WorldFault.Coincidence proof) ≡ told
     by (Some core) told e = cc
     by None (Ok line) e = cc
-    by None (Err f) e = let one : WorldFault.Chance proof ≡ f = cc in ap Err one
+    by None (Err f) e = let one : WorldFault.Coincidence proof ≡ f = cc in ap Err one

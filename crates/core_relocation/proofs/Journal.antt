@@ -19,7 +19,8 @@ use Rattle.core_relocation.specs.Promises.{system_told, told_alone, unstepped}
 use Rattle.core_relocation.specs.Run.{TwoState, answer_by, answers, cores_of, fields_of_run, first_state, heard_of, next_answer, next_state, run_after, state_by, states, told_after, two_state}
 
 -- one event more of a run
-turned_more : (r : RunState Term ℕ (Outgoing Term ℕ)) (es : List Event) (e : Event) → replay (open_octets annex_b_terms) (written_machine annex_b) r (es ++ e ∷ [])
+turned_more : (r : RunState Term ℕ (Outgoing Term ℕ)) (es : List Event) (e : Event)
+    → replay (open_octets annex_b_terms) (written_machine annex_b) r (es ++ e ∷ [])
     ≡ turn (open_octets annex_b_terms) (written_machine annex_b) (replay (open_octets annex_b_terms) (written_machine annex_b) r es) e
 turned_more r [] e = refl
 turned_more r (d ∷ es) e = turned_more (turn (open_octets annex_b_terms) (written_machine annex_b) r d) es e
@@ -37,12 +38,15 @@ abbrev told_more : Option ℕ → Result Line WorldFault → List (Result Line W
 told_more (Some core) told rest = rest
 told_more None told rest = unstepped told ∷ rest
 
-told_by : (o : Option ℕ) (acts step : ℕ) (told : Result Line WorldFault) (rest : List (Result TwoLine WorldFault)) → system_told (answer_by o acts step told ∷ rest) ≡ told_more o told (system_told rest)
+told_by : (o : Option ℕ) (acts step : ℕ) (told : Result Line WorldFault) (rest : List (Result TwoLine WorldFault))
+    → system_told (answer_by o acts step told ∷ rest) ≡ told_more o told (system_told rest)
 told_by (Some core) acts step told rest = refl
 told_by None acts step (Ok line) rest = refl
 told_by None acts step (Err fault) rest = refl
 
-heard_by : (o : Option ℕ) (c : Cores) (s : TwoState) (e : Event) (fields : Option Fields) (told : Result Line WorldFault) (rest : List Event) → (state_by o c s e fields told).heard ++ rest ≡ s.heard ++ seen o e rest
+heard_by : (o : Option ℕ) (c : Cores) (s : TwoState) (e : Event) (fields : Option Fields)
+    (told : Result Line WorldFault) (rest : List Event)
+    → (state_by o c s e fields told).heard ++ rest ≡ s.heard ++ seen o e rest
 heard_by (Some core) c s e fields told rest = refl
 heard_by None c s e fields (Ok line) rest = append_assoc s.heard (e ∷ []) rest
 heard_by None c s e fields (Err fault) rest = append_assoc s.heard (e ∷ []) rest
@@ -60,10 +64,14 @@ module _ (setup : Setup) (core_of : List ℕ) where
   heard_is s [] = sym (append-nil s.heard)
   heard_is s (e ∷ es) =
       heard_is (next_state setup core_of s e) es
-      ∙ heard_by (asks s e) (cores_of setup core_of s) s e (fields_of_run (run_after setup core_of s.heard) e) (told_after setup core_of s.heard e) (all_seen (next_state setup core_of s e) es)
+      ∙ heard_by (asks s e) (cores_of setup core_of s) s e (fields_of_run (run_after setup core_of s.heard) e)
+      (told_after setup core_of s.heard e) (all_seen (next_state setup core_of s e) es)
 
   tells : (s : TwoState) (e : Event) (rest : List Event) (o : Option ℕ) (told : Result Line WorldFault) → told ≡ told_after setup core_of s.heard e
-      → told_more o told (map told_alone (tale (written_run setup (state_by o (cores_of setup core_of s) s e (fields_of_run (run_after setup core_of s.heard) e) told).heard) rest))
+      → told_more o told (map told_alone
+      (tale (written_run setup
+      (state_by o (cores_of setup core_of s) s e (fields_of_run (run_after setup core_of s.heard) e) told).heard)
+      rest))
       ≡ map told_alone (tale (written_run setup s.heard) (seen o e rest))
   tells s e rest (Some core) told is = refl
   tells s e rest None (Ok line) is =
@@ -83,6 +91,8 @@ module _ (setup : Setup) (core_of : List ℕ) where
       ∙ tells s e (all_seen (next_state setup core_of s e) es) (asks s e) told refl
 
   -- from the beginning
-  pub lines_are : (events : List Event) → system_told (answers setup core_of first_state events) ≡ map told_alone (written_report setup (heard_of setup core_of events))
+  pub lines_are : (events : List Event)
+      → system_told (answers setup core_of first_state events)
+      ≡ map told_alone (written_report setup (heard_of setup core_of events))
   unfolding two_state
   lines_are events = tale_from first_state events ∙ ap (λ es. map told_alone (written_report setup es)) (sym (heard_is first_state events))

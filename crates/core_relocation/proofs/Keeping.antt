@@ -1,5 +1,7 @@
 -- What holds of two cores stays so at each event.
 use Rattle.std.proofs.Common.{◌≡◌, refl, sym, ap, ◌∙◌, subst, ℕ, ◌+◌, ◌≤◌, List, [], ◌∷◌, ◌++◌, length, length-append, true, Option, Some, None, Ok, arith}
+use Rattle.std.specs.List.{AllByRecursion as AllOf}
+use Rattle.lte_events.specs.Ranges.{IsEvent, IsSetup}
 use Rattle.lte_events.specs.declared.events.Event.{Event}
 use Rattle.lte_events.specs.declared.lines.Line.{Line}
 use Rattle.lte_events.specs.declared.lines.Who.{Who}
@@ -8,7 +10,6 @@ use Rattle.lte_events.specs.declared.setups.Setup.{Setup}
 use Rattle.lte_machine.specs.Ciphers.{annex_b}
 use Rattle.lte_machine.specs.BothRuns.{written_run}
 use Rattle.lte_machine.specs.Carried.{run_value}
-use Rattle.lte_machine.specs.Ranges.{AllOf, IsEvent, IsSetup}
 use Rattle.lte_machine.proofs.RangeStation.{all_append}
 use Rattle.lte_machine.specs.Run.{GoesOn}
 use Rattle.lte_world.specs.Whole.{Whole, run_of, told_of}
@@ -21,11 +22,13 @@ use Rattle.core_relocation.proofs.Told.{told_written, with_line}
 
 -- ONE EVENT MORE
 
-states_more : (setup : Setup) (core_of : List ℕ) (s : TwoState) (es : List Event) (e : Event) → states setup core_of s (es ++ e ∷ []) ≡ next_state setup core_of (states setup core_of s es) e
+states_more : (setup : Setup) (core_of : List ℕ) (s : TwoState) (es : List Event) (e : Event)
+    → states setup core_of s (es ++ e ∷ []) ≡ next_state setup core_of (states setup core_of s es) e
 states_more setup core_of s [] e = refl
 states_more setup core_of s (d ∷ es) e = states_more setup core_of (next_state setup core_of s d) es e
 
-pub state_more : (setup : Setup) (core_of : List ℕ) (es : List Event) (e : Event) → two_state setup core_of (es ++ e ∷ []) ≡ next_state setup core_of (two_state setup core_of es) e
+pub state_more : (setup : Setup) (core_of : List ℕ) (es : List Event) (e : Event)
+    → two_state setup core_of (es ++ e ∷ []) ≡ next_state setup core_of (two_state setup core_of es) e
 unfolding two_state
 state_more setup core_of es e = states_more setup core_of first_state es e
 
@@ -65,7 +68,8 @@ module _ (v : TwoWhole) (k : Keeps v) (e : Event) (is : IsEvent e) (runs : Still
 -- NOT HERE
 
 module _ (v : TwoWhole) (e : Event) (core : ℕ) (not_here : away v.cores (station_in v.senders e) e ≡ Some core)
-    (w : Whole) (same : w ≡ record v.world { ready = true }) (events : List Event) (more : events ≡ v.events ++ e ∷ []) (senders : List Sender) (sent : senders ≡ v.senders) where
+    (w : Whole) (same : w ≡ record v.world { ready = true }) (events : List Event) (more : events ≡ v.events ++ e ∷ [])
+    (senders : List Sender) (sent : senders ≡ v.senders) where
   abbrev after_away : TwoWhole
   after_away = record { world = w; cores = v.cores; events = events; senders = senders }
 
@@ -119,5 +123,9 @@ module _ (v : TwoWhole) (e : Event) (here : away v.cores (station_in v.senders e
         heard = omega (arith, one_longer v.world.journal w.journal e longer, k.heard, one_more);
         sent = omega (arith, ap length sent ∙ length-append v.senders (sent_by line.who line.sent), sent_least line.who line.sent, k.sent, one_more);
         run = λ runs. written;
-        state = λ runs. line_state ∙ next_written v k e is ran ∙ ap (two_state v.world.setup v.cores.core_of) (sym more) ∙ ap (λ s. two_state s v.cores.core_of events) (sym set);
+        state = λ runs.
+            line_state
+            ∙ next_written v k e is ran
+            ∙ ap (two_state v.world.setup v.cores.core_of) (sym more)
+            ∙ ap (λ s. two_state s v.cores.core_of events) (sym set);
       }

@@ -1,7 +1,9 @@
 -- Each key that a core sends to a station goes in one record.
 use Rattle.std.proofs.Common.{◌≡◌, refl, sym, ap, ◌∙◌, subst, ℕ, zero, suc, List, [], ◌∷◌, ◌++◌, length, map, Option, Some, None, option_map, inl, inr}
 use Rattle.std.specs.Prelude.{◌⊎◌, slice_get}
+use Rattle.std.specs.List.{AllByRecursion as AllOf}
 use Rattle.rec_base.specs.declared.uses.Dir.TheVariants.{Up, Down}
+use Rattle.lte_events.specs.Ranges.{IsEvent, IsSetup}
 use Rattle.lte_events.specs.declared.addresses.Address.{Address}
 use Rattle.lte_events.specs.declared.events.Event.{Event}
 use Rattle.lte_events.specs.declared.setups.Setup.{Setup}
@@ -16,7 +18,6 @@ use Rattle.lte_machine.specs.Ciphers.{annex_b, octets_of}
 use Rattle.lte_machine.specs.Known.{SentKnown, IsReported, AllReported}
 use Rattle.lte_machine.specs.Machines.{Kept, kept_in_values, sender_of, written_in_values, written_machine}
 use Rattle.lte_machine.specs.Opening.{Opening, Outcome, open_by_uses, open_octets}
-use Rattle.lte_machine.specs.Ranges.{AllOf, IsEvent, IsSetup}
 use Rattle.lte_machine.specs.Run.{Running, run, first_world}
 use Rattle.lte_machine.specs.Wire.{Outgoing, SealedNas, PlainNas, SealedRrc, UserPacket, Between}
 use Rattle.lte_machine.specs.World.{Machine, World, with_one, happens}
@@ -25,14 +26,12 @@ use Rattle.lte_machine.proofs.LadderRun.{all_reported, ladder_always}
 use Rattle.lte_machine.proofs.RangeHolds.{RecordRanged, Ranged}
 use Rattle.lte_machine.proofs.RangeWorld.{first_ranged, ranged_keeps, reads_back}
 use Rattle.lte_machine.proofs.StillRun.{still_is_run}
+use Rattle.lte_machine.proofs.Worlds.{TheWorld}
 use Rattle.lte_properties.specs.Separation.{Gives, GivenTo}
 use Rattle.lte_properties.proofs.KeySeparation.Holders.{Holders}
 use Rattle.lte_properties.proofs.KeySeparation.Keys.{GivesIn}
 use Rattle.lte_properties.proofs.KeySeparation.World.{first_holds, happens_goes}
 use Rattle.core_relocation.specs.Once.{nh_of, nh_read, nh_sent, NoNhTwice}
-
-abbrev TheWorld : Type 0
-TheWorld = World Term ℕ (Outgoing Term ℕ)
 
 -- LISTS OF RECORDS
 
@@ -55,7 +54,10 @@ got_more {A = A} (z ∷ zs) x (suc i) y e = by (got_more zs x i y e)
     by (inl f) = inl f
     by (inr f) = inr (ap suc f.0, f.1)
 
-more_apart : (xs : List (Outgoing Term ℕ)) (o : Option (Outgoing Term ℕ)) → Apart xs → ((t : Term) (a b : ℕ) → GivenTo xs t a → GivesIn o t b → ⊥) → Apart (with_one o xs)
+more_apart : (xs : List (Outgoing Term ℕ)) (o : Option (Outgoing Term ℕ))
+    → Apart xs
+    → ((t : Term) (a b : ℕ) → GivenTo xs t a → GivesIn o t b → ⊥)
+    → Apart (with_one o xs)
 more_apart xs None h fresh i j y z t a b e f k l = h i j y z t a b e f k l
 more_apart xs (Some x) h fresh i j y z t a b e f k l = by (got_more xs x i y e) (got_more xs x j z f)
   where
@@ -81,7 +83,9 @@ all_got P (y ∷ ys) (suc i) x h e = all_got P ys i x h.1 e
 abbrev GivesValue : Outgoing Term ℕ → List ℕ → Type 0
 GivesValue x nh = (t : Term) × (a : ℕ) × Gives t a x × (value_of t ≡ nh)
 
-nh_is : (fields : Fields) (key : Option (NumberedKey Term ℕ)) (nh : List ℕ) → nh_of fields (option_map (map_numbered value_of ncc_of) key) ≡ Some nh → (k : NumberedKey Term ℕ) × (key ≡ Some k) × (value_of k.key ≡ nh)
+nh_is : (fields : Fields) (key : Option (NumberedKey Term ℕ)) (nh : List ℕ)
+    → nh_of fields (option_map (map_numbered value_of ncc_of) key) ≡ Some nh
+    → (k : NumberedKey Term ℕ) × (key ≡ Some k) × (value_of k.key ≡ nh)
 nh_is (PathSwitchAnswer conn number) None nh e = cc
 nh_is (PathSwitchAnswer conn number) (Some k) nh e = (k, refl, cc)
 nh_is (HandoverRequest conn source attempt cell caps) None nh e = cc
@@ -105,7 +109,9 @@ gives_value (Between (Address.StationX2 station) fields key) h nh is = cc
 gives_value (Between (Address.StationS1 station) fields key) h nh is =
     by key (nh_is fields key nh (sym (ap nh_read (reads_back fields key h.0 h.1)) ∙ is))
   where
-    by : (key : Option (NumberedKey Term ℕ)) → (k : NumberedKey Term ℕ) × (key ≡ Some k) × (value_of k.key ≡ nh) → GivesValue (Between (Address.StationS1 station) fields key) nh
+    by : (key : Option (NumberedKey Term ℕ))
+        → (k : NumberedKey Term ℕ) × (key ≡ Some k) × (value_of k.key ≡ nh)
+        → GivesValue (Between (Address.StationS1 station) fields key) nh
     by key k = subst (λ o. GivesValue (Between (Address.StationS1 station) fields o) nh) (sym k.1) (k.0.key, station, (refl, refl), k.2)
 
 -- and a key that is given was reported

@@ -1,13 +1,12 @@
 -- What holds of every run with two cores.
 use Rattle.std.proofs.Common.{◌≡◌, refl, sym, ap, ◌∙◌, ℕ, zero, suc, ◌==◌, Bool, true, false, List, [], ◌∷◌, ◌++◌, take, Option, Some, None, Result, Ok, Err, eq-eqb}
-use Rattle.std.specs.Prelude.{◌||◌, All, slice_get}
-use Rattle.lte_events.specs.Conditions.{CanHappen, CanStart, EventFits, SetupFits}
+use Rattle.std.specs.Prelude.{◌||◌, slice_get}
+use Rattle.std.specs.List.{AllByRecursion as AllOf}
+use Rattle.lte_events.specs.Ranges.{IsEvent, IsSetup}
 use Rattle.lte_events.specs.declared.events.Event.{Event}
 use Rattle.lte_events.specs.declared.lines.Line.{Line}
 use Rattle.lte_events.specs.declared.lines.Who.{Who}
 use Rattle.lte_events.specs.declared.setups.Setup.{Setup}
-use Rattle.lte_machine.specs.Ranges.{AllOf, IsEvent, IsSetup}
-use Rattle.lte_machine.proofs.Fitting.{events_fit, setup_fits}
 use Rattle.lte_machine.proofs.RangeStation.{all_append}
 use Rattle.lte_properties.proofs.HeadlineHolds.{headline}
 use Rattle.lte_world.specs.declared.faults.WorldFault.{WorldFault}
@@ -23,7 +22,11 @@ use Rattle.core_relocation.proofs.Once.{no_nh_twice}
 
 -- WHAT THE SYSTEM SAW
 
-heard_by : (P : Event → Type 0) (o : Option ℕ) (c : Cores) (s : TwoState) (e : Event) (fields : Option Fields) (told : Result Line WorldFault) → AllOf P s.heard → P e → AllOf P (state_by o c s e fields told).heard
+heard_by : (P : Event → Type 0) (o : Option ℕ) (c : Cores) (s : TwoState) (e : Event) (fields : Option Fields)
+    (told : Result Line WorldFault)
+    → AllOf P s.heard
+    → P e
+    → AllOf P (state_by o c s e fields told).heard
 heard_by P (Some core) c s e fields told h is = h
 heard_by P None c s e fields (Ok line) h is = all_append P s.heard (e ∷ []) h (is, tt)
 heard_by P None c s e fields (Err fault) h is = all_append P s.heard (e ∷ []) h (is, tt)
@@ -31,7 +34,8 @@ heard_by P None c s e fields (Err fault) h is = all_append P s.heard (e ∷ []) 
 module _ (setup : Setup) (core_of : List ℕ) where
   heard_next : (P : Event → Type 0) (s : TwoState) (e : Event) → AllOf P s.heard → P e → AllOf P (next_state setup core_of s e).heard
   heard_next P s e h is =
-      heard_by P (away (cores_of setup core_of s) (station_in s.senders e) e) (cores_of setup core_of s) s e (fields_of_run (run_after setup core_of s.heard) e) (told_after setup core_of s.heard e) h is
+      heard_by P (away (cores_of setup core_of s) (station_in s.senders e) e) (cores_of setup core_of s) s e
+      (fields_of_run (run_after setup core_of s.heard) e) (told_after setup core_of s.heard e) h is
 
   heard_from : (P : Event → Type 0) (s : TwoState) (es : List Event) → AllOf P s.heard → AllOf P es → AllOf P (states setup core_of s es).heard
   heard_from P s [] h are = h
@@ -54,7 +58,9 @@ none_is true core e = refl
 none_is false core e = cc
 
 may_act : (c : Cores) (from : Option ℕ) (e : Event) → away c from e ≡ None → MayAct c.held (acting c from)
-may_act c (Some station) e here = none_is ((core_at c.core_of station == c.held.holder) || is_next c.held.next (core_at c.core_of station)) (core_at c.core_of station) here
+may_act c (Some station) e here =
+    none_is ((core_at c.core_of station == c.held.holder) || is_next c.held.next (core_at c.core_of station))
+    (core_at c.core_of station) here
 may_act c None e here = ap (λ b. b || is_next c.held.next c.held.holder) (eq-eqb c.held.holder c.held.holder refl)
 
 acted_is : (who : Who) (acts core : ℕ) → acted who acts ≡ Some core → acts ≡ core
@@ -64,12 +70,16 @@ acted_is Who.World acts core e = cc
 acted_is Who.Phone acts core e = cc
 acted_is (Who.Station id) acts core e = cc
 
-line_by : (o : Option ℕ) (acts step : ℕ) (told : Result Line WorldFault) (line : Line) (core : ℕ) → answer_by o acts step told ≡ Ok (TwoLine.By line (Some core)) → (o ≡ None) × (acts ≡ core)
+line_by : (o : Option ℕ) (acts step : ℕ) (told : Result Line WorldFault) (line : Line) (core : ℕ)
+    → answer_by o acts step told ≡ Ok (TwoLine.By line (Some core))
+    → (o ≡ None) × (acts ≡ core)
 line_by (Some other) acts step told line core e = cc
 line_by None acts step (Ok l) line core e = let by : acted l.who acts ≡ Some core = cc in (refl, acted_is l.who acts core by)
 line_by None acts step (Err fault) line core e = cc
 
-acts_in : (setup : Setup) (core_of : List ℕ) (s : TwoState) (e : Event) (line : Line) (core : ℕ) → next_answer setup core_of s e ≡ Ok (TwoLine.By line (Some core)) → MayAct s.held core
+acts_in : (setup : Setup) (core_of : List ℕ) (s : TwoState) (e : Event) (line : Line) (core : ℕ)
+    → next_answer setup core_of s e ≡ Ok (TwoLine.By line (Some core))
+    → MayAct s.held core
 acts_in setup core_of s e line core is =
     let c = cores_of setup core_of s in
     let from = station_in s.senders e in
@@ -87,6 +97,3 @@ two_headline setup core_of events set are =
       nh = λ n u runs. no_nh_twice setup set (take n heard) (all_first IsEvent n heard all) u runs;
       acting = λ k e line core at is. acts_in setup core_of (two_state setup core_of (take k events)) e line core is;
     }
-
-pub by_conditions : (setup : Setup) (core_of : List ℕ) (events : List Event) → SetupFits setup → CanStart setup → All (λ e. EventFits e × CanHappen setup e) events → TwoHeadline setup core_of events
-by_conditions setup core_of events fits can all = two_headline setup core_of events (setup_fits setup fits can) (events_fit setup events all)

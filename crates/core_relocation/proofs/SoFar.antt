@@ -17,7 +17,8 @@ use Rattle.core_relocation.specs.Run.{TwoState, answers, heard_of, next_answer, 
 use Rattle.core_relocation.specs.Whole.{TwoWhole, state_written}
 use Rattle.core_relocation.proofs.Keeping.{state_more}
 
-one_more : (step : ℕ) (told : Result TwoLine WorldFault) (rest : List (Result TwoLine WorldFault)) (end : List ℕ) → two_told_from step (told ∷ rest) end ≡ followed (answer_report step told) (two_told_from (suc step) rest end)
+one_more : (step : ℕ) (told : Result TwoLine WorldFault) (rest : List (Result TwoLine WorldFault)) (end : List ℕ)
+    → two_told_from step (told ∷ rest) end ≡ followed (answer_report step told) (two_told_from (suc step) rest end)
 one_more step (Ok line) rest end = refl
 one_more step (Err fault) rest end = refl
 
@@ -50,20 +51,26 @@ module _ (setup : Setup) (core_of : List ℕ) (events : List Event) where
       follows =
           let s : TwoState = two_state setup core_of (take i events) in
           let number : length v.events ≡ i = ap length taken ∙ length-take-le i events (omega (arith, within)) in
-          let told : next_answer v.world.setup v.cores.core_of (state_written v) e ≡ next_answer setup core_of s e = λ j. next_answer (set j) (same j) (two_state (set j) (same j) (taken j)) e in
-          let state : next_state setup core_of s e ≡ two_state setup core_of (take (i + 1) events) = sym (ap (two_state setup core_of) next_taken ∙ state_more setup core_of (take i events) e) in
+          let told : next_answer v.world.setup v.cores.core_of (state_written v) e ≡ next_answer setup core_of s e =
+          λ j. next_answer (set j) (same j) (two_state (set j) (same j) (taken j)) e in
+          let state : next_state setup core_of s e ≡ two_state setup core_of (take (i + 1) events) =
+          sym (ap (two_state setup core_of) next_taken ∙ state_more setup core_of (take i events) e) in
           let next = sym (add-one i) in
           record {
             is = ap (λ es. two_told_from i (answers setup core_of s es) the_end) (left_at events i e within item)
                 ∙ one_more i (next_answer setup core_of s e) (answers setup core_of (next_state setup core_of s e) (drop (suc i) events)) the_end
-                ∙ (λ j. followed (answer_report (sym number j) (sym told j)) (two_told_from (next j) (answers setup core_of (state j) (drop (next j) events)) the_end));
+                ∙ (λ j. followed (answer_report (sym number j) (sym told j))
+                (two_told_from (next j) (answers setup core_of (state j) (drop (next j) events)) the_end));
           }
 
       pub taken_more : (now : List Event) → now ≡ v.events ++ e ∷ [] → now ≡ take (i + 1) events
       taken_more now is = is ∙ ap (λ es. es ++ e ∷ []) taken ∙ sym next_taken
 
     -- all of them
-    pub ends : (w : Whole) → w ≡ v.world → v.world.journal ≡ heard_of v.world.setup v.cores.core_of v.events → run_of v.world ≡ run_after v.world.setup v.cores.core_of v.world.journal
+    pub ends : (w : Whole)
+        → w ≡ v.world
+        → v.world.journal ≡ heard_of v.world.setup v.cores.core_of v.events
+        → run_of v.world ≡ run_after v.world.setup v.cores.core_of v.world.journal
         → i ≤ length events → length events ≤ i → rest_at i ≡ record { text = end_of (length w.journal) (run_of w); coincides = false }
     ends w is journal run low past =
         let number : i ≡ length events = omega (arith, low, past) in

@@ -45,14 +45,21 @@ moves c core w (Event.Phone act) = refl
 moves c core w (Event.Station id act) = refl
 moves c core w (Event.Inject to octets) = refl
 
-held_by : (c : Cores) (core : ℕ) (e : Event) (replies : List (ActorIn × ActorOut)) (line : Line) (run : RunState (List ℕ) ℕ Kept) → GoesOn run → ((w : World (List ℕ) ℕ Kept) → run ≡ Running w → replies ≡ replies_of w e)
+held_by : (c : Cores) (core : ℕ) (e : Event) (replies : List (ActorIn × ActorOut)) (line : Line)
+    (run : RunState (List ℕ) ℕ Kept)
+    → GoesOn run
+    → ((w : World (List ℕ) ℕ Kept) → run ≡ Running w → replies ≡ replies_of w e)
     → held_after c core e (fields_told replies) line ≡ held_after c core e (fields_of_run run e) line
 held_by c core e replies line (Running w) goes are =
     ap (λ rs. held_after c core e (fields_told rs) line) (are w refl) ∙ ap (λ h. if_done line.answer h c.held) (moves c core w e)
-held_by c core e replies line (Stopped chance) goes are = absurd goes
+held_by c core e replies line (Stopped coincidence) goes are = absurd goes
 
 -- by the replies that a system keeps after this event
-pub held_told : (c : Cores) (core : ℕ) (v w : Whole) (e : Event) (replies : List (ActorIn × ActorOut)) (line : Line) → GoesOn (run_of v) → w.setup ≡ v.setup → w.journal ≡ v.journal ++ e ∷ [] → RepliedLast w.setup w.journal replies
+pub held_told : (c : Cores) (core : ℕ) (v w : Whole) (e : Event) (replies : List (ActorIn × ActorOut)) (line : Line)
+    → GoesOn (run_of v)
+    → w.setup ≡ v.setup
+    → w.journal ≡ v.journal ++ e ∷ []
+    → RepliedLast w.setup w.journal replies
     → held_after c core e (fields_told replies) line ≡ held_after c core e (fields_of_run (run_of v) e) line
 held_told c core v w e replies line goes set longer last =
     held_by c core e replies line (run_of v) goes (λ u is. last.last v.journal e u longer (ap (λ s. octet_run s v.journal) set ∙ sym (runs_octets v goes) ∙ is))

@@ -1,7 +1,9 @@
 -- What a system in octets tells of an event is what the written machine's run tells, in values.
 use Rattle.std.proofs.Common.{◌≡◌, refl, sym, ap, ◌∙◌, ℕ, List, [], ◌∷◌, ◌++◌, map, Option, Some, None, Ok}
 use Rattle.std.proofs.lemmas.List.{map-append}
+use Rattle.std.specs.List.{AllByRecursion as AllOf}
 use Rattle.key_terms.specs.declared.proof.Proof.{Proof}
+use Rattle.lte_events.specs.Ranges.{IsEvent, IsSetup}
 use Rattle.lte_events.specs.declared.events.Event.{Event}
 use Rattle.lte_events.specs.declared.lines.Line.{Line}
 use Rattle.lte_events.specs.declared.setups.Setup.{Setup}
@@ -10,7 +12,6 @@ use Rattle.lte_machine.specs.Carried.{report_value}
 use Rattle.lte_machine.specs.Ciphers.{annex_b}
 use Rattle.lte_machine.specs.Machines.{Kept, machine_in_octets, written_machine}
 use Rattle.lte_machine.specs.Opening.{open_octets}
-use Rattle.lte_machine.specs.Ranges.{AllOf, IsEvent, IsSetup}
 use Rattle.lte_machine.specs.Run.{RunState, Running, Stopped, after, event_report, first_world, reported, turn, GoesOn}
 use Rattle.lte_machine.specs.Step.{StepResult, Continues, Stops, next}
 use Rattle.lte_machine.proofs.AnnexB.{annex_b_ciphers}
@@ -48,7 +49,8 @@ module _ (setup : Setup) (set : IsSetup setup) (heard : List Event) (are : AllOf
       (report_value (event_report (open_octets annex_b_terms) (written_machine annex_b) (written_run setup heard) e))
       (sym (tale_snoc (open_octets annex_b) (machine_in_octets annex_b) (Running (first_world setup)) heard e) ∙ whole
       ∙ ap (map report_value) (tale_snoc (open_octets annex_b_terms) (written_machine annex_b) (Running (first_world setup)) heard e)
-      ∙ map-append report_value (written_report setup heard) (event_report (open_octets annex_b_terms) (written_machine annex_b) (written_run setup heard) e ∷ []))
+      ∙ map-append report_value (written_report setup heard)
+      (event_report (open_octets annex_b_terms) (written_machine annex_b) (written_run setup heard) e ∷ []))
 
 -- A SYSTEM THAT GOES ON
 
@@ -64,7 +66,13 @@ pub runs_octets : (v : Whole) → GoesOn (run_of v) → run_of v ≡ octet_run v
 runs_octets v goes = same_over v.over (octet_run v.setup v.journal) goes
 
 -- what it tells of an event is what the written machine's run tells
-pub told_written : (v : Whole) → IsSetup v.setup → AllOf IsEvent v.journal → GoesOn (run_of v) → (core_of : List ℕ) (e : Event) → IsEvent e → told_of v e ≡ told_after v.setup core_of v.journal e
+pub told_written : (v : Whole)
+    → IsSetup v.setup
+    → AllOf IsEvent v.journal
+    → GoesOn (run_of v)
+    → (core_of : List ℕ) (e : Event)
+    → IsEvent e
+    → told_of v e ≡ told_after v.setup core_of v.journal e
 told_written v set are goes core_of e is =
     ap (λ run. answer_of (event_report (open_octets annex_b) (machine_in_octets annex_b) run e)) (runs_octets v goes)
     ∙ ap answer_of (told_same v.setup set v.journal are e is)
@@ -73,12 +81,13 @@ told_written v set are goes core_of e is =
 
 line_goes : (s : StepResult (List ℕ) ℕ Kept) (line : Line) → answer_of (reported s) ≡ Ok line → GoesOn (after s)
 line_goes (Continues w told) line e = tt
-line_goes (Stops chance) line e = cc
+line_goes (Stops coincidence) line e = cc
 
-tells_line : (run : RunState (List ℕ) ℕ Kept) (e : Event) (line : Line) → answer_of (event_report (open_octets annex_b) (machine_in_octets annex_b) run e) ≡ Ok line
+tells_line : (run : RunState (List ℕ) ℕ Kept) (e : Event) (line : Line)
+    → answer_of (event_report (open_octets annex_b) (machine_in_octets annex_b) run e) ≡ Ok line
     → GoesOn run × GoesOn (turn (open_octets annex_b) (machine_in_octets annex_b) run e)
 tells_line (Running w) e line told = (tt, line_goes (next (open_octets annex_b) (machine_in_octets annex_b) w e) line told)
-tells_line (Stopped chance) e line told = cc
+tells_line (Stopped coincidence) e line told = cc
 
 pub with_line : (v : Whole) (e : Event) (line : Line) → told_of v e ≡ Ok line → GoesOn (run_of v) × GoesOn (turned v e)
 with_line v e line told = tells_line (run_of v) e line told

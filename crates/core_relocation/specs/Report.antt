@@ -6,8 +6,8 @@ use Rattle.lte_events.specs.declared.lines.Line.{Line}
 use Rattle.lte_events.specs.declared.setups.Setup.{Setup}
 use Rattle.lte_events.specs.Answer.{name_of}
 use Rattle.lte_world.specs.declared.faults.WorldFault.{WorldFault}
-use Rattle.lte_world.specs.declared.faults.WorldFault.TheVariants.{Memory, Chance}
-use Rattle.report_text.specs.Chance.{chance_text}
+use Rattle.lte_world.specs.declared.faults.WorldFault.TheVariants.{Memory, Coincidence}
+use Rattle.report_text.specs.Coincidence.{coincidence_text}
 use Rattle.report_text.specs.Details.{details_text}
 use Rattle.report_text.specs.Line.{alarm_text, line_text, note_text, opened_text, sent_text}
 use Rattle.run_report.specs.Report.{Report, before, end_of}
@@ -39,7 +39,7 @@ two_text step (NotHere core) = not_here_text step core
 
 -- a coincidence, which counts all events
 abbrev pub fault_text : ℕ → WorldFault → List ℕ
-fault_text step (Chance proof) = chance_text step proof
+fault_text step (Coincidence proof) = coincidence_text step proof
 fault_text step Memory = []
 
 abbrev pub told_text : ℕ → Result TwoLine WorldFault → List ℕ

@@ -48,7 +48,7 @@ answer_by None acts step (Err fault) = Err fault
 -- the record on S1 that an event delivers to a core of a system that goes on
 abbrev pub fields_of_run : RunState (List ℕ) ℕ Kept → Event → Option Fields
 fields_of_run (Running w) e = fields_in w e
-fields_of_run (Stopped chance) e = None
+fields_of_run (Stopped coincidence) e = None
 
 -- what it comes to where the system saw the event
 abbrev pub state_told : Cores → TwoState → Event → Option Fields → Result Line WorldFault → TwoState

@@ -1,11 +1,12 @@
 -- Two cores as a caller sees them.
 use Rattle.std.specs.Prelude.{◌≡◌, ◌≤◌, ◌<◌, List, [], ◌∷◌, ◌++◌, length}
-use Rattle.lte_events.specs.Conditions.{CanHappen, EventFits}
+use Rattle.std.specs.List.{AllByRecursion as AllOf}
+use Rattle.lte_events.specs.Ranges.{IsEvent, IsSetup}
 use Rattle.lte_events.specs.declared.events.Event.{Event}
-use Rattle.lte_machine.specs.Ranges.{AllOf, IsEvent, IsSetup}
 use Rattle.lte_machine.specs.Run.{GoesOn}
 use Rattle.lte_world.specs.Whole as world
-use Rattle.lte_world.specs.Whole.{most_events, run_of}
+use Rattle.lte_events.specs.Scenario.{most_events, CanHappen}
+use Rattle.lte_world.specs.Whole.{run_of}
 use Rattle.core_relocation.specs.declared.cores.Cores.{Cores}
 use Rattle.core_relocation.specs.declared.senders.Sender.{Sender}
 use Rattle.core_relocation.specs.Run.{TwoState, run_after, two_state}
@@ -45,7 +46,6 @@ pub record Keeps (v : TwoWhole) : Type 0 where
 -- an event that can happen to them
 pub record CanTake (v : TwoWhole) (e : Event) : Type 0 where
   pub can : CanHappen v.world.setup e
-  pub fits : EventFits e
   pub few : length v.events < most_events
 
 -- it was answered by a line, and they go on

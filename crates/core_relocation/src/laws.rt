@@ -1,9 +1,9 @@
 // What holds of every run with two cores.
-ghost use Rattle.std.specs.Prelude.{ℕ, List, All};
-ghost use Rattle.lte_events.specs.Conditions.{CanHappen, CanStart, EventFits, SetupFits};
+ghost use Rattle.std.specs.Prelude.{ℕ, List};
+ghost use Rattle.std.specs.List.{AllByRecursion as AllOf};
+ghost use Rattle.lte_events.specs.Ranges.{IsEvent, IsSetup};
 ghost use Rattle.lte_events.specs.declared.events.Event.{Event};
 ghost use Rattle.lte_events.specs.declared.setups.Setup.{Setup};
-ghost use Rattle.lte_machine.specs.Ranges.{AllOf, IsEvent, IsSetup};
 ghost use Rattle.core_relocation.specs.Promises.{TwoHeadline};
 
 /// Of every setup, every list of events and however the stations belong to the cores: the headline holds of the events
@@ -11,7 +11,5 @@ ghost use Rattle.core_relocation.specs.Promises.{TwoHeadline};
 /// that the cores sent to stations carry one NH; and a core acts only if it held the context before the event, or
 /// was to get it (TS 33.401 7.2.8.4, TS 36.413 8.4).
 pub fn two_cores_keep_the_headline()
-    ensures ranges { (setup : Setup) (core_of : List ℕ) (events : List Event) → IsSetup setup → AllOf IsEvent events → TwoHeadline setup core_of events }
-    ensures conditions { (setup : Setup) (core_of : List ℕ) (events : List Event) → SetupFits setup → CanStart setup →
-        All (λ e. EventFits e × CanHappen setup e) events → TwoHeadline setup core_of events }
+    ensures { (setup : Setup) (core_of : List ℕ) (events : List Event) → IsSetup setup → AllOf IsEvent events → TwoHeadline setup core_of events }
 {}

@@ -1,6 +1,6 @@
 // The report of a run with two cores.
 ghost use Rattle.std.specs.Prelude.{◌≡◌, ◌≤◌, false, Ok, length, All, IsTrue};
-ghost use Rattle.run_report.specs.Ready.{Ready};
+ghost use Rattle.lte_events.specs.Scenario.{IsScenario};
 ghost use Rattle.run_report.specs.Written.{WritesReport};
 ghost use Rattle.core_relocation.specs.Report.{answer_report, two_report_of};
 ghost use Rattle.core_relocation.specs.Run.{next_answer};
@@ -11,7 +11,7 @@ use crate::two::Two;
 use edge_io::Sink;
 use lte_events::{Event, Events, Setup};
 use lte_world::WorldFault;
-use run_report::{Unwritten, write_chance, write_end, write_text};
+use run_report::{Unwritten, write_coincidence, write_end, write_text};
 use std::alloc::Global;
 
 /// Lets these events happen to a system with two cores, and writes the report of them: that of `run`, with the number of the
@@ -26,7 +26,7 @@ pub fn write_two<W: Sink>(
     out: &mut W,
 ) -> Result<bool, Unwritten>
     requires out_ready { IsTrue (W.told out.old).ready }
-    requires ready { Ready setup.now events.now.items }
+    requires is_scenario { IsScenario setup.now events.now.items }
     requires two { All (λ core. core ≤ 1) core_of.now }
     ensures { WritesReport (two_report_of setup.now core_of.now events.now.items) result (W.told out.old) (W.told out.new) }
 {
@@ -58,7 +58,10 @@ fn write_answer<W: Sink>(
     requires out_ready { IsTrue (W.told out.old).ready }
     requires runs { StillRuns two.old }
     requires can { CanTake two.old event.now }
-    ensures report { WritesReport (answer_report (length two.old.events) (next_answer two.old.world.setup two.old.cores.core_of (state_written two.old) event.now)) result (W.told out.old) (W.told out.new) }
+    ensures report { WritesReport
+        (answer_report (length two.old.events)
+        (next_answer two.old.world.setup two.old.cores.core_of (state_written two.old) event.now))
+        result (W.told out.old) (W.told out.new) }
     ensures takes { result ≡ Ok false → Takes two.old event.now two.new }
 {
     let step = two.events().len() as u32;
@@ -67,7 +70,7 @@ fn write_answer<W: Sink>(
             Ok(()) => Ok(false),
             Err(fault) => Err(fault),
         },
-        Err(WorldFault::Chance(proof)) => match write_chance(alloc, step, proof, out) {
+        Err(WorldFault::Coincidence(proof)) => match write_coincidence(alloc, step, proof, out) {
             Ok(()) => Ok(true),
             Err(fault) => Err(fault),
         },

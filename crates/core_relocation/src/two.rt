@@ -1,8 +1,9 @@
 // A system with two cores.
 ghost use Rattle.growth.specs.Growth.{WasRefused};
 ghost use Rattle.std.specs.Prelude.{◌≡◌, ◌≢◌, ◌<◌, ◌≤◌, [], ◌∷◌, ◌++◌, All, length, Err, IfOk, IsOkUnless, OnOk, OnErr, option_map};
-ghost use Rattle.lte_machine.specs.Ranges.{AllOf, IsEvent, IsSetup};
-ghost use Rattle.lte_world.specs.Whole.{CanBegin, begun, run_of, told_of};
+ghost use Rattle.std.specs.List.{AllByRecursion as AllOf};
+ghost use Rattle.lte_events.specs.Ranges.{IsEvent, IsSetup};
+ghost use Rattle.lte_world.specs.Whole.{begun, run_of, told_of};
 ghost use Rattle.core_relocation.specs.Run.{answer_in, heard_of, next_answer, run_after, state_in};
 ghost use Rattle.core_relocation.specs.Whole.{CanTake, StillRuns, state_of, state_written};
 
@@ -41,7 +42,7 @@ impl Two {
     /// Two cores in which nothing has happened. Core 0 holds the context. The core of each station is 0 or 1. `Memory`
     /// where std refuses memory.
     pub fn new(alloc: Global, setup: &Setup, core_of: &[u8; 8]) -> Result<Two, WorldFault>
-        requires begins { CanBegin setup.now }
+        requires begins { IsSetup setup.now }
         requires two { All (λ core. core ≤ 1) core_of.now }
         ensures memory { IsOkUnless result WorldFault.Memory }
         ensures refused { OnErr result WasRefused }

@@ -24,7 +24,10 @@ slice_get-change k zero f (x ∷ xs) above = absurd (omega arith)
 slice_get-change zero (suc j) f (x ∷ xs) above = refl
 slice_get-change (suc k) (suc j) f (x ∷ xs) above = slice_get-change k j f xs (omega arith)
 
-pub IdleFrom-change : (started k : ℕ) (f : PeerTold → PeerTold) (peers : List PeerTold) → k < started → IdleFrom started peers → IdleFrom started (change k f peers)
+pub IdleFrom-change : (started k : ℕ) (f : PeerTold → PeerTold) (peers : List PeerTold)
+    → k < started
+    → IdleFrom started peers
+    → IdleFrom started (change k f peers)
 IdleFrom-change started k f peers below idle peer from =
     let stays : slice_get (change k f peers) peer ≡ slice_get peers peer = slice_get-change k peer f peers (omega arith) in
     rw stays (idle peer from)
@@ -41,7 +44,11 @@ change-same zero f same (x ∷ xs) = ap (λ y. y ∷ xs) (same x)
 change-same (suc k) f same (x ∷ xs) = ap (λ ys. x ∷ ys) (change-same k f same xs)
 
 -- a failed send that sent nothing
-pub nothing_sent : (peer : ℕ) (octets : List ℕ) (roles : List Role) (peers after : List PeerTold) (last : Option PeerCall) → after ≡ peers → SendFailed peer octets (Some (record { roles = roles; peers = peers; failed_last = last })) (Some (record { roles = roles; peers = after; failed_last = Some (Send peer (length octets)) }))
+pub nothing_sent : (peer : ℕ) (octets : List ℕ) (roles : List Role) (peers after : List PeerTold)
+    (last : Option PeerCall)
+    → after ≡ peers
+    → SendFailed peer octets (Some (record { roles = roles; peers = peers; failed_last = last }))
+    (Some (record { roles = roles; peers = after; failed_last = Some (Send peer (length octets)) }))
 nothing_sent peer octets roles peers after last same =
     let add : PeerTold → PeerTold = λ p. record p { sent = p.sent ++ [] } in
     let unchanged : change peer add peers ≡ peers =
@@ -51,7 +58,10 @@ nothing_sent peer octets roles peers after last same =
     record { count = 0; told = ap shown (same ∙ sym unchanged) }
 
 -- a failed receive that took nothing
-pub nothing_taken : (peer size : ℕ) (roles : List Role) (peers after : List PeerTold) (last : Option PeerCall) → after ≡ peers → ReceiveFailed peer size (Some (record { roles = roles; peers = peers; failed_last = last })) (Some (record { roles = roles; peers = after; failed_last = Some (Receive peer size) }))
+pub nothing_taken : (peer size : ℕ) (roles : List Role) (peers after : List PeerTold) (last : Option PeerCall)
+    → after ≡ peers
+    → ReceiveFailed peer size (Some (record { roles = roles; peers = peers; failed_last = last }))
+    (Some (record { roles = roles; peers = after; failed_last = Some (Receive peer size) }))
 nothing_taken peer size roles peers after last same =
     let cut : PeerTold → PeerTold = λ p. record p { to_give = drop 0 p.to_give } in
     let unchanged : change peer cut peers ≡ peers = change-same peer cut (λ p. refl) peers in

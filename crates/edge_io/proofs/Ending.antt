@@ -64,7 +64,9 @@ still true piece is = is
 still false piece is = refl
 
 -- octets that are not none are the same to both
-some_last : (x : ℕ) (octets : List ℕ) → option_map_or (λ octet. octet == 10) (last_or (Some x) octets) false ≡ option_map_or (λ octet. octet == 10) (last_or (Some x) octets) true
+some_last : (x : ℕ) (octets : List ℕ)
+    → option_map_or (λ octet. octet == 10) (last_or (Some x) octets) false
+    ≡ option_map_or (λ octet. octet == 10) (last_or (Some x) octets) true
 some_last x [] = refl
 some_last x (y ∷ octets) = some_last y octets
 
@@ -91,18 +93,28 @@ stays None piece some = refl
 stays (Some all) piece some = ap Some (still all (has_octets piece) some)
 
 -- the rest of a piece that ends with a line, as `octets[sent..]` is written, ends with it
-pub lines_kept : (lines : Option Bool) (sent : ℕ) (octets : List ℕ) → sent < length octets → are_lines octets ≡ true → with_piece (take (length octets - sent) (drop sent octets)) lines ≡ lines
+pub lines_kept : (lines : Option Bool) (sent : ℕ) (octets : List ℕ)
+    → sent < length octets
+    → are_lines octets ≡ true
+    → with_piece (take (length octets - sent) (drop sent octets)) lines ≡ lines
 lines_kept lines sent octets below ends =
     let rest = drop sent octets in
-    kept lines (take (length octets - sent) rest) (ap ends_line (take_rest octets sent) ∙ line_of rest (some_left sent octets below) (rest_lines sent octets below ends))
+    kept lines (take (length octets - sent) rest)
+    (ap ends_line (take_rest octets sent)
+    ∙ line_of rest (some_left sent octets below) (rest_lines sent octets below ends))
 
 -- and is not none
-pub pieces_kept : (pieces : Option Bool) (sent : ℕ) (octets : List ℕ) → sent < length octets → with_octets (take (length octets - sent) (drop sent octets)) pieces ≡ pieces
+pub pieces_kept : (pieces : Option Bool) (sent : ℕ) (octets : List ℕ)
+    → sent < length octets
+    → with_octets (take (length octets - sent) (drop sent octets)) pieces ≡ pieces
 pieces_kept pieces sent octets below =
     let rest = drop sent octets in
     stays pieces (take (length octets - sent) rest) (ap has_octets (take_rest octets sent) ∙ has_some rest (some_left sent octets below))
 
 -- a text for which there was memory is whole lines where its octets are
-pub text_is : {T E : Type 0} (view : T → List ℕ) (text : Result T E) (octets : List ℕ) → IfOk text (λ t. view t ≡ octets) → are_lines octets ≡ true → IfOk text (λ t. are_lines (view t) ≡ true)
+pub text_is : {T E : Type 0} (view : T → List ℕ) (text : Result T E) (octets : List ℕ)
+    → IfOk text (λ t. view t ≡ octets)
+    → are_lines octets ≡ true
+    → IfOk text (λ t. are_lines (view t) ≡ true)
 text_is view (Ok t) octets is lines = ap are_lines is ∙ lines
 text_is view (Err e) octets is lines = tt

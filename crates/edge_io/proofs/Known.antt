@@ -23,7 +23,11 @@ loses_on old mid new front octets first second =
     record { taken = front ++ octets; gives = gives_twice old mid new front octets first second }
 
 -- and together these are at most so many
-pub loses_within : (limit : ℕ) (old mid new : Option (List ℕ)) (front octets : List ℕ) → length front + length octets ≤ limit → Gives old mid front → Gives mid new octets → LosesWithin limit old new
+pub loses_within : (limit : ℕ) (old mid new : Option (List ℕ)) (front octets : List ℕ)
+    → length front + length octets ≤ limit
+    → Gives old mid front
+    → Gives mid new octets
+    → LosesWithin limit old new
 loses_within limit old mid new front octets few first second = record {
   taken = front ++ octets;
   gives = gives_twice old mid new front octets first second;
@@ -31,7 +35,12 @@ loses_within limit old mid new front octets few first second = record {
 }
 
 -- a read into the rest of a buffer joins what it held, as `buf[filled..]` is written
-pub gives_on : (old mid new : Option (List ℕ)) (filled n : ℕ) (buf fresh : List ℕ) → filled ≤ length buf → n ≤ length fresh → Gives old mid (take filled buf) → Gives mid new (take n fresh) → Gives old new (take (filled + n) (put_mid filled (length buf - filled) buf fresh))
+pub gives_on : (old mid new : Option (List ℕ)) (filled n : ℕ) (buf fresh : List ℕ)
+    → filled ≤ length buf
+    → n ≤ length fresh
+    → Gives old mid (take filled buf)
+    → Gives mid new (take n fresh)
+    → Gives old new (take (filled + n) (put_mid filled (length buf - filled) buf fresh))
 gives_on old mid new filled n buf fresh within short first second =
     let after : List ℕ = post_of filled (length buf - filled) buf in
     let size : length (take filled buf) ≡ filled = omega (arith, length-take filled buf) in
@@ -73,7 +82,10 @@ front_and front octets more n within =
     ∙ rw (take_at front octets (length front) size, drop_at front octets (length front) size) refl
 
 -- a call writes some octets, and the next call a prefix of more: together a prefix
-pub prefix_on : (old mid new : Option (List ℕ)) (front octets more : List ℕ) → Grows old mid front → GrowsByPrefix mid new octets → GrowsByPrefix old new ((front ++ octets) ++ more)
+pub prefix_on : (old mid new : Option (List ℕ)) (front octets more : List ℕ)
+    → Grows old mid front
+    → GrowsByPrefix mid new octets
+    → GrowsByPrefix old new ((front ++ octets) ++ more)
 prefix_on old mid new front octets more first second =
     let n : ℕ = min second.count (length octets) in
     let parts : take (length front + n) ((front ++ octets) ++ more) ≡ front ++ take second.count octets =
@@ -86,7 +98,10 @@ pub prefix_of : (old new : Option (List ℕ)) (octets : List ℕ) → GrowsByPro
 prefix_of old new octets part = record { count = part.count; grows = part.grows }
 
 -- a call writes some octets, and the next call a prefix of more that is not all: together such a prefix
-pub proper_prefix_on : (old mid new : Option (List ℕ)) (front octets more : List ℕ) → Grows old mid front → GrowsByProperPrefix mid new octets → GrowsByProperPrefix old new ((front ++ octets) ++ more)
+pub proper_prefix_on : (old mid new : Option (List ℕ)) (front octets more : List ℕ)
+    → Grows old mid front
+    → GrowsByProperPrefix mid new octets
+    → GrowsByProperPrefix old new ((front ++ octets) ++ more)
 proper_prefix_on old mid new front octets more first second =
     let P : List ℕ → Type 0 = λ xs. Grows old new xs in
     let n : ℕ = second.count in
@@ -98,7 +113,10 @@ proper_prefix_on old mid new front octets more first second =
     }
 
 -- a write of the rest of a piece goes on, as `octets[sent..]` is written
-pub grows_on : (old mid new : Option (List ℕ)) (sent n : ℕ) (octets : List ℕ) → Grows old mid (take sent octets) → Grows mid new (take n (take (length octets - sent) (drop sent octets))) → Grows old new (take (sent + n) octets)
+pub grows_on : (old mid new : Option (List ℕ)) (sent n : ℕ) (octets : List ℕ)
+    → Grows old mid (take sent octets)
+    → Grows mid new (take n (take (length octets - sent) (drop sent octets)))
+    → Grows old new (take (sent + n) octets)
 grows_on old mid new sent n octets first second =
     let P : List ℕ → Type 0 = λ xs. Grows old new xs in
     let Q : List ℕ → Type 0 = λ xs. Grows mid new (take n xs) in

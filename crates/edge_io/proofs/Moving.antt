@@ -7,7 +7,10 @@ use Rattle.std.specs.Io.KnownBytes.{Appends, Consumes}
 use borrow.Rule.Slice.PartMut.{put_mid, post_of}
 
 -- a write of the rest of octets goes on, as `octets[sent..]` is written
-pub appends_on : (a b c : Option (List ℕ)) (sent n : ℕ) (octets : List ℕ) → Appends a b (take sent octets) → Appends b c (take n (take (length octets - sent) (drop sent octets))) → Appends a c (take (sent + n) octets)
+pub appends_on : (a b c : Option (List ℕ)) (sent n : ℕ) (octets : List ℕ)
+    → Appends a b (take sent octets)
+    → Appends b c (take n (take (length octets - sent) (drop sent octets)))
+    → Appends a c (take (sent + n) octets)
 appends_on a b c sent n octets first second =
     let P : List ℕ → Type 0 = λ xs. Appends a c xs in
     let Q : List ℕ → Type 0 = λ xs. Appends b c (take n xs) in
@@ -15,7 +18,12 @@ appends_on a b c sent n octets first second =
     (Appends-trans a b c (take sent octets) (take n (drop sent octets)) first (subst Q (take_rest octets sent) second))
 
 -- a read into the rest of a buffer joins what it held, as `buf[filled..]` is written
-pub consumes_on : (a b c : Option (List ℕ)) (filled n : ℕ) (buf fresh : List ℕ) → filled ≤ length buf → n ≤ length fresh → Consumes a b (take filled buf) → Consumes b c (take n fresh) → Consumes a c (take (filled + n) (put_mid filled (length buf - filled) buf fresh))
+pub consumes_on : (a b c : Option (List ℕ)) (filled n : ℕ) (buf fresh : List ℕ)
+    → filled ≤ length buf
+    → n ≤ length fresh
+    → Consumes a b (take filled buf)
+    → Consumes b c (take n fresh)
+    → Consumes a c (take (filled + n) (put_mid filled (length buf - filled) buf fresh))
 consumes_on a b c filled n buf fresh within short first second =
     let after : List ℕ = post_of filled (length buf - filled) buf in
     let size : length (take filled buf) ≡ filled = omega (arith, length-take filled buf) in

@@ -21,7 +21,12 @@ decimal_reads {E} n bs e small same parsed =
     let is : answer ≡ Ok n = parse-decimal 16 n bs answer small (omega (arith, small)) same parsed in cc
 
 -- and no other number
-pub decimal_number : {E : Type 0} (n k : ℕ) (bs : List ℕ) (answer : Result ℕ E) → answer ≡ Ok k → n < 2 ^ 16 → bs ≡ decimal n → ParsesUnsigned 16 10 bs answer → k ≡ n
+pub decimal_number : {E : Type 0} (n k : ℕ) (bs : List ℕ) (answer : Result ℕ E)
+    → answer ≡ Ok k
+    → n < 2 ^ 16
+    → bs ≡ decimal n
+    → ParsesUnsigned 16 10 bs answer
+    → k ≡ n
 decimal_number {E} n k bs answer given small same parsed =
     let is : answer ≡ Ok n = parse-decimal 16 n bs answer small (omega (arith, small)) same parsed in cc
 

@@ -10,7 +10,13 @@ use Rattle.edge_io.specs.declared.peer_fault.PeerFault.{PeerFault}
 use Rattle.edge_io.specs.declared.peer_fault.PeerFault.TheVariants.{NotStarted, NoPort, NotReached, NotSent, NoReply}
 
 -- a program that was started, not reached, and ended
-pub not_served : {P S C : Type 0} (start : Result (P × S) Error → Type 0) (kills waits : P → P → Type 0) (answers : ℕ → S → Result ℕ Error → S → Type 0) (remaining : S → Option (List ℕ)) (connects : List ℕ → ℕ → Result C Error → Type 0) (process ended : P) (said after : S) (fault : PeerFault) → start (Ok (process, said)) → IsEnded kills waits process ended → NotFound answers remaining connects said after fault → NotServed start kills waits answers remaining connects fault
+pub not_served : {P S C : Type 0} (start : Result (P × S) Error → Type 0) (kills waits : P → P → Type 0)
+    (answers : ℕ → S → Result ℕ Error → S → Type 0) (remaining : S → Option (List ℕ))
+    (connects : List ℕ → ℕ → Result C Error → Type 0) (process ended : P) (said after : S) (fault : PeerFault)
+    → start (Ok (process, said))
+    → IsEnded kills waits process ended
+    → NotFound answers remaining connects said after fault
+    → NotServed start kills waits answers remaining connects fault
 not_served start kills waits answers remaining connects process ended said after NotStarted started stop found = absurd found
 not_served start kills waits answers remaining connects process ended said after NoPort started stop found =
     record { process = process; said = said; started = started; holds = (record { after = ended; ended = stop }, record { after = after; holds = found }) }
@@ -20,7 +26,11 @@ not_served start kills waits answers remaining connects process ended said after
 not_served start kills waits answers remaining connects process ended said after NoReply started stop found = absurd found
 
 -- what failed is told with its role
-pub named : (many : Type 0) (program : Option Program) (role : Role) (fault : PeerFault) (last : Option (Role × PeerFault)) (Holds : Program → PeerFault → Type 0) → last ≡ Some (role, fault) → many ⊎ IfSome program (λ p. Holds p fault) → many ⊎ IfSome program (λ p. IsSomeAnd last (λ f. (f.0 ≡ role) × Holds p f.1))
+pub named : (many : Type 0) (program : Option Program) (role : Role) (fault : PeerFault)
+    (last : Option (Role × PeerFault)) (Holds : Program → PeerFault → Type 0)
+    → last ≡ Some (role, fault)
+    → many ⊎ IfSome program (λ p. Holds p fault)
+    → many ⊎ IfSome program (λ p. IsSomeAnd last (λ f. (f.0 ≡ role) × Holds p f.1))
 named many program role fault last Holds is (inl past) = inl past
 named many None role fault last Holds is (inr why) = inr tt
 named many (Some p) role fault last Holds is (inr why) =
@@ -28,7 +38,11 @@ named many (Some p) role fault last Holds is (inr why) =
     inr (subst Told (sym is) (refl, why))
 
 -- of these peers the one at a place took part
-pub of_peer : {P : Type 0} (number : ℕ) (before : List P) (old new : P) (Holds : P → P → Type 0) → number < length before → old ≡ get_or before number old → Holds old new → OfPeer number before (slice_set before number new) Holds
+pub of_peer : {P : Type 0} (number : ℕ) (before : List P) (old new : P) (Holds : P → P → Type 0)
+    → number < length before
+    → old ≡ get_or before number old
+    → Holds old new
+    → OfPeer number before (slice_set before number new) Holds
 of_peer number before old new Holds below is holds = record {
   old = old;
   new = new;
@@ -38,13 +52,21 @@ of_peer number before old new Holds below is holds = record {
 }
 
 -- what is so of the peer at a place
-pub at_number : {P : Type 0} (number : ℕ) (peers : List P) (peer : P) (Holds : P → Type 0) → number < length peers → peer ≡ get_or peers number peer → Holds peer → IfSome (slice_get peers number) Holds
+pub at_number : {P : Type 0} (number : ℕ) (peers : List P) (peer : P) (Holds : P → Type 0)
+    → number < length peers
+    → peer ≡ get_or peers number peer
+    → Holds peer
+    → IfSome (slice_get peers number) Holds
 at_number {P} number peers peer Holds below is holds =
     let At : Option P → Type 0 = λ o. IfSome o Holds in
     subst At (sym (slice_get_read peers (length peers) number peer refl below is)) holds
 
 -- the peer that stands at a place is the one that is read there
-pub same_at : {P : Type 0} (number : ℕ) (peers : List P) (peer old : P) → number < length peers → peer ≡ get_or peers number peer → slice_get peers number ≡ Some old → peer ≡ old
+pub same_at : {P : Type 0} (number : ℕ) (peers : List P) (peer old : P)
+    → number < length peers
+    → peer ≡ get_or peers number peer
+    → slice_get peers number ≡ Some old
+    → peer ≡ old
 same_at number peers peer old below is stands =
     let read : slice_get peers number ≡ Some peer = slice_get_read peers (length peers) number peer refl below is in
     let both : Some peer ≡ Some old = sym read ∙ stands in cc
@@ -59,13 +81,19 @@ on_err (Ok x) f a = a
 on_err (Err e) f a = f a
 
 -- a peer took part, and the peers stayed so
-pub took_part : {P : Type 0} (number : ℕ) (before mid after : List P) (Holds : P → P → Type 0) → after ≡ mid → OfPeer number before mid Holds → OfNoPeer number before after ⊎ OfPeer number before after Holds
+pub took_part : {P : Type 0} (number : ℕ) (before mid after : List P) (Holds : P → P → Type 0)
+    → after ≡ mid
+    → OfPeer number before mid Holds
+    → OfNoPeer number before after ⊎ OfPeer number before after Holds
 took_part {P} number before mid after Holds same of =
     let At : List P → Type 0 = λ ps. OfPeer number before ps Holds in
     inr (subst At (sym same) of)
 
 -- what is so of the peer that is read at its place, and what follows from it
-pub of_peer_on : {P : Type 0} (number : ℕ) (before after : List P) (peer : P) (Holds More : P → P → Type 0) → number < length before → peer ≡ get_or before number peer → OfPeer number before after Holds
+pub of_peer_on : {P : Type 0} (number : ℕ) (before after : List P) (peer : P) (Holds More : P → P → Type 0)
+    → number < length before
+    → peer ≡ get_or before number peer
+    → OfPeer number before after Holds
     → ((new : P) → Holds peer new → More peer new) → OfPeer number before after More
 of_peer_on {P} number before after peer Holds More below is of more =
     let same : peer ≡ of.old = same_at number before peer of.old below is of.stands in
@@ -75,6 +103,9 @@ of_peer_on {P} number before after peer Holds More below is of more =
 
 -- octets were put at the end, or std had no memory for that
 pub keeps : {T E V : Type 0} (result : Result T E) (before after : List (Role × V)) (items : V → List ℕ) (role : Role) (octets : List ℕ) (kept : V) (n : ℕ)
-    → items kept ≡ octets → after ≡ (if is_ok result then before ++ (role, kept) ∷ [] else before) → OnErr result (Refused n) → Keeps before after items role octets
+    → items kept ≡ octets
+    → after ≡ (if is_ok result then before ++ (role, kept) ∷ [] else before)
+    → OnErr result (Refused n)
+    → Keeps before after items role octets
 keeps (Ok x) before after items role octets kept n is put refused = inl (record { kept = kept; is = is; put = put })
 keeps (Err e) before after items role octets kept n is put refused = inr (inr (n, refused), put)

@@ -9,7 +9,12 @@ pub interruptions_none : {X : Type 0} (answers : X → Result ℕ Error → X �
 unfolding Interruptions
 interruptions_none answers x = refl
 
-pub interruptions_more : {X : Type 0} (answers : X → Result ℕ Error → X → Type 0) (n : ℕ) (before mid after : X) (e : Error) → Interruptions answers n before mid → answers mid (Err e) after → error_kind e ≡ Interrupted → Interruptions answers (n + 1) before after
+pub interruptions_more : {X : Type 0} (answers : X → Result ℕ Error → X → Type 0) (n : ℕ)
+    (before mid after : X) (e : Error)
+    → Interruptions answers n before mid
+    → answers mid (Err e) after
+    → error_kind e ≡ Interrupted
+    → Interruptions answers (n + 1) before after
 unfolding Interruptions
 interruptions_more answers n before mid after e first last kind =
     let next : suc n ≡ n + 1 = omega arith in

@@ -26,7 +26,8 @@ program_of (Station number) programs = option_flatten (slice_get programs.statio
 program_of Core programs = programs.core
 
 -- Here `starts` is what the start of a program may answer, of the octets of its path and of its words; `kills` and
--- `waits` are what a kill and a wait do to it, and `finishes` what it does to a connection to say that nothing more comes; `remaining` and `answers` are what it has still to say, and what a
+-- `waits` are what a kill and a wait do to it, and `finishes` what it does to a connection to say that nothing more
+-- comes; `remaining` and `answers` are what it has still to say, and what a
 -- read of that may answer; `connects` is what a connection may answer, at the octets of an address and a port.
 
 -- a call failed for want of memory
@@ -80,24 +81,46 @@ IsServed start remaining connects process said connection =
     Started start (λ p s. (p ≡ process) × Says remaining s said (λ number. connects loopback number (Ok connection)))
 
 -- Why a program that was started is not reached: it said no port, or nothing took a connection there.
-abbrev pub NotFound : {S C : Type 0} → (ℕ → S → Result ℕ Error → S → Type 0) → (S → Option (List ℕ)) → (List ℕ → ℕ → Result C Error → Type 0) → S → S → PeerFault → Type 0
+abbrev pub NotFound : {S C : Type 0}
+    → (ℕ → S → Result ℕ Error → S → Type 0)
+    → (S → Option (List ℕ))
+    → (List ℕ → ℕ → Result C Error → Type 0)
+    → S
+    → S
+    → PeerFault
+    → Type 0
 NotFound answers remaining connects said after NoPort = ReadsNoPort answers remaining said after
 NotFound answers remaining connects said after NotReached = Says remaining said after (λ number. FailsItself (connects loopback number))
 NotFound answers remaining connects said after other = ⊥
 
 -- Why a program is not served: its start failed, or it was not reached, and ended.
-abbrev pub NotServed : {P S C : Type 0} → (Result (P × S) Error → Type 0) → (P → P → Type 0) → (P → P → Type 0) → (ℕ → S → Result ℕ Error → S → Type 0) → (S → Option (List ℕ)) → (List ℕ → ℕ → Result C Error → Type 0) → PeerFault → Type 0
+abbrev pub NotServed : {P S C : Type 0}
+    → (Result (P × S) Error → Type 0)
+    → (P → P → Type 0)
+    → (P → P → Type 0)
+    → (ℕ → S → Result ℕ Error → S → Type 0)
+    → (S → Option (List ℕ))
+    → (List ℕ → ℕ → Result C Error → Type 0)
+    → PeerFault
+    → Type 0
 NotServed start kills waits answers remaining connects NotStarted = FailsItself start
 NotServed start kills waits answers remaining connects fault =
     Started start (λ process said. Stopped kills waits process × Heard (λ after. NotFound answers remaining connects said after fault))
 
 -- Why there was no memory to serve a program: std refused its command a growth; or its start wanted memory; or it was started, the connection to
 -- it wanted memory, and it was ended.
-abbrev pub NoMemory : {P S C : Type 0} → (Result (P × S) Error → Type 0) → (P → P → Type 0) → (P → P → Type 0) → (S → Option (List ℕ)) → (List ℕ → ℕ → Result C Error → Type 0) → Type 0
+abbrev pub NoMemory : {P S C : Type 0}
+    → (Result (P × S) Error → Type 0)
+    → (P → P → Type 0)
+    → (P → P → Type 0)
+    → (S → Option (List ℕ))
+    → (List ℕ → ℕ → Result C Error → Type 0)
+    → Type 0
 NoMemory start kills waits remaining connects =
     WasRefused
     ⊎ (WantsMemory start
-    ⊎ Started start (λ process said. Stopped kills waits process × Heard (λ after. Says remaining said after (λ number. WantsMemory (connects loopback number)))))
+    ⊎ Started start (λ process said. Stopped kills waits process
+    × Heard (λ after. Says remaining said after (λ number. WantsMemory (connects loopback number)))))
 
 -- The last call on a connection was given up, or gave or took nothing. Here `answers` is what a call may answer.
 pub record LastCallFails {C X : Type 0} (answers : X → C → Result ℕ Error → C → Type 0) (after : C) : Type 0 where
@@ -120,7 +143,8 @@ abbrev pub IsCut : {C X : Type 0} → (X → C → Result ℕ Error → C → Ty
 IsCut answers before after = (before ≡ None) ⊎ IsSomeAnd after (LastCallFails answers)
 
 -- A connection was told that nothing more comes, and these octets were read then: as many as there is room for, or all that came.
-pub record StillSays {C : Type 0} (finishes : C → C → Type 0) (answers : ℕ → C → Result ℕ Error → C → Type 0) (remaining : C → Option (List ℕ)) (room : ℕ) (before : C) (octets : List ℕ) : Type 0 where
+pub record StillSays {C : Type 0} (finishes : C → C → Type 0) (answers : ℕ → C → Result ℕ Error → C → Type 0)
+    (remaining : C → Option (List ℕ)) (room : ℕ) (before : C) (octets : List ℕ) : Type 0 where
   pub finished : C
   pub after : C
   pub finish : finishes before finished
@@ -147,7 +171,9 @@ abbrev pub most_kept : ℕ
 most_kept = 4098
 
 -- what a peer of this role had still to say was read, and kept
-pub record KeepsSaid {C V : Type 0} (finishes : C → C → Type 0) (answers : ℕ → C → Result ℕ Error → C → Type 0) (remaining : C → Option (List ℕ)) (before after : List (Role × V)) (items : V → List ℕ) (role : Role) (connection : Option C) : Type 0 where
+pub record KeepsSaid {C V : Type 0} (finishes : C → C → Type 0) (answers : ℕ → C → Result ℕ Error → C → Type 0)
+    (remaining : C → Option (List ℕ)) (before after : List (Role × V)) (items : V → List ℕ) (role : Role)
+    (connection : Option C) : Type 0 where
   pub octets : List ℕ
   pub said : LeavesSaid finishes answers remaining most_kept connection octets
   pub kept : Keeps before after items role octets

@@ -63,15 +63,13 @@ impl<H: Host> ServedChild<H> {
             Ok(started) => started,
             Err(e) => return Err(error_of(e, PeerFault::NotStarted)),
         };
-        match connected(host, &mut process, &mut said) {
-            Ok(connection) => Ok(ServedChild {
-                role,
-                process,
-                said,
-                connection: Some(connection),
-            }),
-            Err(e) => Err(e),
-        }
+        let connection = connected(host, &mut process, &mut said)?;
+        Ok(ServedChild {
+            role,
+            process,
+            said,
+            connection: Some(connection),
+        })
     }
 
     /// Sends all these octets. `Failed` where the connection is closed, or a write failed or took nothing.

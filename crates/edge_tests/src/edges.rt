@@ -1,12 +1,9 @@
 ghost use Rattle.std.specs.Prelude.{◌≡◌, length, IfOk, IfSome};
 
-mod loopback;
-
 use crate::values::{same, same_at};
 use edge_io::{
-    ChildPeers, DropSink, Failed, LoopbackPort, MemPeers, MemPort, MemSink, MemSource, PeerFault,
-    Peers, Port, Program, Programs, ReadAll, ReaderSource, Role, Sink, SliceSource, Source,
-    StartFault, WriterSink, read_all, read_fill, write_all,
+    DropSink, Failed, MemPeers, MemPort, MemSink, MemSource, Peers, Port, ReadAll, ReaderSource,
+    Role, Sink, SliceSource, Source, StartFault, WriterSink, read_all, read_fill, write_all,
 };
 use std::io::{self, ErrorKind, Read};
 use std::test::Fail;

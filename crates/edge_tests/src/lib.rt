@@ -1,4 +1,4 @@
-//! Tests of the outside: its forms over memory, a connection over loopback, and programs that are started as peers.
+//! Tests of the outside: its forms over memory, and the adapters over a reader and a writer.
 #![tactic(auto)]
 
 #[cfg(test)]

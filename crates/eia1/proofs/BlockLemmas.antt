@@ -10,8 +10,14 @@ unfolding number_of
 number_of_eight a b c d e f g h = omega arith
 
 pub block_in-is : (text : List ℕ) (i : ℕ)
-    → number_of (slice_index text (8 * i) ∷ slice_index text (8 * i + 1) ∷ slice_index text (8 * i + 2) ∷ slice_index text (8 * i + 3) ∷ slice_index text (8 * i + 4) ∷ slice_index text (8 * i + 5) ∷ slice_index text (8 * i + 6) ∷ slice_index text (8 * i + 7) ∷ []) ≡ block_in text i
+    → number_of (slice_index text (8 * i) ∷ slice_index text (8 * i + 1) ∷ slice_index text (8 * i + 2)
+    ∷ slice_index text (8 * i + 3) ∷ slice_index text (8 * i + 4) ∷ slice_index text (8 * i + 5)
+    ∷ slice_index text (8 * i + 6) ∷ slice_index text (8 * i + 7) ∷ [])
+    ≡ block_in text i
 unfolding block_in
 block_in-is text i =
     let first : 8 * i ≡ 8 * i + 0 = omega arith in
-    ap (λ k. number_of (slice_index text k ∷ slice_index text (8 * i + 1) ∷ slice_index text (8 * i + 2) ∷ slice_index text (8 * i + 3) ∷ slice_index text (8 * i + 4) ∷ slice_index text (8 * i + 5) ∷ slice_index text (8 * i + 6) ∷ slice_index text (8 * i + 7) ∷ [])) first
+    ap (λ k. number_of (slice_index text k ∷ slice_index text (8 * i + 1) ∷ slice_index text (8 * i + 2)
+    ∷ slice_index text (8 * i + 3) ∷ slice_index text (8 * i + 4) ∷ slice_index text (8 * i + 5)
+    ∷ slice_index text (8 * i + 6) ∷ slice_index text (8 * i + 7) ∷ []))
+    first

@@ -13,7 +13,10 @@ use Rattle.eia1.proofs.FieldLemmas.{multiply-turned, nought, once, times_power-a
 
 -- the sixteen sums of four numbers, as the code makes them
 pub sixteen_sums : (a b c d : ℕ)
-    → 0 ∷ a ∷ b ∷ bit_xor a b ∷ c ∷ bit_xor a c ∷ bit_xor b c ∷ bit_xor (bit_xor a b) c ∷ d ∷ bit_xor a d ∷ bit_xor b d ∷ bit_xor (bit_xor a b) d ∷ bit_xor c d ∷ bit_xor (bit_xor a c) d ∷ bit_xor (bit_xor b c) d ∷ bit_xor (bit_xor (bit_xor a b) c) d ∷ [] ≡ map (four_sum a b c d) (range_with_len 0 16)
+    → 0 ∷ a ∷ b ∷ bit_xor a b ∷ c ∷ bit_xor a c ∷ bit_xor b c ∷ bit_xor (bit_xor a b) c ∷ d ∷ bit_xor a d ∷ bit_xor b d
+    ∷ bit_xor (bit_xor a b) d ∷ bit_xor c d ∷ bit_xor (bit_xor a c) d ∷ bit_xor (bit_xor b c) d
+    ∷ bit_xor (bit_xor (bit_xor a b) c) d ∷ []
+    ≡ map (four_sum a b c d) (range_with_len 0 16)
 sixteen_sums a b c d = simp (once, nought, xor_zero_r, xor_zero_l)
 
 pub sums_of_row : (a b c d : ℕ) → b ≡ times_power a 1 → c ≡ times_power a 2 → d ≡ times_power a 3
@@ -53,9 +56,14 @@ four_more p v j =
     let k = 4 * j in
     let end : suc (suc (suc (suc k))) ≡ 4 * suc j = omega arith in
     let zeroth : bit_at (n % 16) 0 * times_power p k ≡ bit_at v k * times_power p k = term p v j 0 k (omega arith) (omega arith) in
-    let first : bit_at (n % 16) 1 * times_power (times_power p k) 1 ≡ bit_at v (suc k) * times_power p (suc k) = term p v j 1 (suc k) (omega arith) (omega arith) in
-    let second : bit_at (n % 16) 2 * times_power (times_power p k) 2 ≡ bit_at v (suc (suc k)) * times_power p (suc (suc k)) = term p v j 2 (suc (suc k)) (omega arith) (omega arith) in
-    let third : bit_at (n % 16) 3 * times_power (times_power p k) 3 ≡ bit_at v (suc (suc (suc k))) * times_power p (suc (suc (suc k))) = term p v j 3 (suc (suc (suc k))) (omega arith) (omega arith) in
+    let first : bit_at (n % 16) 1 * times_power (times_power p k) 1 ≡ bit_at v (suc k) * times_power p (suc k) =
+    term p v j 1 (suc k) (omega arith) (omega arith) in
+    let second : bit_at (n % 16) 2 * times_power (times_power p k) 2
+    ≡ bit_at v (suc (suc k)) * times_power p (suc (suc k)) =
+    term p v j 2 (suc (suc k)) (omega arith) (omega arith) in
+    let third : bit_at (n % 16) 3 * times_power (times_power p k) 3
+    ≡ bit_at v (suc (suc (suc k))) * times_power p (suc (suc (suc k))) =
+    term p v j 3 (suc (suc (suc k))) (omega arith) (omega arith) in
     five (terms p v k) _ _ _ _
     ∙ joined _ _ _ _ _ _ _ _ _ zeroth first second third
     ∙ ap (terms p v) end

@@ -70,7 +70,8 @@ word_bit text i k fit h =
     ∙ sym (get_or-map-range_with_len (λ j. slice_index text (4 * i + j)) 0 4 (k / 8) (k / 8) 0 (omega arith) (omega arith)) in
     ap (λ o. bit_at o (7 - (32 * i + k) % 8)) octet
     ∙ ap (λ b. bit_at (slice_index octets (k / 8)) (7 - b)) bit
-    ∙ sym (bit_of_four (slice_index text (4 * i + 0)) (slice_index text (4 * i + 1)) (slice_index text (4 * i + 2)) (slice_index text (4 * i + 3)) k (fit _) (fit _) (fit _) h)
+    ∙ sym (bit_of_four (slice_index text (4 * i + 0)) (slice_index text (4 * i + 1)) (slice_index text (4 * i + 2))
+    (slice_index text (4 * i + 3)) k (fit _) (fit _) (fit _) h)
 
 -- the window at a bit of a word
 word_window : (z : ℕ → ℕ) (i k : ℕ) → k < 32

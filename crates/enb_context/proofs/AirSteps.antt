@@ -47,14 +47,21 @@ pub fronted : (s : Station (List ℕ) ℕ) (air : ℕ) (bearer : Bearer) (pdu : 
 fronted s air bearer pdu front e = ap (by_front s pdu) e
 
 -- what was opened on an SRB
-abbrev pub by_opened : Station (List ℕ) ℕ → AsKeys (List ℕ) → Bearer → (ℕ → Result RrcRecord RecFault → AirRow) → Result PdcpOpened PdcpFault → Station (List ℕ) ℕ × ActorOut
+abbrev pub by_opened : Station (List ℕ) ℕ
+    → AsKeys (List ℕ)
+    → Bearer
+    → (ℕ → Result RrcRecord RecFault → AirRow)
+    → Result PdcpOpened PdcpFault
+    → Station (List ℕ) ℕ × ActorOut
 by_opened s keys bearer row (Err fault) = (s, reply_of (of_pdcp fault))
 by_opened s keys bearer row (Ok o) = by_air s (Some (from_phone keys bearer o.count)) (row o.count (read_rrc o.text))
 
 -- a PDU of an SRB at some front
 module _ (s : Station (List ℕ) ℕ) (keys : AsKeys (List ℕ)) (cipher : Bool) (bearer : Bearer) (pdu : List ℕ) (is : IsSrb bearer)
     (front : ℕ → AirFront) (row : ℕ → Result RrcRecord RecFault → AirRow)
-    (expects : (count : ℕ) → air_expects (front count) s ≡ OpensSrb (from_phone keys bearer count) (ciphering_if cipher (srb_ciphering Up keys (srb_of bearer) count)))
+    (expects : (count : ℕ)
+    → air_expects (front count) s
+    ≡ OpensSrb (from_phone keys bearer count) (ciphering_if cipher (srb_ciphering Up keys (srb_of bearer) count)))
     (differs : (count : ℕ) (w g : List ℕ) → air_row (seen_plain s) (front count) (Differs w g) ≡ AirRefused (MacFails count w g))
     (opens : (count : ℕ) (text : List ℕ) → air_row (seen_plain s) (front count) (Opened text) ≡ row count (read_rrc text)) where
   -- by the outcome
@@ -77,10 +84,14 @@ module _ (s : Station (List ℕ) ℕ) (keys : AsKeys (List ℕ)) (cipher : Bool)
       ∙ ap (at_outcome count) (srb_opened_is keys cipher bearer count Up pdu is long)
       ∙ shaped count _ _ _ _ (srb_opened_at keys cipher bearer count Up pdu) refl
 
-  pub opened_at_front : (next : ℕ) → by_front s pdu (counted front (srb_count next pdu)) ≡ by_opened s keys bearer row (srb_opened keys cipher bearer next Up pdu)
+  pub opened_at_front : (next : ℕ)
+      → by_front s pdu (counted front (srb_count next pdu))
+      ≡ by_opened s keys bearer row (srb_opened keys cipher bearer next Up pdu)
   opened_at_front next = by_count (srb_count next pdu) refl
     where
-      by_count : (n : Result ℕ PdcpFault) → srb_count next pdu ≡ n → by_front s pdu (counted front n) ≡ by_opened s keys bearer row (srb_opened_by keys cipher bearer Up pdu n)
+      by_count : (n : Result ℕ PdcpFault)
+          → srb_count next pdu ≡ n
+          → by_front s pdu (counted front n) ≡ by_opened s keys bearer row (srb_opened_by keys cipher bearer Up pdu n)
       by_count (Err fault) e = refl
       by_count (Ok count) e = at_count count (long_enough next pdu count e)
 
@@ -90,7 +101,9 @@ pub at_srb : (s : Station (List ℕ) ℕ) (c : Context (List ℕ) ℕ) (air : �
     → answered (serving s c) (AirPdu air bearer pdu)
     ≡ by_opened (serving s c) c.keys bearer (rrc_row (srb_of bearer)) (srb_opened c.keys true bearer (srb_counts (srb_of bearer) c.bearers).receive Up pdu)
 at_srb s c air bearer pdu here active on is =
-    fronted (serving s c) air bearer pdu (counted (OnSignalling (srb_of bearer)) (srb_count (srb_counts (srb_of bearer) c.bearers).receive pdu)) (rw (here, on, active) refl)
+    fronted (serving s c) air bearer pdu
+    (counted (OnSignalling (srb_of bearer)) (srb_count (srb_counts (srb_of bearer) c.bearers).receive pdu))
+    (rw (here, on, active) refl)
     ∙ opened_at_front (serving s c) c.keys true bearer pdu is (OnSignalling (srb_of bearer)) (rrc_row (srb_of bearer))
     (λ count. refl) (λ count w g. refl) (λ count text. refl) (srb_counts (srb_of bearer) c.bearers).receive
 
@@ -115,16 +128,22 @@ pub at_drb : (s : Station (List ℕ) ℕ) (c : Context (List ℕ) ℕ) (air : �
     ≡ by_packet (serving s c) bearer (drb_opened c.keys bearer (drb_counts (drb_of bearer) c.bearers).receive Up pdu)
 unfolding drb_opened_at
 at_drb s c air bearer pdu here active on is =
-    fronted (serving s c) air bearer pdu (counted (OnUser (drb_of bearer)) (drb_count (drb_counts (drb_of bearer) c.bearers).receive pdu)) (rw (here, on, active) refl)
+    fronted (serving s c) air bearer pdu
+    (counted (OnUser (drb_of bearer)) (drb_count (drb_counts (drb_of bearer) c.bearers).receive pdu))
+    (rw (here, on, active) refl)
     ∙ by_count (drb_count (drb_counts (drb_of bearer) c.bearers).receive pdu)
   where
     at_count : (count : ℕ) (o : PdcpOpened) → o ≡ drb_opened_at c.keys bearer count Up pdu
         → by_front (serving s c) pdu (OnUser (drb_of bearer) count) ≡ by_packet (serving s c) bearer (Ok o)
     at_count count o e =
-        ap (λ x. by_air (serving s c) (accepted_of (OpensDrb (drb_ciphering Up c.keys (drb_of bearer) count)) x) (air_row (seen_plain (serving s c)) (OnUser (drb_of bearer) count) x)) (drb_opened_is c.keys bearer count Up pdu is)
+        ap (λ x. by_air (serving s c) (accepted_of (OpensDrb (drb_ciphering Up c.keys (drb_of bearer) count)) x)
+        (air_row (seen_plain (serving s c)) (OnUser (drb_of bearer) count) x))
+        (drb_opened_is c.keys bearer count Up pdu is)
         ∙ rw e refl
 
-    by_count : (n : Result ℕ PdcpFault) → by_front (serving s c) pdu (counted (OnUser (drb_of bearer)) n) ≡ by_packet (serving s c) bearer (drb_opened_by c.keys bearer Up pdu n)
+    by_count : (n : Result ℕ PdcpFault)
+        → by_front (serving s c) pdu (counted (OnUser (drb_of bearer)) n)
+        ≡ by_packet (serving s c) bearer (drb_opened_by c.keys bearer Up pdu n)
     by_count (Err fault) = refl
     by_count (Ok count) = at_count count _ refl
 
@@ -142,7 +161,8 @@ at_prep s p air pdu elsewhere found =
     prep_front = at_air-map unseen octet_reading.ncc air s.preps ∙ ap (option_map (map_prep unseen octet_reading.ncc)) found
 
     at_context : (o : Option (Context (List ℕ) ℕ)) → IsElsewhere air o
-        → air_front_by (option_map (map_context unseen octet_reading.ncc) o) (at_air air (map_preps unseen octet_reading.ncc s.preps)) air (OnSrb Signalling1) pdu
+        → air_front_by (option_map (map_context unseen octet_reading.ncc) o)
+        (at_air air (map_preps unseen octet_reading.ncc s.preps)) air (OnSrb Signalling1) pdu
         ≡ counted (OnPrepared air p.by) (srb_count 0 pdu)
     at_context None h = rw prep_front refl
     at_context (Some c) h = rw (h, prep_front) refl
@@ -155,7 +175,8 @@ pub srb_refused : (s : Station (List ℕ) ℕ) (c : Context (List ℕ) ℕ) (air
 srb_refused s c air bearer pdu fault out here active on is e told =
     ap (λ x. (serving s c, x)) told ∙ sym (at_srb s c air bearer pdu here active on is ∙ ap (by_opened (serving s c) c.keys bearer (rrc_row (srb_of bearer))) e)
 
-pub srb_taken_so : (s : Station (List ℕ) ℕ) (c : Context (List ℕ) ℕ) (air : ℕ) (bearer : Bearer) (pdu : List ℕ) (o : PdcpOpened) (done : Station (List ℕ) ℕ × ActorOut)
+pub srb_taken_so : (s : Station (List ℕ) ℕ) (c : Context (List ℕ) ℕ) (air : ℕ) (bearer : Bearer) (pdu : List ℕ)
+    (o : PdcpOpened) (done : Station (List ℕ) ℕ × ActorOut)
     → (c.air == air) ≡ true → c.starting ≡ false → which bearer ≡ OnSrb (srb_of bearer) → IsSrb bearer
     → srb_opened c.keys true bearer (srb_counts (srb_of bearer) c.bearers).receive Up pdu ≡ Ok o
     → done ≡ by_air (serving s c) (Some (from_phone c.keys bearer o.count)) (rrc_row (srb_of bearer) o.count (read_rrc o.text))
@@ -178,7 +199,8 @@ pub starting_taken_so : (s : Station (List ℕ) ℕ) (c : Context (List ℕ) ℕ
 starting_taken_so s c air pdu o done here starting e told =
     told ∙ sym (at_starting s c air pdu here starting ∙ ap (by_opened (serving s c) c.keys Srb1 starting_row) e)
 
-pub drb_taken_so : (s : Station (List ℕ) ℕ) (c : Context (List ℕ) ℕ) (air : ℕ) (bearer : Bearer) (pdu : List ℕ) (o : PdcpOpened) (done : Station (List ℕ) ℕ × ActorOut)
+pub drb_taken_so : (s : Station (List ℕ) ℕ) (c : Context (List ℕ) ℕ) (air : ℕ) (bearer : Bearer) (pdu : List ℕ)
+    (o : PdcpOpened) (done : Station (List ℕ) ℕ × ActorOut)
     → (c.air == air) ≡ true → c.starting ≡ false → which bearer ≡ OnDrb (drb_of bearer) → IsDrb bearer
     → drb_opened c.keys bearer (drb_counts (drb_of bearer) c.bearers).receive Up pdu ≡ Ok o
     → done ≡ by_air (serving s c) None (PacketOpened (drb_of bearer) o.count (user_text o.text))
@@ -216,7 +238,11 @@ prep_absent s air bearer pdu out elsewhere none told =
     at_context (Some c) h = rw (h, prep_front) refl
 
 pub prep_other : (s : Station (List ℕ) ℕ) (p : Prep (List ℕ) ℕ) (air : ℕ) (bearer : Bearer) (pdu : List ℕ) (out : ActorOut)
-    → IsElsewhere air s.context → at_air air s.preps ≡ Some p → is_first (which bearer) ≡ false → out ≡ reply_of NotActive → (s, out) ≡ answered s (AirPdu air bearer pdu)
+    → IsElsewhere air s.context
+    → at_air air s.preps ≡ Some p
+    → is_first (which bearer) ≡ false
+    → out ≡ reply_of NotActive
+    → (s, out) ≡ answered s (AirPdu air bearer pdu)
 prep_other s p air bearer pdu out elsewhere found other told =
     ap (λ x. (s, x)) told ∙ sym (fronted s air bearer pdu (AirSettled (AirRefused NotActive)) (at_context s.context elsewhere))
   where

@@ -72,14 +72,24 @@ module _ (s : Station (List ℕ) ℕ) (id : ℕ) (c : Context (List ℕ) ℕ) (a
   uncounted None h = cc
   uncounted (Some d) h = refl
 
-  pub not_ready : (out : ActorOut) → ordered id a ≡ None → out ≡ reply_of NotReady → (serving_at s id c, out) ≡ answered (serving_at s id c) (StationActs Command)
+  pub not_ready : (out : ActorOut)
+      → ordered id a ≡ None
+      → out ≡ reply_of NotReady
+      → (serving_at s id c, out) ≡ answered (serving_at s id c) (StationActs Command)
   not_ready out n told =
       ap (λ x. (serving_at s id c, x)) told
       ∙ sym (command_is s id c a (is_spent c.bearers.srb1) has refl ∙ ap (commanded_by s id c (is_spent c.bearers.srb1)) n ∙ unready (is_spent c.bearers.srb1))
 
-  pub no_count : (out : ActorOut) → is_spent c.bearers.srb1 ≡ true → IsSome (ordered id a) → out ≡ reply_of CountSpent → (serving_at s id c, out) ≡ answered (serving_at s id c) (StationActs Command)
+  pub no_count : (out : ActorOut)
+      → is_spent c.bearers.srb1 ≡ true
+      → IsSome (ordered id a)
+      → out ≡ reply_of CountSpent
+      → (serving_at s id c, out) ≡ answered (serving_at s id c) (StationActs Command)
   no_count out h some told =
       ap (λ x. (serving_at s id c, x)) told ∙ sym (command_is s id c a true has h ∙ uncounted (ordered id a) some)
 
-  pub ordered_so : (done : Station (List ℕ) ℕ × ActorOut) → is_spent c.bearers.srb1 ≡ false → done ≡ commanded_by s id c false (ordered id a) → done ≡ answered (serving_at s id c) (StationActs Command)
+  pub ordered_so : (done : Station (List ℕ) ℕ × ActorOut)
+      → is_spent c.bearers.srb1 ≡ false
+      → done ≡ commanded_by s id c false (ordered id a)
+      → done ≡ answered (serving_at s id c) (StationActs Command)
   ordered_so done h told = told ∙ sym (command_is s id c a false has h)

@@ -53,7 +53,12 @@ no_longer p (x ∷ xs) = by_test (no_longer p xs) (p x)
     by_test rest false = omega (arith, rest)
 
 -- a request that is admitted finds room
-pub drop_below_room : (last conn : ℕ) (ps : List (Prep (List ℕ) ℕ)) → NoneAbove last ps → last ≤ conn → length ps ≤ 8 → (conn ≡ last → length ps < 8) → length (drop_below conn ps) < 8
+pub drop_below_room : (last conn : ℕ) (ps : List (Prep (List ℕ) ℕ))
+    → NoneAbove last ps
+    → last ≤ conn
+    → length ps ≤ 8
+    → (conn ≡ last → length ps < 8)
+    → length (drop_below conn ps) < 8
 drop_below_room last conn ps h le few room = by_test (nat_lt last conn) refl
   where
     by_test : (b : Bool) → nat_lt last conn ≡ b → length (drop_below conn ps) < 8
@@ -94,10 +99,16 @@ pub none_without : (source attempt : ℕ) (ps : List (Prep (List ℕ) ℕ)) → 
 none_without source attempt [] h = refl
 none_without source attempt (p ∷ ps) h = by_test (is_of source attempt p) h (none_without source attempt ps)
   where
-    by_test : (b : Bool) → (b || has_attempt source attempt ps) ≡ false → (has_attempt source attempt ps ≡ false → without source attempt ps ≡ ps) → cond (not b) (p ∷ without source attempt ps) (without source attempt ps) ≡ p ∷ ps
+    by_test : (b : Bool)
+        → (b || has_attempt source attempt ps) ≡ false
+        → (has_attempt source attempt ps ≡ false → without source attempt ps ≡ ps)
+        → cond (not b) (p ∷ without source attempt ps) (without source attempt ps) ≡ p ∷ ps
     by_test true e rest = cc
     by_test false e rest = ap (λ xs. p ∷ xs) (rest e)
 
-pub all_found_within : (last air : ℕ) (ps : List (Prep (List ℕ) ℕ)) (o : Option (Prep (List ℕ) ℕ)) → o ≡ at_air air ps → NoneAbove last ps → IfSome o (λ p. p.conn ≤ last)
+pub all_found_within : (last air : ℕ) (ps : List (Prep (List ℕ) ℕ)) (o : Option (Prep (List ℕ) ℕ))
+    → o ≡ at_air air ps
+    → NoneAbove last ps
+    → IfSome o (λ p. p.conn ≤ last)
 all_found_within last air ps None e h = tt
 all_found_within last air ps (Some p) e h = found_within last air ps p (sym e) h

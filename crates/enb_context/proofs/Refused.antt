@@ -15,5 +15,6 @@ use Rattle.lte_machine.proofs.StationRefused.{station_refused}
 pub refused_stays : (s t : Station (List ℕ) ℕ) (i : StationIn) (out : ActorOut) → (t, out) ≡ station_call s i → out.answer ≢ Done → t ≡ s
 refused_stays s t i out e h =
     ap (λ d. d.0) e
-    ∙ station_refused octet_reading s (station_input i) (open_octets annex_b (station_opens octet_reading s (station_input i)) (station_pdu_in (station_input i)))
+    ∙ station_refused octet_reading s (station_input i)
+    (open_octets annex_b (station_opens octet_reading s (station_input i)) (station_pdu_in (station_input i)))
     (λ done. h (ap (λ d. d.1.answer) e ∙ done))

@@ -1,5 +1,5 @@
 -- One step of the station in octets, by the input as it reads.
-use Rattle.std.specs.Prelude.{ℕ, List, Option, None, Some}
+use Rattle.std.specs.Prelude.{ℕ, List, Option, None, Some, Ok}
 use Rattle.lte_events.specs.declared.replies.ActorOut.{ActorOut}
 use Rattle.key_model.specs.Reading.{octet_reading}
 use Rattle.key_model.specs.HandoverTable.{NumberedKey}
@@ -18,7 +18,6 @@ use Rattle.lte_machine.specs.StationState.{Station, Context, OnS1, OnX2, Station
 use Rattle.lte_machine.specs.StationStep.{station_step, station_opens, station_pdu_in, plain_station}
 use Rattle.lte_machine.specs.StationChoice.{PlainStation}
 use Rattle.lte_machine.specs.Calls.{actor_out}
-use Rattle.std.specs.Prelude.{Ok}
 
 -- the station afterwards and its reply; a call is this of the input as it reads
 abbrev pub answered : Station (List ℕ) ℕ → StationInput (List ℕ) ℕ → Station (List ℕ) ℕ × ActorOut

@@ -13,7 +13,7 @@ ghost use Rattle.enb_context.specs.Step.{answered, serving, by_air, from_phone};
 use crate::context::Context;
 use lte_events::{ActorOut, Answer};
 use pdcp_guard::PdcpOpened;
-use radio_bearers::{answer_of, is_srb, kind_of, packet_text, verified_use};
+use radio_bearers::{answer_of, is_srb, packet_text, verified_use};
 use rec_base::{Bearer, Dir, UserText};
 use rrc_rec::RrcRecord;
 
@@ -73,7 +73,7 @@ impl Context {
                 self.bearers.accept_srb(Bearer::Srb1, opened.count);
                 Answer::Done
             }
-            Ok(other) => Answer::WrongKind(kind_of(&other)),
+            Ok(other) => Answer::WrongKind(other.kind()),
         };
         out.only(answer);
         out.accepted = accepted;
@@ -127,7 +127,7 @@ impl Context {
                 out.accepted = accepted;
             }
             Ok(other) => {
-                out.only(Answer::WrongKind(kind_of(&other)));
+                out.only(Answer::WrongKind(other.kind()));
                 out.accepted = accepted;
             }
         }

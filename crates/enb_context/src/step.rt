@@ -1,10 +1,11 @@
 // One step of the station, by what comes.
-ghost use Rattle.std.specs.Prelude.{◌≡◌, ◌≤◌, Ok, length};
+ghost use Rattle.std.specs.Prelude.{◌≡◌, ◌≤◌, Ok, length, option_map};
 ghost use Rattle.std.specs.Bool.{OnTrue, OnFalse};
 ghost use Rattle.rec_base.specs.Lengths.{longest_record};
 ghost use Rattle.lte_events.specs.Reply.{reply_of};
 ghost use Rattle.lte_events.specs.declared.answers.Answer.TheVariants.{WrongKind};
 ghost use Rattle.s1x2_rec.specs.Content.{content_of};
+ghost use Rattle.s1x2_rec.specs.Fields.{kind_of};
 ghost use Rattle.s1x2_rec.specs.Spelling.{InRange};
 ghost use Rattle.enb_context.specs.Preps.{IsElsewhere, IsServed};
 ghost use Rattle.lte_machine.specs.StationState.{StationRecord, OnS1, OnX2};
@@ -14,7 +15,6 @@ ghost use Rattle.lte_events.specs.Ranges.{StationDoes};
 ghost use Rattle.enb_context.specs.Step.{answered};
 
 use crate::Station;
-use crate::sends::heard;
 use lte_events::{ActorOut, Answer, StationAct};
 use nh_chain::NhPair;
 use rec_base::Bearer;
@@ -137,18 +137,7 @@ impl Station {
             CoreRecord::ContextModification { conn, next, kenb } => {
                 self.context_modification(conn, next, kenb, out)
             }
-            CoreRecord::PathSwitchRequest { .. } => wrong(0x22, out),
-            CoreRecord::HandoverRequired { .. } => wrong(0x24, out),
-            CoreRecord::HandoverRequestAck { .. } => wrong(0x26, out),
-            CoreRecord::HandoverNotify { .. } => wrong(0x28, out),
-            CoreRecord::X2Request { star, .. } => heard(
-                Answer::WrongKind(0x30),
-                star.octets(),
-                out,
-            ),
-            CoreRecord::X2Ack { .. } => wrong(0x31, out),
-            CoreRecord::X2Cancel { .. } => wrong(0x32, out),
-            CoreRecord::X2Release { .. } => wrong(0x33, out),
+            _ => wrong(message, out),
         }
     }
 
@@ -180,36 +169,16 @@ impl Station {
                 attempt,
             } => self.x2_cancel(conn, source, attempt, out),
             CoreRecord::X2Release { conn, attempt } => self.x2_release(conn, attempt, out),
-            CoreRecord::InitialContext { kenb, .. } => {
-                heard(Answer::WrongKind(0x20), kenb.octets(), out)
-            }
-            CoreRecord::ContextRelease { .. } => wrong(0x21, out),
-            CoreRecord::PathSwitchRequest { .. } => wrong(0x22, out),
-            CoreRecord::PathSwitchAnswer { nh, .. } => heard(
-                Answer::WrongKind(0x23),
-                nh.octets(),
-                out,
-            ),
-            CoreRecord::HandoverRequired { .. } => wrong(0x24, out),
-            CoreRecord::HandoverRequest { nh, .. } => heard(
-                Answer::WrongKind(0x25),
-                nh.octets(),
-                out,
-            ),
-            CoreRecord::HandoverRequestAck { .. } => wrong(0x26, out),
-            CoreRecord::HandoverCommand { .. } => wrong(0x27, out),
-            CoreRecord::HandoverNotify { .. } => wrong(0x28, out),
-            CoreRecord::HandoverCancel { .. } => wrong(0x29, out),
-            CoreRecord::ContextModification { kenb, .. } => {
-                heard(Answer::WrongKind(0x34), kenb.octets(), out)
-            }
+            _ => wrong(message, out),
         }
     }
 }
 
 // A kind that is not taken there.
-fn wrong(kind: u8, out: &mut ActorOut)
-    ensures { out.new ≡ reply_of (WrongKind kind) }
+fn wrong(message: &CoreRecord, out: &mut ActorOut)
+    ensures { out.new ≡ record (reply_of (WrongKind (kind_of (content_of message.now).fields)))
+        { received = option_map (λ k. k.key) (content_of message.now).key } }
 {
-    out.only(Answer::WrongKind(kind))
+    out.only(Answer::WrongKind(message.kind()));
+    out.received = message.key();
 }

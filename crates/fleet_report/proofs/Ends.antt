@@ -4,7 +4,7 @@ use Rattle.std.specs.Prelude.{codes}
 use Rattle.std.specs.Fmt.{decimal}
 use Rattle.edge_io.specs.Lines.{EndsLine, are_lines}
 use Rattle.edge_io.proofs.Ending.{feed, on, is_lines}
-use Rattle.run_report.proofs.Ends.{line_ends, chance_ends}
+use Rattle.run_report.proofs.Ends.{line_ends, coincidence_ends}
 use Rattle.fleet_world.specs.declared.faults.FleetFault.{FleetFault}
 use Rattle.fleet_world.specs.declared.faults.FleetFault.TheVariants as fault
 use Rattle.fleet_world.specs.declared.lines.FleetLine.{FleetLine}
@@ -29,6 +29,6 @@ told_is step own (line.Of p told) = is_lines _ (phone_ends p _ (line_ends told))
 told_is step own (line.Taken q) = is_lines _ (taken_ends step q)
 
 pub fault_is : (step own : ℕ) (ended : FleetFault) → are_lines (output_text (answer_output step own (Err ended))) ≡ true
-fault_is step own (fault.Chance p proof) = is_lines _ (phone_ends p _ (chance_ends own proof))
+fault_is step own (fault.Coincidence p proof) = is_lines _ (phone_ends p _ (coincidence_ends own proof))
 fault_is step own (fault.Cross p row q other) = is_lines _ (cross_ends step p row.0 q other.0)
 fault_is step own fault.Memory = refl

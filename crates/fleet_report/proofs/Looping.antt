@@ -1,17 +1,17 @@
 -- The events of a fleet's report, one after the other.
 use Rattle.std.proofs.Common.{◌≡◌, sym, ap, subst, ◌∙◌, ℕ, suc, ◌+◌, ◌<◌, ◌≤◌, false, List, [], ◌∷◌, length, drop, get_or, None, All, arith}
 use Rattle.std.proofs.lemmas.List.{length-replicate}
-use Rattle.lte_events.specs.Conditions.{CanHappen, EventFits}
+use Rattle.std.proofs.lemmas.List.Elements.{recursion_from_All}
+use Rattle.std.specs.List.{AllByRecursion as AllOf}
+use Rattle.lte_events.specs.Ranges.{IsEvent}
+use Rattle.lte_events.specs.Scenario.{CanHappen, IsScenarioBy}
 use Rattle.lte_events.specs.declared.events.Event.{Event}
 use Rattle.lte_events.specs.declared.setups.Setup.{Setup}
-use Rattle.lte_machine.specs.Ranges.{AllOf}
-use Rattle.lte_machine.proofs.Fitting.{event_fits}
 use Rattle.fleet_world.specs.Answers.{answer, own_at, owns_after, owns_of, no_events}
 use Rattle.fleet_world.specs.Apart.{IsEventOf}
 use Rattle.fleet_world.specs.Fleets.{Fleeted, CanTake, owns_in, answer_of, begun}
 use Rattle.fleet_world.proofs.Standing.{owns_snoc}
 use Rattle.run_report.specs.Report.{Report}
-use Rattle.run_report.specs.Ready.{ReadyBy}
 use Rattle.run_report.proofs.Partly.{followed, Follows}
 use Rattle.fleet_report.specs.Events.{ends_it, event_report, IsOfPhone, Takes}
 use Rattle.fleet_report.specs.Lines.{output_text, answer_output, texts}
@@ -19,29 +19,29 @@ use Rattle.fleet_report.specs.Report.{report_from, ends_from, fleet_report_of}
 use Rattle.fleet_report.proofs.Shown.{answers_are}
 use Rattle.fleet_report.proofs.Telling.{events_left, none_left, event_more}
 
-pub can_take : (setup : Setup) (v : Fleeted) (phones : ℕ) (events : List (ℕ × Event)) (i : ℕ) (x : ℕ × Event) → v.setup ≡ setup → length v.worlds ≡ phones → length v.journal ≡ i → i < length events → x ≡ get_or events i x
-    → ReadyBy (λ (y : ℕ × Event). y.1) setup events → All (IsOfPhone phones) events → CanTake v x.0 x.1
-can_take setup v phones events i x same many count low is ready of_phones = record {
+pub can_take : (setup : Setup) (v : Fleeted) (phones : ℕ) (events : List (ℕ × Event)) (i : ℕ) (x : ℕ × Event)
+    → v.setup ≡ setup
+    → length v.worlds ≡ phones
+    → length v.journal ≡ i
+    → i < length events
+    → x ≡ get_or events i x
+    → IsScenarioBy (λ (y : ℕ × Event). y.1) setup events → All (IsOfPhone phones) events → CanTake v x.0 x.1
+can_take setup v phones events i x same many count low is scenario of_phones = record {
   phone = subst (λ n. x.0 < n) (sym many) (subst (IsOfPhone phones) (sym is) (of_phones i x low));
-  can = subst (λ s. CanHappen s x.1) (sym same) (subst (λ (y : ℕ × Event). CanHappen setup y.1) (sym is) (ready.can i x low));
-  fits = subst (λ (y : ℕ × Event). EventFits y.1) (sym is) (ready.fit i x low);
-  few = omega (arith, count, low, ready.few);
+  can = subst (λ s. CanHappen s x.1) (sym same) (subst (λ (y : ℕ × Event). CanHappen setup y.1) (sym is) (scenario.can_happen i x low));
+  few = omega (arith, count, low, scenario.few);
 }
 
 -- events in range
-pub all_in_range : (setup : Setup) (phones : ℕ) (events : List (ℕ × Event)) → ((k : ℕ) (d : ℕ × Event) → k < length events → IsOfPhone phones (get_or events k d))
-    → ((k : ℕ) (d : ℕ × Event) → k < length events → CanHappen setup (get_or events k d).1) → ((k : ℕ) (d : ℕ × Event) → k < length events → EventFits (get_or events k d).1) → AllOf (IsEventOf phones) events
-all_in_range setup phones [] of_phones can fit = tt
-all_in_range setup phones (x ∷ xs) of_phones can fit = (
-  (of_phones 0 x (omega arith), event_fits setup x.1 (fit 0 x (omega arith)) (can 0 x (omega arith))),
-  all_in_range setup phones xs (λ k d low. of_phones (suc k) d (omega (arith, low))) (λ k d low. can (suc k) d (omega (arith, low))) (λ k d low. fit (suc k) d (omega (arith, low))),
-)
+pub all_in_range : (phones : ℕ) (events : List (ℕ × Event)) → All (IsOfPhone phones) events → All (λ x. IsEvent x.1) events → AllOf (IsEventOf phones) events
+all_in_range phones events of_phones are = recursion_from_All (IsEventOf phones) events (λ k d low. (of_phones k d low, are k d low))
 
 -- what is left of the report behind the first i events, as the fleet is then
 unfoldable pub left_of : Fleeted → List (ℕ × Event) → ℕ → Report
 left_of v events i = report_from v.setup (owns_in v) i (drop i events)
 
-module _ (v : Fleeted) (events : List (ℕ × Event)) (i : ℕ) (x : ℕ × Event) (none : v.over ≡ None) (count : length v.journal ≡ i) (low : i < length events) (is : x ≡ get_or events i x) where
+module _ (v : Fleeted) (events : List (ℕ × Event)) (i : ℕ) (x : ℕ × Event) (none : v.over ≡ None)
+    (count : length v.journal ≡ i) (low : i < length events) (is : x ≡ get_or events i x) where
   -- what comes behind the event
   abbrev pub behind : Report
   behind = report_from v.setup (owns_after v.setup (owns_in v) x.0 x.1) (suc i) (drop (suc i) events)
@@ -52,7 +52,11 @@ module _ (v : Fleeted) (events : List (ℕ × Event)) (i : ℕ) (x : ℕ × Even
       let same : answer v.setup (owns_in v) x.0 x.1 ≡ answer_of v x.0 x.1 = sym (answers_are v x.0 x.1 none) in
       record {
         is = ap (report_from v.setup (owns_in v) i) (events_left events i x low is) ∙ event_more v.setup (owns_in v) i x (drop (suc i) events)
-            ∙ (λ j. followed (record { text = output_text (answer_output (sym count j) (length (own_at (owns_in v) x.0)) (same j)); coincides = ends_it (same j) }) behind);
+            ∙ (λ j. followed (record {
+              text = output_text (answer_output (sym count j) (length (own_at (owns_in v) x.0)) (same j));
+              coincides = ends_it (same j);
+            })
+            behind);
       }
 
   pub behind_is : (u : Fleeted) → Takes v x.0 x.1 u → behind ≡ left_of u events (i + 1)
@@ -64,12 +68,16 @@ module _ (v : Fleeted) (events : List (ℕ × Event)) (i : ℕ) (x : ℕ × Even
       λ j. report_from (sym takes.setup j) (owns j) (next j) (drop (next j) events)
 
 -- at the end
-pub end_is : (v : Fleeted) (events : List (ℕ × Event)) (i : ℕ) → length events ≤ i → left_of v events i ≡ record { text = texts (ends_from v.setup 0 (owns_in v)); coincides = false }
+pub end_is : (v : Fleeted) (events : List (ℕ × Event)) (i : ℕ)
+    → length events ≤ i
+    → left_of v events i ≡ record { text = texts (ends_from v.setup 0 (owns_in v)); coincides = false }
 unfolding left_of
 end_is v events i past = ap (report_from v.setup (owns_in v) i) (none_left events i past)
 
 -- at the beginning
-pub first_is : (setup : Setup) (phones : ℕ) (v : Fleeted) (events : List (ℕ × Event)) → v ≡ begun setup phones → fleet_report_of setup phones events ≡ left_of v events 0
+pub first_is : (setup : Setup) (phones : ℕ) (v : Fleeted) (events : List (ℕ × Event))
+    → v ≡ begun setup phones
+    → fleet_report_of setup phones events ≡ left_of v events 0
 unfolding fleet_report_of left_of
 first_is setup phones v events is =
     let many : length (begun setup phones).worlds ≡ phones = length-replicate phones _ in

@@ -2,6 +2,7 @@
 use Rattle.std.proofs.Common.{◌≡◌, ◌≢◌, refl, sym, ap, subst, ◌∙◌, ℕ, Bool, true, false, List, length, Option, Some, None, Result, Ok, Err}
 use Rattle.std.specs.Prelude.{IfOk, IsTrue}
 use Rattle.edge_io.specs.Told.{Told}
+use Rattle.lte_events.specs.Ranges.{IsEvent, IsSetup}
 use Rattle.lte_events.specs.declared.events.Event.{Event}
 use Rattle.lte_events.specs.declared.setups.Setup.{Setup}
 use Rattle.key_terms.specs.declared.proof.Proof.{Proof}
@@ -9,10 +10,8 @@ use Rattle.lte_machine.specs.BothRuns.{octet_run}
 use Rattle.lte_machine.specs.Ciphers.{annex_b}
 use Rattle.lte_machine.specs.Machines.{Kept, machine_in_octets}
 use Rattle.lte_machine.specs.Opening.{open_octets}
-use Rattle.lte_machine.specs.Ranges.{IsEvent, IsSetup}
 use Rattle.lte_machine.specs.Run.{RunState, Running, Stopped, EventReport, Reported, Coincided, event_report, GoesOn}
-use Rattle.lte_machine.proofs.Fitting.{event_fits}
-use Rattle.report_text.specs.Chance.{HasString}
+use Rattle.report_text.specs.Coincidence.{HasString}
 use Rattle.run_report.specs.Events.{HasCounts}
 use Rattle.run_report.specs.Report.{Report}
 use Rattle.run_report.specs.Written.{WritesReport}
@@ -34,36 +33,49 @@ use Rattle.fleet_world.proofs.Together.{octets_are}
 use Rattle.fleet_report.specs.Events.{HasItsCounts, ends_it}
 use Rattle.fleet_report.specs.Lines.{IsShown, output_text, answer_output}
 
--- a Chance is one of the phone's own run
-chance_told : (t : Option ℕ) (told : EventReport (List ℕ)) (met : Option Meeting) (p q : ℕ) (proof : Proof) → unless_taken p t told met ≡ Err (fault.Chance q proof) → (c : _) × (told ≡ Coincided c) × (proof ≡ proof_of c)
-chance_told (Some k) told met p q proof is = absurd cc
-chance_told None (Coincided c) met p q proof is = (c, refl, cc)
-chance_told None (Reported told) None p q proof is = absurd cc
-chance_told None (Reported told) (Some m) p q proof is = absurd cc
+-- a Coincidence is one of the phone's own run
+coincidence_told : (t : Option ℕ) (told : EventReport (List ℕ)) (met : Option Meeting) (p q : ℕ) (proof : Proof)
+    → unless_taken p t told met ≡ Err (fault.Coincidence q proof)
+    → (c : _) × (told ≡ Coincided c) × (proof ≡ proof_of c)
+coincidence_told (Some k) told met p q proof is = absurd cc
+coincidence_told None (Coincided c) met p q proof is = (c, refl, cc)
+coincidence_told None (Reported told) None p q proof is = absurd cc
+coincidence_told None (Reported told) (Some m) p q proof is = absurd cc
 
 goes : (run : RunState (List ℕ) ℕ Kept) → GoesOn run → (w : _) × (run ≡ Running w)
 goes (Running w) on = (w, refl)
-goes (Stopped chance) on = absurd on
+goes (Stopped coincidence) on = absurd on
 
 -- and a derivation in it has a string S
-chance_shown : (setup : Setup) (most : ℕ) (own : List Event) (e : Event) (chance : _) → IsSetup setup → IsOwn setup most own → IsEvent e → phone_told setup own e ≡ Coincided chance → HasCounts (proof_of chance) → HasString (proof_of chance)
-chance_shown setup most own e chance is h good told counts =
+coincidence_shown : (setup : Setup) (most : ℕ) (own : List Event) (e : Event) (coincidence : _)
+    → IsSetup setup
+    → IsOwn setup most own
+    → IsEvent e
+    → phone_told setup own e ≡ Coincided coincidence
+    → HasCounts (proof_of coincidence)
+    → HasString (proof_of coincidence)
+coincidence_shown setup most own e coincidence is h good told counts =
     let octets = octets_are setup own is h.in_range in
     let on = goes (octet_run setup own) (subst GoesOn (sym octets) h.goes) in
-    shown setup own on.0 e chance is h.in_range on.1 good
+    shown setup own on.0 e coincidence is h.in_range on.1 good
     (ap (λ r. event_report (open_octets annex_b) (machine_in_octets annex_b) r e) (sym on.1) ∙ told_is setup own e is h.in_range good ∙ told) counts
 
 pub answers_are : (v : Fleeted) (p : ℕ) (e : Event) → v.over ≡ None → answer_of v p e ≡ answer v.setup (owns_in v) p e
 answers_are v p e none = ap (λ o. unless_over o (answer v.setup (owns_in v) p e)) none
 
-pub fault_shown : (v : Fleeted) (p : ℕ) (e : Event) (f : FleetFault) → v.over ≡ None → IsSetup v.setup → IsOwn v.setup (length v.journal) (own_at (owns_in v) p) → CanTake v p e
+pub fault_shown : (v : Fleeted) (p : ℕ) (e : Event) (f : FleetFault)
+    → v.over ≡ None
+    → IsSetup v.setup
+    → IsOwn v.setup (length v.journal) (own_at (owns_in v) p)
+    → CanTake v p e
     → (◌≢◌ {A = Result FleetLine FleetFault} (Err f) (Err fault.Memory) → Err f ≡ answer_of v p e) → HasItsCounts f → IsShown f
 fault_shown v p e fault.Memory none is h can answered counts = tt
 fault_shown v p e (fault.Cross phone row other other_row) none is h can answered counts = tt
-fault_shown v p e (fault.Chance q proof) none is h can answered counts =
-    let told = chance_told (taken_by v.setup (owns_in v) p e) (phone_told v.setup (own_at (owns_in v) p) e) (crossing v.setup (owns_in v) p e) p q proof (sym (answered (λ same. cc) ∙ answers_are v p e none)) in
+fault_shown v p e (fault.Coincidence q proof) none is h can answered counts =
+    let told = coincidence_told (taken_by v.setup (owns_in v) p e) (phone_told v.setup (own_at (owns_in v) p) e)
+    (crossing v.setup (owns_in v) p e) p q proof (sym (answered (λ same. cc) ∙ answers_are v p e none)) in
     subst HasString (sym told.2)
-    (chance_shown v.setup (length v.journal) (own_at (owns_in v) p) e told.0 is h (event_fits v.setup e can.fits can.can) told.1 (subst HasCounts told.2 counts))
+    (coincidence_shown v.setup (length v.journal) (own_at (owns_in v) p) e told.0 is h can.can.0 told.1 (subst HasCounts told.2 counts))
 
 -- the line for a coincidence is that of the answer
 pub fault_reported : (v : Fleeted) (p : ℕ) (e : Event) (f : FleetFault) (step own : ℕ) (result : Result Bool Unwritten) (before after : Told)
@@ -74,11 +86,17 @@ pub fault_reported : (v : Fleeted) (p : ℕ) (e : Event) (f : FleetFault) (step 
 fault_reported v p e fault.Memory step own result before after says report memory refused ready =
     let nothing = memory refl in
     let whole : Report = record { text = output_text (answer_output step own (answer_of v p e)); coincides = ends_it (answer_of v p e) } in
-    subst (λ r. WritesReport whole r before after) (sym nothing.0) (subst (λ t. WritesReport whole (Err unwritten.Memory) before t) (sym nothing.1) (unreported whole before (refused refl) ready))
-fault_reported v p e (fault.Chance q proof) step own result before after says report memory refused ready =
-    subst (λ a. WritesReport (record { text = output_text (answer_output step own a); coincides = ends_it a }) result before after) (says (λ same. cc)) (report (λ same. cc))
+    subst (λ r. WritesReport whole r before after) (sym nothing.0)
+    (subst (λ t. WritesReport whole (Err unwritten.Memory) before t) (sym nothing.1)
+    (unreported whole before (refused refl) ready))
+fault_reported v p e (fault.Coincidence q proof) step own result before after says report memory refused ready =
+    subst (λ a. WritesReport (record { text = output_text (answer_output step own a); coincides = ends_it a })
+    result before after)
+    (says (λ same. cc)) (report (λ same. cc))
 fault_reported v p e (fault.Cross phone row other other_row) step own result before after says report memory refused ready =
-    subst (λ a. WritesReport (record { text = output_text (answer_output step own a); coincides = ends_it a }) result before after) (says (λ same. cc)) (report (λ same. cc))
+    subst (λ a. WritesReport (record { text = output_text (answer_output step own a); coincides = ends_it a })
+    result before after)
+    (says (λ same. cc)) (report (λ same. cc))
 
 -- which is not that of a line
 pub never_false : (A : Type 0) (result : Result Bool Unwritten) → IfOk result (λ b. b ≡ true) → result ≡ Ok false → A

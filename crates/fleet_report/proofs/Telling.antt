@@ -39,12 +39,15 @@ rows_past p rows k le = ap (λ l. texts (row_outputs p rows k l)) (drop_past row
 
 -- THE END OF A PHONE
 
-pub end_is : (p events records : ℕ) (rows : List LadderRow) (run : RunState (List ℕ) ℕ Kept) → GoesOn run → InRun (λ w. rows ≡ world_rows w) run → InRun (λ w. records ≡ length w.sent) run
+pub end_is : (p events records : ℕ) (rows : List LadderRow) (run : RunState (List ℕ) ℕ Kept)
+    → GoesOn run
+    → InRun (λ w. rows ≡ world_rows w) run
+    → InRun (λ w. records ≡ length w.sent) run
     → texts (end_outputs p events run) ≡ phone_text p (end_text events records (length rows)) ++ texts (row_outputs p rows 0 rows)
 end_is p events records rows (Running w) goes are few =
     ap (λ n. phone_text p (end_text events n (length (world_rows w))) ++ texts (row_outputs p (world_rows w) 0 (world_rows w))) (sym few)
     ∙ ap (λ rs. phone_text p (end_text events records (length rs)) ++ texts (row_outputs p rs 0 rs)) (sym are)
-end_is p events records rows (Stopped chance) goes are few = absurd goes
+end_is p events records rows (Stopped coincidence) goes are few = absurd goes
 
 texts_append : (xs ys : List Output) → texts (xs ++ ys) ≡ texts xs ++ texts ys
 texts_append [] ys = refl
@@ -56,7 +59,9 @@ drop_one (x ∷ xs) zero low = refl
 drop_one (x ∷ xs) (suc k) low = drop_one xs k (omega (arith, low))
 
 pub end_next : (setup : Setup) (owns : List (List Event)) (k : ℕ) → k < length owns
-    → Begins (texts (ends_from setup k (drop k owns))) (texts (end_outputs k (length (own_at owns k)) (phone_run setup (own_at owns k)))) (texts (ends_from setup (k + 1) (drop (k + 1) owns)))
+    → Begins (texts (ends_from setup k (drop k owns)))
+    (texts (end_outputs k (length (own_at owns k)) (phone_run setup (own_at owns k))))
+    (texts (ends_from setup (k + 1) (drop (k + 1) owns)))
 end_next setup owns k low =
     let next : suc k ≡ k + 1 = omega arith in record {
       is = ap (λ l. texts (ends_from setup k l)) (drop_one owns k low ∙ ap (λ n. own_at owns k ∷ drop n owns) next)
@@ -84,9 +89,14 @@ follows_by (Err ended) out rest = ap (λ t. record { text = t; coincides = true 
 
 pub event_more : (setup : Setup) (owns : List (List Event)) (step : ℕ) (x : ℕ × Event) (xs : List (ℕ × Event))
     → report_from setup owns step (x ∷ xs)
-    ≡ followed (record { text = output_text (answer_output step (length (own_at owns x.0)) (answer setup owns x.0 x.1)); coincides = ends_it (answer setup owns x.0 x.1) }) (report_from setup (owns_after setup owns x.0 x.1) (suc step) xs)
+    ≡ followed (record {
+      text = output_text (answer_output step (length (own_at owns x.0)) (answer setup owns x.0 x.1));
+      coincides = ends_it (answer setup owns x.0 x.1);
+    })
+    (report_from setup (owns_after setup owns x.0 x.1) (suc step) xs)
 event_more setup owns step x xs =
-    follows_by (answer setup owns x.0 x.1) (answer_output step (length (own_at owns x.0)) (answer setup owns x.0 x.1)) (outputs_from setup (owns_after setup owns x.0 x.1) (suc step) xs)
+    follows_by (answer setup owns x.0 x.1) (answer_output step (length (own_at owns x.0)) (answer setup owns x.0 x.1))
+    (outputs_from setup (owns_after setup owns x.0 x.1) (suc step) xs)
 
 pub events_left : (events : List (ℕ × Event)) (i : ℕ) (x : ℕ × Event) → i < length events → x ≡ get_or events i x → drop i events ≡ x ∷ drop (suc i) events
 events_left [] i x low is = absurd (omega (arith, low))

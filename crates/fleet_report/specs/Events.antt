@@ -21,7 +21,7 @@ ends_it (Err ended) = true
 
 -- COUNTs of 32 bits
 abbrev pub HasItsCounts : FleetFault → Type 0
-HasItsCounts (fault.Chance p proof) = HasCounts proof
+HasItsCounts (fault.Coincidence p proof) = HasCounts proof
 HasItsCounts other = Unit {0}
 
 -- the line for an event, and whether it ends the report

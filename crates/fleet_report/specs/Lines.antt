@@ -5,7 +5,7 @@ use Rattle.std.specs.Fmt.{decimal}
 use Rattle.key_terms.specs.declared.row.LadderRow.{LadderRow}
 use Rattle.lte_machine.specs.Machines.{Kept}
 use Rattle.lte_machine.specs.Run.{RunState, Running, Stopped}
-use Rattle.report_text.specs.Chance.{HasString, chance_text}
+use Rattle.report_text.specs.Coincidence.{HasString, coincidence_text}
 use Rattle.report_text.specs.End.{end_text}
 use Rattle.report_text.specs.Ladder.{row_text}
 use Rattle.report_text.specs.Line.{line_text}
@@ -48,13 +48,13 @@ cross_text step p row q other =
 abbrev pub answer_output : ℕ → ℕ → Result FleetLine FleetFault → Output
 answer_output step own (Ok (line.Of p told)) = ByPhone p (line_text told)
 answer_output step own (Ok (line.Taken q)) = ByFleet (taken_text step q)
-answer_output step own (Err (fault.Chance p proof)) = ByPhone p (chance_text own proof)
+answer_output step own (Err (fault.Coincidence p proof)) = ByPhone p (coincidence_text own proof)
 answer_output step own (Err (fault.Cross p row q other)) = ByFleet (cross_text step p row.0 q other.0)
 answer_output step own (Err fault.Memory) = ByFleet []
 
 -- a derivation in it has a string S
 abbrev pub IsShown : FleetFault → Type 0
-IsShown (fault.Chance p proof) = HasString proof
+IsShown (fault.Coincidence p proof) = HasString proof
 IsShown other = Unit {0}
 
 -- THE END
@@ -67,4 +67,4 @@ row_outputs p rows k (r ∷ rest) = ByPhone p (row_text rows k r) ∷ row_output
 -- how much there was of everything, and the rows of the ladder, where no coincidence ended it
 abbrev pub end_outputs : ℕ → ℕ → RunState (List ℕ) ℕ Kept → List Output
 end_outputs p events (Running w) = ByPhone p (end_text events (length w.sent) (length (world_rows w))) ∷ row_outputs p (world_rows w) 0 (world_rows w)
-end_outputs p events (Stopped chance) = []
+end_outputs p events (Stopped coincidence) = []

@@ -1,9 +1,8 @@
 // What holds of the phones of a fleet.
 ghost use Rattle.std.specs.Prelude.{ℕ, List, All};
-ghost use Rattle.lte_events.specs.Conditions.{CanHappen, EventFits};
+ghost use Rattle.lte_events.specs.Ranges.{IsEvent, IsSetup};
 ghost use Rattle.lte_events.specs.declared.events.Event.{Event};
 ghost use Rattle.lte_events.specs.declared.setups.Setup.{Setup};
-ghost use Rattle.lte_world.specs.Whole.{CanBegin};
 ghost use Rattle.fleet_report.specs.Events.{IsOfPhone};
 ghost use Rattle.fleet_report.specs.Promises.{Holds};
 
@@ -12,6 +11,6 @@ ghost use Rattle.fleet_report.specs.Promises.{Holds};
 /// key, COUNT, bearer and direction repeats, in one phone or in two; and no key from a phone's root can be derived
 /// from what stations hold for the other phones.
 pub fn no_phone_sees_another()
-    ensures { (setup : Setup) (phones : ℕ) (events : List (ℕ × Event)) → CanBegin setup → All (IsOfPhone phones) events →
-        All (λ x. CanHappen setup x.1) events → All (λ x. EventFits x.1) events → Holds setup phones events }
+    ensures { (setup : Setup) (phones : ℕ) (events : List (ℕ × Event)) → IsSetup setup → All (IsOfPhone phones) events →
+        All (λ x. IsEvent x.1) events → Holds setup phones events }
 {}

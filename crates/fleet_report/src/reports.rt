@@ -1,8 +1,8 @@
 ghost use Rattle.growth.specs.Growth.{WasRefused};
 ghost use Rattle.std.specs.Prelude.{◌≡◌, ◌≢◌, ℕ, ◌≤◌, List, true, false, None, Ok, Err, length, All, IfOk, OnErr, IsTrue};
 ghost use Rattle.edge_io.specs.Lines.{EndsLine};
-ghost use Rattle.lte_world.specs.Whole.{most_events, run_of};
-ghost use Rattle.run_report.specs.Ready.{ReadyBy};
+ghost use Rattle.lte_world.specs.Whole.{run_of};
+ghost use Rattle.lte_events.specs.Scenario.{IsScenarioBy, most_events};
 ghost use Rattle.run_report.specs.Written.{WritesReport, WritesText};
 ghost use Rattle.fleet_world.specs.Fleets.{most_phones, owns_in, CanTake};
 ghost use Rattle.fleet_world.specs.Worlds.{Goes};
@@ -32,7 +32,7 @@ pub fn write_fleet<W: Sink>(
     out: &mut W,
 ) -> Result<bool, Unwritten>
     requires out_ready { IsTrue (W.told out.old).ready }
-    requires ready { ReadyBy (λ x. x.1) setup.now events.now.items }
+    requires is_scenario { IsScenarioBy (λ x. x.1) setup.now events.now.items }
     requires some { 1 ≤ phones }
     requires phones { phones ≤ most_phones }
     requires of_phones { All (IsOfPhone phones) events.now.items }
@@ -196,7 +196,7 @@ fn counts_in(fault: FleetFault)
     ensures { HasItsCounts fault }
 {
     match fault {
-        FleetFault::Chance(_, proof) => has_counts(proof),
+        FleetFault::Coincidence(_, proof) => has_counts(proof),
         FleetFault::Cross { .. } | FleetFault::Memory => {}
     }
 }

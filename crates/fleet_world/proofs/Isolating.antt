@@ -27,7 +27,7 @@ use Rattle.fleet_world.proofs.Separating.{own_other, own_same, no_own, length_af
 lines_append : (xs : List (EventReport (List ℕ))) (x : EventReport (List ℕ)) → lines_in (xs ++ x ∷ []) ≡ lines_in xs ++ lines_in (x ∷ [])
 lines_append [] x = refl
 lines_append (Reported told ∷ xs) x = ap (λ l. line_out told ∷ l) (lines_append xs x)
-lines_append (Coincided chance ∷ xs) x = lines_append xs x
+lines_append (Coincided coincidence ∷ xs) x = lines_append xs x
 
 pub own_more : (setup : Setup) (own : List Event) (e : Event) → own_lines setup (own ++ e ∷ []) ≡ own_lines setup own ++ lines_in (phone_told setup own e ∷ [])
 unfolding phone_told
@@ -44,33 +44,47 @@ module _ (setup : Setup) (owns : List (List Event)) (p : ℕ) (e : Event) (q : �
   abbrev Adds : Result FleetLine FleetFault → List (List Event) → Type 0
   Adds answered after = own_lines setup mine ++ lines_of q (answered ∷ []) ≡ own_lines setup (own_at after q)
 
-  of_phone : (told : EventReport (List ℕ)) (x : _) → phone_told setup (own_at owns p) e ≡ Reported x → Adds (Ok (line.Of p (line_out x))) (set owns p (own_at owns p ++ e ∷ []))
+  of_phone : (told : EventReport (List ℕ)) (x : _)
+      → phone_told setup (own_at owns p) e ≡ Reported x
+      → Adds (Ok (line.Of p (line_out x))) (set owns p (own_at owns p ++ e ∷ []))
   of_phone told x tells = by (p == q) refl
     where
       by : (b : Bool) → (p == q) ≡ b → own_lines setup mine ++ line_if b (line_out x) [] ≡ own_lines setup (own_at (set owns p (own_at owns p ++ e ∷ [])) q)
       by true is =
           let one = eqb-true p q is in
-          ap (λ l. own_lines setup mine ++ lines_in (l ∷ [])) (sym tells) ∙ ap (λ k. own_lines setup mine ++ lines_in (phone_told setup (own_at owns k) e ∷ [])) one
+          ap (λ l. own_lines setup mine ++ lines_in (l ∷ [])) (sym tells)
+          ∙ ap (λ k. own_lines setup mine ++ lines_in (phone_told setup (own_at owns k) e ∷ [])) one
           ∙ sym (own_more setup mine e)
           ∙ ap (own_lines setup) (sym (ap (λ k. own_at (set owns k (own_at owns k ++ e ∷ [])) q) one ∙ own_same owns q (mine ++ e ∷ []) low))
-      by false is = append-nil (own_lines setup mine) ∙ ap (own_lines setup) (sym (own_other owns p q (own_at owns p ++ e ∷ []) (λ same. eqb-false p q is (sym same))))
+      by false is =
+          append-nil (own_lines setup mine)
+          ∙ ap (own_lines setup)
+          (sym (own_other owns p q (own_at owns p ++ e ∷ []) (λ same. eqb-false p q is (sym same))))
 
   pub adds : IsOk (answer setup owns p e) → Adds (answer setup owns p e) (owns_after setup owns p e)
   adds ok = by (taken_by setup owns p e) ok (phone_told setup (own_at owns p) e) refl (crossing setup owns p e)
     where
-      by : (t : Option ℕ) → IsOk (unless_taken p t (phone_told setup (own_at owns p) e) (crossing setup owns p e)) → (told : EventReport (List ℕ)) → phone_told setup (own_at owns p) e ≡ told
+      by : (t : Option ℕ)
+          → IsOk (unless_taken p t (phone_told setup (own_at owns p) e) (crossing setup owns p e))
+          → (told : EventReport (List ℕ))
+          → phone_told setup (own_at owns p) e ≡ told
           → (met : Option Meeting) → Adds (unless_taken p t (phone_told setup (own_at owns p) e) (crossing setup owns p e)) (owned_if t owns p e)
       by (Some k) ok told tells met = append-nil (own_lines setup mine)
-      by None ok (Coincided chance) tells met = absurd (false≢true (ap (λ t. is_ok (unless_met p t (crossing setup owns p e))) (sym tells) ∙ ok))
+      by None ok (Coincided coincidence) tells met = absurd (false≢true (ap (λ t. is_ok (unless_met p t (crossing setup owns p e))) (sym tells) ∙ ok))
       by None ok (Reported x) tells met = at_line (crossing setup owns p e) refl
         where
-          at_line : (m : Option Meeting) → crossing setup owns p e ≡ m → Adds (unless_met p (phone_told setup (own_at owns p) e) (crossing setup owns p e)) (set owns p (own_at owns p ++ e ∷ []))
+          at_line : (m : Option Meeting)
+              → crossing setup owns p e ≡ m
+              → Adds (unless_met p (phone_told setup (own_at owns p) e) (crossing setup owns p e))
+              (set owns p (own_at owns p ++ e ∷ []))
           at_line None is =
-              subst (λ (a : Result FleetLine FleetFault). Adds a (set owns p (own_at owns p ++ e ∷ []))) (sym (λ j. unless_met p (tells j) (is j))) (of_phone (Reported x) x tells)
+              subst (λ (a : Result FleetLine FleetFault). Adds a (set owns p (own_at owns p ++ e ∷ [])))
+              (sym (λ j. unless_met p (tells j) (is j))) (of_phone (Reported x) x tells)
           at_line (Some m) is = absurd (false≢true (sym (λ j. is_ok (unless_met p (tells j) (is j))) ∙ ok))
 
 -- and so for all events
-lines_parts : (q : ℕ) (a : Result FleetLine FleetFault) (rest : List (Result FleetLine FleetFault)) → lines_of q (a ∷ rest) ≡ lines_of q (a ∷ []) ++ lines_of q rest
+lines_parts : (q : ℕ) (a : Result FleetLine FleetFault) (rest : List (Result FleetLine FleetFault))
+    → lines_of q (a ∷ rest) ≡ lines_of q (a ∷ []) ++ lines_of q rest
 lines_parts q (Ok (line.Of p told)) rest = by (p == q)
   where
     by : (b : Bool) → line_if b told (lines_of q rest) ≡ line_if b told [] ++ lines_of q rest
@@ -81,7 +95,10 @@ lines_parts q (Err ended) rest = refl
 
 abbrev Isolated : Setup → List (List Event) → List (ℕ × Event) → Type 0
 Isolated setup owns events =
-    (p : ℕ) → p < length owns → own_lines setup (own_at owns p) ++ lines_of p (answers setup owns events) ≡ own_lines setup (own_at (owns_from setup owns events) p)
+    (p : ℕ)
+    → p < length owns
+    → own_lines setup (own_at owns p) ++ lines_of p (answers setup owns events)
+    ≡ own_lines setup (own_at (owns_from setup owns events) p)
 
 isolated : (setup : Setup) (owns : List (List Event)) (events : List (ℕ × Event)) → AllAnswered setup owns events → Isolated setup owns events
 isolated setup owns [] answered q low = append-nil (own_lines setup (own_at owns q))

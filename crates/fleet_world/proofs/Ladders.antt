@@ -18,13 +18,12 @@ use Rattle.key_terms.proofs.Holding.{plain}
 use Rattle.lte_machine.specs.BothRuns.{annex_b_terms, written_run}
 use Rattle.lte_machine.specs.ByEvent.{in_octets}
 use Rattle.lte_machine.specs.Carried.{run_value}
-use Rattle.lte_machine.specs.Ciphers.{annex_b}
+use Rattle.lte_machine.specs.Ciphers.{annex_b, under_keys}
 use Rattle.lte_machine.specs.Distinct.{keys_of, Member, distinct_after, distinct_terms, is_member, with_new}
 use Rattle.lte_machine.specs.Known.{AllReported}
 use Rattle.lte_machine.specs.Ladder.{RowOrigin, row_key, ladder_of}
 use Rattle.lte_machine.specs.Machines.{written_machine, written_in_values}
 use Rattle.lte_machine.specs.Opening.{open_octets, open_by_uses}
-use Rattle.lte_machine.specs.Ciphers.{under_keys}
 use Rattle.lte_machine.specs.Run.{RunState, Running, Stopped, turn, after, first_world}
 use Rattle.lte_machine.specs.Standing.{OctetRowsStand}
 use Rattle.lte_machine.specs.Step.{next, Continues, Stops, StepResult}
@@ -34,15 +33,13 @@ use Rattle.lte_machine.proofs.EventByEvent.{replay_snoc, step_is}
 use Rattle.lte_machine.proofs.History.{among_distinct, distinct_append}
 use Rattle.lte_machine.proofs.KnownWorld.{Grounds}
 use Rattle.lte_machine.proofs.LadderRun.{still_grounds, octets_always}
+use Rattle.lte_machine.proofs.Worlds.{TheWorld}
 use Rattle.lte_properties.proofs.AccountsHold.{happens_gains}
 use Rattle.store_laws.specs.Rows.{numbered, all_noted, world_rows}
 use Rattle.store_laws.proofs.Adding.{Stands, row_stands}
 use Rattle.store_laws.proofs.Numbered.{plain_noted, octets_numbered}
 use Rattle.fleet_world.specs.Meeting.{has_row}
 use Rattle.fleet_world.specs.Phones.{phone_run, phone_rows, rows_in}
-
-abbrev pub TheWorld : Type 0
-TheWorld = World Term ℕ (Outgoing Term ℕ)
 
 -- OCTETS OF ROWS
 
@@ -70,13 +67,17 @@ module _ (setup : Setup) (events : List Event) (w : TheWorld) (runs : written_ru
   in_values = ap (run_value annex_b) runs
 
   pub grounds : Grounds w
-  grounds = still_grounds (under_keys value_of annex_b) written_in_values (open_by_uses same_value (under_keys value_of annex_b)) (open_octets annex_b_terms) setup events w runs
+  grounds =
+      still_grounds (under_keys value_of annex_b) written_in_values
+      (open_by_uses same_value (under_keys value_of annex_b)) (open_octets annex_b_terms) setup events w runs
 
   pub reported : AllReported w
   reported = grounds.keys
 
   stand : OctetRowsStand w.history
-  stand = octets_always (under_keys value_of annex_b) written_in_values (open_by_uses same_value (under_keys value_of annex_b)) (open_octets annex_b_terms) setup events w runs
+  stand =
+      octets_always (under_keys value_of annex_b) written_in_values
+      (open_by_uses same_value (under_keys value_of annex_b)) (open_octets annex_b_terms) setup events w runs
 
   -- the rows are the distinct terms
   pub rows_are : octets_of (phone_rows setup events) ≡ map value_of (distinct_terms w.history)
@@ -85,7 +86,10 @@ module _ (setup : Setup) (events : List Event) (w : TheWorld) (runs : written_ru
   -- and so every term of the run has one
   pub term_has_row : (t : Term) → Member t (keys_of w.history) → has_row (value_of t) (phone_rows setup events) ≡ true
   unfolding has_row
-  term_has_row t m = row_stands (phone_rows setup events) (value_of t) (subst (Stands (value_of t)) (sym rows_are) (valued_stands (distinct_terms w.history) (among_distinct [] (keys_of w.history) t m)))
+  term_has_row t m =
+      row_stands (phone_rows setup events) (value_of t)
+      (subst (Stands (value_of t)) (sym rows_are)
+      (valued_stands (distinct_terms w.history) (among_distinct [] (keys_of w.history) t m)))
     where
       valued_stands : (ts : List Term) → Member t ts → Stands (value_of t) (map value_of ts)
       valued_stands [] h = absurd h
@@ -107,7 +111,9 @@ distinct_more seen (t ∷ ts) = by (is_member t seen) (distinct_more (with_new (
     joined [] ys = refl
     joined (x ∷ xs) ys = ap (λ l. x ∷ l) (joined xs ys)
 
-    by : (b : Bool) → (more : List Term) × (distinct_after (with_new b t seen) ts ≡ with_new b t seen ++ more) → (more : List Term) × (distinct_after (with_new b t seen) ts ≡ seen ++ more)
+    by : (b : Bool)
+        → (more : List Term) × (distinct_after (with_new b t seen) ts ≡ with_new b t seen ++ more)
+        → (more : List Term) × (distinct_after (with_new b t seen) ts ≡ seen ++ more)
     by true h = h
     by false h = (t ∷ h.0, h.1 ∙ joined seen h.0)
 
@@ -119,12 +125,15 @@ terms_more history more =
 -- a run that goes on went on before
 before_it : (r : RunState Term ℕ (Outgoing Term ℕ)) (e : Event) (u : TheWorld) → turn (open_octets annex_b_terms) (written_machine annex_b) r e ≡ Running u
     → (w : TheWorld) × (r ≡ Running w) × (u ≡ (happens (written_machine annex_b) w e).0)
-before_it (Stopped chance) e u is = absurd cc
+before_it (Stopped coincidence) e u is = absurd cc
 before_it (Running w) e u is = (w, refl, by (next (open_octets annex_b_terms) (written_machine annex_b) w e) refl is)
   where
-    by : (s : StepResult Term ℕ (Outgoing Term ℕ)) → next (open_octets annex_b_terms) (written_machine annex_b) w e ≡ s → after s ≡ Running u → u ≡ (happens (written_machine annex_b) w e).0
+    by : (s : StepResult Term ℕ (Outgoing Term ℕ))
+        → next (open_octets annex_b_terms) (written_machine annex_b) w e ≡ s
+        → after s ≡ Running u
+        → u ≡ (happens (written_machine annex_b) w e).0
     by (Continues v line) at k = let one : v ≡ u = cc in sym one ∙ (step_is (open_octets annex_b_terms) (written_machine annex_b) w e v line at).0
-    by (Stops chance) at k = absurd cc
+    by (Stops coincidence) at k = absurd cc
 
 pub went_on : (setup : Setup) (own : List Event) (e : Event) (u : TheWorld) → written_run setup (own ++ e ∷ []) ≡ Running u
     → (w : TheWorld) × (written_run setup own ≡ Running w) × (u ≡ (happens (written_machine annex_b) w e).0)
@@ -191,6 +200,11 @@ octets_length [] = refl
 octets_length (r ∷ rows) = ap suc (octets_length rows)
 
 -- the new rows, by their octets
-pub new_octets : (before after : List LadderRow) (more : List (List ℕ)) → octets_of after ≡ octets_of before ++ more → octets_of (drop (length before) after) ≡ more
+pub new_octets : (before after : List LadderRow) (more : List (List ℕ))
+    → octets_of after ≡ octets_of before ++ more
+    → octets_of (drop (length before) after) ≡ more
 new_octets before after more is =
-    drop_octets (length before) after ∙ ap (drop (length before)) is ∙ ap (λ n. drop n (octets_of before ++ more)) (sym (octets_length before)) ∙ drop_front (octets_of before) more
+    drop_octets (length before) after
+    ∙ ap (drop (length before)) is
+    ∙ ap (λ n. drop n (octets_of before ++ more)) (sym (octets_length before))
+    ∙ drop_front (octets_of before) more

@@ -1,10 +1,10 @@
 -- What is read of a fleet that goes on.
 use Rattle.std.proofs.Common.{◌≡◌, sym, ap, subst, ◌∙◌, ℕ, ◌<◌, List, [], length, None, Option}
 use Rattle.std.proofs.lemmas.List.{length-replicate}
-use Rattle.std.specs.Prelude.{slice_get, Some}
+use Rattle.std.specs.List.{AllByRecursion as AllOf}
+use Rattle.lte_events.specs.Ranges.{IsSetup}
 use Rattle.lte_events.specs.declared.events.Event.{Event}
 use Rattle.lte_events.specs.declared.setups.Setup.{Setup}
-use Rattle.lte_machine.specs.Ranges.{AllOf, IsEvent, IsSetup}
 use Rattle.lte_properties.specs.Headline.{Headline}
 use Rattle.lte_properties.proofs.HeadlineHolds.{headline}
 use Rattle.lte_world.specs.Whole.{Whole}
@@ -15,17 +15,22 @@ use Rattle.fleet_world.specs.Fleets.{Fleeted, IsOwn, Stands, StandsUnless, owns_
 use Rattle.fleet_world.specs.Isolation.{LinesAreOwn}
 use Rattle.fleet_world.proofs.Isolating.{lines_are_own}
 use Rattle.fleet_world.proofs.Separating.{Apart, none_apart, all_apart}
-use Rattle.fleet_world.proofs.Standing.{own_stands, stands_there}
+use Rattle.fleet_world.proofs.Standing.{own_stands}
 use Rattle.fleet_world.proofs.Taking.{stands_of}
 use Rattle.fleet_world.proofs.Together.{no_use_twice, phones_separate}
 
 -- no two phones have a key in common after events that were answered by lines
-pub phones_apart : (setup : Setup) (phones : ℕ) (events : List (ℕ × Event)) → AllOf (IsEventOf phones) events → AllAnswered setup (no_events phones) events → Apart setup (owns_of setup phones events)
+pub phones_apart : (setup : Setup) (phones : ℕ) (events : List (ℕ × Event))
+    → AllOf (IsEventOf phones) events
+    → AllAnswered setup (no_events phones) events
+    → Apart setup (owns_of setup phones events)
 phones_apart setup phones events are answered =
-    all_apart setup (no_events phones) events (none_apart setup phones) (subst (λ n. AllOf (IsEventOf n) events) (sym (length-replicate phones [])) are) answered
+    all_apart setup (no_events phones) events (none_apart setup phones)
+    (subst (λ n. AllOf (IsEventOf n) events) (sym (length-replicate phones [])) are) answered
 
 module _ (over : Option FleetFault) (setup : Setup) (worlds : List Whole) (journal : List (ℕ × Event)) (now : Fleeted)
-    (view : record { setup = setup; worlds = worlds; journal = journal; over = over } ≡ now) (inv : StandsUnless over setup worlds journal) (none : now.over ≡ None) where
+    (view : record { setup = setup; worlds = worlds; journal = journal; over = over } ≡ now)
+    (inv : StandsUnless over setup worlds journal) (none : now.over ≡ None) where
   h : Stands setup worlds journal
   h = stands_of over setup worlds journal (ap (λ (v : Fleeted). v.over) view ∙ none) inv
 

@@ -1,27 +1,27 @@
 -- The roots of the keys of a run are roots of the run.
-use Rattle.std.proofs.Common.{◌≡◌, refl, sym, ap, subst, ◌∙◌, ℕ, Bool, true, false, List, [], ◌∷◌, ◌++◌, Option, Some, None, inl, inr}
-use Rattle.std.specs.Prelude.{◌⊎◌}
+use Rattle.std.proofs.Common.{◌≡◌, refl, sym, subst, ℕ, Bool, true, false, List, [], ◌∷◌, ◌++◌, Option, Some, None, inl, inr}
 use Rattle.lte_events.specs.declared.events.Event.{Event}
 use Rattle.lte_events.specs.declared.setups.Setup.{Setup}
-use Rattle.key_model.specs.Derivation.{Input, FromCount, FromSync, FromCell, FromAlg, Derivation}
+use Rattle.key_model.specs.Derivation.{Input, FromCount, FromSync, FromCell, FromAlg}
 use Rattle.key_model.specs.Term.{Term, Root, Kenb, Nh, Star, Alg}
 use Rattle.key_model.specs.Value.{value_of, same_value}
 use Rattle.lte_machine.specs.BothRuns.{annex_b_terms, written_run}
 use Rattle.lte_machine.specs.Ciphers.{annex_b, under_keys}
 use Rattle.lte_machine.specs.Distinct.{keys_of, Member}
-use Rattle.lte_machine.specs.Ladder.{RowOrigin, OfRoot, Of, row_key, Hit, hit, Clash, Ladder, added_at, added_unless, stands_or_not, add_row, add_next, add_rows, no_rows, ladder_of, same_origin}
+use Rattle.lte_machine.specs.Ladder.{RowOrigin, OfRoot, Of, row_key, Hit, hit, Clash, Ladder, added_at, added_unless, stands_or_not, add_next, add_rows, no_rows, ladder_of, same_origin}
 use Rattle.lte_machine.specs.Machines.{written_machine, written_in_values}
 use Rattle.lte_machine.specs.Opening.{open_octets, open_by_uses}
-use Rattle.lte_machine.specs.Ranges.{AllOf}
-use Rattle.lte_machine.specs.Run.{Running, run, first_world}
-use Rattle.lte_machine.specs.Standing.{RowsStandForTerms, row_keys}
+use Rattle.std.specs.List.{AllByRecursion as AllOf}
+use Rattle.lte_machine.specs.Run.{Running, first_world}
+use Rattle.lte_machine.specs.Standing.{RowsStandForTerms}
 use Rattle.lte_machine.proofs.LadderRun.{ladder_always}
 use Rattle.lte_machine.proofs.Rows.{made_of, SyncIn, From}
 use Rattle.lte_machine.proofs.StillRun.{still_is_run}
+use Rattle.lte_machine.proofs.Worlds.{TheWorld}
 use Rattle.lte_properties.specs.Accounts.{IsRowOf}
 use Rattle.lte_properties.proofs.AccountsHold.{rows_are}
 use Rattle.fleet_world.specs.Apart.{ComesOfRoot}
-use Rattle.fleet_world.proofs.Ladders.{TheWorld, grounds}
+use Rattle.fleet_world.proofs.Ladders.{grounds}
 
 -- WHAT HOLDS OF A HISTORY HOLDS OF ITS LADDER
 
@@ -38,7 +38,10 @@ module _ (P : RowOrigin Term → Type 0) where
   all_added rows o None all p = all_one_more rows o all p
   all_added rows o (Some h) all p = all_stands (same_origin same_value h.found o) rows h.place o all
 
-  all_next : (clash : Option (Clash Term)) (rows : List (RowOrigin Term)) (o : RowOrigin Term) → AllOf P rows → P o → AllOf P (added_unless clash same_value rows o).rows
+  all_next : (clash : Option (Clash Term)) (rows : List (RowOrigin Term)) (o : RowOrigin Term)
+      → AllOf P rows
+      → P o
+      → AllOf P (added_unless clash same_value rows o).rows
   all_next None rows o all p = all_added rows o (hit same_value (row_key o) rows) all p
   all_next (Some c) rows o all p = all
 
@@ -71,7 +74,11 @@ row_parents : (ts : List Term) (o : RowOrigin Term) → MadeFrom ts o → IsRowO
 row_parents ts (OfRoot key) made is = subst (ParentsIn ts) (sym is.2) tt
 row_parents ts (Of d) made is = subst (ParentsIn ts) (sym made.2) (made_parents ts d.key d.input made.0 made.1)
 
-member_parents : (ts : List Term) (rows : List (RowOrigin Term)) (t : Term) → AllOf (MadeFrom ts) rows → AllOf (IsRowOf (written_machine annex_b)) rows → Member t (keys_of rows) → ParentsIn ts t
+member_parents : (ts : List Term) (rows : List (RowOrigin Term)) (t : Term)
+    → AllOf (MadeFrom ts) rows
+    → AllOf (IsRowOf (written_machine annex_b)) rows
+    → Member t (keys_of rows)
+    → ParentsIn ts t
 member_parents ts [] t made is m = absurd m
 member_parents ts (o ∷ os) t made is (inl e) = subst (ParentsIn ts) (sym e) (row_parents ts o made.0 is.0)
 member_parents ts (o ∷ os) t made is (inr m) = member_parents ts os t made.1 is.1 m
@@ -80,7 +87,9 @@ member_parents ts (o ∷ os) t made is (inr m) = member_parents ts os t made.1 i
 
 module _ (setup : Setup) (own : List Event) (w : TheWorld) (runs : written_run setup own ≡ Running w) where
   stand : RowsStandForTerms w.history
-  stand = ladder_always (under_keys value_of annex_b) written_in_values (open_by_uses same_value (under_keys value_of annex_b)) (open_octets annex_b_terms) setup own w runs
+  stand =
+      ladder_always (under_keys value_of annex_b) written_in_values
+      (open_by_uses same_value (under_keys value_of annex_b)) (open_octets annex_b_terms) setup own w runs
 
   abbrev rows : List (RowOrigin Term)
   rows = (ladder_of same_value w.history).rows
@@ -88,9 +97,11 @@ module _ (setup : Setup) (own : List Event) (w : TheWorld) (runs : written_run s
   parents : (t : Term) → Member t (keys_of rows) → ParentsIn (keys_of rows) t
   parents t m =
       let history : AllOf (IsRowOf (written_machine annex_b)) w.history =
-      subst (λ (x : TheWorld). AllOf (IsRowOf (written_machine annex_b)) x.history) (sym (still_is_run (open_octets annex_b_terms) (written_machine annex_b) (first_world setup) own w runs))
+      subst (λ (x : TheWorld). AllOf (IsRowOf (written_machine annex_b)) x.history)
+      (sym (still_is_run (open_octets annex_b_terms) (written_machine annex_b) (first_world setup) own w runs))
       (rows_are (written_machine annex_b) (first_world setup) own tt) in
-      member_parents (keys_of rows) rows t ((grounds setup own w runs).ladder stand.calm).well.made (all_rows (IsRowOf (written_machine annex_b)) no_rows w.history tt history) m
+      member_parents (keys_of rows) rows t ((grounds setup own w runs).ladder stand.calm).well.made
+      (all_rows (IsRowOf (written_machine annex_b)) no_rows w.history tt history) m
 
   -- the roots of a key of the run are among its keys
   roots_in : (root : List ℕ) (t : Term) → Member t (keys_of rows) → ComesOfRoot root t → (r : ℕ) × Member (Root r root) (keys_of rows)
@@ -106,10 +117,17 @@ module _ (setup : Setup) (own : List Event) (w : TheWorld) (runs : written_run s
       let at = roots_in root t (stand.stand t m) c in
       (at.0, in_history w.history at.0 at.1)
     where
-      in_history : (history : List (RowOrigin Term)) (r : ℕ) → Member (Root r root) (keys_of (ladder_of same_value history).rows) → Member (Root r root) (keys_of history)
-      in_history history r k = member_of (ladder_of same_value history).rows k (all_rows (λ o. Member (row_key o) (keys_of history)) no_rows history tt (each history))
+      in_history : (history : List (RowOrigin Term)) (r : ℕ)
+          → Member (Root r root) (keys_of (ladder_of same_value history).rows)
+          → Member (Root r root) (keys_of history)
+      in_history history r k =
+          member_of (ladder_of same_value history).rows k
+          (all_rows (λ o. Member (row_key o) (keys_of history)) no_rows history tt (each history))
         where
-          member_of : (os : List (RowOrigin Term)) → Member (Root r root) (keys_of os) → AllOf (λ o. Member (row_key o) (keys_of history)) os → Member (Root r root) (keys_of history)
+          member_of : (os : List (RowOrigin Term))
+              → Member (Root r root) (keys_of os)
+              → AllOf (λ o. Member (row_key o) (keys_of history)) os
+              → Member (Root r root) (keys_of history)
           member_of [] k all = absurd k
           member_of (o ∷ os) (inl e) all = subst (λ t. Member t (keys_of history)) (sym e) all.0
           member_of (o ∷ os) (inr k) all = member_of os k all.1

@@ -1,16 +1,15 @@
 -- The first ladder that passes a test, by what is known of each.
-use Rattle.std.proofs.Common.{◌≡◌, refl, sym, ap, subst, ◌∙◌, ℕ, zero, suc, ◌+◌, ◌<◌, ◌≤◌, Bool, true, false, List, [], ◌∷◌, length, drop, get_or, Some, None, arith}
-use Rattle.std.proofs.Common.{inl, inr}
+use Rattle.std.proofs.Common.{◌≡◌, refl, sym, ap, subst, ◌∙◌, ℕ, zero, suc, ◌+◌, ◌<◌, ◌≤◌, Bool, true, false, List, [], ◌∷◌, length, drop, get_or, Some, None, arith, inl, inr}
 use Rattle.std.specs.Prelude.{◌⊎◌, slice_get, position, option_map, unwrap_or}
 use Rattle.std.specs.Option.{is_some}
 use Rattle.std.proofs.Math.ListN.{length-set}
 use Rattle.std.proofs.lemmas.List.{get_or-set_same, length-map, get_or-map}
 use Rattle.std.proofs.lemmas.Option.{slice_get-get_or, get_or_from_slice_get, slice_get_within}
+use Rattle.std.specs.List.{AllByRecursion as AllOf}
 use Rattle.key_terms.specs.declared.row.LadderRow.{LadderRow}
 use Rattle.key_terms.specs.Ladder.{row_of}
 use Rattle.key_terms.proofs.Places.{position_first, position_nowhere}
 use Rattle.lte_machine.specs.Machines.{Kept}
-use Rattle.lte_machine.specs.Ranges.{AllOf}
 use Rattle.lte_machine.specs.Run.{RunState, Running, Stopped, GoesOn}
 use Rattle.lte_world.specs.Whole.{Whole, InRun, run_of}
 use Rattle.store_laws.specs.Rows.{world_rows}
@@ -22,7 +21,7 @@ use Rattle.fleet_world.specs.Worlds.{Goes, rows_at, ladders_in, others_in}
 
 rows_are : (run : RunState (List ℕ) ℕ Kept) (rows : List LadderRow) → GoesOn run → InRun (λ w. rows ≡ world_rows w) run → rows ≡ rows_in run
 rows_are (Running w) rows goes are = are
-rows_are (Stopped chance) rows goes are = absurd goes
+rows_are (Stopped coincidence) rows goes are = absurd goes
 
 pub ladder_is : (v : Whole) (rows : List LadderRow) → Goes v → InRun (λ w. rows ≡ world_rows w) (run_of v) → rows ≡ rows_at v
 ladder_is v rows goes are = rows_are (run_of v) rows goes are
@@ -52,14 +51,20 @@ ladder_of_phone k worlds v low is = get_or-map rows_at worlds k v [] low ∙ ap 
 -- THE FIRST ONE
 
 module _ (test : List LadderRow → Bool) (ladders : List (List LadderRow)) where
-  pub first_is : (k : ℕ) → k < length ladders → test (ladder_at ladders k) ≡ true → ((j : ℕ) → j < k → test (ladder_at ladders j) ≡ false) → position test ladders ≡ Some k
+  pub first_is : (k : ℕ)
+      → k < length ladders
+      → test (ladder_at ladders k) ≡ true
+      → ((j : ℕ) → j < k → test (ladder_at ladders j) ≡ false)
+      → position test ladders ≡ Some k
   first_is k low passes before =
       position_first test ladders k (ladder_at ladders k) (slice_get-get_or ladders k [] low) passes
       (λ j y lt at. ap test (sym (get_or_from_slice_get ladders j y [] at)) ∙ before j lt)
 
   pub none_is : (k : ℕ) → length ladders ≤ k → ((j : ℕ) → j < k → test (ladder_at ladders j) ≡ false) → position test ladders ≡ None
   none_is k past before =
-      position_nowhere test ladders (λ j y at. let low = slice_get_within ladders j y at in ap test (sym (get_or_from_slice_get ladders j y [] at)) ∙ before j (omega (arith, low, past)))
+      position_nowhere test ladders (λ j y at.
+      let low = slice_get_within ladders j y at in
+      ap test (sym (get_or_from_slice_get ladders j y [] at)) ∙ before j (omega (arith, low, past)))
 
 -- one ladder more that does not pass
 pub and_this : (test : ℕ → Bool) (k : ℕ) → ((j : ℕ) → j < k → test j ≡ false) → test k ≡ false → (j : ℕ) → j < k + 1 → test j ≡ false
@@ -92,7 +97,10 @@ pub row_not_found : (octets : List ℕ) (rows : List LadderRow) → row_of rows 
 unfolding has_row
 row_not_found octets rows is = ap is_some is
 
-pub met_is : (octets : List ℕ) (ladders : List (List LadderRow)) (q k : ℕ) → position (has_row octets) ladders ≡ Some q → row_of (ladder_at ladders q) octets ≡ Some k → row_among ladders octets ≡ Some (q, k)
+pub met_is : (octets : List ℕ) (ladders : List (List LadderRow)) (q k : ℕ)
+    → position (has_row octets) ladders ≡ Some q
+    → row_of (ladder_at ladders q) octets ≡ Some k
+    → row_among ladders octets ≡ Some (q, k)
 met_is octets ladders q k at is = ap (option_map (met_in ladders octets)) at ∙ ap (λ o. Some (q, unwrap_or o 0)) is
 
 pub met_none : (octets : List ℕ) (ladders : List (List LadderRow)) → position (has_row octets) ladders ≡ None → row_among ladders octets ≡ None

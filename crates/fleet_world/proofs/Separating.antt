@@ -1,10 +1,12 @@
 -- No two phones have a key in common, where no event comes to a coincidence.
-use Rattle.std.proofs.Common.{◌≡◌, ◌≢◌, refl, sym, ap, subst, ◌∙◌, ℕ, zero, suc, ◌+◌, ◌<◌, ◌≤◌, ◌==◌, Bool, true, false, List, [], ◌∷◌, ◌++◌, length, map, drop, replicate, get_or, set, Option, Some, None, Ok, Err, inl, inr, arith}
+use Rattle.std.proofs.Common.{◌≡◌, ◌≢◌, refl, sym, ap, subst, ◌∙◌, ℕ, zero, suc, ◌+◌, ◌<◌, ◌≤◌, ◌==◌, Bool, true, false, List, [], ◌∷◌, ◌++◌, length, map, drop, get_or, set, Option, Some, None, inl, inr, arith}
 use Rattle.std.specs.Prelude.{◌⊎◌, slice_get, is_ok, IsOk, position, option_map}
 use Rattle.std.proofs.lemmas.Bool.{false≢true, eqb-true, eqb-false}
-use Rattle.std.proofs.lemmas.List.{get_or-set_other, get_or-set_same, length-map, get_or-map}
+use Rattle.std.proofs.lemmas.List.{get_or-set_other, get_or-set_same, length-map}
 use Rattle.std.proofs.Math.ListN.{length-set}
 use Rattle.std.proofs.lemmas.Option.{slice_get-get_or}
+use Rattle.std.specs.List.{AllByRecursion as AllOf}
+use Rattle.lte_events.specs.Ranges.{IsEvent}
 use Rattle.lte_events.specs.declared.events.Event.{Event}
 use Rattle.lte_events.specs.declared.setups.Setup.{Setup}
 use Rattle.key_model.specs.Term.{Term}
@@ -15,17 +17,17 @@ use Rattle.lte_machine.specs.Carried.{report_value}
 use Rattle.lte_machine.specs.Ciphers.{annex_b}
 use Rattle.lte_machine.specs.Machines.{written_machine}
 use Rattle.lte_machine.specs.Opening.{open_octets}
-use Rattle.lte_machine.specs.Ranges.{AllOf, IsEvent}
 use Rattle.lte_machine.specs.Run.{RunState, Running, Stopped, turn, after, EventReport, Reported, Coincided, event_report, first_world}
 use Rattle.lte_machine.specs.Step.{next, Continues, Stops, StepResult}
 use Rattle.lte_machine.specs.Wire.{Outgoing}
 use Rattle.lte_machine.proofs.EventByEvent.{replay_snoc}
+use Rattle.lte_machine.proofs.Worlds.{TheWorld}
 use Rattle.store_laws.proofs.Adding.{Stands}
 use Rattle.fleet_world.specs.Answers.{answer, own_at, taken_by, crossing, unless_taken, unless_met, owned_if, owns_after, owns_from, no_events}
 use Rattle.fleet_world.specs.Apart.{IsEventOf, AllAnswered}
-use Rattle.fleet_world.specs.Meeting.{Meeting, has_row, row_among, met_in, met_or, meeting_from, ladder_at}
-use Rattle.fleet_world.specs.Phones.{phone_run, phone_told, phone_rows, rows_in, without, others}
-use Rattle.fleet_world.proofs.Ladders.{TheWorld, octets_of, rows_more, has_stands, stands_has, stands_either, new_octets}
+use Rattle.fleet_world.specs.Meeting.{Meeting, has_row, row_among, met_in, met_or, meeting_from}
+use Rattle.fleet_world.specs.Phones.{phone_run, phone_told, phone_rows, others}
+use Rattle.fleet_world.proofs.Ladders.{octets_of, rows_more, has_stands, stands_has, stands_either, new_octets}
 
 -- A PHONE'S OWN EVENTS
 
@@ -45,16 +47,17 @@ no_own (suc n) zero = refl
 no_own (suc n) (suc p) = no_own n p
 
 -- an event that is told with a line goes on
-told_goes : (r : RunState Term ℕ (Outgoing Term ℕ)) (e : Event) (told : _) → report_value (event_report (open_octets annex_b_terms) (written_machine annex_b) r e) ≡ Reported told
+told_goes : (r : RunState Term ℕ (Outgoing Term ℕ)) (e : Event) (told : _)
+    → report_value (event_report (open_octets annex_b_terms) (written_machine annex_b) r e) ≡ Reported told
     → (u : TheWorld) × (turn (open_octets annex_b_terms) (written_machine annex_b) r e ≡ Running u)
-told_goes (Stopped chance) e told is = absurd cc
+told_goes (Stopped coincidence) e told is = absurd cc
 told_goes (Running w) e told is = by (next (open_octets annex_b_terms) (written_machine annex_b) w e) refl is
   where
     by : (s : StepResult Term ℕ (Outgoing Term ℕ)) → next (open_octets annex_b_terms) (written_machine annex_b) w e ≡ s
         → report_value (event_report (open_octets annex_b_terms) (written_machine annex_b) (Running w) e) ≡ Reported told
         → (u : TheWorld) × (after (next (open_octets annex_b_terms) (written_machine annex_b) w e) ≡ Running u)
     by (Continues u line) at k = (u, ap after at)
-    by (Stops chance) at k = let bad : Coincided _ ≡ Reported told = sym (ap (λ s. report_value (reported_of s)) at) ∙ k in absurd cc
+    by (Stops coincidence) at k = let bad : Coincided _ ≡ Reported told = sym (ap (λ s. report_value (reported_of s)) at) ∙ k in absurd cc
       where
         reported_of : StepResult Term ℕ (Outgoing Term ℕ) → EventReport Term
         reported_of (Continues u line) = Reported line
@@ -72,7 +75,10 @@ goes_more setup own e told is =
 pub record Apart (setup : Setup) (owns : List (List Event)) : Type 0 where
   pub goes : (p : ℕ) → GoesOn setup (own_at owns p)
   pub range : (p : ℕ) → AllOf IsEvent (own_at owns p)
-  pub apart : (p q : ℕ) (octets : List ℕ) → has_row octets (phone_rows setup (own_at owns p)) ≡ true → has_row octets (phone_rows setup (own_at owns q)) ≡ true → p ≡ q
+  pub apart : (p q : ℕ) (octets : List ℕ)
+      → has_row octets (phone_rows setup (own_at owns p)) ≡ true
+      → has_row octets (phone_rows setup (own_at owns q)) ≡ true
+      → p ≡ q
 
 -- no rows
 none_there : (setup : Setup) (octets : List ℕ) → has_row octets (phone_rows setup []) ≡ false
@@ -87,7 +93,10 @@ none_apart setup n = record {
 }
 
 -- the ladder of another phone
-other_ladder : (setup : Setup) (owns : List (List Event)) (p q : ℕ) → q ≢ p → q < length owns → slice_get (others setup p owns) q ≡ Some (phone_rows setup (own_at owns q))
+other_ladder : (setup : Setup) (owns : List (List Event)) (p q : ℕ)
+    → q ≢ p
+    → q < length owns
+    → slice_get (others setup p owns) q ≡ Some (phone_rows setup (own_at owns q))
 other_ladder setup owns p q differ within =
     let ladders = map (phone_rows setup) owns in
     let len : length ladders ≡ length owns = length-map owns (phone_rows setup) in
@@ -105,15 +114,24 @@ none_met : (k : ℕ) (ladders : List (List LadderRow)) (octets : List ℕ) (late
     → (position (has_row octets) ladders ≡ None) × (later ≡ None)
 none_met k ladders octets later e = by (position (has_row octets) ladders) refl e
   where
-    by : (o : Option ℕ) → position (has_row octets) ladders ≡ o → met_or k (option_map (met_in ladders octets) o) later ≡ None → (position (has_row octets) ladders ≡ None) × (later ≡ None)
+    by : (o : Option ℕ)
+        → position (has_row octets) ladders ≡ o
+        → met_or k (option_map (met_in ladders octets) o) later ≡ None
+        → (position (has_row octets) ladders ≡ None) × (later ≡ None)
     by None is h = (is, h)
     by (Some q) is h = absurd cc
 
 -- of rows that meet none
-all_met : (ladders : List (List LadderRow)) (k : ℕ) (rows : List LadderRow) → meeting_from ladders k rows ≡ None → (octets : List ℕ) → Stands octets (octets_of rows) → position (has_row octets) ladders ≡ None
+all_met : (ladders : List (List LadderRow)) (k : ℕ) (rows : List LadderRow)
+    → meeting_from ladders k rows ≡ None
+    → (octets : List ℕ)
+    → Stands octets (octets_of rows)
+    → position (has_row octets) ladders ≡ None
 all_met ladders k [] none octets h = absurd h
-all_met ladders k (r ∷ rows) none octets (inl e) = ap (λ o. position (has_row o) ladders) e ∙ (none_met k ladders r.octets (meeting_from ladders (k + 1) rows) none).0
-all_met ladders k (r ∷ rows) none octets (inr h) = all_met ladders (k + 1) rows (none_met k ladders r.octets (meeting_from ladders (k + 1) rows) none).1 octets h
+all_met ladders k (r ∷ rows) none octets (inl e) =
+    ap (λ o. position (has_row o) ladders) e ∙ (none_met k ladders r.octets (meeting_from ladders (k + 1) rows) none).0
+all_met ladders k (r ∷ rows) none octets (inr h) =
+    all_met ladders (k + 1) rows (none_met k ladders r.octets (meeting_from ladders (k + 1) rows) none).1 octets h
 
 -- ONE EVENT MORE
 
@@ -133,14 +151,18 @@ module _ (setup : Setup) (owns : List (List Event)) (p : ℕ) (e : Event) (h : A
 
     -- what it has then no other phone has
     alone : (q : ℕ) (octets : List ℕ) → q ≢ p → has_row octets (phone_rows setup more) ≡ true → has_row octets (phone_rows setup (own_at owns q)) ≡ true → ⊥
-    alone q octets differ mine its = by (stands_either octets (octets_of (phone_rows setup old)) rows_on.0 (subst (Stands octets) rows_on.1 (has_stands octets (phone_rows setup more) mine)))
+    alone q octets differ mine its =
+        by (stands_either octets (octets_of (phone_rows setup old)) rows_on.0
+        (subst (Stands octets) rows_on.1 (has_stands octets (phone_rows setup more) mine)))
       where
         by : Stands octets (octets_of (phone_rows setup old)) ⊎ Stands octets rows_on.0 → ⊥
         by (inl before) = differ (h.apart q p octets its (stands_has octets (phone_rows setup old) before))
         by (inr new) =
             let rows = drop (length (phone_rows setup old)) (phone_rows setup more) in
-            let stands : Stands octets (octets_of rows) = subst (Stands octets) (sym (new_octets (phone_rows setup old) (phone_rows setup more) rows_on.0 rows_on.1)) new in
-            let nobody : position (has_row octets) (others setup p owns) ≡ None = all_met (others setup p owns) (length (phone_rows setup old)) rows none octets stands in
+            let stands : Stands octets (octets_of rows) = subst (Stands octets)
+            (sym (new_octets (phone_rows setup old) (phone_rows setup more) rows_on.0 rows_on.1)) new in
+            let nobody : position (has_row octets) (others setup p owns) ≡ None =
+            all_met (others setup p owns) (length (phone_rows setup old)) rows none octets stands in
             apart_from q nobody (at_most q)
           where
             at_most : (q : ℕ) → (q < length owns) ⊎ (length owns ≤ q)
@@ -156,8 +178,14 @@ module _ (setup : Setup) (owns : List (List Event)) (p : ℕ) (e : Event) (h : A
                     onward (inr le) = inr (omega (arith, le))
 
             apart_from : (x : ℕ) → position (has_row octets) (others setup p owns) ≡ None → (q < length owns) ⊎ (length owns ≤ q) → ⊥
-            apart_from x nobody (inl low) = false≢true (sym (position_no (has_row octets) (others setup p owns) q (phone_rows setup (own_at owns q)) nobody (other_ladder setup owns p q differ low)) ∙ its)
-            apart_from x nobody (inr past) = false≢true (sym (none_there setup octets) ∙ ap (λ own. has_row octets (phone_rows setup own)) (sym (past_end owns q past)) ∙ its)
+            apart_from x nobody (inl low) =
+                false≢true (sym (position_no (has_row octets) (others setup p owns) q (phone_rows setup (own_at owns q))
+                nobody (other_ladder setup owns p q differ low))
+                ∙ its)
+            apart_from x nobody (inr past) =
+                false≢true (sym (none_there setup octets)
+                ∙ ap (λ own. has_row octets (phone_rows setup own)) (sym (past_end owns q past))
+                ∙ its)
               where
                 past_end : (xs : List (List Event)) (k : ℕ) → length xs ≤ k → own_at xs k ≡ []
                 past_end [] k le = refl
@@ -185,7 +213,10 @@ module _ (setup : Setup) (owns : List (List Event)) (p : ℕ) (e : Event) (h : A
     all_more [] are = (good, tt)
     all_more (x ∷ xs) are = (are.0, all_more xs are.1)
 
-    rows_of_next : (q : ℕ) (octets : List ℕ) (own : List Event) → own_at next_owns q ≡ own → has_row octets (phone_rows setup (own_at next_owns q)) ≡ true → has_row octets (phone_rows setup own) ≡ true
+    rows_of_next : (q : ℕ) (octets : List ℕ) (own : List Event)
+        → own_at next_owns q ≡ own
+        → has_row octets (phone_rows setup (own_at next_owns q)) ≡ true
+        → has_row octets (phone_rows setup own) ≡ true
     rows_of_next q octets own is k = ap (λ x. has_row octets (phone_rows setup x)) (sym is) ∙ k
 
     pub apart_more : Apart setup next_owns
@@ -203,22 +234,36 @@ module _ (setup : Setup) (owns : List (List Event)) (p : ℕ) (e : Event) (h : A
         range_at q (inl is) = subst (AllOf IsEvent) (sym (here q is)) (all_more old (h.range p))
         range_at q (inr differs) = subst (AllOf IsEvent) (sym (there q differs)) (h.range q)
 
-        apart_at : (a b : ℕ) (octets : List ℕ) → has_row octets (phone_rows setup (own_at next_owns a)) ≡ true → has_row octets (phone_rows setup (own_at next_owns b)) ≡ true
+        apart_at : (a b : ℕ) (octets : List ℕ)
+            → has_row octets (phone_rows setup (own_at next_owns a)) ≡ true
+            → has_row octets (phone_rows setup (own_at next_owns b)) ≡ true
             → (a ≡ p) ⊎ (a ≢ p) → (b ≡ p) ⊎ (b ≢ p) → a ≡ b
         apart_at a b octets k l (inl is) (inl are) = is ∙ sym are
-        apart_at a b octets k l (inl is) (inr differs) = absurd (alone b octets differs (rows_of_next a octets more (here a is) k) (rows_of_next b octets (own_at owns b) (there b differs) l))
-        apart_at a b octets k l (inr differs) (inl are) = absurd (alone a octets differs (rows_of_next b octets more (here b are) l) (rows_of_next a octets (own_at owns a) (there a differs) k))
-        apart_at a b octets k l (inr differs) (inr differ) = h.apart a b octets (rows_of_next a octets (own_at owns a) (there a differs) k) (rows_of_next b octets (own_at owns b) (there b differ) l)
+        apart_at a b octets k l (inl is) (inr differs) =
+            absurd (alone b octets differs (rows_of_next a octets more (here a is) k)
+            (rows_of_next b octets (own_at owns b) (there b differs) l))
+        apart_at a b octets k l (inr differs) (inl are) =
+            absurd (alone a octets differs (rows_of_next b octets more (here b are) l)
+            (rows_of_next a octets (own_at owns a) (there a differs) k))
+        apart_at a b octets k l (inr differs) (inr differ) =
+            h.apart a b octets (rows_of_next a octets (own_at owns a) (there a differs) k)
+            (rows_of_next b octets (own_at owns b) (there b differ) l)
 
   -- whatever is answered, if it is a line
   pub apart_next : IsOk (answer setup owns p e) → Apart setup (owns_after setup owns p e)
   apart_next ok = by (taken_by setup owns p e) ok (phone_told setup old e) refl (crossing setup owns p e) refl
     where
-      by : (t : Option ℕ) → IsOk (unless_taken p t (phone_told setup old e) (crossing setup owns p e)) → (told : EventReport (List ℕ)) → phone_told setup old e ≡ told
+      by : (t : Option ℕ)
+          → IsOk (unless_taken p t (phone_told setup old e) (crossing setup owns p e))
+          → (told : EventReport (List ℕ))
+          → phone_told setup old e ≡ told
           → (met : Option Meeting) → crossing setup owns p e ≡ met → Apart setup (owned_if t owns p e)
       by (Some q) ok told tells met meets = h
-      by None ok (Coincided chance) tells met meets = absurd (false≢true (ap (λ t. is_ok (unless_met p t (crossing setup owns p e))) (sym tells) ∙ ok))
-      by None ok (Reported line) tells (Some m) meets = absurd (false≢true (ap (λ t. is_ok (unless_met p t (Some m))) (sym tells) ∙ ap (λ x. is_ok (unless_met p (phone_told setup old e) x)) (sym meets) ∙ ok))
+      by None ok (Coincided coincidence) tells met meets = absurd (false≢true (ap (λ t. is_ok (unless_met p t (crossing setup owns p e))) (sym tells) ∙ ok))
+      by None ok (Reported line) tells (Some m) meets =
+          absurd (false≢true (ap (λ t. is_ok (unless_met p t (Some m))) (sym tells)
+          ∙ ap (λ x. is_ok (unless_met p (phone_told setup old e) x)) (sym meets)
+          ∙ ok))
       by None ok (Reported line) tells None meets = apart_more line tells meets
 
 -- and so over all events
@@ -229,7 +274,10 @@ length_after setup owns p e = by (taken_by setup owns p e)
     by None = length-set owns p (own_at owns p ++ e ∷ [])
     by (Some q) = refl
 
-pub all_apart : (setup : Setup) (owns : List (List Event)) (events : List (ℕ × Event)) → Apart setup owns → AllOf (IsEventOf (length owns)) events → AllAnswered setup owns events
+pub all_apart : (setup : Setup) (owns : List (List Event)) (events : List (ℕ × Event))
+    → Apart setup owns
+    → AllOf (IsEventOf (length owns)) events
+    → AllAnswered setup owns events
     → Apart setup (owns_from setup owns events)
 all_apart setup owns [] h are answered = h
 all_apart setup owns (x ∷ xs) h are answered =

@@ -4,7 +4,9 @@ use Rattle.std.specs.Prelude.{slice_get, is_ok}
 use Rattle.std.proofs.Math.ListN.{length-set}
 use Rattle.std.proofs.lemmas.List.{get_or-set_same, length-map, map-set, map-append}
 use Rattle.std.proofs.lemmas.Option.{slice_get-get_or}
-use Rattle.lte_events.specs.Conditions.{CanHappen, EventFits}
+use Rattle.std.specs.List.{AllByRecursion as AllOf}
+use Rattle.lte_events.specs.Ranges.{IsEvent, IsSetup}
+use Rattle.lte_events.specs.Scenario.{most_events, CanHappen}
 use Rattle.lte_events.specs.declared.events.Event.{Event}
 use Rattle.lte_events.specs.declared.lines.Line.{Line}
 use Rattle.lte_events.specs.declared.setups.Setup.{Setup}
@@ -15,14 +17,12 @@ use Rattle.lte_machine.specs.Carried.{report_value}
 use Rattle.lte_machine.specs.Ciphers.{annex_b}
 use Rattle.lte_machine.specs.Machines.{machine_in_octets, written_machine}
 use Rattle.lte_machine.specs.Opening.{open_octets}
-use Rattle.lte_machine.specs.Ranges.{AllOf, IsEvent, IsSetup}
 use Rattle.lte_machine.specs.Run.{Running, EventReport, Reported, Coincided, event_report, first_world, GoesOn}
 use Rattle.lte_machine.proofs.AnnexB.{annex_b_ciphers}
 use Rattle.lte_machine.proofs.EventByEvent.{tale_snoc}
-use Rattle.lte_machine.proofs.Fitting.{event_fits}
 use Rattle.lte_machine.proofs.WholeRun.{tale_is_value}
 use Rattle.lte_world.specs.declared.faults.WorldFault.TheVariants as world_fault
-use Rattle.lte_world.specs.Whole.{Whole, run_of, most_events}
+use Rattle.lte_world.specs.Whole.{Whole, run_of}
 use Rattle.lte_world.specs.Whole as whole
 use Rattle.store_laws.specs.Proofs.{proof_of}
 use Rattle.fleet_world.specs.declared.faults.FleetFault.TheVariants as fault
@@ -58,7 +58,10 @@ told_is setup own e is are good =
     ∙ tale_is_value annex_b annex_b_ciphers setup is (own ++ e ∷ []) (all_more own e are good)
     ∙ ap (map report_value) (tale_snoc (open_octets annex_b_terms) (written_machine annex_b) (Running (first_world setup)) own e)
     ∙ map-append report_value (written_report setup own) (_ ∷ [])
-    ∙ ap (λ l. l ++ report_value (event_report (open_octets annex_b_terms) (written_machine annex_b) (written_run setup own) e) ∷ []) (sym (tale_is_value annex_b annex_b_ciphers setup is own are)))
+    ∙ ap (λ l. l
+    ++ report_value (event_report (open_octets annex_b_terms) (written_machine annex_b) (written_run setup own) e)
+    ∷ [])
+    (sym (tale_is_value annex_b annex_b_ciphers setup is own are)))
 
 -- THE WORLDS
 
@@ -75,7 +78,8 @@ module _ (setup : Setup) (most : ℕ) (is : IsSetup setup) where
   ladders_are (own ∷ owns) are = λ j. rows_in (run_is own are.0 j) ∷ ladders_are owns are.1 j
 
 -- own events, one after the other
-pub owns_snoc : (setup : Setup) (owns : List (List Event)) (journal : List (ℕ × Event)) (p : ℕ) (e : Event) → owns_from setup owns (journal ++ (p, e) ∷ []) ≡ owns_after setup (owns_from setup owns journal) p e
+pub owns_snoc : (setup : Setup) (owns : List (List Event)) (journal : List (ℕ × Event)) (p : ℕ) (e : Event)
+    → owns_from setup owns (journal ++ (p, e) ∷ []) ≡ owns_after setup (owns_from setup owns journal) p e
 owns_snoc setup owns [] p e = refl
 owns_snoc setup owns (x ∷ xs) p e = owns_snoc setup (owns_after setup owns x.0 x.1) xs p e
 
@@ -135,7 +139,7 @@ module _ (setup : Setup) (worlds : List Whole) (journal : List (ℕ × Event)) (
 
   -- THE WORLD OF ONE PHONE
 
-  module _ (p : ℕ) (e : Event) (low : p < length worlds) (can : CanHappen setup e) (fits : EventFits e) where
+  module _ (p : ℕ) (e : Event) (low : p < length worlds) (can : CanHappen setup e) where
     abbrev own : List Event
     own = own_at owns p
 
@@ -146,7 +150,7 @@ module _ (setup : Setup) (worlds : List Whole) (journal : List (ℕ × Event)) (
     is_own = all_at (IsOwn setup (length journal)) owns p [] h.owns low_own
 
     good : IsEvent e
-    good = event_fits setup e fits can
+    good = can.0
 
     pub stands_there : slice_get worlds p ≡ Some (world_of setup own)
     stands_there =
@@ -163,11 +167,14 @@ module _ (setup : Setup) (worlds : List Whole) (journal : List (ℕ × Event)) (
       world = world_of setup own;
       stands = stands_there;
       goes = subst GoesOn (sym (octets_are setup own h.begins is_own.in_range)) is_own.goes;
-      can = record { can = can; fits = fits; few = omega (arith, few, is_own.few); ready = refl };
+      can = record { can = can; few = omega (arith, few, is_own.few); ready = refl };
     }
 
     -- an answer by its parts
-    answer_is : (t : Option ℕ) (told : EventReport (List ℕ)) (met : Option Meeting) → taken_by setup owns p e ≡ t → phone_told setup own e ≡ told → crossing setup owns p e ≡ met
+    answer_is : (t : Option ℕ) (told : EventReport (List ℕ)) (met : Option Meeting)
+        → taken_by setup owns p e ≡ t
+        → phone_told setup own e ≡ told
+        → crossing setup owns p e ≡ met
         → answer setup owns p e ≡ unless_taken p t told met
     answer_is t told met a b c = λ j. unless_taken p (a j) (b j) (c j)
 
@@ -203,18 +210,23 @@ module _ (setup : Setup) (worlds : List Whole) (journal : List (ℕ × Event)) (
     tells : (old : Whole) → slice_get worlds p ≡ Some old → whole.told_of old e ≡ whole.answer_of (phone_told setup own e)
     tells old at = ap (λ v. whole.told_of v e) (same_some (sym at ∙ stands_there)) ∙ ap whole.answer_of (told_is setup own e h.begins is_own.in_range good)
 
-    chance_of_told : (told : EventReport (List ℕ)) (proof : Proof) → Err (world_fault.Chance proof) ≡ whole.answer_of told → (c : _) × (told ≡ Coincided c) × (proof ≡ proof_of c)
-    chance_of_told (Reported l) proof is = absurd cc
-    chance_of_told (Coincided c) proof is = (c, refl, cc)
+    coincidence_of_told : (told : EventReport (List ℕ)) (proof : Proof)
+        → Err (world_fault.Coincidence proof) ≡ whole.answer_of told
+        → (c : _) × (told ≡ Coincided c) × (proof ≡ proof_of c)
+    coincidence_of_told (Reported l) proof is = absurd cc
+    coincidence_of_told (Coincided c) proof is = (c, refl, cc)
 
     line_of_told : (told : EventReport (List ℕ)) (l : Line) → Ok l ≡ whole.answer_of told → (x : _) × (told ≡ Reported x) × (l ≡ line_out x)
     line_of_told (Reported x) l is = (x, refl, cc)
     line_of_told (Coincided c) l is = absurd cc
 
-    pub answer_chance : (after : List Whole) (proof : Proof) → taken_by setup owns p e ≡ None → TakesAt worlds after p e (Err (world_fault.Chance proof)) → answer setup owns p e ≡ Err (fault.Chance p proof)
-    answer_chance after proof none t =
-        let told = chance_of_told (phone_told setup own e) proof (t.takes ∙ tells t.old t.stands) in
-        answer_is None (Coincided told.0) (crossing setup owns p e) none told.1 refl ∙ ap (λ x. Err (fault.Chance p x)) (sym told.2)
+    pub answer_coincidence : (after : List Whole) (proof : Proof)
+        → taken_by setup owns p e ≡ None
+        → TakesAt worlds after p e (Err (world_fault.Coincidence proof))
+        → answer setup owns p e ≡ Err (fault.Coincidence p proof)
+    answer_coincidence after proof none t =
+        let told = coincidence_of_told (phone_told setup own e) proof (t.takes ∙ tells t.old t.stands) in
+        answer_is None (Coincided told.0) (crossing setup owns p e) none told.1 refl ∙ ap (λ x. Err (fault.Coincidence p x)) (sym told.2)
 
     module _ (after : List Whole) (r : ℕ × Line) (t : TakesAt worlds after p e (Ok r)) (none : taken_by setup owns p e ≡ None) where
       old_is : t.old ≡ world_of setup own
@@ -299,7 +311,9 @@ module _ (setup : Setup) (worlds : List Whole) (journal : List (ℕ × Event)) (
             few = few_after;
             worlds = after_is ∙ ap (map (world_of setup)) (sym owned);
             owns = subst (AllOf (IsOwn setup (length (journal ++ (p, e) ∷ [])))) (sym owned) next_owns;
-            events = subst (λ n. AllOf (IsEventOf n) (journal ++ (p, e) ∷ [])) (sym same_many) (all_append (IsEventOf (length worlds)) journal (p, e) h.events (low, good));
+            events =
+                subst (λ n. AllOf (IsEventOf n) (journal ++ (p, e) ∷ [])) (sym same_many)
+                (all_append (IsEventOf (length worlds)) journal (p, e) h.events (low, good));
             answered = subst (λ n. AllAnswered setup (no_events n) (journal ++ (p, e) ∷ [])) (sym same_many)
                 (answered_more setup (no_events (length worlds)) journal p e (line.Of p r.1) h.answered (answer_of_line alone));
           }

@@ -1,6 +1,8 @@
 -- A world that took an event, and a fleet that begins.
 use Rattle.std.proofs.Common.{◌≡◌, refl, sym, ap, subst, ◌∙◌, ℕ, zero, suc, ◌≤◌, false, List, [], ◌∷◌, ◌++◌, length, map, replicate, Option, Some, None, Ok, arith}
 use Rattle.std.proofs.lemmas.List.{length-replicate}
+use Rattle.std.specs.List.{AllByRecursion as AllOf}
+use Rattle.lte_events.specs.Ranges.{IsSetup}
 use Rattle.lte_events.specs.declared.events.Event.{Event}
 use Rattle.lte_events.specs.declared.lines.Line.{Line}
 use Rattle.lte_events.specs.declared.setups.Setup.{Setup}
@@ -9,12 +11,10 @@ use Rattle.key_terms.specs.declared.row.LadderRow.{LadderRow}
 use Rattle.lte_machine.specs.Ciphers.{annex_b}
 use Rattle.lte_machine.specs.Machines.{Kept}
 use Rattle.lte_machine.specs.Opening.{open_octets}
-use Rattle.lte_machine.specs.Ranges.{AllOf}
 use Rattle.lte_machine.specs.Run.{RunState, Running, Stopped, turn, after, reported, event_report, GoesOn}
 use Rattle.lte_machine.specs.Step.{StepResult, Continues, Stops, next}
-use Rattle.lte_machine.proofs.Fitting.{setup_fits}
 use Rattle.lte_world.specs.Systems.{octets}
-use Rattle.lte_world.specs.Whole.{Whole, InRun, run_of, unless_over, told_of, answer_of, turned, begun, CanBegin}
+use Rattle.lte_world.specs.Whole.{Whole, InRun, run_of, unless_over, told_of, answer_of, turned, begun}
 use Rattle.store_laws.specs.Rows.{world_rows}
 use Rattle.fleet_world.specs.Answers.{no_events}
 use Rattle.fleet_world.specs.Fleets.{IsOwn, Stands, StandsUnless, most_phones, world_of}
@@ -27,18 +27,26 @@ use Rattle.fleet_world.proofs.Searching.{ladder_is}
 
 goes_by : (s : StepResult (List ℕ) ℕ Kept) (line : Line) → Ok line ≡ answer_of (reported s) → GoesOn (after s)
 goes_by (Continues w told) line is = tt
-goes_by (Stops chance) line is = absurd cc
+goes_by (Stops coincidence) line is = absurd cc
 
-goes_turned : (r : RunState (List ℕ) ℕ Kept) (e : Event) (line : Line) → Ok line ≡ answer_of (event_report (open_octets annex_b) octets r e) → GoesOn (turn (open_octets annex_b) octets r e)
+goes_turned : (r : RunState (List ℕ) ℕ Kept) (e : Event) (line : Line)
+    → Ok line ≡ answer_of (event_report (open_octets annex_b) octets r e)
+    → GoesOn (turn (open_octets annex_b) octets r e)
 goes_turned (Running w) e line is = goes_by (next (open_octets annex_b) octets w e) line is
-goes_turned (Stopped chance) e line is = absurd cc
+goes_turned (Stopped coincidence) e line is = absurd cc
 
 not_over : (over : Option Proof) (r : RunState (List ℕ) ℕ Kept) → GoesOn (unless_over over r) → over ≡ None
 not_over None r goes = refl
 not_over (Some proof) r goes = absurd goes
 
 -- the world as it is then
-pub took : (v u : Whole) (e : Event) (line : Line) → Goes v → u.setup ≡ v.setup → u.journal ≡ v.journal ++ e ∷ [] → u.ready ≡ false → run_of u ≡ turned v e → Ok line ≡ told_of v e
+pub took : (v u : Whole) (e : Event) (line : Line)
+    → Goes v
+    → u.setup ≡ v.setup
+    → u.journal ≡ v.journal ++ e ∷ []
+    → u.ready ≡ false
+    → run_of u ≡ turned v e
+    → Ok line ≡ told_of v e
     → u ≡ record v { journal = v.journal ++ e ∷ []; ready = false }
 took v u e line goes setup journal ready runs says =
     let mine = not_over v.over _ goes in
@@ -62,11 +70,15 @@ none_yet : (setup : Setup) → IsOwn setup 0 []
 unfolding phone_run
 none_yet setup = record { in_range = tt; few = omega arith; goes = tt }
 
-pub stands_first : (setup : Setup) (phones : ℕ) (worlds : List Whole) → CanBegin setup → phones ≤ most_phones → worlds ≡ replicate phones (begun setup) → Stands setup worlds []
+pub stands_first : (setup : Setup) (phones : ℕ) (worlds : List Whole)
+    → IsSetup setup
+    → phones ≤ most_phones
+    → worlds ≡ replicate phones (begun setup)
+    → Stands setup worlds []
 stands_first setup phones worlds begins few is =
     let many : length worlds ≡ phones = ap length is ∙ length-replicate phones (begun setup) in
     record {
-      begins = setup_fits setup begins.fits begins.can;
+      begins = begins;
       few = omega (arith, many, few);
       worlds = is ∙ sym (map_replicate (world_of setup) phones []) ∙ ap (λ n. map (world_of setup) (no_events n)) (sym many);
       owns = all_replicate (IsOwn setup 0) (length worlds) [] (none_yet setup);
@@ -76,5 +88,8 @@ stands_first setup phones worlds begins few is =
 
 -- AS A CALLER SEES IT
 
-pub stands_of : (over : Option FleetFault) (setup : Setup) (worlds : List Whole) (journal : List (ℕ × Event)) → over ≡ None → StandsUnless over setup worlds journal → Stands setup worlds journal
+pub stands_of : (over : Option FleetFault) (setup : Setup) (worlds : List Whole) (journal : List (ℕ × Event))
+    → over ≡ None
+    → StandsUnless over setup worlds journal
+    → Stands setup worlds journal
 stands_of over setup worlds journal is h = subst (λ o. StandsUnless o setup worlds journal) is h

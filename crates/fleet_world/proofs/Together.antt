@@ -1,36 +1,34 @@
 -- All phones together: uses and roots.
-use Rattle.std.proofs.Common.{◌≡◌, ◌≢◌, refl, sym, ap, subst, ◌∙◌, ℕ, zero, suc, ◌<◌, ◌≤◌, ◌+◌, Bool, true, false, List, [], ◌∷◌, ◌++◌, length, map, take, Option, Some, None, inl, inr, arith}
-use Rattle.std.specs.Prelude.{◌⊎◌, slice_get, ⊤}
-use Rattle.std.proofs.lemmas.Option.{none-some, slice_get-map}
+use Rattle.std.proofs.Common.{◌≡◌, refl, sym, ap, subst, ◌∙◌, ℕ, zero, suc, true, List, [], ◌∷◌, length, map, take, Some, inl, inr}
+use Rattle.std.specs.Prelude.{slice_get, ⊤}
+use Rattle.std.proofs.lemmas.Option.{none-some}
 use Rattle.lte_events.specs.declared.events.Event.{Event}
 use Rattle.lte_events.specs.declared.setups.Setup.{Setup}
 use Rattle.key_model.specs.Derivable.{Derivable, in_set, by_kenb, by_nh, by_star, by_alg}
-use Rattle.key_model.specs.Derivation.{Input, FromCount, FromSync, FromCell, FromAlg, Derivation}
 use Rattle.key_model.specs.Term.{Term, Root, Kenb, Nh, Star, Alg}
 use Rattle.key_model.specs.Use.{map_use}
-use Rattle.key_model.specs.Value.{value_of, same_value}
-use Rattle.lte_machine.specs.BothRuns.{written_run, octet_run}
+use Rattle.key_model.specs.Value.{value_of}
+use Rattle.lte_machine.specs.BothRuns.{octet_run}
 use Rattle.lte_machine.specs.ByEvent.{in_octets}
-use Rattle.lte_machine.specs.Carried.{run_value}
 use Rattle.lte_machine.specs.Ciphers.{annex_b}
 use Rattle.lte_machine.specs.Distinct.{keys_of, Member}
 use Rattle.lte_machine.specs.Known.{IsReported}
-use Rattle.lte_machine.specs.Ladder.{RowOrigin, OfRoot, Of, row_key, ladder_of}
-use Rattle.lte_machine.specs.Machines.{Kept}
-use Rattle.lte_machine.specs.Ranges.{AllOf, IsEvent, IsSetup}
-use Rattle.lte_machine.specs.Run.{RunState, Running, Stopped}
+use Rattle.lte_machine.specs.Ladder.{RowOrigin, OfRoot, row_key}
+use Rattle.std.specs.List.{AllByRecursion as AllOf}
+use Rattle.lte_events.specs.Ranges.{IsEvent, IsSetup}
+use Rattle.lte_machine.specs.Run.{Running}
 use Rattle.lte_machine.specs.Wire.{KeyUse}
-use Rattle.lte_machine.specs.World.{Holder, Holding}
+use Rattle.lte_machine.specs.World.{Holding}
 use Rattle.lte_machine.proofs.AnnexB.{annex_b_ciphers}
-use Rattle.lte_machine.proofs.Rows.{Well, From, made_of}
 use Rattle.lte_machine.proofs.WholeRun.{run_is_value}
-use Rattle.lte_properties.specs.Separation.{AnyOf, IsStationOf, HeldBy}
+use Rattle.lte_machine.proofs.Worlds.{TheWorld}
+use Rattle.lte_properties.specs.Separation.{HeldBy}
 use Rattle.lte_properties.proofs.HeadlineHolds.{headline}
 use Rattle.fleet_world.specs.Answers.{own_at}
 use Rattle.fleet_world.specs.Apart.{uses_in, phone_uses, NoUseTwice, IsWorldOf, IsRootOf, HeldForOthers, ComesOfRoot, PhonesSeparate}
 use Rattle.fleet_world.specs.Meeting.{has_row}
 use Rattle.fleet_world.specs.Phones.{phone_run, phone_rows}
-use Rattle.fleet_world.proofs.Ladders.{TheWorld, in_values, reported, grounds, term_has_row}
+use Rattle.fleet_world.proofs.Ladders.{in_values, reported, term_has_row}
 use Rattle.fleet_world.proofs.Roots.{roots_of}
 use Rattle.fleet_world.proofs.Separating.{Apart}
 
@@ -63,7 +61,8 @@ module _ (setup : Setup) (owns : List (List Event)) (is : IsSetup setup) (h : Ap
   use_has_row p i u at =
       let on = h.goes p in
       let w = on.0 in
-      let values : slice_get (map (map_use value_of) w.uses) i ≡ Some u = ap (λ r. slice_get (uses_in r) i) (sym (in_values setup (own_at owns p) w on.1)) ∙ at in
+      let values : slice_get (map (map_use value_of) w.uses) i ≡ Some u =
+      ap (λ r. slice_get (uses_in r) i) (sym (in_values setup (own_at owns p) w on.1)) ∙ at in
       let term = from_map (map_use value_of) w.uses i u values in
       let known : IsReported w term.0.key = all_at (λ x. IsReported w x.key) w.uses i term.0 (reported setup (own_at owns p) w on.1).uses term.1 in
       ap (λ (x : KeyUse (List ℕ)). has_row x.key (phone_rows setup (own_at owns p))) (sym term.2) ∙ term_has_row setup (own_at owns p) w on.1 term.0.key known
@@ -73,7 +72,8 @@ module _ (setup : Setup) (owns : List (List Event)) (is : IsSetup setup) (h : Ap
   once p i j u at there =
       let on = h.goes p in
       let own = own_at owns p in
-      let runs : octet_run setup (take (length own) own) ≡ Running (in_octets on.0) = ap (octet_run setup) (take_all own) ∙ octets_are setup own is (h.range p) ∙ in_values setup own on.0 on.1 in
+      let runs : octet_run setup (take (length own) own) ≡ Running (in_octets on.0) =
+      ap (octet_run setup) (take_all own) ∙ octets_are setup own is (h.range p) ∙ in_values setup own on.0 on.1 in
       let whole = in_values setup own on.0 on.1 in
       (headline setup own is (h.range p)).freshness (length own) (in_octets on.0) runs i j u
       (ap (λ r. slice_get (uses_in r) i) (sym whole) ∙ at) (ap (λ r. slice_get (uses_in r) j) (sym whole) ∙ there)
@@ -86,7 +86,10 @@ module _ (setup : Setup) (owns : List (List Event)) (is : IsSetup setup) (h : Ap
   -- SEPARATION
 
   -- a root of the octets has a row
-  root_has_row : (p r : ℕ) (root : List ℕ) (w : TheWorld) → IsWorldOf setup owns p w → Member (OfRoot (Root r root)) w.history → has_row root (phone_rows setup (own_at owns p)) ≡ true
+  root_has_row : (p r : ℕ) (root : List ℕ) (w : TheWorld)
+      → IsWorldOf setup owns p w
+      → Member (OfRoot (Root r root)) w.history
+      → has_row root (phone_rows setup (own_at owns p)) ≡ true
   root_has_row p r root w runs m = term_has_row setup (own_at owns p) w runs (Root r root) (key_of (Root r root) w.history m)
     where
       key_of : (t : Term) (history : List (RowOrigin Term)) → Member (OfRoot t) history → Member t (keys_of history)
@@ -95,7 +98,11 @@ module _ (setup : Setup) (owns : List (List Event)) (is : IsSetup setup) (h : Ap
       key_of t (o ∷ os) (inr k) = inr (key_of t os k)
 
   -- whoever held a key of a run, its roots have rows
-  held_comes : (q : ℕ) (w : TheWorld) (root : List ℕ) (t : Term) → IsWorldOf setup owns q w → HeldBy (λ id. ⊤) w.held t → ComesOfRoot root t → has_row root (phone_rows setup (own_at owns q)) ≡ true
+  held_comes : (q : ℕ) (w : TheWorld) (root : List ℕ) (t : Term)
+      → IsWorldOf setup owns q w
+      → HeldBy (λ id. ⊤) w.held t
+      → ComesOfRoot root t
+      → has_row root (phone_rows setup (own_at owns q)) ≡ true
   held_comes q w root t runs held comes =
       let known = held_known w.held held (reported setup (own_at owns q) w runs).held in
       let at = roots_of setup (own_at owns q) w runs root t known comes in
@@ -106,7 +113,12 @@ module _ (setup : Setup) (owns : List (List Event)) (is : IsSetup setup) (h : Ap
       held_known (x ∷ xs) (inl k) all = subst (IsReported w) k.1 all.0
       held_known (x ∷ xs) (inr k) all = held_known xs k all.1
 
-  none_derives : (p r : ℕ) (root : List ℕ) → IsRootOf setup owns p (Root r root) → (t : Term) → Derivable (HeldForOthers setup owns p) t → ComesOfRoot root t → ⊥
+  none_derives : (p r : ℕ) (root : List ℕ)
+      → IsRootOf setup owns p (Root r root)
+      → (t : Term)
+      → Derivable (HeldForOthers setup owns p) t
+      → ComesOfRoot root t
+      → ⊥
   none_derives p r root mine t (in_set held) comes =
       held.2 (sym (h.apart p held.0 root (root_has_row p r root mine.0 mine.1 mine.2) (held_comes held.0 held.1 root t held.3 held.4 comes)))
   none_derives p r root mine (Kenb t n) (by_kenb d) comes = none_derives p r root mine t d comes

@@ -1,6 +1,7 @@
 -- What holds of all phones of a fleet together, where no event comes to a coincidence: no use of a key stands twice, and what
 -- stations hold for the others derives nothing that comes of a phone's root.
 use Rattle.std.specs.Prelude.{◌≡◌, ◌≢◌, ℕ, ◌<◌, List, [], ◌∷◌, ◌⊎◌, Some, slice_get, IsOk, ⊤}
+use Rattle.lte_events.specs.Ranges.{IsEvent}
 use Rattle.lte_events.specs.declared.events.Event.{Event}
 use Rattle.lte_events.specs.declared.setups.Setup.{Setup}
 use Rattle.key_model.specs.Derivable.{Derivable}
@@ -9,7 +10,6 @@ use Rattle.lte_machine.specs.BothRuns.{written_run}
 use Rattle.lte_machine.specs.Distinct.{Member}
 use Rattle.lte_machine.specs.Ladder.{OfRoot}
 use Rattle.lte_machine.specs.Machines.{Kept}
-use Rattle.lte_machine.specs.Ranges.{IsEvent}
 use Rattle.lte_machine.specs.Run.{RunState, Running, Stopped}
 use Rattle.lte_machine.specs.Wire.{KeyUse, Outgoing}
 use Rattle.lte_machine.specs.World.{World}
@@ -30,7 +30,7 @@ AllAnswered setup owns (x ∷ xs) = IsOk (answer setup owns x.0 x.1) × AllAnswe
 
 abbrev pub uses_in : RunState (List ℕ) ℕ Kept → List (KeyUse (List ℕ))
 uses_in (Running w) = w.uses
-uses_in (Stopped chance) = []
+uses_in (Stopped coincidence) = []
 
 -- the uses of keys in all that was sent for a phone
 abbrev pub phone_uses : Setup → List (List Event) → ℕ → List (KeyUse (List ℕ))

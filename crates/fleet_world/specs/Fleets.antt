@@ -1,11 +1,12 @@
 -- A fleet as a caller sees it: what it started with, the world of each phone, the events that it took, and the coincidence that ended it.
 use Rattle.std.specs.Prelude.{◌≡◌, ℕ, ◌<◌, ◌≤◌, false, List, [], ◌∷◌, ◌++◌, length, map, replicate, Option, Some, None, Result, Ok, Err}
+use Rattle.std.specs.List.{AllByRecursion as AllOf}
 use Rattle.lte_events.specs.declared.events.Event.{Event}
 use Rattle.lte_events.specs.declared.setups.Setup.{Setup}
-use Rattle.lte_events.specs.Conditions.{CanHappen, EventFits}
-use Rattle.lte_machine.specs.Ranges.{AllOf, IsEvent, IsSetup}
+use Rattle.lte_events.specs.Ranges.{IsEvent, IsSetup}
+use Rattle.lte_events.specs.Scenario.{most_events, CanHappen}
 use Rattle.lte_machine.specs.Run.{GoesOn}
-use Rattle.lte_world.specs.Whole.{Whole, most_events}
+use Rattle.lte_world.specs.Whole.{Whole}
 use Rattle.fleet_world.specs.declared.faults.FleetFault.{FleetFault}
 use Rattle.fleet_world.specs.declared.lines.FleetLine.{FleetLine}
 use Rattle.fleet_world.specs.Answers.{answer, owns_of, no_events}
@@ -59,7 +60,6 @@ over_after (Err ended) = Some ended
 pub record CanTake (v : Fleeted) (p : ℕ) (e : Event) : Type 0 where
   pub phone : p < length v.worlds
   pub can : CanHappen v.setup e
-  pub fits : EventFits e
   pub few : length v.journal < most_events
 
 -- WHAT HOLDS

@@ -1,5 +1,5 @@
 -- What a fleet tells of one phone is what a system of that phone's own events tells.
-use Rattle.std.specs.Prelude.{◌≡◌, ℕ, ◌<◌, ◌==◌, Bool, true, false, List, [], ◌∷◌, ◌++◌, length, map, Result, Ok, Err}
+use Rattle.std.specs.Prelude.{◌≡◌, ℕ, ◌<◌, ◌==◌, Bool, true, false, List, [], ◌∷◌, map, Result, Ok, Err}
 use Rattle.lte_events.specs.declared.events.Event.{Event}
 use Rattle.lte_events.specs.declared.lines.Line.{Line}
 use Rattle.lte_events.specs.declared.setups.Setup.{Setup}
@@ -32,7 +32,7 @@ lines_of p (Err ended ∷ rest) = lines_of p rest
 abbrev pub lines_in : List (EventReport (List ℕ)) → List Line
 lines_in [] = []
 lines_in (Reported told ∷ rest) = line_out told ∷ lines_in rest
-lines_in (Coincided chance ∷ rest) = lines_in rest
+lines_in (Coincided coincidence ∷ rest) = lines_in rest
 
 abbrev pub own_lines : Setup → List Event → List Line
 own_lines setup own = lines_in (map report_value (written_report setup own))

@@ -22,7 +22,7 @@ phone_told setup own e = report_value (event_report (open_octets annex_b_terms) 
 -- the rows of the ladder of a run
 abbrev pub rows_in : RunState (List ℕ) ℕ Kept → List LadderRow
 rows_in (Running w) = world_rows w
-rows_in (Stopped chance) = []
+rows_in (Stopped coincidence) = []
 
 abbrev pub phone_rows : Setup → List Event → List LadderRow
 phone_rows setup own = rows_in (phone_run setup own)

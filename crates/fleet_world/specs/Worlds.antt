@@ -35,9 +35,12 @@ with_room v = record v { ready = true }
 
 -- a world takes an event: what it answers, with the number of the rows before it
 abbrev pub Takes : Whole → Whole → Event → Result (ℕ × Line) WorldFault → Type 0
-Takes before after e (Ok r) = (r.0 ≡ length (rows_at before)) × (Ok r.1 ≡ told_of before e) × (after ≡ record before { journal = before.journal ++ e ∷ []; ready = false })
+Takes before after e (Ok r) =
+    (r.0 ≡ length (rows_at before))
+    × (Ok r.1 ≡ told_of before e)
+    × (after ≡ record before { journal = before.journal ++ e ∷ []; ready = false })
 Takes before after e (Err fault.Memory) = after ≡ before
-Takes before after e (Err (fault.Chance proof)) = Err (fault.Chance proof) ≡ told_of before e
+Takes before after e (Err (fault.Coincidence proof)) = Err (fault.Coincidence proof) ≡ told_of before e
 
 -- that of the phone at a place
 pub record TakesAt (before after : List Whole) (place : ℕ) (e : Event) (result : Result (ℕ × Line) WorldFault) : Type 0 where

@@ -5,9 +5,8 @@ ghost use Rattle.fleet_world.specs.Apart.{NoUseTwice, PhonesSeparate};
 ghost use Rattle.fleet_world.specs.Fleets.{answer_of, begun, journal_after, over_after, most_phones, CanTake, IsOwn, owns_in, world_of};
 ghost use Rattle.fleet_world.specs.Isolation.{LinesAreOwn};
 ghost use Rattle.fleet_world.specs.Steps.{Leaves};
-ghost use Rattle.lte_machine.specs.Ranges.{IsSetup};
+ghost use Rattle.lte_events.specs.Ranges.{IsSetup};
 ghost use Rattle.lte_properties.specs.Headline.{Headline};
-ghost use Rattle.lte_world.specs.Whole.{CanBegin};
 
 use crate::meeting::{crossing, taken};
 use crate::worlds::{take, worlds_of};
@@ -43,7 +42,7 @@ impl Model for Fleet {
 impl Fleet {
     /// A fleet of so many phones, 1 to 256, in which nothing has happened. `Memory` where std refuses memory.
     pub fn new(alloc: Global, setup: &Setup, phones: u16) -> Result<Fleet, FleetFault>
-        requires begins { CanBegin setup.now }
+        requires begins { IsSetup setup.now }
         requires some { 1 ≤ phones }
         requires few { phones ≤ most_phones }
         ensures memory { IsOkUnless result FleetFault.Memory }
@@ -64,7 +63,7 @@ impl Fleet {
     /// A phone takes an event, which can happen to it; there are fewer than 200,000 events before it.
     ///
     /// For an authentication with a root of another phone the answer is `Taken`, with the least such phone, and no
-    /// world sees it. `Chance` is a coincidence of the phone's own world. `Cross` is a key that the event adds to
+    /// world sees it. `Coincidence` is one of the phone's own world. `Cross` is a key that the event adds to
     /// the phone's ladder although another phone's ladder has it: the first such key, and the least such
     /// phone. Both end the fleet: the event does not enter the journal, and every later event gets the same
     /// answer. `Memory`, where std refuses memory, leaves the fleet as it was.
@@ -101,8 +100,8 @@ impl Fleet {
                     Err(fault)
                 }
             },
-            Err(WorldFault::Chance(proof)) => {
-                let fault = FleetFault::Chance(phone, proof);
+            Err(WorldFault::Coincidence(proof)) => {
+                let fault = FleetFault::Coincidence(phone, proof);
                 self.over = Some(fault);
                 Err(fault)
             }

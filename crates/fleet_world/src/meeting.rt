@@ -1,8 +1,8 @@
 // The keys of a phone that are another's.
 ghost use Rattle.std.specs.Prelude.{◌≡◌, ℕ, ◌<◌, ◌≤◌, ◌^◌, [], List, drop, length, get_or};
 ghost use Rattle.std.specs.Option.{option_map};
+ghost use Rattle.std.specs.List.{AllByRecursion as AllOf};
 ghost use Rattle.lte_events.specs.declared.events.Event.{Event};
-ghost use Rattle.lte_machine.specs.Ranges.{AllOf};
 ghost use Rattle.key_terms.specs.Ladder.{row_of};
 ghost use Rattle.fleet_world.specs.Answers.{cross_of};
 ghost use Rattle.fleet_world.specs.Fleets.{most_phones};

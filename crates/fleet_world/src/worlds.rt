@@ -1,7 +1,8 @@
 // The worlds of the phones.
 ghost use Rattle.growth.specs.Growth.{WasRefused};
 ghost use Rattle.std.specs.Prelude.{◌≡◌, ◌<◌, ◌≤◌, length, replicate, IfErr, IfOk, IsOkUnless, OnErr};
-ghost use Rattle.lte_world.specs.Whole.{CanApply, CanBegin, begun};
+ghost use Rattle.lte_events.specs.Ranges.{IsSetup};
+ghost use Rattle.lte_world.specs.Whole.{CanApply, begun};
 ghost use Rattle.fleet_world.specs.Worlds.{CanTakeAt, Goes, Takes, TakesAt, with_room};
 
 use crate::FleetFault;
@@ -11,7 +12,7 @@ use std::alloc::Global;
 
 // So many worlds, in which nothing has happened.
 pub(crate) fn worlds_of(alloc: Global, setup: &Setup, phones: u16) -> Result<Vec<World>, FleetFault>
-    requires { CanBegin setup.now }
+    requires { IsSetup setup.now }
     ensures memory { IsOkUnless result FleetFault.Memory }
     ensures refused { OnErr result WasRefused }
     ensures begin { IfOk result (λ worlds. worlds.items ≡ replicate phones (begun setup.now)) }

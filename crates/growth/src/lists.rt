@@ -69,10 +69,8 @@ pub fn from_slice<T: Copy>(alloc: Global, items: &[T]) -> Result<Vec<T>, AllocEr
     ensures refused { OnErr result (Refused (length items.now)) }
 {
     let mut copied = with_capacity(alloc, items.len())?;
-    match extend_from_slice(&mut copied, items) {
-        Ok(()) => Ok(copied),
-        Err(e) => Err(e),
-    }
+    extend_from_slice(&mut copied, items)?;
+    Ok(copied)
 }
 
 /// All items that an iterator gives.

@@ -10,7 +10,10 @@ filter_carried : {X Y : Type 0} (h : X → Y) (p : Y → Bool) (xs : List X) →
 filter_carried h p [] = refl
 filter_carried h p (x ∷ xs) = by_test (filter_carried h p xs) (p (h x))
   where
-    by_test : filter p (map h xs) ≡ map h (filter (λ x. p (h x)) xs) → (b : Bool) → cond b (h x ∷ filter p (map h xs)) (filter p (map h xs)) ≡ map h (cond b (x ∷ filter (λ x. p (h x)) xs) (filter (λ x. p (h x)) xs))
+    by_test : filter p (map h xs) ≡ map h (filter (λ x. p (h x)) xs)
+        → (b : Bool)
+        → cond b (h x ∷ filter p (map h xs)) (filter p (map h xs))
+        ≡ map h (cond b (x ∷ filter (λ x. p (h x)) xs) (filter (λ x. p (h x)) xs))
     by_test rest true = ap (λ ys. h x ∷ ys) rest
     by_test rest false = rest
 
@@ -18,7 +21,9 @@ find_carried : {X Y : Type 0} (h : X → Y) (p : Y → Bool) (xs : List X) → f
 find_carried h p [] = refl
 find_carried h p (x ∷ xs) = by_test (find_carried h p xs) (p (h x))
   where
-    by_test : find p (map h xs) ≡ option_map h (find (λ x. p (h x)) xs) → (b : Bool) → cond b (Some (h x)) (find p (map h xs)) ≡ option_map h (cond b (Some x) (find (λ x. p (h x)) xs))
+    by_test : find p (map h xs) ≡ option_map h (find (λ x. p (h x)) xs)
+        → (b : Bool)
+        → cond b (Some (h x)) (find p (map h xs)) ≡ option_map h (cond b (Some x) (find (λ x. p (h x)) xs))
     by_test rest true = refl
     by_test rest false = rest
 
@@ -33,7 +38,8 @@ module _ {K C L D : Type 0} (f : K → L) (g : C → D) where
   pub has_attempt-map : (source attempt : ℕ) (ps : List (Prep K C)) → has_attempt source attempt (map (map_prep f g) ps) ≡ has_attempt source attempt ps
   has_attempt-map source attempt ps = any_carried (map_prep f g) (is_of source attempt) ps
 
-  pub without-map : (source attempt : ℕ) (ps : List (Prep K C)) → without source attempt (map (map_prep f g) ps) ≡ map (map_prep f g) (without source attempt ps)
+  pub without-map : (source attempt : ℕ) (ps : List (Prep K C))
+      → without source attempt (map (map_prep f g) ps) ≡ map (map_prep f g) (without source attempt ps)
   without-map source attempt ps = filter_carried (map_prep f g) (λ p. not (is_of source attempt p)) ps
 
   pub drop_below-map : (conn : ℕ) (ps : List (Prep K C)) → drop_below conn (map (map_prep f g) ps) ≡ map (map_prep f g) (drop_below conn ps)

@@ -35,7 +35,13 @@ abbrev pub ByRows : List LadderRow → ℕ → (ℕ → Type 0) → Type 0
 ByRows rows s P = (k : ℕ) (r : LadderRow) → slice_get rows k ≡ Some r → P k ↔ (IsTrue (held_by s r) ⊎ Above rows P k r.origin)
 
 -- one row, where those before it are right
-right_one : (rows : List LadderRow) → IsLadder rows → (mark : ℕ → Option ℕ) (s : ℕ) (P : ℕ → Type 0) → ByRows rows s P → (k : ℕ) (r : LadderRow) → slice_get rows k ≡ Some r → ((j : ℕ) → j < k → Marked mark j ↔ P j)
+right_one : (rows : List LadderRow)
+    → IsLadder rows
+    → (mark : ℕ → Option ℕ) (s : ℕ) (P : ℕ → Type 0)
+    → ByRows rows s P
+    → (k : ℕ) (r : LadderRow)
+    → slice_get rows k ≡ Some r
+    → ((j : ℕ) → j < k → Marked mark j ↔ P j)
     → mark k ≡ local_mark rows mark s k r → Marked mark k ↔ P k
 right_one rows ladder mark s P step k r at before local = (can, derive)
   where
@@ -44,7 +50,9 @@ right_one rows ladder mark s P step k r at before local = (can, derive)
         let there = mark_there (mark k) some in
         elim (held_or k there.0 (above_mark rows mark k r.origin) (held_by s r) (sym local ∙ there.1)) [
           | inl held ↦ (step k r at).1 (inl held.0)
-          | inr up ↦ (step k r at).1 (inr (above_carried rows (Marked mark) P k r.octets r.origin (ladder.made k r at) (λ j less. (before j less).0) (above_marked rows mark k there.0 r.origin up.1).0))
+          | inr up ↦
+              (step k r at).1 (inr (above_carried rows (Marked mark) P k r.octets r.origin (ladder.made k r at)
+              (λ j less. (before j less).0) (above_marked rows mark k there.0 r.origin up.1).0))
         ]
 
     itself : held_by s r ≡ true → Marked mark k
@@ -53,28 +61,62 @@ right_one rows ladder mark s P step k r at before local = (can, derive)
     by_above : Above rows P k r.origin → (held_by s r ≡ true) ⊎ (held_by s r ≡ false) → Marked mark k
     by_above up (inl held) = itself held
     by_above up (inr free) =
-        let found = marked_above rows mark k r.origin (above_carried rows P (Marked mark) k r.octets r.origin (ladder.made k r at) (λ j less. (before j less).1) up) in
+        let found = marked_above rows mark k r.origin
+        (above_carried rows P (Marked mark) k r.octets r.origin (ladder.made k r at)
+        (λ j less. (before j less).1) up) in
         let there = mark_there (mark found.0) found.2 in
         marked there.0 (local ∙ ap (λ b. held_first b k (above_mark rows mark k r.origin)) free ∙ found.3 ∙ there.1)
 
     derive : P k → Marked mark k
     derive d = elim ((step k r at).0 d) [ inl held ↦ itself held | inr up ↦ by_above up (cases_Bool (held_by s r)) ]
 
-right_below : (rows : List LadderRow) → IsLadder rows → (mark : ℕ → Option ℕ) (s : ℕ) (P : ℕ → Type 0) → ByRows rows s P → MarksFit rows mark s → (n k : ℕ) → k < n → k < length rows → Marked mark k ↔ P k
+right_below : (rows : List LadderRow)
+    → IsLadder rows
+    → (mark : ℕ → Option ℕ) (s : ℕ) (P : ℕ → Type 0)
+    → ByRows rows s P
+    → MarksFit rows mark s
+    → (n k : ℕ)
+    → k < n
+    → k < length rows
+    → Marked mark k ↔ P k
 right_below rows ladder mark s P step fits zero k below within = absurd (omega (arith, below))
 right_below rows ladder mark s P step fits (suc n) k below within =
     let row = row_at rows k within in
-    right_one rows ladder mark s P step k row.0 row.1 (λ j less. right_below rows ladder mark s P step fits n j (omega (arith, less, below)) (omega (arith, less, within))) (fits k row.0 row.1)
+    right_one rows ladder mark s P step k row.0 row.1
+    (λ j less.
+    right_below rows ladder mark s P step fits n j (omega (arith, less, below)) (omega (arith, less, within)))
+    (fits k row.0 row.1)
 
 -- a row has a mark exactly where that is so of it
-pub marks_by_rows : (rows : List LadderRow) → IsLadder rows → (mark : ℕ → Option ℕ) (s : ℕ) (P : ℕ → Type 0) → ByRows rows s P → MarksFit rows mark s → (k : ℕ) → k < length rows → Marked mark k ↔ P k
+pub marks_by_rows : (rows : List LadderRow)
+    → IsLadder rows
+    → (mark : ℕ → Option ℕ) (s : ℕ) (P : ℕ → Type 0)
+    → ByRows rows s P
+    → MarksFit rows mark s
+    → (k : ℕ)
+    → k < length rows
+    → Marked mark k ↔ P k
 marks_by_rows rows ladder mark s P step fits k within = right_below rows ladder mark s P step fits (suc k) k (omega arith) within
 
 -- so it has one exactly where the station can derive it
-pub marks_right : (rows : List LadderRow) → IsLadder rows → (mark : ℕ → Option ℕ) (s : ℕ) → MarksFit rows mark s → (k : ℕ) → k < length rows → Marked mark k ↔ CanDerive rows s k
+pub marks_right : (rows : List LadderRow)
+    → IsLadder rows
+    → (mark : ℕ → Option ℕ) (s : ℕ)
+    → MarksFit rows mark s
+    → (k : ℕ)
+    → k < length rows
+    → Marked mark k ↔ CanDerive rows s k
 marks_right rows ladder mark s fits k within = marks_by_rows rows ladder mark s (CanDerive rows s) (one_step rows ladder s) fits k within
 
-nearest_below : (rows : List LadderRow) → IsLadder rows → (mark : ℕ → Option ℕ) (s : ℕ) → MarksFit rows mark s → (n k x : ℕ) → k < n → k < length rows → mark k ≡ Some x → IsNearest rows s k x
+nearest_below : (rows : List LadderRow)
+    → IsLadder rows
+    → (mark : ℕ → Option ℕ) (s : ℕ)
+    → MarksFit rows mark s
+    → (n k x : ℕ)
+    → k < n
+    → k < length rows
+    → mark k ≡ Some x
+    → IsNearest rows s k x
 nearest_below rows ladder mark s fits zero k x below within is = absurd (omega (arith, below))
 nearest_below rows ladder mark s fits (suc n) k x below within is =
     let row = row_at rows k within in
@@ -84,11 +126,20 @@ nearest_below rows ladder mark s fits (suc n) k x below within is =
       | inr up ↦
           let key = (above_marked rows mark k x r.origin up.1).1 in
           let less = key_before rows k key.0 r.octets r.origin (ladder.made k r row.1) key.1 in
-          by_key (ap (held_in s) row.1 ∙ up.0) (ap key_in row.1 ∙ key.1) (nearest_below rows ladder mark s fits n key.0 x (omega (arith, less, below)) (omega (arith, less, within)) key.2)
+          by_key (ap (held_in s) row.1 ∙ up.0) (ap key_in row.1 ∙ key.1)
+          (nearest_below rows ladder mark s fits n key.0 x (omega (arith, less, below))
+          (omega (arith, less, within)) key.2)
     ]
 
 -- and the mark is the nearest row that the station holds
-pub marks_nearest : (rows : List LadderRow) → IsLadder rows → (mark : ℕ → Option ℕ) (s : ℕ) → MarksFit rows mark s → (k x : ℕ) → k < length rows → mark k ≡ Some x → IsNearest rows s k x
+pub marks_nearest : (rows : List LadderRow)
+    → IsLadder rows
+    → (mark : ℕ → Option ℕ) (s : ℕ)
+    → MarksFit rows mark s
+    → (k x : ℕ)
+    → k < length rows
+    → mark k ≡ Some x
+    → IsNearest rows s k x
 marks_nearest rows ladder mark s fits k x within is = nearest_below rows ladder mark s fits (suc k) k x (omega arith) within is
 
 -- enough steps are enough
@@ -96,9 +147,17 @@ steps_same : (rows : List LadderRow) → IsLadder rows → (s n m k : ℕ) → k
 steps_same rows ladder s zero m k small large = absurd (omega (arith, small))
 steps_same rows ladder s (suc n) zero k small large = absurd (omega (arith, large))
 steps_same rows ladder s (suc n) (suc m) k small large =
-    same_in rows ladder s k (mark_within n rows s) (mark_within m rows s) (λ j less. steps_same rows ladder s n m j (omega (arith, less, small)) (omega (arith, less, large))) (slice_get rows k) refl
+    same_in rows ladder s k (mark_within n rows s) (mark_within m rows s)
+    (λ j less. steps_same rows ladder s n m j (omega (arith, less, small)) (omega (arith, less, large)))
+    (slice_get rows k) refl
   where
-    same_in : (rows : List LadderRow) → IsLadder rows → (s k : ℕ) (f g : ℕ → Option ℕ) → ((j : ℕ) → j < k → f j ≡ g j) → (o : Option LadderRow) → slice_get rows k ≡ o → mark_in rows f s k o ≡ mark_in rows g s k o
+    same_in : (rows : List LadderRow)
+        → IsLadder rows
+        → (s k : ℕ) (f g : ℕ → Option ℕ)
+        → ((j : ℕ) → j < k → f j ≡ g j)
+        → (o : Option LadderRow)
+        → slice_get rows k ≡ o
+        → mark_in rows f s k o ≡ mark_in rows g s k o
     same_in rows ladder s k f g same None at = refl
     same_in rows ladder s k f g same (Some r) at = ap (held_first (held_by s r) k) (above_same rows k r.octets r.origin (ladder.made k r at) f g same)
 
@@ -107,7 +166,8 @@ pub exact_marks_fit : (rows : List LadderRow) → IsLadder rows → (s : ℕ) �
 unfolding exact_mark
 exact_marks_fit rows ladder s k r at =
     ap (mark_in rows (mark_within k rows s) s k) at
-    ∙ ap (held_first (held_by s r) k) (above_same rows k r.octets r.origin (ladder.made k r at) (mark_within k rows s) (exact_mark rows s) (λ j less. steps_same rows ladder s k (suc j) j less (omega arith)))
+    ∙ ap (held_first (held_by s r) k) (above_same rows k r.octets r.origin (ladder.made k r at) (mark_within k rows s)
+    (exact_mark rows s) (λ j less. steps_same rows ladder s k (suc j) j less (omega arith)))
 
 -- AUDITS
 
@@ -127,17 +187,27 @@ pub exact_where_fits : (rows : List LadderRow) → IsLadder rows → (audit : Li
 exact_where_fits rows ladder audit fits = record {
   as_many = fits.as_many;
   can = λ k s within few. (
-    λ can. (marks_right rows ladder (mark_at audit s) s (audit_marks rows audit fits s few) k within).0 (marked (from_at audit s k) (can_mark (can_at audit s k) (from_at audit s k) can)),
+    λ can. (marks_right rows ladder (mark_at audit s) s (audit_marks rows audit fits s few) k within).0
+        (marked (from_at audit s k) (can_mark (can_at audit s k) (from_at audit s k) can)),
     λ d.
         let there = mark_there (mark_at audit s k) ((marks_right rows ladder (mark_at audit s) s (audit_marks rows audit fits s few) k within).1 d) in
         (mark_can (can_at audit s k) (from_at audit s k) there.0 there.1).0,
   );
-  from = λ k s within few can. marks_nearest rows ladder (mark_at audit s) s (audit_marks rows audit fits s few) k (from_at audit s k) within (can_mark (can_at audit s k) (from_at audit s k) can);
+  from = λ k s within few can.
+      marks_nearest rows ladder (mark_at audit s) s (audit_marks rows audit fits s few) k (from_at audit s k) within
+      (can_mark (can_at audit s k) (from_at audit s k) can);
   nothing = λ k s within few. (fits.each k within s few).nothing;
 }
 
 -- an exact audit has the marks of the definition
-pub exact_marks : (rows : List LadderRow) → IsLadder rows → (audit : List AuditRow) → Exact rows audit → (k s : ℕ) → k < length rows → s < 8 → mark_at audit s k ≡ exact_mark rows s k
+pub exact_marks : (rows : List LadderRow)
+    → IsLadder rows
+    → (audit : List AuditRow)
+    → Exact rows audit
+    → (k s : ℕ)
+    → k < length rows
+    → s < 8
+    → mark_at audit s k ≡ exact_mark rows s k
 exact_marks rows ladder audit exact k s within few = by (cases_Bool (can_at audit s k)) (exact_mark rows s k) refl
   where
     fits : MarksFit rows (exact_mark rows s) s
@@ -148,9 +218,13 @@ exact_marks rows ladder audit exact k s within few = by (cases_Bool (can_at audi
         let there = mark_there (exact_mark rows s k) ((marks_right rows ladder (exact_mark rows s) s fits k within).1 ((exact.can k s within few).0 can)) in
         absurd (none-some there.0 (sym is ∙ there.1))
     by (inl can) (Some x) is =
-        can_mark (can_at audit s k) (from_at audit s k) can ∙ ap Some (nearest_one rows s (exact.from k s within few can) (marks_nearest rows ladder (exact_mark rows s) s fits k x within is))
+        can_mark (can_at audit s k) (from_at audit s k) can
+        ∙ ap Some (nearest_one rows s (exact.from k s within few can)
+        (marks_nearest rows ladder (exact_mark rows s) s fits k x within is))
     by (inr cannot) None is = ap (λ b. mark_if b (from_at audit s k)) cannot
-    by (inr cannot) (Some x) is = absurd (false≢true (sym cannot ∙ (exact.can k s within few).1 ((marks_right rows ladder (exact_mark rows s) s fits k within).0 (marked x is))))
+    by (inr cannot) (Some x) is =
+        absurd (false≢true (sym cannot
+        ∙ (exact.can k s within few).1 ((marks_right rows ladder (exact_mark rows s) s fits k within).0 (marked x is))))
 
 pub fits_where_exact : (rows : List LadderRow) → IsLadder rows → (audit : List AuditRow) → Exact rows audit → Fits rows audit
 fits_where_exact rows ladder audit exact = record {
@@ -158,13 +232,22 @@ fits_where_exact rows ladder audit exact = record {
   each = λ k within s few. record {
     mark = λ r at.
         exact_marks rows ladder audit exact k s within few ∙ exact_marks_fit rows ladder s k r at
-        ∙ ap (held_first (held_by s r) k) (above_same rows k r.octets r.origin (ladder.made k r at) (exact_mark rows s) (mark_at audit s) (λ j less. sym (exact_marks rows ladder audit exact j s (omega (arith, less, within)) few)));
+        ∙ ap (held_first (held_by s r) k) (above_same rows k r.octets r.origin (ladder.made k r at) (exact_mark rows s)
+        (mark_at audit s)
+        (λ j less. sym (exact_marks rows ladder audit exact j s (omega (arith, less, within)) few)));
     nothing = exact.nothing k s within few;
   };
 }
 
 -- so a test of all rows by their neighbours tells whether the audit is exact
-pub exact_is_local : (rows : List LadderRow) → IsLadder rows → (audit read : List AuditRow) → read ≡ audit → length audit ≡ length rows → {test : Bool} → IsTrue test ↔ FitBelow rows read (length rows) → IsTrue test ↔ Exact rows audit
+pub exact_is_local : (rows : List LadderRow)
+    → IsLadder rows
+    → (audit read : List AuditRow)
+    → read ≡ audit
+    → length audit ≡ length rows
+    → {test : Bool}
+    → IsTrue test ↔ FitBelow rows read (length rows)
+    → IsTrue test ↔ Exact rows audit
 exact_is_local rows ladder audit read same many {test} tests = (
   λ is. exact_where_fits rows ladder audit (record { as_many = many; each = subst (λ a. FitBelow rows a (length rows)) same (tests.0 is) }),
   λ exact. tests.1 (subst (λ a. FitBelow rows a (length rows)) (sym same) (fits_where_exact rows ladder audit exact).each),

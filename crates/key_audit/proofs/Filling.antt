@@ -27,10 +27,16 @@ read_stays audit made j below =
 mark_stays : (audit : List AuditRow) (made : AuditRow) (s j : ℕ) → j < length audit → mark_at (audit ++ made ∷ []) s j ≡ mark_at audit s j
 mark_stays audit made s j below = ap (mark_of s) (read_stays audit made j below)
 
-local_stays : (rows : List LadderRow) → IsLadder rows → (audit : List AuditRow) (made : AuditRow) (s k : ℕ) (r : LadderRow) → slice_get rows k ≡ Some r → k ≤ length audit
+local_stays : (rows : List LadderRow)
+    → IsLadder rows
+    → (audit : List AuditRow) (made : AuditRow) (s k : ℕ) (r : LadderRow)
+    → slice_get rows k ≡ Some r
+    → k ≤ length audit
     → local_mark rows (mark_at (audit ++ made ∷ []) s) s k r ≡ local_mark rows (mark_at audit s) s k r
 local_stays rows ladder audit made s k r at within =
-    ap (held_first (held_by s r) k) (above_same rows k r.octets r.origin (ladder.made k r at) (mark_at (audit ++ made ∷ []) s) (mark_at audit s) (λ j less. mark_stays audit made s j (omega (arith, less, within))))
+    ap (held_first (held_by s r) k) (above_same rows k r.octets r.origin (ladder.made k r at)
+    (mark_at (audit ++ made ∷ []) s) (mark_at audit s)
+    (λ j less. mark_stays audit made s j (omega (arith, less, within))))
 
 -- the rows before row k are filled
 pub record Filled (rows : List LadderRow) (audit : List AuditRow) (k : ℕ) : Type 0 where
@@ -39,13 +45,25 @@ pub record Filled (rows : List LadderRow) (audit : List AuditRow) (k : ℕ) : Ty
   pub clean : AreClean audit
 
 -- a row that stood fits, and the new one does
-fits_still : (rows : List LadderRow) → IsLadder rows → (audit : List AuditRow) (made : AuditRow) (j s : ℕ) → j < length audit → RowFits rows audit j s → RowFits rows (audit ++ made ∷ []) j s
+fits_still : (rows : List LadderRow)
+    → IsLadder rows
+    → (audit : List AuditRow) (made : AuditRow) (j s : ℕ)
+    → j < length audit
+    → RowFits rows audit j s
+    → RowFits rows (audit ++ made ∷ []) j s
 fits_still rows ladder audit made j s below fits = record {
   mark = λ r at. mark_stays audit made s j below ∙ fits.mark r at ∙ sym (local_stays rows ladder audit made s j r at (omega (arith, below)));
   nothing = λ cannot. ap (from_in s) (read_stays audit made j below) ∙ fits.nothing (sym (ap (can_in s) (read_stays audit made j below)) ∙ cannot);
 }
 
-fits_new : (rows : List LadderRow) → IsLadder rows → (audit : List AuditRow) (made : AuditRow) (k s : ℕ) → k ≡ length audit → s < 8 → k < length rows → ((r : LadderRow) → slice_get rows k ≡ Some r → Fills rows audit k r made) → RowFits rows (audit ++ made ∷ []) k s
+fits_new : (rows : List LadderRow)
+    → IsLadder rows
+    → (audit : List AuditRow) (made : AuditRow) (k s : ℕ)
+    → k ≡ length audit
+    → s < 8
+    → k < length rows
+    → ((r : LadderRow) → slice_get rows k ≡ Some r → Fills rows audit k r made)
+    → RowFits rows (audit ++ made ∷ []) k s
 fits_new rows ladder audit made k s number few within fills =
     let end : slice_get (audit ++ made ∷ []) k ≡ Some made = ap (slice_get (audit ++ made ∷ [])) number ∙ slice_get_at_end audit made in
     let row = slice_get-get_or rows k (unheld origins.Root []) within in
@@ -54,13 +72,21 @@ fits_new rows ladder audit made k s number few within fills =
       nothing = λ cannot. ap (from_in s) end ∙ (fills _ row).clean s few (sym (ap (can_in s) end) ∙ cannot);
     }
 
-pub filled_more : (rows : List LadderRow) → IsLadder rows → (audit after : List AuditRow) (made : AuditRow) (k : ℕ) → after ≡ audit ++ made ∷ [] → Filled rows audit k → k < length rows
+pub filled_more : (rows : List LadderRow)
+    → IsLadder rows
+    → (audit after : List AuditRow) (made : AuditRow) (k : ℕ)
+    → after ≡ audit ++ made ∷ []
+    → Filled rows audit k
+    → k < length rows
     → ((r : LadderRow) → slice_get rows k ≡ Some r → Fills rows audit k r made) → Filled rows after (k + 1)
 filled_more rows ladder audit after made k put filled within fills = subst (λ a. Filled rows a (k + 1)) (sym put) (record {
   as_many = length-append audit (made ∷ []) ∙ omega (arith, filled.as_many);
   each = λ j below s few. elim (cases_lt j k) [
     | inl before ↦ fits_still rows ladder audit made j s (omega (arith, before, filled.as_many)) (filled.each j before s few)
-    | inr last ↦ let this : k ≡ j = omega (arith, last, below) in subst (λ i. RowFits rows (audit ++ made ∷ []) i s) this (fits_new rows ladder audit made k s (sym filled.as_many) few within fills)
+    | inr last ↦
+        let this : k ≡ j = omega (arith, last, below) in
+        subst (λ i. RowFits rows (audit ++ made ∷ []) i s) this
+        (fits_new rows ladder audit made k s (sym filled.as_many) few within fills)
   ];
   clean = λ j row at. elim (slice_get_push audit made j row at) [
     | inl before ↦ filled.clean j row before

@@ -25,7 +25,11 @@ sync_before rows k sync j is = elim (if_before_cases k (row_of rows sync)) [
   | inr some ↦ let both : Some some.0 ≡ Some j = sym some.1 ∙ is in let one : some.0 ≡ j = cc in subst (λ i. i < k) one some.2
 ]
 
-pub above_carried : (rows : List LadderRow) (P Q : ℕ → Type 0) (k : ℕ) (octets : List ℕ) (o : Origin) → IsMade rows k o octets → ((j : ℕ) → j < k → P j → Q j) → Above rows P k o → Above rows Q k o
+pub above_carried : (rows : List LadderRow) (P Q : ℕ → Type 0) (k : ℕ) (octets : List ℕ) (o : Origin)
+    → IsMade rows k o octets
+    → ((j : ℕ) → j < k → P j → Q j)
+    → Above rows P k o
+    → Above rows Q k o
 above_carried rows P Q k octets origins.Root made carries h = h
 above_carried rows P Q k octets (origins.From key (KdfInput.Kenb count)) made carries h = carries key.0 made.0 h
 above_carried rows P Q k octets (origins.From key (KdfInput.Nh sync)) made carries h =
@@ -53,7 +57,9 @@ sync_there : (mark : ℕ → Option ℕ) (o : Option ℕ) → IsSome (sync_mark 
 sync_there mark None some = absurd (false≢true some)
 sync_there mark (Some j) some = some
 
-pub above_marked : (rows : List LadderRow) (mark : ℕ → Option ℕ) (k x : ℕ) (o : Origin) → above_mark rows mark k o ≡ Some x → Above rows (Marked mark) k o × ((key : ℕ) × (key_of o ≡ Some key) × (mark key ≡ Some x))
+pub above_marked : (rows : List LadderRow) (mark : ℕ → Option ℕ) (k x : ℕ) (o : Origin)
+    → above_mark rows mark k o ≡ Some x
+    → Above rows (Marked mark) k o × ((key : ℕ) × (key_of o ≡ Some key) × (mark key ≡ Some x))
 above_marked rows mark k x origins.Root is = absurd (none-some x is)
 above_marked rows mark k x (origins.From key (KdfInput.Kenb count)) is = (marked x is, (key.0, refl, is))
 above_marked rows mark k x (origins.From key (KdfInput.Nh sync)) is =
@@ -67,7 +73,9 @@ there_sync : (mark : ℕ → Option ℕ) (o m : Option ℕ) → AtSync (Marked m
 there_sync mark None m some = absurd some
 there_sync mark (Some j) m some = let there = mark_there (mark j) some in ap (λ n. and_mark n m) there.1
 
-pub marked_above : (rows : List LadderRow) (mark : ℕ → Option ℕ) (k : ℕ) (o : Origin) → Above rows (Marked mark) k o → (key : ℕ) × (key_of o ≡ Some key) × Marked mark key × (above_mark rows mark k o ≡ mark key)
+pub marked_above : (rows : List LadderRow) (mark : ℕ → Option ℕ) (k : ℕ) (o : Origin)
+    → Above rows (Marked mark) k o
+    → (key : ℕ) × (key_of o ≡ Some key) × Marked mark key × (above_mark rows mark k o ≡ mark key)
 marked_above rows mark k origins.Root up = absurd up
 marked_above rows mark k (origins.From key (KdfInput.Kenb count)) up = (key.0, refl, up, refl)
 marked_above rows mark k (origins.From key (KdfInput.Nh sync)) up = (key.0, refl, up.0, there_sync mark (sync_row rows k sync) (mark key.0) up.1)
@@ -75,15 +83,24 @@ marked_above rows mark k (origins.From key (KdfInput.Star pci earfcn)) up = (key
 marked_above rows mark k (origins.From key (KdfInput.Alg kind identity)) up = (key.0, refl, up, refl)
 
 -- marks that are one in each row before give one mark from above
-sync_same : (rows : List LadderRow) (k : ℕ) (f g : ℕ → Option ℕ) → ((j : ℕ) → j < k → f j ≡ g j) → (o : Option ℕ) → ((j : ℕ) → o ≡ Some j → j < k) → sync_mark f o ≡ sync_mark g o
+sync_same : (rows : List LadderRow) (k : ℕ) (f g : ℕ → Option ℕ)
+    → ((j : ℕ) → j < k → f j ≡ g j)
+    → (o : Option ℕ)
+    → ((j : ℕ) → o ≡ Some j → j < k)
+    → sync_mark f o ≡ sync_mark g o
 sync_same rows k f g same None less = refl
 sync_same rows k f g same (Some j) less = same j (less j refl)
 
-pub above_same : (rows : List LadderRow) (k : ℕ) (octets : List ℕ) (o : Origin) → IsMade rows k o octets → (f g : ℕ → Option ℕ) → ((j : ℕ) → j < k → f j ≡ g j) → above_mark rows f k o ≡ above_mark rows g k o
+pub above_same : (rows : List LadderRow) (k : ℕ) (octets : List ℕ) (o : Origin)
+    → IsMade rows k o octets
+    → (f g : ℕ → Option ℕ)
+    → ((j : ℕ) → j < k → f j ≡ g j)
+    → above_mark rows f k o ≡ above_mark rows g k o
 above_same rows k octets origins.Root made f g same = refl
 above_same rows k octets (origins.From key (KdfInput.Kenb count)) made f g same = same key.0 made.0
 above_same rows k octets (origins.From key (KdfInput.Nh sync)) made f g same =
-    ap (λ m. and_mark m (f key.0)) (sync_same rows k f g same (sync_row rows k sync) (sync_before rows k sync)) ∙ ap (and_mark (sync_mark g (sync_row rows k sync))) (same key.0 made.0)
+    ap (λ m. and_mark m (f key.0)) (sync_same rows k f g same (sync_row rows k sync) (sync_before rows k sync))
+    ∙ ap (and_mark (sync_mark g (sync_row rows k sync))) (same key.0 made.0)
 above_same rows k octets (origins.From key (KdfInput.Star pci earfcn)) made f g same = same key.0 made.0
 above_same rows k octets (origins.From key (KdfInput.Alg kind identity)) made f g same = same key.0 made.0
 
@@ -93,7 +110,11 @@ nearest_held rows s k from held (by_itself is) = refl
 nearest_held rows s k from held (by_key free is near) = absurd (false≢true (sym free ∙ held))
 
 -- of one that is not, it is that of the row of its key
-pub nearest_above : (rows : List LadderRow) (s k key from : ℕ) → holds rows s k ≡ false → key_row rows k ≡ Some key → IsNearest rows s k from → IsNearest rows s key from
+pub nearest_above : (rows : List LadderRow) (s k key from : ℕ)
+    → holds rows s k ≡ false
+    → key_row rows k ≡ Some key
+    → IsNearest rows s k from
+    → IsNearest rows s key from
 nearest_above rows s k key from not_held is (by_itself held) = absurd (false≢true (sym not_held ∙ held))
 nearest_above rows s k key from not_held is (by_key {key = other} free was near) =
     let both : Some other ≡ Some key = sym was ∙ is in let one : other ≡ key = cc in subst (λ j. IsNearest rows s j from) one near

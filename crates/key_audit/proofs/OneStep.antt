@@ -48,12 +48,22 @@ Above rows P k (origins.From key (KdfInput.Star pci earfcn)) = P key.0
 Above rows P k (origins.From key (KdfInput.Alg kind identity)) = P key.0
 
 -- a row that is held stands
-pub held_stands : (rows : List LadderRow) (s j : ℕ) (o : Option LadderRow) → slice_get rows j ≡ o → IsTrue (held_in s o) → (q : LadderRow) × (slice_get rows j ≡ Some q) × IsTrue (held_by s q)
+pub held_stands : (rows : List LadderRow) (s j : ℕ) (o : Option LadderRow)
+    → slice_get rows j ≡ o
+    → IsTrue (held_in s o)
+    → (q : LadderRow) × (slice_get rows j ≡ Some q) × IsTrue (held_by s q)
 held_stands rows s j None at held = absurd (false≢true held)
 held_stands rows s j (Some q) at held = (q, at, held)
 
 -- what is held of a row's term is that row
-held_is : (rows : List LadderRow) → IsLadder rows → (s k : ℕ) (r : LadderRow) → slice_get rows k ≡ Some r → (t : Term) → t ≡ term_at rows k → HeldTerms rows s t → IsTrue (held_by s r)
+held_is : (rows : List LadderRow)
+    → IsLadder rows
+    → (s k : ℕ) (r : LadderRow)
+    → slice_get rows k ≡ Some r
+    → (t : Term)
+    → t ≡ term_at rows k
+    → HeldTerms rows s t
+    → IsTrue (held_by s r)
 held_is rows ladder s k r at t is h =
     let row = held_stands rows s h.0 (slice_get rows h.0) refl h.1 in
     let same : h.0 ≡ k = one_row rows ladder h.0 k row.0 r row.1 at (sym h.2 ∙ is) in
@@ -62,7 +72,10 @@ held_is rows ladder s k r at t is h =
     subst (λ q. IsTrue (held_by s q)) this row.2
 
 -- no row is the root of a SYNC-input that no row before has
-no_origin : (rows : List LadderRow) (j : ℕ) (octets sync : List ℕ) (o : Origin) → j < length rows → Root (length rows) sync ≡ origin_term rows (term_at rows) j octets o → ⊥
+no_origin : (rows : List LadderRow) (j : ℕ) (octets sync : List ℕ) (o : Origin)
+    → j < length rows
+    → Root (length rows) sync ≡ origin_term rows (term_at rows) j octets o
+    → ⊥
 no_origin rows j octets sync origins.Root below is = let one : length rows ≡ j = cc in omega (arith, one, below)
 no_origin rows j octets sync (origins.From key (KdfInput.Kenb count)) below is = cc
 no_origin rows j octets sync (origins.From key (KdfInput.Nh sync')) below is = cc
@@ -75,11 +88,15 @@ outside rows ladder s sync h =
     no_origin rows h.0 row.0.octets sync row.0.origin (slice_get_within rows h.0 row.0 row.1) (h.2 ∙ term_is rows ladder.made h.0 row.0 row.1)
 
 -- down
-sync_derives : (rows : List LadderRow) (s : ℕ) (sync : List ℕ) (o : Option ℕ) → AtSync (CanDerive rows s) o → Derivable (HeldTerms rows s) (sync_term rows sync (term_at rows) o)
+sync_derives : (rows : List LadderRow) (s : ℕ) (sync : List ℕ) (o : Option ℕ)
+    → AtSync (CanDerive rows s) o
+    → Derivable (HeldTerms rows s) (sync_term rows sync (term_at rows) o)
 sync_derives rows s sync None d = absurd d
 sync_derives rows s sync (Some j) d = d
 
-derives : (rows : List LadderRow) (s k : ℕ) (octets : List ℕ) (o : Origin) → Above rows (CanDerive rows s) k o → Derivable (HeldTerms rows s) (origin_term rows (term_at rows) k octets o)
+derives : (rows : List LadderRow) (s k : ℕ) (octets : List ℕ) (o : Origin)
+    → Above rows (CanDerive rows s) k o
+    → Derivable (HeldTerms rows s) (origin_term rows (term_at rows) k octets o)
 derives rows s k octets origins.Root d = absurd d
 derives rows s k octets (origins.From key (KdfInput.Kenb count)) d = by_kenb d
 derives rows s k octets (origins.From key (KdfInput.Nh sync)) d = by_nh d.0 (sync_derives rows s sync (sync_row rows k sync) d.1)
@@ -87,11 +104,18 @@ derives rows s k octets (origins.From key (KdfInput.Star pci earfcn)) d = by_sta
 derives rows s k octets (origins.From key (KdfInput.Alg kind identity)) d = by_alg d
 
 -- and up
-sync_derived : (rows : List LadderRow) → IsLadder rows → (s : ℕ) (sync : List ℕ) (o : Option ℕ) → Derivable (HeldTerms rows s) (sync_term rows sync (term_at rows) o) → AtSync (CanDerive rows s) o
+sync_derived : (rows : List LadderRow)
+    → IsLadder rows
+    → (s : ℕ) (sync : List ℕ) (o : Option ℕ)
+    → Derivable (HeldTerms rows s) (sync_term rows sync (term_at rows) o)
+    → AtSync (CanDerive rows s) o
 sync_derived rows ladder s sync None d = outside rows ladder s sync (root_in (length rows) sync d)
 sync_derived rows ladder s sync (Some j) d = d
 
-derived : (rows : List LadderRow) → IsLadder rows → (s k : ℕ) (octets : List ℕ) (o : Origin) → Derivable (HeldTerms rows s) (origin_term rows (term_at rows) k octets o)
+derived : (rows : List LadderRow)
+    → IsLadder rows
+    → (s k : ℕ) (octets : List ℕ) (o : Origin)
+    → Derivable (HeldTerms rows s) (origin_term rows (term_at rows) k octets o)
     → HeldTerms rows s (origin_term rows (term_at rows) k octets o) ⊎ Above rows (CanDerive rows s) k o
 derived rows ladder s k octets origins.Root d = inl (root_in k octets d)
 derived rows ladder s k octets (origins.From key (KdfInput.Kenb count)) d = kenb_in (term_at rows key.0) count d
@@ -103,7 +127,11 @@ derived rows ladder s k octets (origins.From key (KdfInput.Nh sync)) d =
 derived rows ladder s k octets (origins.From key (KdfInput.Star pci earfcn)) d = star_in (term_at rows key.0) pci earfcn d
 derived rows ladder s k octets (origins.From key (KdfInput.Alg kind identity)) d = alg_in (term_at rows key.0) kind identity d
 
-pub one_step : (rows : List LadderRow) → IsLadder rows → (s k : ℕ) (r : LadderRow) → slice_get rows k ≡ Some r → CanDerive rows s k ↔ (IsTrue (held_by s r) ⊎ Above rows (CanDerive rows s) k r.origin)
+pub one_step : (rows : List LadderRow)
+    → IsLadder rows
+    → (s k : ℕ) (r : LadderRow)
+    → slice_get rows k ≡ Some r
+    → CanDerive rows s k ↔ (IsTrue (held_by s r) ⊎ Above rows (CanDerive rows s) k r.origin)
 one_step rows ladder s k r at = (up, down)
   where
     is : term_at rows k ≡ origin_term rows (term_at rows) k r.octets r.origin

@@ -26,14 +26,19 @@ if_before_cases k (Some j) = elim (cases_lt j k) [
 abbrev pub SameBelow : ℕ → (ℕ → Term) → (ℕ → Term) → Type 0
 SameBelow k f g = (j : ℕ) → j < k → f j ≡ g j
 
-sync_same : (rows : List LadderRow) (k : ℕ) (sync : List ℕ) (f g : ℕ → Term) → SameBelow k f g → sync_term rows sync f (sync_row rows k sync) ≡ sync_term rows sync g (sync_row rows k sync)
+sync_same : (rows : List LadderRow) (k : ℕ) (sync : List ℕ) (f g : ℕ → Term)
+    → SameBelow k f g
+    → sync_term rows sync f (sync_row rows k sync) ≡ sync_term rows sync g (sync_row rows k sync)
 sync_same rows k sync f g same = elim (if_before_cases k (row_of rows sync)) [
   | inl none ↦ rw none refl
   | inr some ↦ rw (some.1) (same some.0 some.2)
 ]
 
 -- the term of a row depends on the terms of the rows before it alone
-pub origin_same : (rows : List LadderRow) (f g : ℕ → Term) (k : ℕ) (octets : List ℕ) (o : Origin) → IsMade rows k o octets → SameBelow k f g → origin_term rows f k octets o ≡ origin_term rows g k octets o
+pub origin_same : (rows : List LadderRow) (f g : ℕ → Term) (k : ℕ) (octets : List ℕ) (o : Origin)
+    → IsMade rows k o octets
+    → SameBelow k f g
+    → origin_term rows f k octets o ≡ origin_term rows g k octets o
 origin_same rows f g k octets origins.Root made same = refl
 origin_same rows f g k octets (origins.From key (KdfInput.Kenb count)) made same = ap (λ t. Kenb t count) (same key.0 made.0)
 origin_same rows f g k octets (origins.From key (KdfInput.Nh sync)) made same =
@@ -41,7 +46,13 @@ origin_same rows f g k octets (origins.From key (KdfInput.Nh sync)) made same =
 origin_same rows f g k octets (origins.From key (KdfInput.Star pci earfcn)) made same = ap (λ t. Star t pci earfcn) (same key.0 made.0)
 origin_same rows f g k octets (origins.From key (KdfInput.Alg kind identity)) made same = ap (λ t. Alg t kind identity) (same key.0 made.0)
 
-row_same : (rows : List LadderRow) → AreMade rows → (f g : ℕ → Term) (k : ℕ) → SameBelow k f g → (o : Option LadderRow) → slice_get rows k ≡ o → row_term rows f k o ≡ row_term rows g k o
+row_same : (rows : List LadderRow)
+    → AreMade rows
+    → (f g : ℕ → Term) (k : ℕ)
+    → SameBelow k f g
+    → (o : Option LadderRow)
+    → slice_get rows k ≡ o
+    → row_term rows f k o ≡ row_term rows g k o
 row_same rows made f g k same None at = refl
 row_same rows made f g k same (Some r) at = origin_same rows f g k r.octets r.origin (made k r at) same
 
@@ -50,17 +61,26 @@ within_same : (rows : List LadderRow) → AreMade rows → (n m k : ℕ) → k <
 within_same rows made zero m k small large = absurd (omega (arith, small))
 within_same rows made (suc n) zero k small large = absurd (omega (arith, large))
 within_same rows made (suc n) (suc m) k small large =
-    row_same rows made (term_within n rows) (term_within m rows) k (λ j below. within_same rows made n m j (omega (arith, below, small)) (omega (arith, below, large))) (slice_get rows k) refl
+    row_same rows made (term_within n rows) (term_within m rows) k
+    (λ j below. within_same rows made n m j (omega (arith, below, small)) (omega (arith, below, large)))
+    (slice_get rows k) refl
 
 -- the term of a row, by the terms of the rows before it
-pub term_is : (rows : List LadderRow) → AreMade rows → (k : ℕ) (r : LadderRow) → slice_get rows k ≡ Some r → term_at rows k ≡ origin_term rows (term_at rows) k r.octets r.origin
+pub term_is : (rows : List LadderRow)
+    → AreMade rows
+    → (k : ℕ) (r : LadderRow)
+    → slice_get rows k ≡ Some r
+    → term_at rows k ≡ origin_term rows (term_at rows) k r.octets r.origin
 unfolding term_at
 term_is rows made k r at =
     ap (row_term rows (term_within k rows) k) at
     ∙ origin_same rows (term_within k rows) (term_at rows) k r.octets r.origin (made k r at) (λ j below. within_same rows made k (suc j) j below (omega arith))
 
 -- its octets are those of the row
-octets_same : (rows : List LadderRow) (k : ℕ) (value : (j : ℕ) → j < k → (r : LadderRow) → slice_get rows j ≡ Some r → value_of (term_at rows j) ≡ r.octets) (sync : List ℕ) → value_of (sync_term rows sync (term_at rows) (sync_row rows k sync)) ≡ sync
+octets_same : (rows : List LadderRow) (k : ℕ)
+    (value : (j : ℕ) → j < k → (r : LadderRow) → slice_get rows j ≡ Some r → value_of (term_at rows j) ≡ r.octets)
+    (sync : List ℕ)
+    → value_of (sync_term rows sync (term_at rows) (sync_row rows k sync)) ≡ sync
 octets_same rows k value sync = elim (if_before_cases k (row_of rows sync)) [
   | inl none ↦ rw none refl
   | inr some ↦
@@ -68,7 +88,10 @@ octets_same rows k value sync = elim (if_before_cases k (row_of rows sync)) [
       rw (some.1) (value some.0 some.2 row.0 row.1 ∙ row.2)
 ]
 
-derived_value : (rows : List LadderRow) (k : ℕ) → ((j : ℕ) → j < k → (r : LadderRow) → slice_get rows j ≡ Some r → value_of (term_at rows j) ≡ r.octets) → (octets : List ℕ) (o : Origin) → IsMade rows k o octets
+derived_value : (rows : List LadderRow) (k : ℕ)
+    → ((j : ℕ) → j < k → (r : LadderRow) → slice_get rows j ≡ Some r → value_of (term_at rows j) ≡ r.octets)
+    → (octets : List ℕ) (o : Origin)
+    → IsMade rows k o octets
     → value_of (origin_term rows (term_at rows) k octets o) ≡ octets
 derived_value rows k value octets origins.Root made = refl
 derived_value rows k value octets (origins.From key (KdfInput.Kenb count)) made =
@@ -95,7 +118,13 @@ pub value_is : (rows : List LadderRow) → AreMade rows → (k : ℕ) (r : Ladde
 value_is rows made k r at = values_below rows made (suc k) k (omega arith) r at
 
 -- rows with one value are one row
-pub one_row : (rows : List LadderRow) → IsLadder rows → (j k : ℕ) (q r : LadderRow) → slice_get rows j ≡ Some q → slice_get rows k ≡ Some r → term_at rows j ≡ term_at rows k → j ≡ k
+pub one_row : (rows : List LadderRow)
+    → IsLadder rows
+    → (j k : ℕ) (q r : LadderRow)
+    → slice_get rows j ≡ Some q
+    → slice_get rows k ≡ Some r
+    → term_at rows j ≡ term_at rows k
+    → j ≡ k
 one_row rows ladder j k q r at_j at_k same =
     let octets : q.octets ≡ r.octets = sym (value_is rows ladder.made j q at_j) ∙ ap value_of same ∙ value_is rows ladder.made k r at_k in
     let first : row_of rows r.octets ≡ Some j = ladder.apart j r.octets (ap (option_map (λ row. row.octets)) at_j ∙ ap Some octets) in

@@ -26,7 +26,13 @@ before rows made k key is = by (slice_get rows k) refl
     by (Some r) at = key_before rows k key r.octets r.origin (made k r at) (sym (ap key_in at) ∙ is)
 
 -- ways that are one from each row before are one from the row of a key
-on_same : (rows : List LadderRow) → AreMade rows → (k : ℕ) (f g : ℕ → List ℕ) → ((j : ℕ) → j < k → f j ≡ g j) → (o : Option ℕ) → key_row rows k ≡ o → on_from f o ≡ on_from g o
+on_same : (rows : List LadderRow)
+    → AreMade rows
+    → (k : ℕ) (f g : ℕ → List ℕ)
+    → ((j : ℕ) → j < k → f j ≡ g j)
+    → (o : Option ℕ)
+    → key_row rows k ≡ o
+    → on_from f o ≡ on_from g o
 on_same rows made k f g same None is = refl
 on_same rows made k f g same (Some key) is = same key (before rows made k key is)
 
@@ -36,7 +42,9 @@ way_same rows made to zero m k small large = absurd (omega (arith, small))
 way_same rows made to (suc n) zero k small large = absurd (omega (arith, large))
 way_same rows made to (suc n) (suc m) k small large =
     ap (λ rest. k ∷ (if k == to then [] else rest))
-    (on_same rows made k (way_within n rows to) (way_within m rows to) (λ j less. way_same rows made to n m j (omega (arith, less, small)) (omega (arith, less, large))) (key_row rows k) refl)
+    (on_same rows made k (way_within n rows to) (way_within m rows to)
+    (λ j less. way_same rows made to n m j (omega (arith, less, small)) (omega (arith, less, large)))
+    (key_row rows k) refl)
 
 -- the way goes on from the row of the key
 pub way_on : (rows : List LadderRow) → AreMade rows → (to k : ℕ) → way_up rows to k ≡ k ∷ (if k == to then [] else on_from (way_up rows to) (key_row rows k))
@@ -50,12 +58,23 @@ pub way_ends : (rows : List LadderRow) → AreMade rows → (to k : ℕ) → k �
 way_ends rows made to k same = way_on rows made to k ∙ ap (λ b. k ∷ (if b then [] else on_from (way_up rows to) (key_row rows k))) (eq-eqb k to same)
 
 -- or goes on
-pub way_next : (rows : List LadderRow) → AreMade rows → (to k : ℕ) → (k ≡ to → ⊥) → (o : Option ℕ) → key_row rows k ≡ o → way_up rows to k ≡ k ∷ on_from (way_up rows to) o
+pub way_next : (rows : List LadderRow)
+    → AreMade rows
+    → (to k : ℕ)
+    → (k ≡ to → ⊥)
+    → (o : Option ℕ)
+    → key_row rows k ≡ o
+    → way_up rows to k ≡ k ∷ on_from (way_up rows to) o
 way_next rows made to k differs o is =
-    way_on rows made to k ∙ ap (λ b. k ∷ (if b then [] else on_from (way_up rows to) (key_row rows k))) (ne_eqb k to differs) ∙ ap (λ key. k ∷ on_from (way_up rows to) key) is
+    way_on rows made to k
+    ∙ ap (λ b. k ∷ (if b then [] else on_from (way_up rows to) (key_row rows k))) (ne_eqb k to differs)
+    ∙ ap (λ key. k ∷ on_from (way_up rows to) key) is
 
 -- what is written for one station more
-pub one_station : (text : ℕ → List ℕ) (station : ℕ) (so_far after whole : List ℕ) → station < 8 → after ≡ so_far ++ text station → so_far ++ for_each text (drop station stations) ≡ whole
+pub one_station : (text : ℕ → List ℕ) (station : ℕ) (so_far after whole : List ℕ)
+    → station < 8
+    → after ≡ so_far ++ text station
+    → so_far ++ for_each text (drop station stations) ≡ whole
     → after ++ for_each text (drop (station + 1) stations) ≡ whole
 one_station text station so_far after whole below added done =
     let rest : List ℕ = for_each text (drop (station + 1) stations) in
@@ -75,7 +94,10 @@ one_station text station so_far after whole below added done =
     numbered (suc (suc (suc (suc (suc (suc (suc (suc s)))))))) below = absurd (omega (arith, below))
 
 -- one line more
-pub one_line : (rows : List LadderRow) (marks : ℕ → ℕ → Option ℕ) (k all : ℕ) (so_far after whole : List ℕ) → k < all → after ≡ so_far ++ row_line rows marks k → so_far ++ row_lines rows marks k (all - k) ≡ whole
+pub one_line : (rows : List LadderRow) (marks : ℕ → ℕ → Option ℕ) (k all : ℕ) (so_far after whole : List ℕ)
+    → k < all
+    → after ≡ so_far ++ row_line rows marks k
+    → so_far ++ row_lines rows marks k (all - k) ≡ whole
     → after ++ row_lines rows marks (k + 1) (all - (k + 1)) ≡ whole
 one_line rows marks k all so_far after whole below added done =
     let rest : List ℕ = row_lines rows marks (k + 1) (all - (k + 1)) in
@@ -88,7 +110,17 @@ one_line rows marks k all so_far after whole below added done =
 -- marks that are one give one text
 each_same : (f g : ℕ → List ℕ) → ((s : ℕ) → s < 8 → f s ≡ g s) → for_each f stations ≡ for_each g stations
 each_same f g same =
-    rw (same 0 (omega arith), same 1 (omega arith), same 2 (omega arith), same 3 (omega arith), same 4 (omega arith), same 5 (omega arith), same 6 (omega arith), same 7 (omega arith)) refl
+    rw (
+      same 0 (omega arith),
+      same 1 (omega arith),
+      same 2 (omega arith),
+      same 3 (omega arith),
+      same 4 (omega arith),
+      same 5 (omega arith),
+      same 6 (omega arith),
+      same 7 (omega arith),
+    )
+    refl
 
 pub line_same : (rows : List LadderRow) (f g : ℕ → ℕ → Option ℕ) (k : ℕ) → ((s : ℕ) → s < 8 → f s k ≡ g s k) → row_line rows f k ≡ row_line rows g k
 line_same rows f g k same =

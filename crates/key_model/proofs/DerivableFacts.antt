@@ -27,11 +27,17 @@ nh_held held none r t is (in_set h) = h
 nh_held held none r t is (by_nh d e) = absurd (no_root held none r is d)
 
 -- a KeNB below a root can be derived exactly where it is in the set
-pub kenb_derivable : (held : Term → Type 0) → HasNoRoot held → (r n : ℕ) (octets : List ℕ) → Derivable held (Kenb (Root r octets) n) ↔ held (Kenb (Root r octets) n)
+pub kenb_derivable : (held : Term → Type 0)
+    → HasNoRoot held
+    → (r n : ℕ) (octets : List ℕ)
+    → Derivable held (Kenb (Root r octets) n) ↔ held (Kenb (Root r octets) n)
 kenb_derivable held none r n octets = (kenb_held held none (Root r octets) n tt, in_set)
 
 -- and so an NH
-pub nh_derivable : (held : Term → Type 0) → HasNoRoot held → (r : ℕ) (octets : List ℕ) (t : Term) → Derivable held (Nh (Root r octets) t) ↔ held (Nh (Root r octets) t)
+pub nh_derivable : (held : Term → Type 0)
+    → HasNoRoot held
+    → (r : ℕ) (octets : List ℕ) (t : Term)
+    → Derivable held (Nh (Root r octets) t) ↔ held (Nh (Root r octets) t)
 nh_derivable held none r octets t = (nh_held held none (Root r octets) t tt, in_set)
 
 -- and so is each key of a chain
@@ -40,7 +46,11 @@ chain_held held none r n zero is d = kenb_held held none r n is d
 chain_held held none r n (suc i) is d = nh_held held none r (nh r n i) is d
 
 -- a KeNB* of a key of a chain is in the set, or that key is
-pub star_held : (held : Term → Type 0) → HasNoRoot held → (r : Term) (n i pci earfcn : ℕ) → IsRoot r → Derivable held (Star (nh r n i) pci earfcn) ↔ (held (Star (nh r n i) pci earfcn) ⊎ held (nh r n i))
+pub star_held : (held : Term → Type 0)
+    → HasNoRoot held
+    → (r : Term) (n i pci earfcn : ℕ)
+    → IsRoot r
+    → Derivable held (Star (nh r n i) pci earfcn) ↔ (held (Star (nh r n i) pci earfcn) ⊎ held (nh r n i))
 star_held held none r n i pci earfcn is = (either, derives)
   where
     either : Derivable held (Star (nh r n i) pci earfcn) → held (Star (nh r n i) pci earfcn) ⊎ held (nh r n i)

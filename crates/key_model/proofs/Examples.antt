@@ -60,7 +60,9 @@ line_in_terms : (r t : Term) (n : ℕ) → phone_line (term_reading_by same_term
 unfolding least
 line_in_terms r t n = refl
 
-line_in_octets : (root sync active : List ℕ) → (phone_line octet_reading (record { root = root; number = 6; sync = sync; active = active }) 5 300 1850).number ≡ 5
+line_in_octets : (root sync active : List ℕ)
+    → (phone_line octet_reading (record { root = root; number = 6; sync = sync; active = active }) 5 300 1850).number
+    ≡ 5
 unfolding least
 line_in_octets root sync active = refl
 

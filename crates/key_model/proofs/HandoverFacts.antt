@@ -18,14 +18,20 @@ nh_after-chain same r n p zero = ap (nh r n) (sym (add-zero p))
 nh_after-chain same r n p (suc steps) = ap (Nh r) (nh_after-chain same r n p steps) ∙ ap (nh r n) (sym (add-suc p steps))
 
 -- the test of two numbers, where they are known to differ or not
-same_or_not : (j p : ℕ) (b : Bool) → (j == p) ≡ b → (r : Term) (n : ℕ) (t : Term) (pci earfcn : ℕ) → key_by_number (j == p) r n t j pci earfcn ≡ key_by_number b r n t j pci earfcn
+same_or_not : (j p : ℕ) (b : Bool)
+    → (j == p) ≡ b
+    → (r : Term) (n : ℕ) (t : Term) (pci earfcn : ℕ)
+    → key_by_number (j == p) r n t j pci earfcn ≡ key_by_number b r n t j pci earfcn
 same_or_not j p b e r n t pci earfcn = ap (λ b. key_by_number b r n t j pci earfcn) e
 
 -- the phone's line in terms is the table's
-pub phone_line-terms : (same : Term → Term → Bool) (r : Term) (n : ℕ) (t : Term) (p i pci earfcn : ℕ) → phone_line (term_reading_by same) (phone_keys r n t p) (ncc_of i) pci earfcn ≡ key_at_phone r n t p i pci earfcn
+pub phone_line-terms : (same : Term → Term → Bool) (r : Term) (n : ℕ) (t : Term) (p i pci earfcn : ℕ)
+    → phone_line (term_reading_by same) (phone_keys r n t p) (ncc_of i) pci earfcn ≡ key_at_phone r n t p i pci earfcn
 phone_line-terms same r n t p i pci earfcn = by_steps (steps_to (ncc_of p) (ncc_of i)) (least_from_remainder p (ncc_of i))
   where
-    by_steps : (steps : ℕ) → phone_number p (ncc_of i) ≡ p + steps → key_after (term_reading_by same) (phone_keys r n t p) steps pci earfcn ≡ key_at_phone r n t p i pci earfcn
+    by_steps : (steps : ℕ)
+        → phone_number p (ncc_of i) ≡ p + steps
+        → key_after (term_reading_by same) (phone_keys r n t p) steps pci earfcn ≡ key_at_phone r n t p i pci earfcn
     by_steps zero e =
         let stays : phone_number p (ncc_of i) ≡ p = e ∙ add-zero p in
         λ k. record { key = sym (same_or_not _ p true (eq-eqb _ p stays) r n t pci earfcn) k; number = sym stays k }
@@ -36,10 +42,16 @@ phone_line-terms same r n t p i pci earfcn = by_steps (steps_to (ncc_of p) (ncc_
         λ k. record { key = key k; number = sym e k }
 
 -- a phone fewer than eight steps behind takes the key of the pair, and one that is further behind another key
-pub same_key : (r : Term) (n : ℕ) (t : Term) (p i pci earfcn : ℕ) → chain_number t ≡ p → p < i → ((key_at_phone r n t p i pci earfcn).key ≡ (key_from_pair r n i pci earfcn).key) ↔ (i - p < 8)
+pub same_key : (r : Term) (n : ℕ) (t : Term) (p i pci earfcn : ℕ)
+    → chain_number t ≡ p
+    → p < i
+    → ((key_at_phone r n t p i pci earfcn).key ≡ (key_from_pair r n i pci earfcn).key) ↔ (i - p < 8)
 same_key r n t p i pci earfcn number above = (near, agrees)
   where
-    at_test : (b : Bool) → (phone_number p (ncc_of i) == p) ≡ b → key_by_number b r n t (phone_number p (ncc_of i)) pci earfcn ≡ Star (nh r n i) pci earfcn → i - p < 8
+    at_test : (b : Bool)
+        → (phone_number p (ncc_of i) == p) ≡ b
+        → key_by_number b r n t (phone_number p (ncc_of i)) pci earfcn ≡ Star (nh r n i) pci earfcn
+        → i - p < 8
     at_test true _ e =
         let base : t ≡ nh r n i = cc in
         let far : p ≡ i = sym number ∙ ap chain_number base ∙ chain_number_nh r n i in
@@ -72,7 +84,8 @@ module _ {K C L D : Type 0} (r : Reading K C) (q : Reading L D) (f : K → L) (g
   pub pair_line-map : (root : K) (kept : NumberedKey K C) → map_numbered f g (pair_line r root kept) ≡ pair_line q (f root) (map_numbered f g kept)
   pair_line-map root kept = λ k. record { key = c.nh root kept.key k; number = c.plus kept.number 1 k }
 
-  pub star_line-map : (base : NumberedKey K C) (pci earfcn : ℕ) → map_numbered f g (star_line r base pci earfcn) ≡ star_line q (map_numbered f g base) pci earfcn
+  pub star_line-map : (base : NumberedKey K C) (pci earfcn : ℕ)
+      → map_numbered f g (star_line r base pci earfcn) ≡ star_line q (map_numbered f g base) pci earfcn
   star_line-map base pci earfcn = λ k. record { key = c.star base.key pci earfcn k; number = g base.number }
 
   pub change_line-map : (kenb : K) (pci earfcn : ℕ) → map_numbered f g (change_line r kenb pci earfcn) ≡ change_line q (f kenb) pci earfcn
@@ -82,13 +95,16 @@ module _ {K C L D : Type 0} (r : Reading K C) (q : Reading L D) (f : K → L) (g
   nh_after-map root sync zero = refl
   nh_after-map root sync (suc steps) = c.nh root (nh_after r root sync steps) ∙ ap (q.nh (f root)) (nh_after-map root sync steps)
 
-  pub key_after-map : (phone : PhoneKeys K C) (steps pci earfcn : ℕ) → map_numbered f g (key_after r phone steps pci earfcn) ≡ key_after q (map_phone f g phone) steps pci earfcn
+  pub key_after-map : (phone : PhoneKeys K C) (steps pci earfcn : ℕ)
+      → map_numbered f g (key_after r phone steps pci earfcn) ≡ key_after q (map_phone f g phone) steps pci earfcn
   key_after-map phone zero pci earfcn = λ k. record { key = c.star phone.active pci earfcn k; number = g phone.number }
   key_after-map phone (suc steps) pci earfcn =
-      let key = c.star (nh_after r phone.root phone.sync (suc steps)) pci earfcn ∙ ap (λ sync. q.star sync pci earfcn) (nh_after-map phone.root phone.sync (suc steps)) in
+      let key = c.star (nh_after r phone.root phone.sync (suc steps)) pci earfcn
+      ∙ ap (λ sync. q.star sync pci earfcn) (nh_after-map phone.root phone.sync (suc steps)) in
       λ k. record { key = key k; number = c.plus phone.number (suc steps) k }
 
-  pub phone_line-map : (phone : PhoneKeys K C) (ncc pci earfcn : ℕ) → map_numbered f g (phone_line r phone ncc pci earfcn) ≡ phone_line q (map_phone f g phone) ncc pci earfcn
+  pub phone_line-map : (phone : PhoneKeys K C) (ncc pci earfcn : ℕ)
+      → map_numbered f g (phone_line r phone ncc pci earfcn) ≡ phone_line q (map_phone f g phone) ncc pci earfcn
   phone_line-map phone ncc pci earfcn =
       key_after-map phone (steps_to (r.ncc phone.number) ncc) pci earfcn
       ∙ ap (λ own. key_after q (map_phone f g phone) (steps_to own ncc) pci earfcn) (sym (c.ncc phone.number))

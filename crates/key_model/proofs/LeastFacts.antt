@@ -128,7 +128,10 @@ steps_end (suc steps) n d x w few hits earlier =
         let next : n + (k + 1) ≡ (n + 1) + k = omega arith in
         earlier (k + 1) (omega arith) (ap (λ m. m % w) next ∙ e)
 
-    by_test : (b : Bool) → (n % w == x) ≡ b → (0 < d → after_steps steps (n + 1) x w ≡ (n + 1) + (d - 1)) → (if b then n else after_steps steps (n + 1) x w) ≡ n + d
+    by_test : (b : Bool)
+        → (n % w == x) ≡ b
+        → (0 < d → after_steps steps (n + 1) x w ≡ (n + 1) + (d - 1))
+        → (if b then n else after_steps steps (n + 1) x w) ≡ n + d
     by_test true e onward = let at = none_left (eqb-true (n % w) x e) (cases_lt 0 d) in omega arith
     by_test false e onward =
         let some = some_left (eqb-false (n % w) x e) (cases_lt 0 d) in
@@ -136,7 +139,13 @@ steps_end (suc steps) n d x w few hits earlier =
 
 -- the first number with the remainder is the least one
 pub first_is_least : (low x w d : ℕ) → x < w → (low + d) % w ≡ x → ((k : ℕ) → k < d → (low + k) % w ≢ x) → low + d ≡ least low x w
-first_is_least low x w d hx hits earlier = least_unique low x w _ _ (record { at_or_above = omega arith; remainder = hits; no_lesser = λ m above e. by_place m above e (cases_lt m (low + d)) }) (least_is low x w hx)
+first_is_least low x w d hx hits earlier =
+    least_unique low x w _ _ (record {
+      at_or_above = omega arith;
+      remainder = hits;
+      no_lesser = λ m above e. by_place m above e (cases_lt m (low + d));
+    })
+    (least_is low x w hx)
   where
     by_place : (m : ℕ) → low ≤ m → m % w ≡ x → (m < low + d) ⊎ (low + d ≤ m) → low + d ≤ m
     by_place m above e (inr h) = h

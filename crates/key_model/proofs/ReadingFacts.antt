@@ -19,6 +19,9 @@ values_carry = record {
 }
 
 -- uses are compared alike in a reading and in one that it is carried to
-pub same_use-map : {K C L D Dir : Type 0} (r : Reading K C) (q : Reading L D) (f : K → L) (g : C → D) → Carries r q f g → (same_dir : Dir → Dir → Bool) (u v : Use K Dir) → same_use q.same same_dir (map_use f u) (map_use f v) ≡ same_use r.same same_dir u v
+pub same_use-map : {K C L D Dir : Type 0} (r : Reading K C) (q : Reading L D) (f : K → L) (g : C → D)
+    → Carries r q f g
+    → (same_dir : Dir → Dir → Bool) (u v : Use K Dir)
+    → same_use q.same same_dir (map_use f u) (map_use f v) ≡ same_use r.same same_dir u v
 same_use-map r q f g c same_dir u v =
     ap (λ b. b && (u.count == v.count) && (u.bearer == v.bearer) && same_dir u.dir v.dir) (c.same u.key v.key)

@@ -38,9 +38,14 @@ plain_holding who zero (r ∷ rows) = ap (λ p. p ∷ map plain rows) (plain_hel
 plain_holding who (suc k) (r ∷ rows) = ap (λ ps. plain r ∷ ps) (plain_holding who k rows)
 
 -- what is read of the plain rows
-pub read_same : {A : Type 0} (f : Origin × List ℕ → A) (rows after : List LadderRow) → map plain after ≡ map plain rows → (k : ℕ) → option_map (λ r. f (plain r)) (slice_get after k) ≡ option_map (λ r. f (plain r)) (slice_get rows k)
+pub read_same : {A : Type 0} (f : Origin × List ℕ → A) (rows after : List LadderRow)
+    → map plain after ≡ map plain rows
+    → (k : ℕ)
+    → option_map (λ r. f (plain r)) (slice_get after k) ≡ option_map (λ r. f (plain r)) (slice_get rows k)
 read_same f rows after same k =
-    sym (slice_get-map (λ r. f (plain r)) after k) ∙ ap (λ xs. slice_get xs k) (mapped f after ∙ ap (map f) same ∙ sym (mapped f rows)) ∙ slice_get-map (λ r. f (plain r)) rows k
+    sym (slice_get-map (λ r. f (plain r)) after k)
+    ∙ ap (λ xs. slice_get xs k) (mapped f after ∙ ap (map f) same ∙ sym (mapped f rows))
+    ∙ slice_get-map (λ r. f (plain r)) rows k
   where
     mapped : {A : Type 0} (f : Origin × List ℕ → A) (rows : List LadderRow) → map (λ r. f (plain r)) rows ≡ map f (map plain rows)
     mapped f [] = refl
@@ -49,9 +54,15 @@ read_same f rows after same k =
 -- the first row with these octets
 pub row_of_same : (rows after : List LadderRow) → map plain after ≡ map plain rows → (octets : List ℕ) → row_of after octets ≡ row_of rows octets
 row_of_same rows after same octets =
-    sym (position_map plain (λ p. bytes_eq p.1 octets) after) ∙ ap (λ ps. position (λ p. bytes_eq p.1 octets) ps) same ∙ position_map plain (λ p. bytes_eq p.1 octets) rows
+    sym (position_map plain (λ p. bytes_eq p.1 octets) after)
+    ∙ ap (λ ps. position (λ p. bytes_eq p.1 octets) ps) same
+    ∙ position_map plain (λ p. bytes_eq p.1 octets) rows
 
-pub root_same : (rows after : List LadderRow) → map plain after ≡ map plain rows → (key : ℕ) (input : KdfInput) → HasRoot rows key input → HasRoot after key input
+pub root_same : (rows after : List LadderRow)
+    → map plain after ≡ map plain rows
+    → (key : ℕ) (input : KdfInput)
+    → HasRoot rows key input
+    → HasRoot after key input
 root_same rows after same key (Kenb count) root = read_same (λ p. p.0) rows after same key ∙ root
 root_same rows after same key (Nh sync) root = read_same (λ p. p.0) rows after same key ∙ root
 root_same rows after same key (Star pci earfcn) root = tt
@@ -63,10 +74,18 @@ sync_same rows after same (Nh octets) sync = subst IsSome (sym (row_of_same rows
 sync_same rows after same (Star pci earfcn) sync = tt
 sync_same rows after same (Alg kind identity) sync = tt
 
-made_same : (rows after : List LadderRow) → map plain after ≡ map plain rows → (k : ℕ) (origin : Origin) (octets : List ℕ) → IsMade rows k origin octets → IsMade after k origin octets
+made_same : (rows after : List LadderRow)
+    → map plain after ≡ map plain rows
+    → (k : ℕ) (origin : Origin) (octets : List ℕ)
+    → IsMade rows k origin octets
+    → IsMade after k origin octets
 made_same rows after same k Root octets made = tt
-made_same rows after same k (From key input) octets made =
-    (made.0, read_same (λ p. kdf p.1 input) rows after same key.0 ∙ made.1, root_same rows after same key.0 input made.2, sync_same rows after same input made.3)
+made_same rows after same k (From key input) octets made = (
+  made.0,
+  read_same (λ p. kdf p.1 input) rows after same key.0 ∙ made.1,
+  root_same rows after same key.0 input made.2,
+  sync_same rows after same input made.3,
+)
 
 ladder_same : (rows after : List LadderRow) → map plain after ≡ map plain rows → IsLadder rows → IsLadder after
 ladder_same rows after same ladder = record {
@@ -83,7 +102,10 @@ ladder_same rows after same ladder = record {
 pub ladder_holding : (who : Holder) (k : ℕ) (rows after : List LadderRow) → after ≡ holding who k rows → IsLadder rows → IsLadder after
 ladder_holding who k rows after held ladder = ladder_same rows after (ap (map plain) held ∙ plain_holding who k rows) ladder
 
-pub index_holding : (keys : List (List ℕ)) (who : Holder) (k : ℕ) (rows after : List LadderRow) → after ≡ holding who k rows → IsIndexOf keys rows → IsIndexOf keys after
+pub index_holding : (keys : List (List ℕ)) (who : Holder) (k : ℕ) (rows after : List LadderRow)
+    → after ≡ holding who k rows
+    → IsIndexOf keys rows
+    → IsIndexOf keys after
 index_holding keys who k rows after held index =
     let octets : map (λ r. r.octets) after ≡ map (λ r. r.octets) rows = ap (map (λ r. r.octets)) held ∙ octets_holding who k rows in
     index ∙ sym (take-map (λ r. r.octets) (length keys) rows) ∙ sym (ap (take (length keys)) octets) ∙ take-map (λ r. r.octets) (length keys) after

@@ -18,7 +18,9 @@ use Rattle.std.proofs.lemmas.Slice.Eq.{bytes_eq-Decides}
 use Rattle.key_terms.proofs.Places.{position_stays, position_at_end, slice_get_stays, slice_get_push}
 
 -- a row that has something read of it stands
-pub stands : {A : Type 0} (f : LadderRow → A) (rows : List LadderRow) (k : ℕ) (a : A) → option_map f (slice_get rows k) ≡ Some a → (r : LadderRow) × (slice_get rows k ≡ Some r) × (f r ≡ a)
+pub stands : {A : Type 0} (f : LadderRow → A) (rows : List LadderRow) (k : ℕ) (a : A)
+    → option_map f (slice_get rows k) ≡ Some a
+    → (r : LadderRow) × (slice_get rows k ≡ Some r) × (f r ≡ a)
 stands f rows k a found =
     elim (slice_get_cases rows k).1 [
       | inl h ↦ let e = sym (ap (option_map f) h.2) ∙ found in (h.0, h.2, cc)
@@ -26,7 +28,9 @@ stands f rows k a found =
     ]
 
 -- what is read of a row of the shorter ladder is read of the longer
-mapped_stays : {A : Type 0} (f : LadderRow → A) (rows : List LadderRow) (r : LadderRow) (k : ℕ) (a : A) → option_map f (slice_get rows k) ≡ Some a → option_map f (slice_get (rows ++ r ∷ []) k) ≡ Some a
+mapped_stays : {A : Type 0} (f : LadderRow → A) (rows : List LadderRow) (r : LadderRow) (k : ℕ) (a : A)
+    → option_map f (slice_get rows k) ≡ Some a
+    → option_map f (slice_get (rows ++ r ∷ []) k) ≡ Some a
 mapped_stays f rows r k a found =
     let row = stands f rows k a found in
     ap (option_map f) (slice_get_stays rows (r ∷ []) k row.0 row.1) ∙ ap Some row.2
@@ -49,7 +53,10 @@ root_stays rows r key (Star pci earfcn) root = tt
 root_stays rows r key (Alg kind identity) root = tt
 
 -- a row that is found is found in the longer ladder
-found_stays : (rows : List LadderRow) (r : LadderRow) (octets : List ℕ) (o : Option ℕ) → row_of rows octets ≡ o → IsSome o → IsSome (row_of (rows ++ r ∷ []) octets)
+found_stays : (rows : List LadderRow) (r : LadderRow) (octets : List ℕ) (o : Option ℕ)
+    → row_of rows octets ≡ o
+    → IsSome o
+    → IsSome (row_of (rows ++ r ∷ []) octets)
 found_stays rows r octets None e h = absurd (false≢true h)
 found_stays rows r octets (Some k) e h = rw (position_stays (λ r'. bytes_eq r'.octets octets) rows r k e) h
 
@@ -59,7 +66,9 @@ sync_stays rows r (Nh octets) sync = found_stays rows r octets (row_of rows octe
 sync_stays rows r (Star pci earfcn) sync = tt
 sync_stays rows r (Alg kind identity) sync = tt
 
-made_stays : (rows : List LadderRow) (r : LadderRow) (k : ℕ) (origin : Origin) (octets : List ℕ) → IsMade rows k origin octets → IsMade (rows ++ r ∷ []) k origin octets
+made_stays : (rows : List LadderRow) (r : LadderRow) (k : ℕ) (origin : Origin) (octets : List ℕ)
+    → IsMade rows k origin octets
+    → IsMade (rows ++ r ∷ []) k origin octets
 made_stays rows r k Root octets made = tt
 made_stays rows r k (From key input) octets made =
     (made.0, mapped_stays (λ r'. kdf r'.octets input) rows r key.0 octets made.1, root_stays rows r key.0 input made.2, sync_stays rows r input made.3)
@@ -73,14 +82,25 @@ made_push rows u all made k r found =
           subst (λ k'. Made k' r) (sym last.0) (subst (λ r'. Made (length rows) r') (sym last.1) (made_stays rows u (length rows) u.origin u.octets made))
     ]
 
-pub ladder_push : (rows : List LadderRow) (origin : Origin) (octets : List ℕ) → IsLadder rows → row_of rows octets ≡ None → IsMade rows (length rows) origin octets → IsLadder (rows ++ unheld origin octets ∷ [])
+pub ladder_push : (rows : List LadderRow) (origin : Origin) (octets : List ℕ)
+    → IsLadder rows
+    → row_of rows octets ≡ None
+    → IsMade rows (length rows) origin octets
+    → IsLadder (rows ++ unheld origin octets ∷ [])
 ladder_push rows origin octets ladder new made = record {
   apart = apart_push rows (unheld origin octets) ladder.apart new;
   made = made_push rows (unheld origin octets) ladder.made made;
 }
 
 -- the same, where the rows were put by steps
-pub ladder_put : (rows before after : List LadderRow) (r : LadderRow) (origin : Origin) (octets : List ℕ) → before ≡ rows → r ≡ unheld origin octets → after ≡ before ++ r ∷ [] → IsLadder before → row_of rows octets ≡ None → IsMade rows (length rows) origin octets → IsLadder after
+pub ladder_put : (rows before after : List LadderRow) (r : LadderRow) (origin : Origin) (octets : List ℕ)
+    → before ≡ rows
+    → r ≡ unheld origin octets
+    → after ≡ before ++ r ∷ []
+    → IsLadder before
+    → row_of rows octets ≡ None
+    → IsMade rows (length rows) origin octets
+    → IsLadder after
 ladder_put rows before after r origin octets same row put ladder new made =
     let items : after ≡ rows ++ unheld origin octets ∷ [] = cc in
     subst IsLadder (sym items) (ladder_push rows origin octets (subst IsLadder same ladder) new made)
@@ -89,14 +109,25 @@ pub ladder_none : IsLadder []
 ladder_none = record { apart = λ k octets found. absurd (none-some octets found); made = λ k r found. absurd (none-some r found) }
 
 -- the row that is found has the octets
-pub found_row : (rows : List LadderRow) (octets : List ℕ) (k : ℕ) → row_of rows octets ≡ Some k → (r : LadderRow) × (slice_get rows k ≡ Some r) × (r.octets ≡ octets)
+pub found_row : (rows : List LadderRow) (octets : List ℕ) (k : ℕ)
+    → row_of rows octets ≡ Some k
+    → (r : LadderRow) × (slice_get rows k ≡ Some r) × (r.octets ≡ octets)
 found_row rows octets k found =
     let nobody : LadderRow = unheld Root [] in
     let first = position-Some (λ r. bytes_eq r.octets octets) rows k nobody found in
     (get_or rows k nobody, slice_get-get_or rows k nobody first.0, (bytes_eq-Decides (get_or rows k nobody).octets octets).0 first.1)
 
 -- a derivation from a row's key is what its origin says
-pub made_by : (rows : List LadderRow) (key : List ℕ) (input : KdfInput) (out : List ℕ) (k : Row) → row_of rows key ≡ Some k.0 → out ≡ kdf key input → HasRoot rows k.0 input → HasSync rows input → IsMade rows (length rows) (From k input) out
+pub made_by : (rows : List LadderRow) (key : List ℕ) (input : KdfInput) (out : List ℕ) (k : Row)
+    → row_of rows key ≡ Some k.0
+    → out ≡ kdf key input
+    → HasRoot rows k.0 input
+    → HasSync rows input
+    → IsMade rows (length rows) (From k input) out
 made_by rows key input out k found value root sync =
-    let row = found_row rows key k.0 found in
-    (slice_get_within rows k.0 row.0 row.1, ap (option_map (λ r. kdf r.octets input)) row.1 ∙ ap (λ o. Some (kdf o input)) row.2 ∙ ap Some (sym value), root, sync)
+    let row = found_row rows key k.0 found in (
+      slice_get_within rows k.0 row.0 row.1,
+      ap (option_map (λ r. kdf r.octets input)) row.1 ∙ ap (λ o. Some (kdf o input)) row.2 ∙ ap Some (sym value),
+      root,
+      sync,
+    )

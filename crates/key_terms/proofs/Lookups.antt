@@ -19,32 +19,45 @@ turned xs ys = nat_list_eq_equiv.symm xs ys
 -- the mark is no further than the rows
 pub mark_within : (keys : List (List ℕ)) (rows : List LadderRow) → IsIndexOf keys rows → length keys ≤ length rows
 mark_within keys rows index =
-    let len : length keys ≡ min (length keys) (length rows) = ap length index ∙ length-map (take (length keys) rows) (λ r. r.octets) ∙ length-take (length keys) rows in
+    let len : length keys ≡ min (length keys) (length rows) =
+    ap length index ∙ length-map (take (length keys) rows) (λ r. r.octets) ∙ length-take (length keys) rows in
     omega (arith, len)
 
 -- a row before the mark stands in the index
-key_at : (keys : List (List ℕ)) (rows : List LadderRow) (j : ℕ) (y : LadderRow) → IsIndexOf keys rows → j < length keys → slice_get rows j ≡ Some y → slice_get keys j ≡ Some y.octets
+key_at : (keys : List (List ℕ)) (rows : List LadderRow) (j : ℕ) (y : LadderRow)
+    → IsIndexOf keys rows
+    → j < length keys
+    → slice_get rows j ≡ Some y
+    → slice_get keys j ≡ Some y.octets
 key_at keys rows j y index lt at =
     let front = take (length keys) rows in
     let within = mark_within keys rows index in
     let len : length front ≡ min (length keys) (length rows) = length-take (length keys) rows in
     elim (slice_get_cases front j).1 [
       | inl h ↦
-          let whole : slice_get rows j ≡ Some h.0 = ap (λ xs. slice_get xs j) (sym (take-append-drop (length keys) rows)) ∙ slice_get_stays front (drop (length keys) rows) j h.0 h.2 in
+          let whole : slice_get rows j ≡ Some h.0 = ap (λ xs. slice_get xs j)
+          (sym (take-append-drop (length keys) rows))
+          ∙ slice_get_stays front (drop (length keys) rows) j h.0 h.2 in
           let row : h.0 ≡ y = cc in
           ap (λ ks. slice_get ks j) index ∙ slice_get-map (λ r. r.octets) front j ∙ ap (option_map (λ r. r.octets)) h.2 ∙ ap (λ r. Some r.octets) row
       | inr h ↦ absurd (omega (arith, len, h.0, lt, within))
     ]
 
 -- and what stands in the index is a row's
-row_at_key : (keys : List (List ℕ)) (rows : List LadderRow) (k : ℕ) (x : List ℕ) → IsIndexOf keys rows → slice_get keys k ≡ Some x → (r : LadderRow) × (slice_get rows k ≡ Some r) × (r.octets ≡ x)
+row_at_key : (keys : List (List ℕ)) (rows : List LadderRow) (k : ℕ) (x : List ℕ)
+    → IsIndexOf keys rows
+    → slice_get keys k ≡ Some x
+    → (r : LadderRow) × (slice_get rows k ≡ Some r) × (r.octets ≡ x)
 row_at_key keys rows k x index at =
     let front = take (length keys) rows in
     let row = stands (λ r. r.octets) front k x (sym (slice_get-map (λ r. r.octets) front k) ∙ sym (ap (λ ks. slice_get ks k) index) ∙ at) in
     (row.0, ap (λ xs. slice_get xs k) (sym (take-append-drop (length keys) rows)) ∙ slice_get_stays front (drop (length keys) rows) k row.0 row.1, row.2)
 
 -- what the index finds is the first row with the octets
-pub index_hit : (keys : List (List ℕ)) (rows : List LadderRow) (octets : List ℕ) (k : ℕ) → IsIndexOf keys rows → position (bytes_eq octets) keys ≡ Some k → row_of rows octets ≡ Some k
+pub index_hit : (keys : List (List ℕ)) (rows : List LadderRow) (octets : List ℕ) (k : ℕ)
+    → IsIndexOf keys rows
+    → position (bytes_eq octets) keys ≡ Some k
+    → row_of rows octets ≡ Some k
 index_hit keys rows octets k index found =
     let hit = position_hit (bytes_eq octets) keys k found in
     let row = row_at_key keys rows k hit.0 index hit.1 in
@@ -54,7 +67,10 @@ index_hit keys rows octets k index found =
     turned y.octets octets ∙ position_before (bytes_eq octets) keys k j y.octets found lt (key_at keys rows j y index (omega (arith, lt, within)) at))
 
 -- where the index finds none, the first is among the rows that came since
-pub index_miss : (keys : List (List ℕ)) (rows : List LadderRow) (octets : List ℕ) → IsIndexOf keys rows → position (bytes_eq octets) keys ≡ None → row_of rows octets ≡ option_map (λ j. length keys + j) (row_of (drop (length keys) rows) octets)
+pub index_miss : (keys : List (List ℕ)) (rows : List LadderRow) (octets : List ℕ)
+    → IsIndexOf keys rows
+    → position (bytes_eq octets) keys ≡ None
+    → row_of rows octets ≡ option_map (λ j. length keys + j) (row_of (drop (length keys) rows) octets)
 index_miss keys rows octets index none = by (row_of (drop (length keys) rows) octets) refl
   where
     later : List LadderRow
@@ -81,7 +97,12 @@ index_miss keys rows octets index none = by (row_of (drop (length keys) rows) oc
         ])
 
 -- a row that came since is not in the index
-pub absent : (keys : List (List ℕ)) (rows : List LadderRow) (k : ℕ) (r : LadderRow) → AreApart rows → IsIndexOf keys rows → length keys ≡ k → slice_get rows k ≡ Some r → list_any (bytes_eq r.octets) keys ≡ false
+pub absent : (keys : List (List ℕ)) (rows : List LadderRow) (k : ℕ) (r : LadderRow)
+    → AreApart rows
+    → IsIndexOf keys rows
+    → length keys ≡ k
+    → slice_get rows k ≡ Some r
+    → list_any (bytes_eq r.octets) keys ≡ false
 absent keys rows k r apart index mark at = by (position (bytes_eq r.octets) keys) refl
   where
     by : (o : Option ℕ) → position (bytes_eq r.octets) keys ≡ o → list_any (bytes_eq r.octets) keys ≡ false
@@ -100,8 +121,14 @@ index_push keys rows after r put index =
     index ∙ ap (map (λ r'. r'.octets)) (sym (take-append-le (length keys) rows (r ∷ []) (mark_within keys rows index)) ∙ ap (take (length keys)) (sym put))
 
 -- the same, as the code cuts the rows at the mark
-pub index_later : (keys : List (List ℕ)) (rows : List LadderRow) (octets : List ℕ) (mark : ℕ) (o : Option ℕ) → IsIndexOf keys rows → position (bytes_eq octets) keys ≡ None → mark ≡ length keys → o ≡ row_of (take (length rows - mark) (drop mark rows)) octets → option_map (λ j. mark + j) o ≡ row_of rows octets
+pub index_later : (keys : List (List ℕ)) (rows : List LadderRow) (octets : List ℕ) (mark : ℕ) (o : Option ℕ)
+    → IsIndexOf keys rows
+    → position (bytes_eq octets) keys ≡ None
+    → mark ≡ length keys
+    → o ≡ row_of (take (length rows - mark) (drop mark rows)) octets
+    → option_map (λ j. mark + j) o ≡ row_of rows octets
 index_later keys rows octets mark o index none at found =
-    let rest : take (length rows - mark) (drop mark rows) ≡ drop mark rows = ap (λ n. take n (drop mark rows)) (sym (length-drop mark rows)) ∙ take-length (drop mark rows) in
+    let rest : take (length rows - mark) (drop mark rows) ≡ drop mark rows =
+    ap (λ n. take n (drop mark rows)) (sym (length-drop mark rows)) ∙ take-length (drop mark rows) in
     let later : o ≡ row_of (drop mark rows) octets = found ∙ ap (λ rs. row_of rs octets) rest in
     ap (option_map (λ j. mark + j)) later ∙ ap (λ n. option_map (λ j. n + j) (row_of (drop n rows) octets)) at ∙ sym (index_miss keys rows octets index none)

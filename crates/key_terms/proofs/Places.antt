@@ -25,9 +25,12 @@ pub position_stays : {X : Type 0} (p : X → Bool) (xs : List X) (y : X) (k : �
 position_stays p xs y k found =
     let first = position-Some p xs k y found in
     let longer = length-append xs (y ∷ []) in
-    let below : (j : ℕ) → j < k → p (get_or (xs ++ y ∷ []) j y) ≡ false = λ j lt. ap p (get_or_append_left xs (y ∷ []) y j (omega (arith, first.0, lt))) ∙ first.2 j lt in
+    let below : (j : ℕ) → j < k → p (get_or (xs ++ y ∷ []) j y) ≡ false = λ j lt.
+    ap p (get_or_append_left xs (y ∷ []) y j (omega (arith, first.0, lt))) ∙ first.2 j lt in
     let at_place : p (get_or (xs ++ y ∷ []) k y) ≡ true = ap p (get_or_append_left xs (y ∷ []) y k first.0) ∙ first.1 in
-    position_is p (xs ++ y ∷ []) k (position_or_len_is p (xs ++ y ∷ []) k y (omega (arith, first.0, longer)) below (λ _. at_place)) (omega (arith, first.0, longer))
+    position_is p (xs ++ y ∷ []) k
+    (position_or_len_is p (xs ++ y ∷ []) k y (omega (arith, first.0, longer)) below (λ _. at_place))
+    (omega (arith, first.0, longer))
 
 pub position_at_end : {X : Type 0} (p : X → Bool) (xs : List X) (y : X) → position p xs ≡ None → p y ≡ true → position p (xs ++ y ∷ []) ≡ Some (length xs)
 position_at_end p xs y none passes =
@@ -36,7 +39,9 @@ position_at_end p xs y none passes =
     let below : (j : ℕ) → j < length xs → p (get_or (xs ++ y ∷ []) j y) ≡ false =
     λ j lt. ap p (get_or_append_left xs (y ∷ []) y j lt) ∙ fails_before_first p xs j y (omega (arith, past, lt)) in
     let at_end : p (get_or (xs ++ y ∷ []) (length xs) y) ≡ true = ap p (get_or-append_seam xs y [] y) ∙ passes in
-    position_is p (xs ++ y ∷ []) (length xs) (position_or_len_is p (xs ++ y ∷ []) (length xs) y (omega (arith, longer)) below (λ _. at_end)) (omega (arith, longer))
+    position_is p (xs ++ y ∷ []) (length xs)
+    (position_or_len_is p (xs ++ y ∷ []) (length xs) y (omega (arith, longer)) below (λ _. at_end))
+    (omega (arith, longer))
 
 -- what stands at a place still stands there
 pub slice_get_stays : {X : Type 0} (xs ys : List X) (k : ℕ) (x : X) → slice_get xs k ≡ Some x → slice_get (xs ++ ys) k ≡ Some x
@@ -52,7 +57,9 @@ slice_get_at_end xs y =
     slice_get-get_or (xs ++ y ∷ []) (length xs) y (omega (arith, longer)) ∙ ap Some (get_or-append_seam xs y [] y)
 
 -- a place in the longer list is one of the shorter, or the end
-pub slice_get_push : {X : Type 0} (xs : List X) (y : X) (k : ℕ) (x : X) → slice_get (xs ++ y ∷ []) k ≡ Some x → (slice_get xs k ≡ Some x) ⊎ ((k ≡ length xs) × (x ≡ y))
+pub slice_get_push : {X : Type 0} (xs : List X) (y : X) (k : ℕ) (x : X)
+    → slice_get (xs ++ y ∷ []) k ≡ Some x
+    → (slice_get xs k ≡ Some x) ⊎ ((k ≡ length xs) × (x ≡ y))
 slice_get_push [] y zero x found = inr (refl, cc)
 slice_get_push [] y (suc k) x found = absurd (none-some x found)
 slice_get_push (z ∷ xs) y zero x found = inl found
@@ -60,7 +67,11 @@ slice_get_push (z ∷ xs) y (suc k) x found =
     elim (slice_get_push xs y k x found) [ inl h ↦ inl h | inr h ↦ inr (omega (arith, h.0), h.1) ]
 
 -- the first place, by what stands at each place
-pub position_first : {X : Type 0} (p : X → Bool) (xs : List X) (k : ℕ) (x : X) → slice_get xs k ≡ Some x → p x ≡ true → ((j : ℕ) (y : X) → j < k → slice_get xs j ≡ Some y → p y ≡ false) → position p xs ≡ Some k
+pub position_first : {X : Type 0} (p : X → Bool) (xs : List X) (k : ℕ) (x : X)
+    → slice_get xs k ≡ Some x
+    → p x ≡ true
+    → ((j : ℕ) (y : X) → j < k → slice_get xs j ≡ Some y → p y ≡ false)
+    → position p xs ≡ Some k
 position_first p xs k x at passes before =
     let within = slice_get_within xs k x at in
     let below : (j : ℕ) → j < k → p (get_or xs j x) ≡ false = λ j lt. before j (get_or xs j x) lt (slice_get-get_or xs j x (omega (arith, within, lt))) in
@@ -118,7 +129,8 @@ at_later n xs i x le at =
     let within = slice_get_within xs i x at in
     let len = length-drop n xs in
     let place : n + (i - n) ≡ i = omega (arith, le) in
-    slice_get-get_or (drop n xs) (i - n) x (omega (arith, within, len, le)) ∙ ap Some (get_or-drop n xs (i - n) x ∙ ap (λ k. get_or xs k x) place ∙ get_or_from_slice_get xs i x x at)
+    slice_get-get_or (drop n xs) (i - n) x (omega (arith, within, len, le))
+    ∙ ap Some (get_or-drop n xs (i - n) x ∙ ap (λ k. get_or xs k x) place ∙ get_or_from_slice_get xs i x x at)
 
 -- where nothing passes, no test finds any
 pub list_any_nowhere : {X : Type 0} (p : X → Bool) (xs : List X) → ((j : ℕ) (y : X) → slice_get xs j ≡ Some y → p y ≡ false) → list_any p xs ≡ false

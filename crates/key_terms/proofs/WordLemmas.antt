@@ -41,7 +41,10 @@ pub word_has : (octets : List ℕ) (place n : ℕ) → place + 8 ≤ length octe
     → n ≡ from_le_bytes w64 (take 8 (drop place octets)) → to_le_bytes w64 n ≡ take 8 (drop place octets)
 word_has octets place n within fit read =
     let many : length (take 8 (drop place octets)) ≡ 8 = simp (length-take, length-drop) (omega (arith, within)) in
-    le_bytes_8 (take 8 (drop place octets)) n many (octet (take 8 (drop place octets)) (All-take (λ x. x < 256) 8 (drop place octets) (All-drop (λ x. x < 256) place octets all))) read
+    le_bytes_8 (take 8 (drop place octets)) n many
+    (octet (take 8 (drop place octets))
+    (All-take (λ x. x < 256) 8 (drop place octets) (All-drop (λ x. x < 256) place octets all)))
+    read
   where
     all : All (λ x. x < 256) octets
     all = All-from_get_or (λ x. x < 256) octets 0 (λ i _. fit i)
@@ -70,7 +73,9 @@ one_by_octets w v fits fits' e =
 decides_words : (w v : Words) → Decides (eq-value.it w v) (w ≡ v)
 decides_words w v =
     Decides-like (eq-value.it w v) (λ h. record_of h) (λ e. (ap (λ x. x.first) e, (ap (λ x. x.second) e, (ap (λ x. x.third) e, ap (λ x. x.fourth) e))))
-    (Decides-and _ _ (Decides-eqb w.first v.first) (Decides-and _ _ (Decides-eqb w.second v.second) (Decides-and _ _ (Decides-eqb w.third v.third) (Decides-eqb w.fourth v.fourth))))
+    (Decides-and _ _ (Decides-eqb w.first v.first)
+    (Decides-and _ _ (Decides-eqb w.second v.second)
+    (Decides-and _ _ (Decides-eqb w.third v.third) (Decides-eqb w.fourth v.fourth))))
   where
     record_of : (w.first ≡ v.first) × ((w.second ≡ v.second) × ((w.third ≡ v.third) × (w.fourth ≡ v.fourth))) → w ≡ v
     record_of h = λ k. record { first = h.0 k; second = h.1.0 k; third = h.1.1.0 k; fourth = h.1.1.1 k }
@@ -96,7 +101,10 @@ found_by_words w keys octets same fits all =
         λ k. cond (not (here k)) (1 + place keys (All-tail AreWords v keys all) k) 0
 
 -- words stand in a list where their octets do
-any_by_words : (w : Words) (keys : List Words) → AreWords w → All AreWords keys → list_any (eq-value.it w) keys ≡ list_any (bytes_eq (octets_of w)) (map octets_of keys)
+any_by_words : (w : Words) (keys : List Words)
+    → AreWords w
+    → All AreWords keys
+    → list_any (eq-value.it w) keys ≡ list_any (bytes_eq (octets_of w)) (map octets_of keys)
 any_by_words w [] fits all = refl
 any_by_words w (v ∷ keys) fits all =
     let here = same_test w v fits (All-head AreWords v keys all) in
@@ -108,5 +116,7 @@ pub words_push : (w : Words) (keys after : List Words) (octets : List ℕ) → o
     → All AreWords after × (map octets_of after ≡ map octets_of keys ++ octets ∷ [])
 words_push w keys after octets same fits all new put =
     let absent : list_any (eq-value.it w) keys ≡ false = any_by_words w keys fits all ∙ ap (λ o. list_any (bytes_eq o) (map octets_of keys)) same ∙ new in
-    let end : after ≡ keys ++ w ∷ [] = put ∙ ap (λ b. cond b keys (keys ++ w ∷ [])) absent in
-    (All-same AreWords after (keys ++ w ∷ []) end (All-push AreWords keys w all fits), ap (map octets_of) end ∙ map-append octets_of keys (w ∷ []) ∙ ap (λ o. map octets_of keys ++ o ∷ []) same)
+    let end : after ≡ keys ++ w ∷ [] = put ∙ ap (λ b. cond b keys (keys ++ w ∷ [])) absent in (
+      All-same AreWords after (keys ++ w ∷ []) end (All-push AreWords keys w all fits),
+      ap (map octets_of) end ∙ map-append octets_of keys (w ∷ []) ∙ ap (λ o. map octets_of keys ++ o ∷ []) same,
+    )

@@ -1,4 +1,4 @@
-ghost use Rattle.std.specs.Prelude.{◌≡◌, ◌↔◌, ℕ, ◌+◌, ◌-◌, ◌^◌, ◌<◌, ◌≤◌, [], ◌∷◌, ◌++◌, length, OnOk, OnErr, IfOk, IfErr, IfSome, IsSome, Some, None, IsOkUnless, slice_get, vec_len, vec_capacity};
+ghost use Rattle.std.specs.Prelude.{◌≡◌, ◌↔◌, ℕ, ◌+◌, ◌-◌, ◌^◌, ◌<◌, ◌≤◌, [], ◌∷◌, ◌++◌, length, OnOk, OnErr, IfOk, IfErr, IfSome, IsSome, Some, None, slice_get, vec_len, vec_capacity};
 ghost use Rattle.std.specs.Option.{option_map};
 ghost use Rattle.growth.specs.Growth.{Refused};
 ghost use Rattle.hmac_kdf.specs.Kdf.{IsKdfInput, kdf};
@@ -7,7 +7,7 @@ ghost use Rattle.key_terms.specs.Ladder.{row, unheld, octets_at, origin_at, row_
 use crate::index::Index;
 use crate::{Holder, LadderRow, Origin, Row};
 use annex_a_keys::Derived;
-use std::alloc::Global;
+use std::alloc::{AllocError, Global};
 use std::marker::Model;
 
 /// The keys that were derived, each once, in the order of their first derivation. No two rows have
@@ -31,11 +31,9 @@ impl Model for Ladder {
     ghost invariant = { λ l. IsLadder l.rows.items × (vec_len l.rows < 2 ^ 32) × IsIndexOf l.index l.rows.items };
 }
 
-/// Why the ladder refused.
+/// Why the ladder refused a row.
 #[derive(Debug, Drop, Clone, Copy, PartialEq, Eq)]
 pub enum LadderFault {
-    /// Memory ran out.
-    Memory,
     /// A root has these octets already: its row.
     RepeatedRoot(Row),
     /// Two origins gave the same octets: the row that has them, and the origin that was refused.
@@ -56,9 +54,8 @@ impl Ladder {
 
     /// Makes room for so many rows more. Where memory runs out the ladder is as before: there was not room for so many, and std
     /// refused it.
-    pub fn reserve(&mut self, rows: usize) -> Result<(), LadderFault>
+    pub fn reserve(&mut self, rows: usize) -> Result<(), AllocError>
         requires { length self.old.rows + rows < 2 ^ 32 }
-        ensures memory { IsOkUnless result LadderFault.Memory }
         ensures lacking { OnErr result (self.old.spare < rows) }
         ensures refused { OnErr result (Refused (length self.old.rows + rows)) }
         ensures spare { OnOk result (rows ≤ self.new.spare) }
@@ -66,10 +63,7 @@ impl Ladder {
         ensures err { OnErr result (self.new ≡ self.old) }
     {
         index_all(&mut self.index, &self.rows);
-        match growth::reserve(&mut self.rows, rows) {
-            Ok(()) => Ok(()),
-            Err(_) => Err(LadderFault::Memory),
-        }
+        growth::reserve(&mut self.rows, rows)
     }
 
     /// The row of a root. The ladder is as before where a row has the octets: a root's row is named
@@ -103,7 +97,9 @@ impl Ladder {
         requires key { IsSome (row_of self.old.rows made.now.key) }
         requires root { IfSome (row_of self.old.rows made.now.key) (λ key. HasRoot self.old.rows key made.now.input) }
         requires sync { HasSync self.old.rows made.now.input }
-        ensures new { row_of self.old.rows made.now.out ≡ None → (result ≡ Ok (row (length self.old.rows))) × (self.new.rows ≡ self.old.rows ++ unheld (origin_of self.old.rows made.now) made.now.out ∷ []) }
+        ensures new { row_of self.old.rows made.now.out ≡ None
+            → (result ≡ Ok (row (length self.old.rows)))
+            × (self.new.rows ≡ self.old.rows ++ unheld (origin_of self.old.rows made.now) made.now.out ∷ []) }
         ensures again { (k : ℕ) → row_of self.old.rows made.now.out ≡ Some k → origin_at self.old.rows k ≡ Some (origin_of self.old.rows made.now) → (result ≡ Ok (row k)) × (self.new ≡ self.old) }
         ensures coincidence { (k : ℕ) → Coincides self.old.rows (origin_of self.old.rows made.now) made.now.out k → result ≡ Err (LadderFault.Coincidence (row k) (origin_of self.old.rows made.now)) }
         ensures cause { IfErr result (AddRefused self.old.rows made.now) }

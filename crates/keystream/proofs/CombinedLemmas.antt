@@ -46,7 +46,8 @@ combined-combined f i (x ∷ xs) = rw (xor-xor x (f i), combined-combined f (i +
 
 -- one octet more
 pub combined_more : (f : ℕ → ℕ) (t : List ℕ) (i : ℕ) → i < length t
-    → set (combined f 0 (take i t) ++ drop i t) i (bit_xor (get_or (combined f 0 (take i t) ++ drop i t) i 0) (f i)) ≡ combined f 0 (take (i + 1) t) ++ drop (i + 1) t
+    → set (combined f 0 (take i t) ++ drop i t) i (bit_xor (get_or (combined f 0 (take i t) ++ drop i t) i 0) (f i))
+    ≡ combined f 0 (take (i + 1) t) ++ drop (i + 1) t
 combined_more f t i h =
     let done = combined f 0 (take i t) in
     let x = get_or t i 0 in
@@ -70,7 +71,9 @@ combined_all f t n h = rw (take_all n t h, drop_all n t h, append-nil) refl
 -- the piece from place p to place e, where the octets before it are done
 pub combined_piece : (f g : ℕ → ℕ) (t : List ℕ) (p e : ℕ) → p ≤ e → e ≤ length t
     → ((k : ℕ) → k < e - p → g k ≡ f (p + k))
-    → put_mid p (e - p) (combined f 0 (take p t) ++ drop p t) (combined g 0 (take (e - p) (drop p (combined f 0 (take p t) ++ drop p t)))) ≡ combined f 0 (take e t) ++ drop e t
+    → put_mid p (e - p) (combined f 0 (take p t) ++ drop p t)
+    (combined g 0 (take (e - p) (drop p (combined f 0 (take p t) ++ drop p t))))
+    ≡ combined f 0 (take e t) ++ drop e t
 combined_piece f g t p e h l same =
     let done = combined f 0 (take p t) in
     let taken : length (take p t) ≡ p = length-take-le p t (omega arith) in
@@ -109,7 +112,10 @@ octet_in_block f n k =
 -- the text so far and the block of sixteen words behind it
 pub combined_block : (f : ℕ → ℕ) (words t : List ℕ) (n stop : ℕ) → 64 * n ≤ length t → stop ≡ min (64 * n + 64) (length t)
     → ((i : ℕ) → i < 16 → slice_index words i ≡ f (16 * n + i))
-    → put_mid (64 * n) (stop - 64 * n) (combined (octet_in f) 0 (take (64 * n) t) ++ drop (64 * n) t) (combined (octet_in (slice_index words)) 0 (take (stop - 64 * n) (drop (64 * n) (combined (octet_in f) 0 (take (64 * n) t) ++ drop (64 * n) t)))) ≡ combined (octet_in f) 0 (take (64 * (n + 1)) t) ++ drop (64 * (n + 1)) t
+    → put_mid (64 * n) (stop - 64 * n) (combined (octet_in f) 0 (take (64 * n) t) ++ drop (64 * n) t)
+    (combined (octet_in (slice_index words)) 0
+    (take (stop - 64 * n) (drop (64 * n) (combined (octet_in f) 0 (take (64 * n) t) ++ drop (64 * n) t))))
+    ≡ combined (octet_in f) 0 (take (64 * (n + 1)) t) ++ drop (64 * (n + 1)) t
 combined_block f words t n stop from stops same =
     let here : (k : ℕ) → k < stop - 64 * n → octet_in (slice_index words) k ≡ octet_in f (64 * n + k) =
     λ k h. octet_in_same (slice_index words) (λ i. f (16 * n + i)) k (same (k / 4) (omega arith))

@@ -17,7 +17,9 @@ unfolding output_of
 lines_output octets lines ending out out' reading written = subst (λ o. Writes o ending out out') (sym (ap output_of reading)) written
 
 pub refused_output : {A : Type 0} (reading : Result A TextFault) (octets : List ℕ) (ending : Ending) (out out' : Told)
-    → ((k : ℕ) → reading ≡ Err (fault.BadLine k) → reading_of octets ≡ Err k) → Refuses reading ending out out' → Writes (output_of (reading_of octets)) ending out out'
+    → ((k : ℕ) → reading ≡ Err (fault.BadLine k) → reading_of octets ≡ Err k)
+    → Refuses reading ending out out'
+    → Writes (output_of (reading_of octets)) ending out out'
 unfolding output_of
 refused_output (Ok lines) octets ending out out' bad refused = absurd refused
 refused_output (Err fault.Memory) octets ending out out' bad refused =

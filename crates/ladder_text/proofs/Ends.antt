@@ -20,7 +20,9 @@ root_ends n k = on (decimal n) _ (on (codes " coincidence root ") _ (on (decimal
 pub rows_end : (n k : ℕ) (key : List ℕ) (input : KdfInput) → EndsLine (rows_coincidence_text n k key input)
 unfolding rows_coincidence_text
 rows_end n k key input =
-    on (decimal n) _ (on (codes " coincidence rows ") _ (on (decimal k) _ (on (codes " ") _ (on (encode_lower key) _ (on (codes " ") _ (on (encode_lower (kdf_string input)) _ feed))))))
+    on (decimal n) _ (on (codes " coincidence rows ") _
+    (on (decimal k) _
+    (on (codes " ") _ (on (encode_lower key) _ (on (codes " ") _ (on (encode_lower (kdf_string input)) _ feed))))))
 
 refusal_ends : (k : ℕ) → EndsLine (refusal_text k)
 unfolding refusal_text

@@ -19,8 +19,7 @@ use Rattle.key_terms.specs.declared.row.LadderRow.{LadderRow}
 use Rattle.key_terms.specs.declared.row.Origin.{Origin}
 use Rattle.key_terms.specs.declared.row.Origin.TheVariants as origin
 use Rattle.key_terms.specs.declared.row.Row.{Row}
-use Rattle.key_terms.specs.Ladder.{row, unheld, octets_at, origin_at, IsLadder, Coincides}
-use Rattle.key_terms.specs.Ladder.{row_of as row_with}
+use Rattle.key_terms.specs.Ladder.{row, unheld, octets_at, origin_at, IsLadder, Coincides, row_of as row_with}
 use Rattle.key_terms.proofs.LadderLemmas.{found_row}
 use Rattle.key_terms.proofs.Places.{position-None, slice_get_stays, slice_get_push}
 use Rattle.ladder_text.specs.declared.line.LadderLine.{LadderLine}
@@ -36,7 +35,11 @@ abbrev is_same : LadderLine → KeyRow → Bool
 is_same line r = same r.line line
 
 -- a line that is a row's derivation has the row's octets and origin
-again_row : (rows : List KeyRow) (ladder : List LadderRow) (line : LadderLine) (k : ℕ) → StandsFor rows ladder → IsLadder ladder → position (is_same line) rows ≡ Some k → (row_with ladder (octets_in rows line) ≡ Some k) × (origin_at ladder k ≡ Some (origin_in rows line))
+again_row : (rows : List KeyRow) (ladder : List LadderRow) (line : LadderLine) (k : ℕ)
+    → StandsFor rows ladder
+    → IsLadder ladder
+    → position (is_same line) rows ≡ Some k
+    → (row_with ladder (octets_in rows line) ≡ Some k) × (origin_at ladder k ≡ Some (origin_in rows line))
 again_row rows ladder line k stand sound found =
     let d : KeyRow = record { line = line; octets = [] } in
     let first = position-Some (is_same line) rows k d found in
@@ -49,15 +52,26 @@ again_row rows ladder line k stand sound found =
     (sound.apart k (octets_in rows line) octets_there, ap (option_map (λ l. l.origin)) in_ladder ∙ ap (λ l. Some (origin_in rows l)) one)
 
 -- the row of the same derivation has the line's octets
-pub again_key : (rows : List KeyRow) (ladder : List LadderRow) (line : LadderLine) (k : ℕ) → StandsFor rows ladder → position (λ r. same r.line line) rows ≡ Some k → key_at rows (row k) ≡ octets_in rows line
+pub again_key : (rows : List KeyRow) (ladder : List LadderRow) (line : LadderLine) (k : ℕ)
+    → StandsFor rows ladder
+    → position (λ r. same r.line line) rows ≡ Some k
+    → key_at rows (row k) ≡ octets_in rows line
 again_key rows ladder line k stand found =
     let d : KeyRow = record { line = line; octets = [] } in
     let first = position-Some (is_same line) rows k d found in
     let r_at = slice_get-get_or rows k d first.0 in
-    ap (λ o. option_map_or (λ r. r.octets) o []) r_at ∙ stand.octets k (get_or rows k d) r_at ∙ ap (octets_in rows) (same_line (get_or rows k d).line line first.1)
+    ap (λ o. option_map_or (λ r. r.octets) o []) r_at
+    ∙ stand.octets k (get_or rows k d) r_at
+    ∙ ap (octets_in rows) (same_line (get_or rows k d).line line first.1)
 
 -- a row with the octets of a line that is no row's derivation has another origin
-taken_row : (rows : List KeyRow) (ladder : List LadderRow) (line : LadderLine) (k : ℕ) → StandsFor rows ladder → IsLadder ladder → Refers rows line → position (is_same line) rows ≡ None → row_with ladder (octets_in rows line) ≡ Some k → Coincides ladder (origin_in rows line) (octets_in rows line) k
+taken_row : (rows : List KeyRow) (ladder : List LadderRow) (line : LadderLine) (k : ℕ)
+    → StandsFor rows ladder
+    → IsLadder ladder
+    → Refers rows line
+    → position (is_same line) rows ≡ None
+    → row_with ladder (octets_in rows line) ≡ Some k
+    → Coincides ladder (origin_in rows line) (octets_in rows line) k
 taken_row rows ladder line k stand sound refers none found = record {
   stands = found;
   other = λ e. elim (found_or_not rows k) [
@@ -92,7 +106,8 @@ octets_stay : (rows : List KeyRow) (n : KeyRow) (line : LadderLine) → Refers r
 octets_stay rows n (Root key) refers = refl
 octets_stay rows n (Kenb root count) refers = ap (λ k. kdf k (input.Kenb count)) (key_stays rows n root refers)
 octets_stay rows n (Nh root sync) refers =
-    ap (λ k. kdf k (input.Nh (key_at (rows ++ n ∷ []) sync))) (key_stays rows n root refers.0) ∙ ap (λ s. kdf (key_at rows root) (input.Nh s)) (key_stays rows n sync refers.1)
+    ap (λ k. kdf k (input.Nh (key_at (rows ++ n ∷ []) sync))) (key_stays rows n root refers.0)
+    ∙ ap (λ s. kdf (key_at rows root) (input.Nh s)) (key_stays rows n sync refers.1)
 octets_stay rows n (Star key cell) refers = ap (λ k. kdf k (input.Star cell.pci cell.earfcn)) (key_stays rows n key refers)
 octets_stay rows n (Alg key type id) refers = ap (λ k. kdf k (input.Alg (distinguisher type) id)) (key_stays rows n key refers)
 
@@ -115,12 +130,20 @@ map_same f g [] each = refl
 map_same f g (x ∷ xs) each =
     ap (λ y. y ∷ map f xs) (each 0 x refl) ∙ ap (λ ys. g x ∷ ys) (map_same f g xs (λ k y found. each (suc k) y found))
 
-stands_more : (rows : List KeyRow) (ladder after : List LadderRow) (line : LadderLine) (o : Origin) (octets : List ℕ) → StandsFor rows ladder → Refers rows line → o ≡ origin_in rows line → octets ≡ octets_in rows line → after ≡ ladder ++ unheld o octets ∷ [] → StandsFor (rows ++ record { line = line; octets = octets_in rows line } ∷ []) after
+stands_more : (rows : List KeyRow) (ladder after : List LadderRow) (line : LadderLine) (o : Origin) (octets : List ℕ)
+    → StandsFor rows ladder
+    → Refers rows line
+    → o ≡ origin_in rows line
+    → octets ≡ octets_in rows line
+    → after ≡ ladder ++ unheld o octets ∷ []
+    → StandsFor (rows ++ record { line = line; octets = octets_in rows line } ∷ []) after
 stands_more rows ladder after line o octets stand refers origins is_octets put =
     let n : KeyRow = record { line = line; octets = octets_in rows line } in
     let more : List KeyRow = rows ++ n ∷ [] in
     let front : ladder ≡ map (row_in more) rows =
-    stand.is ∙ map_same (row_in rows) (row_in more) rows (λ k r found. ap (λ o'. unheld o' r.octets) (sym (origin_stays rows n r.line (stand.refers k r found)))) in
+    stand.is
+    ∙ map_same (row_in rows) (row_in more) rows
+    (λ k r found. ap (λ o'. unheld o' r.octets) (sym (origin_stays rows n r.line (stand.refers k r found)))) in
     let last : unheld o octets ≡ row_in more n =
     ap (λ o'. unheld o' octets) (origins ∙ sym (origin_stays rows n line refers)) ∙ ap (unheld (origin_in more line)) is_octets in
     record {
@@ -145,14 +168,25 @@ number_or_none (Some k) = inl (k, refl)
 number_or_none None = inr refl
 
 -- The ladder answers a line by its place. In `again` the line is a row's derivation.
-pub answered : (rows : List KeyRow) (ladder after : List LadderRow) (line : LadderLine) (o : Origin) (octets : List ℕ) (result : Result Row LadderFault) → StandsFor rows ladder → IsLadder ladder → Refers rows line → o ≡ origin_in rows line → octets ≡ octets_in rows line
+pub answered : (rows : List KeyRow) (ladder after : List LadderRow) (line : LadderLine) (o : Origin) (octets : List ℕ)
+    (result : Result Row LadderFault)
+    → StandsFor rows ladder
+    → IsLadder ladder
+    → Refers rows line
+    → o ≡ origin_in rows line
+    → octets ≡ octets_in rows line
     → (row_with ladder octets ≡ None → (result ≡ Ok (row (length ladder))) × (after ≡ ladder ++ unheld o octets ∷ []))
-    → ((k : ℕ) → position (λ r. same r.line line) rows ≡ Some k → row_with ladder octets ≡ Some k → origin_at ladder k ≡ Some o → (result ≡ Ok (row k)) × (after ≡ ladder))
+    → ((k : ℕ)
+    → position (λ r. same r.line line) rows ≡ Some k
+    → row_with ladder octets ≡ Some k
+    → origin_at ladder k ≡ Some o
+    → (result ≡ Ok (row k)) × (after ≡ ladder))
     → ((k : ℕ) → Coincides ladder o octets k → (result ≡ Err (fault.Coincidence (row k) o)) × (after ≡ ladder))
     → (result ≡ answer_at (place_in rows line) rows line) × StandsFor (rows_after (place_in rows line) rows line) after
 answered rows ladder after line o octets result stand sound refers origins is_octets new again taken =
     let At : Place → Type 0 = λ p. AnsweredAt rows line result after p in
-    let with_octets : row_with ladder octets ≡ position (λ r. bytes_eq r.octets (octets_in rows line)) rows = ap (row_with ladder) is_octets ∙ octets_place rows ladder (octets_in rows line) stand.is in
+    let with_octets : row_with ladder octets ≡ position (λ r. bytes_eq r.octets (octets_in rows line)) rows =
+    ap (row_with ladder) is_octets ∙ octets_place rows ladder (octets_in rows line) stand.is in
     let long : length ladder ≡ length rows = ap length stand.is ∙ length-map rows (row_in rows) in
     elim (number_or_none (position (is_same line) rows)) [
       | inl k ↦
@@ -161,11 +195,13 @@ answered rows ladder after line o octets result stand sound refers origins is_oc
           let place : place_in rows line ≡ Again k.0 = ap (λ p. option_map_or Again p (place_by_octets rows (octets_in rows line))) k.1 in
           subst At (sym place) (r.0, subst (StandsFor rows) (sym r.1) stand)
       | inr none ↦
-          let by_octets : place_in rows line ≡ place_by_octets rows (octets_in rows line) = ap (λ p. option_map_or Again p (place_by_octets rows (octets_in rows line))) none in
+          let by_octets : place_in rows line ≡ place_by_octets rows (octets_in rows line) =
+          ap (λ p. option_map_or Again p (place_by_octets rows (octets_in rows line))) none in
           elim (number_or_none (row_with ladder octets)) [
             | inl k ↦
                 let c = taken_row rows ladder line k.0 stand sound refers none (sym (ap (row_with ladder) is_octets) ∙ k.1) in
-                let c' = subst (λ o'. Coincides ladder o' octets k.0) (sym origins) (subst (λ v. Coincides ladder (origin_in rows line) v k.0) (sym is_octets) c) in
+                let c' = subst (λ o'. Coincides ladder o' octets k.0) (sym origins)
+                (subst (λ v. Coincides ladder (origin_in rows line) v k.0) (sym is_octets) c) in
                 let r = taken k.0 c' in
                 let place : place_in rows line ≡ Taken k.0 = by_octets ∙ ap (λ p. option_map_or Taken p Anew) (sym with_octets ∙ k.1) in
                 subst At (sym place) (r.0 ∙ ap (λ o'. Err (fault.Coincidence (row k.0) o')) origins, subst (StandsFor rows) (sym r.1) stand)
@@ -177,16 +213,24 @@ answered rows ladder after line o octets result stand sound refers origins is_oc
     ]
 
 -- a root whose need is met is no row's derivation
-root_is_new : (rows : List KeyRow) (key : List ℕ) (k : ℕ) → meets (map (λ r. r.line) rows) (Root key) ≡ true → position (λ r. same r.line (Root key)) rows ≡ Some k → ⊥
+root_is_new : (rows : List KeyRow) (key : List ℕ) (k : ℕ)
+    → meets (map (λ r. r.line) rows) (Root key) ≡ true
+    → position (λ r. same r.line (Root key)) rows ≡ Some k
+    → ⊥
 root_is_new rows key k met found =
     let d : KeyRow = record { line = Root key; octets = [] } in
     let first = position-Some (is_same (Root key)) rows k d found in
     let lines = map (λ r. r.line) rows in
     let at : get_or lines k (Root key) ≡ (get_or rows k d).line = get_or-map (λ r. r.line) rows k d (Root key) first.0 in
-    let some = list_any_at (λ line. same line (Root key)) lines k (Root key) (omega (arith, first.0, length-map rows (λ r. r.line))) (ap (λ l. same l (Root key)) at ∙ first.1) in
+    let some = list_any_at (λ line. same line (Root key)) lines k (Root key)
+    (omega (arith, first.0, length-map rows (λ r. r.line))) (ap (λ l. same l (Root key)) at ∙ first.1) in
     false≢true (sym (ap not some) ∙ met)
 
-pub root_never_again : (rows : List KeyRow) (line : LadderLine) (key : List ℕ) (k : ℕ) → line ≡ Root key → meets (map (λ r. r.line) rows) line ≡ true → position (λ r. same r.line line) rows ≡ Some k → ⊥
+pub root_never_again : (rows : List KeyRow) (line : LadderLine) (key : List ℕ) (k : ℕ)
+    → line ≡ Root key
+    → meets (map (λ r. r.line) rows) line ≡ true
+    → position (λ r. same r.line line) rows ≡ Some k
+    → ⊥
 root_never_again rows line key k is met found =
     let Found : LadderLine → Type 0 = λ l. position (λ r. same r.line l) rows ≡ Some k in
     root_is_new rows key k (subst (λ l. meets (map (λ r. r.line) rows) l ≡ true) is met) (subst Found is found)

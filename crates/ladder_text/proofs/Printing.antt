@@ -45,7 +45,11 @@ place_again rows line k place =
     ]
 
 -- the row that the ladder answers has the line's octets
-place_key : (rows : List KeyRow) (ladder : List LadderRow) (line : LadderLine) (p : Place) (r : Row) → StandsFor rows ladder → place_in rows line ≡ p → Ok r ≡ answer_at p rows line → key_at (rows_after p rows line) r ≡ octets_in rows line
+place_key : (rows : List KeyRow) (ladder : List LadderRow) (line : LadderLine) (p : Place) (r : Row)
+    → StandsFor rows ladder
+    → place_in rows line ≡ p
+    → Ok r ≡ answer_at p rows line
+    → key_at (rows_after p rows line) r ≡ octets_in rows line
 place_key rows ladder line (Again k) r stand place answer =
     let one : r ≡ row k = cc in
     ap (key_at rows) one ∙ again_key rows ladder line k stand (place_again rows line k place)
@@ -56,9 +60,16 @@ place_key rows ladder line Anew r stand place answer =
 place_key rows ladder line (Taken k) r stand place answer = cc
 
 -- what the answer's line says
-row_text_at : (rows : List KeyRow) (line : LadderLine) (n : ℕ) (p : Place) (r : Row) (octets : List ℕ) → octets ≡ octets_in rows line → Ok r ≡ answer_at p rows line → row_text r.0 (kind_of line) octets ≡ text_at p rows n line
-row_text_at rows line n (Again k) r octets same_octets answer = let one : r ≡ row k = cc in ap (λ r'. row_text r'.0 (kind_of line) octets) one ∙ ap (row_text k (kind_of line)) same_octets
-row_text_at rows line n Anew r octets same_octets answer = let one : r ≡ row (length rows) = cc in ap (λ r'. row_text r'.0 (kind_of line) octets) one ∙ ap (row_text (length rows) (kind_of line)) same_octets
+row_text_at : (rows : List KeyRow) (line : LadderLine) (n : ℕ) (p : Place) (r : Row) (octets : List ℕ)
+    → octets ≡ octets_in rows line
+    → Ok r ≡ answer_at p rows line
+    → row_text r.0 (kind_of line) octets ≡ text_at p rows n line
+row_text_at rows line n (Again k) r octets same_octets answer =
+    let one : r ≡ row k = cc in
+    ap (λ r'. row_text r'.0 (kind_of line) octets) one ∙ ap (row_text k (kind_of line)) same_octets
+row_text_at rows line n Anew r octets same_octets answer =
+    let one : r ≡ row (length rows) = cc in
+    ap (λ r'. row_text r'.0 (kind_of line) octets) one ∙ ap (row_text (length rows) (kind_of line)) same_octets
 row_text_at rows line n (Taken k) r octets same_octets answer = cc
 
 row_ends : (rows : List KeyRow) (line : LadderLine) (p : Place) (r : Row) → Ok r ≡ answer_at p rows line → ends_at p ≡ Done
@@ -67,20 +78,34 @@ row_ends rows line Anew r answer = refl
 row_ends rows line (Taken k) r answer = cc
 
 -- a line that names a row
-pub row_written : (rows : List KeyRow) (ladder : List LadderRow) (line : LadderLine) (n : ℕ) (r : Row) (octets : List ℕ) (ending : Ending) (out out' : Told) → StandsFor rows ladder → Ok r ≡ answer_at (place_in rows line) rows line → octets ≡ key_at (rows_after (place_in rows line) rows line) r → TextAt ending Done (row_text r.0 (kind_of line) octets) out out' → TextAt ending (ends_at (place_in rows line)) (text_at (place_in rows line) rows n line) out out'
+pub row_written : (rows : List KeyRow) (ladder : List LadderRow) (line : LadderLine) (n : ℕ) (r : Row) (octets : List ℕ)
+    (ending : Ending) (out out' : Told)
+    → StandsFor rows ladder
+    → Ok r ≡ answer_at (place_in rows line) rows line
+    → octets ≡ key_at (rows_after (place_in rows line) rows line) r
+    → TextAt ending Done (row_text r.0 (kind_of line) octets) out out'
+    → TextAt ending (ends_at (place_in rows line)) (text_at (place_in rows line) rows n line) out out'
 row_written rows ladder line n r octets ending out out' stand answer key written =
     let p = place_in rows line in
     let same_octets : octets ≡ octets_in rows line = key ∙ place_key rows ladder line p r stand refl answer in
     subst (λ ends. TextAt ending ends (text_at p rows n line) out out') (sym (row_ends rows line p r answer))
     (subst (λ text. TextAt ending Done text out out') (row_text_at rows line n p r octets same_octets answer) written)
 
-taken_text_at : (rows : List KeyRow) (line : LadderLine) (n : ℕ) (p : Place) (r : Row) (o : Origin) → Err (fault.Coincidence r o) ≡ answer_at p rows line → (coincidence_text n r.0 (derived_in rows line) ≡ text_at p rows n line) × (Coincidence ≡ ends_at p) × (rows_after p rows line ≡ rows)
+taken_text_at : (rows : List KeyRow) (line : LadderLine) (n : ℕ) (p : Place) (r : Row) (o : Origin)
+    → Err (fault.Coincidence r o) ≡ answer_at p rows line
+    → (coincidence_text n r.0 (derived_in rows line) ≡ text_at p rows n line)
+    × (Coincidence ≡ ends_at p)
+    × (rows_after p rows line ≡ rows)
 taken_text_at rows line n (Again k) r o answer = cc
 taken_text_at rows line n Anew r o answer = cc
 taken_text_at rows line n (Taken k) r o answer = let one : r ≡ row k = cc in (ap (λ r'. coincidence_text n r'.0 (derived_in rows line)) one, refl, refl)
 
 -- a line that is a coincidence
-pub taken_written : (rows : List KeyRow) (line : LadderLine) (n : ℕ) (r : Row) (o : Origin) (ending : Ending) (out out' : Told) → Err (fault.Coincidence r o) ≡ answer_at (place_in rows line) rows line → TextAt ending Coincidence (coincidence_text n r.0 (derived_in rows line)) out out' → TextAt ending (ends_at (place_in rows line)) (text_at (place_in rows line) rows n line) out out'
+pub taken_written : (rows : List KeyRow) (line : LadderLine) (n : ℕ) (r : Row) (o : Origin) (ending : Ending)
+    (out out' : Told)
+    → Err (fault.Coincidence r o) ≡ answer_at (place_in rows line) rows line
+    → TextAt ending Coincidence (coincidence_text n r.0 (derived_in rows line)) out out'
+    → TextAt ending (ends_at (place_in rows line)) (text_at (place_in rows line) rows n line) out out'
 taken_written rows line n r o ending out out' answer written =
     let p = place_in rows line in
     let t = taken_text_at rows line n p r o answer in
@@ -115,27 +140,40 @@ left_at lines i line within is =
     let next : suc i ≡ i + 1 = omega arith in
     drop-cons lines i line within ∙ ap (λ l. l ∷ drop (suc i) lines) (sym is) ∙ ap (λ n. line ∷ drop n lines) next
 
-pub line_met : (lines : List LadderLine) (i : ℕ) (first now : Told) (ladder : List LadderRow) (line : LadderLine) (p : Printed lines i first now ladder) → i < length lines → line ≡ get_or lines i line → meets (map (λ r. r.line) p.rows) line ≡ true
+pub line_met : (lines : List LadderLine) (i : ℕ) (first now : Told) (ladder : List LadderRow) (line : LadderLine)
+    (p : Printed lines i first now ladder)
+    → i < length lines
+    → line ≡ get_or lines i line
+    → meets (map (λ r. r.line) p.rows) line ≡ true
 line_met lines i first now ladder line p within is = (subst (AreGood (map (λ r. r.line) p.rows)) (left_at lines i line within is) p.good).0
 
 -- a row that is the same derivation passes the test of the lines, and no row fails it
-line_stands : (rows : List KeyRow) (line : LadderLine) (k : ℕ) → position (λ r. same r.line line) rows ≡ Some k → list_any (λ earlier. same earlier line) (map (λ r. r.line) rows) ≡ true
+line_stands : (rows : List KeyRow) (line : LadderLine) (k : ℕ)
+    → position (λ r. same r.line line) rows ≡ Some k
+    → list_any (λ earlier. same earlier line) (map (λ r. r.line) rows) ≡ true
 line_stands rows line k found =
     let d : KeyRow = record { line = line; octets = [] } in
     let first = position-Some (λ (r : KeyRow). same r.line line) rows k d found in
     let at : get_or (map (λ r. r.line) rows) k line ≡ (get_or rows k d).line = get_or-map (λ r. r.line) rows k d line first.0 in
-    list_any_at (λ earlier. same earlier line) (map (λ r. r.line) rows) k line (omega (arith, first.0, length-map rows (λ r. r.line))) (ap (λ l. same l line) at ∙ first.1)
+    list_any_at (λ earlier. same earlier line) (map (λ r. r.line) rows) k line
+    (omega (arith, first.0, length-map rows (λ r. r.line))) (ap (λ l. same l line) at ∙ first.1)
 
 any_mapped : {X Y : Type 0} (f : X → Y) (p : Y → Bool) (xs : List X) → list_any p (map f xs) ≡ list_any (λ x. p (f x)) xs
 any_mapped f p [] = refl
 any_mapped f p (x ∷ xs) = ap (λ b. p (f x) || b) (any_mapped f p xs)
 
-no_line_stands : (rows : List KeyRow) (line : LadderLine) → position (λ r. same r.line line) rows ≡ None → list_any (λ earlier. same earlier line) (map (λ r. r.line) rows) ≡ false
+no_line_stands : (rows : List KeyRow) (line : LadderLine)
+    → position (λ r. same r.line line) rows ≡ None
+    → list_any (λ earlier. same earlier line) (map (λ r. r.line) rows) ≡ false
 no_line_stands rows line none =
-    any_mapped (λ r. r.line) (λ earlier. same earlier line) rows ∙ none_passes (λ (r : KeyRow). same r.line line) rows (position-None (λ (r : KeyRow). same r.line line) rows none)
+    any_mapped (λ r. r.line) (λ earlier. same earlier line) rows
+    ∙ none_passes (λ (r : KeyRow). same r.line line) rows
+    (position-None (λ (r : KeyRow). same r.line line) rows none)
 
 -- the rows that the text has so far are those of the lines
-rows_of_line : (rows : List KeyRow) (line : LadderLine) → ends_at (place_in rows line) ≡ Done → with_row (map (λ r. r.line) rows) line ≡ map (λ r. r.line) (rows_after (place_in rows line) rows line)
+rows_of_line : (rows : List KeyRow) (line : LadderLine)
+    → ends_at (place_in rows line) ≡ Done
+    → with_row (map (λ r. r.line) rows) line ≡ map (λ r. r.line) (rows_after (place_in rows line) rows line)
 rows_of_line rows line ends =
     let lines : List LadderLine = map (λ r. r.line) rows in
     let Same : Place → Type 0 = λ p. with_row lines line ≡ map (λ r. r.line) (rows_after p rows line) in
@@ -154,7 +192,8 @@ rows_of_line rows line ends =
             | inr free ↦
                 let place : place_in rows line ≡ Anew = by_octets ∙ ap (λ p. option_map_or Taken p Anew) free in
                 let n : KeyRow = record { line = line; octets = octets_in rows line } in
-                subst Same (sym place) (ap (λ t. cond t lines (lines ++ line ∷ [])) (no_line_stands rows line none) ∙ sym (map-append (λ r. r.line) rows (n ∷ [])))
+                subst Same (sym place) (ap (λ t. cond t lines (lines ++ line ∷ [])) (no_line_stands rows line none)
+                ∙ sym (map-append (λ r. r.line) rows (n ∷ [])))
           ]
     ]
 
@@ -168,7 +207,10 @@ prefixed_twice : (front text : List ℕ) (output : Output) → prefixed front (p
 prefixed_twice front text output = ap (λ t. record { text = t; ends = output.ends }) (sym (append_assoc front text output.text))
 
 -- one line more is printed
-pub next_printed : (lines : List LadderLine) (i : ℕ) (first mid now : Told) (ladder after : List LadderRow) (line : LadderLine) (p : Printed lines i first mid ladder) → i < length lines → line ≡ get_or lines i line
+pub next_printed : (lines : List LadderLine) (i : ℕ) (first mid now : Told) (ladder after : List LadderRow)
+    (line : LadderLine) (p : Printed lines i first mid ladder)
+    → i < length lines
+    → line ≡ get_or lines i line
     → TextAt Done (ends_at (place_in p.rows line)) (text_at (place_in p.rows line) p.rows (i + 1) line) mid now
     → StandsFor (rows_after (place_in p.rows line) p.rows line) after → Printed lines (i + 1) first now after
 next_printed lines i first mid now ladder after line p within is written stand =
@@ -189,9 +231,12 @@ next_printed lines i first mid now ladder after line p within is written stand =
     }
 
 -- want of memory before a line
-pub memory_before : (lines : List LadderLine) (i : ℕ) (first now : Told) (ladder : List LadderRow) → Printed lines i first now ladder → Writes (output_from [] 1 lines) Memory first now
+pub memory_before : (lines : List LadderLine) (i : ℕ) (first now : Told) (ladder : List LadderRow)
+    → Printed lines i first now ladder
+    → Writes (output_from [] 1 lines) Memory first now
 memory_before lines i first now ladder p =
-    subst (λ t. GrowsByPrefix first.written now.written t) (sym (ap (λ o. o.text) p.whole)) (all_out first.written now.written p.text (output_from p.rows (i + 1) (drop i lines)).text p.grown)
+    subst (λ t. GrowsByPrefix first.written now.written t) (sym (ap (λ o. o.text) p.whole))
+    (all_out first.written now.written p.text (output_from p.rows (i + 1) (drop i lines)).text p.grown)
 
 -- a line makes at most one row
 one_row : (p : Place) (rows : List KeyRow) (line : LadderLine) → length (rows_after p rows line) ≤ length rows + 1
@@ -199,7 +244,11 @@ one_row (Again k) rows line = omega arith
 one_row Anew rows line = omega (arith, length-append rows (record { line = line; octets = octets_in rows line } ∷ []))
 one_row (Taken k) rows line = omega arith
 
-pub one_row_more : (rows : List KeyRow) (ladder after : List LadderRow) (line : LadderLine) (i : ℕ) → StandsFor rows ladder → StandsFor (rows_after (place_in rows line) rows line) after → length ladder ≤ i → length after ≤ i + 1
+pub one_row_more : (rows : List KeyRow) (ladder after : List LadderRow) (line : LadderLine) (i : ℕ)
+    → StandsFor rows ladder
+    → StandsFor (rows_after (place_in rows line) rows line) after
+    → length ladder ≤ i
+    → length after ≤ i + 1
 one_row_more rows ladder after line i stand next few =
     let before = ap length stand.is ∙ length-map rows (row_in rows) in
     let now = rows_after (place_in rows line) rows line in
@@ -223,32 +272,58 @@ taken_ends (Again k) text output ends = cc
 taken_ends Anew text output ends = cc
 
 -- an output that begins with a text, of which no more was written, or a prefix of what follows
-cut_after : (output rest : Output) (text : List ℕ) (first mid now : Told) → output ≡ prefixed text rest → Grows first.written mid.written text → Grows mid.written now.written [] → GrowsByPrefix first.written now.written output.text
+cut_after : (output rest : Output) (text : List ℕ) (first mid now : Told)
+    → output ≡ prefixed text rest
+    → Grows first.written mid.written text
+    → Grows mid.written now.written []
+    → GrowsByPrefix first.written now.written output.text
 cut_after output rest text first mid now whole grown none =
     let grows = subst (λ t. Grows first.written now.written t) (append-nil text) (grows_twice first.written mid.written now.written text [] grown none) in
     subst (λ t. GrowsByPrefix first.written now.written t) (sym (ap (λ o. o.text) whole)) (all_out first.written now.written text rest.text grows)
 
-cut_within : (output rest : Output) (text octets more : List ℕ) (first mid now : Told) → output ≡ prefixed text rest → rest.text ≡ octets ++ more → Grows first.written mid.written text → GrowsByProperPrefix mid.written now.written octets → GrowsByProperPrefix first.written now.written output.text
+cut_within : (output rest : Output) (text octets more : List ℕ) (first mid now : Told)
+    → output ≡ prefixed text rest
+    → rest.text ≡ octets ++ more
+    → Grows first.written mid.written text
+    → GrowsByProperPrefix mid.written now.written octets
+    → GrowsByProperPrefix first.written now.written output.text
 cut_within output rest text octets more first mid now whole follows grown prefix =
     let text_is = ap (λ o. o.text) whole ∙ ap (λ t. text ++ t) follows ∙ sym (append_assoc text octets more) in
-    subst (λ t. GrowsByProperPrefix first.written now.written t) (sym text_is) (proper_prefix_on first.written mid.written now.written text octets more grown prefix)
+    subst (λ t. GrowsByProperPrefix first.written now.written t) (sym text_is)
+    (proper_prefix_on first.written mid.written now.written text octets more grown prefix)
 
 -- an ending that ends the output, by what its line's text says
-pub ended_at : (ending : Ending) (output rest : Output) (p : Place) (text line : List ℕ) (first mid now : Told) → output ≡ prefixed text (then_rest p line rest) → Grows first.written mid.written text → NoCountFell first mid → TextAt ending (ends_at p) line mid now → ending ≢ Done → Writes output ending first now
+pub ended_at : (ending : Ending) (output rest : Output) (p : Place) (text line : List ℕ) (first mid now : Told)
+    → output ≡ prefixed text (then_rest p line rest)
+    → Grows first.written mid.written text
+    → NoCountFell first mid
+    → TextAt ending (ends_at p) line mid now
+    → ending ≢ Done
+    → Writes output ending first now
 ended_at Done output rest p text line first mid now whole grown counts written other = absurd (other refl)
-ended_at Memory output rest p text line first mid now whole grown counts written other = cut_after output (then_rest p line rest) text first mid now whole grown written
+ended_at Memory output rest p text line first mid now whole grown counts written other =
+    cut_after output (then_rest p line rest) text first mid now whole grown written
 ended_at WriteFault output rest p text line first mid now whole grown counts written other =
     let follows = then_text p line rest in
     (omega (arith, counts.writes, written.0), cut_within output (then_rest p line rest) text line follows.0 first mid now whole follows.1 grown written.1)
 ended_at Coincidence output rest p text line first mid now whole grown counts written other =
-    let output_is = whole ∙ ap (prefixed text) (taken_ends p line rest written.0) in
-    (ap (λ o. o.ends) output_is, subst (λ t. Grows first.written now.written t) (sym (ap (λ o. o.text) output_is)) (grows_twice first.written mid.written now.written text line grown written.1))
+    let output_is = whole ∙ ap (prefixed text) (taken_ends p line rest written.0) in (
+      ap (λ o. o.ends) output_is,
+      subst (λ t. Grows first.written now.written t) (sym (ap (λ o. o.text) output_is))
+          (grows_twice first.written mid.written now.written text line grown written.1),
+    )
 ended_at ending output rest p text line first mid now whole grown counts written other =
     elim (end_is p) [ inl e ↦ let no = written.0 ∙ e in cc | inr e ↦ let no = written.0 ∙ e in cc ]
 
 -- a line that ends the output
-pub ended : (lines : List LadderLine) (i : ℕ) (first mid now : Told) (ladder : List LadderRow) (line : LadderLine) (ending : Ending) (p : Printed lines i first mid ladder) → i < length lines → line ≡ get_or lines i line → NoCountFell first mid
-    → TextAt ending (ends_at (place_in p.rows line)) (text_at (place_in p.rows line) p.rows (i + 1) line) mid now → ending ≢ Done → Writes (output_from [] 1 lines) ending first now
+pub ended : (lines : List LadderLine) (i : ℕ) (first mid now : Told) (ladder : List LadderRow) (line : LadderLine)
+    (ending : Ending) (p : Printed lines i first mid ladder)
+    → i < length lines
+    → line ≡ get_or lines i line
+    → NoCountFell first mid
+    → TextAt ending (ends_at (place_in p.rows line)) (text_at (place_in p.rows line) p.rows (i + 1) line) mid now
+    → ending ≢ Done
+    → Writes (output_from [] 1 lines) ending first now
 ended lines i first mid now ladder line ending p within is counts written other =
     let place = place_in p.rows line in
     let text = text_at place p.rows (i + 1) line in

@@ -16,8 +16,7 @@ use Rattle.annex_a_keys.specs.declared.derived.Derived.{Derived}
 use Rattle.key_terms.specs.declared.row.LadderRow.{LadderRow}
 use Rattle.key_terms.specs.declared.row.Origin.TheVariants as origin
 use Rattle.key_terms.specs.declared.row.Row.{Row}
-use Rattle.key_terms.specs.Ladder.{row, unheld, octets_at, origin_at, origin_of, HasRoot, HasSync, IsLadder}
-use Rattle.key_terms.specs.Ladder.{row_of as row_with}
+use Rattle.key_terms.specs.Ladder.{row, unheld, octets_at, origin_at, origin_of, HasRoot, HasSync, IsLadder, row_of as row_with}
 use Rattle.ladder_text.specs.declared.line.LadderLine.{LadderLine}
 use Rattle.ladder_text.specs.declared.line.LadderLine.TheVariants.{Root, Kenb, Nh, Star, Alg}
 use Rattle.ladder_text.specs.Text.{same, is_root, is_hop_of, has_star, has_alg, stands_as, meets}
@@ -29,12 +28,16 @@ pub found_or_not : {X : Type 0} (xs : List X) (k : ℕ) → ((x : X) × (slice_g
 found_or_not xs k = elim (slice_get_cases xs k).1 [ inl h ↦ inl (h.0, h.2) | inr h ↦ inr h ]
 
 -- what a test of a row reads, where it holds
-tested : (test : LadderLine → Bool) (found : Option LadderLine) → option_map_or test found false ≡ true → (line : LadderLine) × (found ≡ Some line) × (test line ≡ true)
+tested : (test : LadderLine → Bool) (found : Option LadderLine)
+    → option_map_or test found false ≡ true
+    → (line : LadderLine) × (found ≡ Some line) × (test line ≡ true)
 tested test None h = absurd (false≢true h)
 tested test (Some line) h = (line, refl, h)
 
 -- a test of a row that holds tells that the row stands
-stands : (test : LadderLine → Bool) (rows : List KeyRow) (r : Row) → stands_as test (map (λ k. k.line) rows) r ≡ true → (row : KeyRow) × (slice_get rows r.0 ≡ Some row) × (test row.line ≡ true)
+stands : (test : LadderLine → Bool) (rows : List KeyRow) (r : Row)
+    → stands_as test (map (λ k. k.line) rows) r ≡ true
+    → (row : KeyRow) × (slice_get rows r.0 ≡ Some row) × (test row.line ≡ true)
 stands test rows r h =
     let t = tested test (slice_get (map (λ k. k.line) rows) r.0) h in
     let line_at = slice_get-map (λ k. k.line) rows r.0 in
@@ -63,11 +66,17 @@ abbrev pub row_in : List KeyRow → KeyRow → LadderRow
 row_in rows r = unheld (origin_in rows r.line) r.octets
 
 -- what is read of the ladder at a row
-pub row_at : (rows : List KeyRow) (ladder : List LadderRow) (k : ℕ) (r : KeyRow) → ladder ≡ ladder_of rows → slice_get rows k ≡ Some r → slice_get ladder k ≡ Some (row_in rows r)
+pub row_at : (rows : List KeyRow) (ladder : List LadderRow) (k : ℕ) (r : KeyRow)
+    → ladder ≡ ladder_of rows
+    → slice_get rows k ≡ Some r
+    → slice_get ladder k ≡ Some (row_in rows r)
 row_at rows ladder k r is found = ap (λ l. slice_get l k) is ∙ slice_get-map (row_in rows) rows k ∙ ap (option_map (row_in rows)) found
 
 -- a key that stands in the ladder
-pub key_is : (rows : List KeyRow) (ladder : List LadderRow) (k : Row) (r : LadderRow) → ladder ≡ ladder_of rows → slice_get ladder k.0 ≡ Some r → key_at rows k ≡ r.octets
+pub key_is : (rows : List KeyRow) (ladder : List LadderRow) (k : Row) (r : LadderRow)
+    → ladder ≡ ladder_of rows
+    → slice_get ladder k.0 ≡ Some r
+    → key_at rows k ≡ r.octets
 key_is rows ladder k r is found =
     elim (found_or_not rows k.0) [
       | inl row ↦
@@ -79,7 +88,10 @@ key_is rows ladder k r is found =
     ]
 
 -- a row that is named stands in the ladder with its octets
-pub key_stands : (rows : List KeyRow) (ladder : List LadderRow) (k : Row) → ladder ≡ ladder_of rows → k.0 < length rows → octets_at ladder k.0 ≡ Some (key_at rows k)
+pub key_stands : (rows : List KeyRow) (ladder : List LadderRow) (k : Row)
+    → ladder ≡ ladder_of rows
+    → k.0 < length rows
+    → octets_at ladder k.0 ≡ Some (key_at rows k)
 key_stands rows ladder k is within =
     elim (found_or_not rows k.0) [
       | inl row ↦
@@ -95,7 +107,9 @@ prefix_mapped f p (x ∷ xs) = ap (λ n. cond (p (f x)) (1 + n) 0) (prefix_mappe
 place_mapped : {X Y : Type 0} (f : X → Y) (p : Y → Bool) (xs : List X) → position p (map f xs) ≡ position (λ x. p (f x)) xs
 place_mapped f p xs = rw (prefix_mapped f (λ y. not (p y)) xs, length-map xs f) refl
 
-pub octets_place : (rows : List KeyRow) (ladder : List LadderRow) (octets : List ℕ) → ladder ≡ ladder_of rows → row_with ladder octets ≡ position (λ r. bytes_eq r.octets octets) rows
+pub octets_place : (rows : List KeyRow) (ladder : List LadderRow) (octets : List ℕ)
+    → ladder ≡ ladder_of rows
+    → row_with ladder octets ≡ position (λ r. bytes_eq r.octets octets) rows
 octets_place rows ladder octets is = ap (λ l. row_with l octets) is ∙ place_mapped (row_in rows) (λ r. bytes_eq r.octets octets) rows
 
 -- two tests that hold
@@ -104,7 +118,14 @@ both true b e h = h
 both false b e h = e
 
 -- two lines that refer to rows of a ladder, with one origin and the same octets, are the same
-pub one_origin : (rows : List KeyRow) (ladder : List LadderRow) (a b : LadderLine) → ladder ≡ ladder_of rows → IsLadder ladder → Refers rows a → Refers rows b → origin_in rows a ≡ origin_in rows b → octets_in rows a ≡ octets_in rows b → same a b ≡ true
+pub one_origin : (rows : List KeyRow) (ladder : List LadderRow) (a b : LadderLine)
+    → ladder ≡ ladder_of rows
+    → IsLadder ladder
+    → Refers rows a
+    → Refers rows b
+    → origin_in rows a ≡ origin_in rows b
+    → octets_in rows a ≡ octets_in rows b
+    → same a b ≡ true
 one_origin rows ladder (Root key) (Root key') is sound refers refers' e o = (bytes_eq-Decides key key').1 o
 one_origin rows ladder (Kenb root count) (Kenb root' count') is sound refers refers' e o =
     let one_root : root ≡ root' = cc in
@@ -123,13 +144,15 @@ one_origin rows ladder (Star key cell) (Star key' cell') is sound refers refers'
     let one_pci : cell.pci ≡ cell'.pci = cc in
     let one_earfcn : cell.earfcn ≡ cell'.earfcn = cc in
     both (key.0 == key'.0) (cell.pci == cell'.pci && cell.earfcn == cell'.earfcn) ((Decides-eqb key.0 key'.0).1 (ap (λ r. r.0) one_key))
-    (both (cell.pci == cell'.pci) (cell.earfcn == cell'.earfcn) ((Decides-eqb cell.pci cell'.pci).1 one_pci) ((Decides-eqb cell.earfcn cell'.earfcn).1 one_earfcn))
+    (both (cell.pci == cell'.pci) (cell.earfcn == cell'.earfcn) ((Decides-eqb cell.pci cell'.pci).1 one_pci)
+    ((Decides-eqb cell.earfcn cell'.earfcn).1 one_earfcn))
 one_origin rows ladder (Alg key type id) (Alg key' type' id') is sound refers refers' e o =
     let one_key : key ≡ key' = cc in
     let one_kind : distinguisher type ≡ distinguisher type' = cc in
     let one_id : id ≡ id' = cc in
     both (key.0 == key'.0) (distinguisher type == distinguisher type' && id == id') ((Decides-eqb key.0 key'.0).1 (ap (λ r. r.0) one_key))
-    (both (distinguisher type == distinguisher type') (id == id') ((Decides-eqb (distinguisher type) (distinguisher type')).1 one_kind) ((Decides-eqb id id').1 one_id))
+    (both (distinguisher type == distinguisher type') (id == id')
+    ((Decides-eqb (distinguisher type) (distinguisher type')).1 one_kind) ((Decides-eqb id id').1 one_id))
 one_origin rows ladder a b is sound refers refers' e o = cc
 
 -- ---- what the ladder needs of a derivation
@@ -147,7 +170,10 @@ root_origin rows (Root key) h = refl
 root_origin rows line h = absurd (false≢true h)
 
 -- a row that passes the test of a root is a root of the ladder
-root_stands : (rows : List KeyRow) (ladder : List LadderRow) (r : Row) → ladder ≡ ladder_of rows → stands_as is_root (map (λ k. k.line) rows) r ≡ true → origin_at ladder r.0 ≡ Some origin.Root
+root_stands : (rows : List KeyRow) (ladder : List LadderRow) (r : Row)
+    → ladder ≡ ladder_of rows
+    → stands_as is_root (map (λ k. k.line) rows) r ≡ true
+    → origin_at ladder r.0 ≡ Some origin.Root
 root_stands rows ladder r is met =
     let s = stands is_root rows r met in
     ap (option_map (λ l. l.origin)) (row_at rows ladder r.0 s.0 is s.1) ∙ ap Some (root_origin rows s.0.line s.2)
@@ -161,7 +187,12 @@ pub record Needs (rows : List KeyRow) (ladder : List LadderRow) (line : LadderLi
   pub origin : origin_of ladder made ≡ origin_in rows line
   pub octets : made.out ≡ octets_in rows line
 
-pub needs_met : (rows : List KeyRow) (ladder : List LadderRow) (line : LadderLine) (made : Derived) → ladder ≡ ladder_of rows → IsLadder ladder → meets (map (λ k. k.line) rows) line ≡ true → derived_in rows line ≡ Some made → Needs rows ladder line made
+pub needs_met : (rows : List KeyRow) (ladder : List LadderRow) (line : LadderLine) (made : Derived)
+    → ladder ≡ ladder_of rows
+    → IsLadder ladder
+    → meets (map (λ k. k.line) rows) line ≡ true
+    → derived_in rows line ≡ Some made
+    → Needs rows ladder line made
 needs_met rows ladder (Root key) made is sound met d = absurd (none-some made d)
 needs_met rows ladder (Kenb root count) made is sound met d =
     let first = sound.apart root.0 (key_at rows root) (key_stands rows ladder root is (met_refers rows (Kenb root count) met)) in

@@ -64,8 +64,12 @@ pub same_key : (a b : LadderLine) → eq-value.it (line_key b) (line_key a) ≡ 
 same_key (Root key) (Root key') = nat_list_eq_equiv.symm key' key
 same_key (Kenb root count) (Kenb root' count') = λ i. nat_eq_equiv.symm root'.0 root.0 i && nat_eq_equiv.symm count' count i
 same_key (Nh root sync) (Nh root' sync') = λ i. nat_eq_equiv.symm root'.0 root.0 i && nat_eq_equiv.symm sync'.0 sync.0 i
-same_key (Star key cell) (Star key' cell') = λ i. nat_eq_equiv.symm key'.0 key.0 i && (nat_eq_equiv.symm cell'.pci cell.pci i && nat_eq_equiv.symm cell'.earfcn cell.earfcn i)
-same_key (Alg key type id) (Alg key' type' id') = λ i. nat_eq_equiv.symm key'.0 key.0 i && (nat_eq_equiv.symm (distinguisher type') (distinguisher type) i && nat_eq_equiv.symm id' id i)
+same_key (Star key cell) (Star key' cell') = λ i.
+    nat_eq_equiv.symm key'.0 key.0 i
+    && (nat_eq_equiv.symm cell'.pci cell.pci i && nat_eq_equiv.symm cell'.earfcn cell.earfcn i)
+same_key (Alg key type id) (Alg key' type' id') = λ i.
+    nat_eq_equiv.symm key'.0 key.0 i
+    && (nat_eq_equiv.symm (distinguisher type') (distinguisher type) i && nat_eq_equiv.symm id' id i)
 same_key a b = refl
 
 either : {X : Type 0} (b : Bool) (x : X) (o : Option X) → is_some (cond b (Some x) o) ≡ (b || is_some o)
@@ -73,20 +77,29 @@ either true x o = refl
 either false x o = refl
 
 -- a line is found by its key exactly where the same stands
-pub found_by_key : (entries : List (LineKey × LadderLine)) (line : LadderLine) → AreKeyed entries → is_some (lookup (eq-value.it (line_key line)) entries) ≡ list_any (λ earlier. same earlier line) (map (λ e. e.1) entries)
+pub found_by_key : (entries : List (LineKey × LadderLine)) (line : LadderLine)
+    → AreKeyed entries
+    → is_some (lookup (eq-value.it (line_key line)) entries)
+    ≡ list_any (λ earlier. same earlier line) (map (λ e. e.1) entries)
 found_by_key [] line keyed = refl
 found_by_key (e ∷ entries) line keyed =
     let here : eq-value.it (line_key line) e.0 ≡ same e.1 line = ap (eq-value.it (line_key line)) keyed.0 ∙ same_key e.1 line in
     either (eq-value.it (line_key line) e.0) e.1 (lookup (eq-value.it (line_key line)) entries) ∙ (λ i. here i || found_by_key entries line keyed.1 i)
 
 -- what the index answers for a line is whether the same stands
-pub answer_is : (entries : List (LineKey × LadderLine)) (rows : List LadderLine) (line : LadderLine) (key : LineKey) (answer : Bool) → AreKeyed entries → map (λ e. e.1) entries ≡ rows → key ≡ line_key line
+pub answer_is : (entries : List (LineKey × LadderLine)) (rows : List LadderLine) (line : LadderLine)
+    (key : LineKey) (answer : Bool)
+    → AreKeyed entries
+    → map (λ e. e.1) entries ≡ rows
+    → key ≡ line_key line
     → answer ≡ is_some (lookup (eq-value.it key) entries) → answer ≡ list_any (λ earlier. same earlier line) rows
 answer_is entries rows line key answer keyed view at found =
     found ∙ ap (λ k. is_some (lookup (eq-value.it k) entries)) at ∙ found_by_key entries line keyed ∙ ap (list_any (λ earlier. same earlier line)) view
 
 -- the rows after a line, by what the index answered
-pub rows_after_answer : (rows : List LadderLine) (line : LadderLine) (answer : Bool) → answer ≡ list_any (λ earlier. same earlier line) rows → with_row rows line ≡ cond answer rows (rows ++ line ∷ [])
+pub rows_after_answer : (rows : List LadderLine) (line : LadderLine) (answer : Bool)
+    → answer ≡ list_any (λ earlier. same earlier line) rows
+    → with_row rows line ≡ cond answer rows (rows ++ line ∷ [])
 rows_after_answer rows line answer found = ap (λ t. cond t rows (rows ++ line ∷ [])) (sym found)
 
 none_there : {X : Type 0} (o : Option X) → is_some o ≡ false → o ≡ None
@@ -98,9 +111,14 @@ keyed_push : (entries : List (LineKey × LadderLine)) (line : LadderLine) → Ar
 keyed_push [] line keyed = (refl, tt)
 keyed_push (e ∷ entries) line keyed = (keyed.0, keyed_push entries line keyed.1)
 
-pub one_more : {S : Type 0} (lines : IndexMap LineKey LadderLine S) (after : List (LineKey × LadderLine)) (line : LadderLine) (key : LineKey) → AreKeyed lines.entries → key ≡ line_key line → is_some (get_by (eq-value.it key) lines) ≡ false
+pub one_more : {S : Type 0} (lines : IndexMap LineKey LadderLine S) (after : List (LineKey × LadderLine))
+    (line : LadderLine) (key : LineKey)
+    → AreKeyed lines.entries
+    → key ≡ line_key line
+    → is_some (get_by (eq-value.it key) lines) ≡ false
     → after ≡ insert_entry eq-value.it lines.entries key line → AreKeyed after × (map (λ e. e.1) after ≡ map (λ e. e.1) lines.entries ++ line ∷ [])
 one_more lines after line key keyed at absent put =
     let none : get eq-value.it lines key ≡ None = none_there (get eq-value.it lines key) absent in
-    let end : after ≡ lines.entries ++ (line_key line, line) ∷ [] = put ∙ insert_entry-new eq-value.it lines key line none ∙ ap (λ k. lines.entries ++ (k, line) ∷ []) at in
+    let end : after ≡ lines.entries ++ (line_key line, line) ∷ [] =
+    put ∙ insert_entry-new eq-value.it lines key line none ∙ ap (λ k. lines.entries ++ (k, line) ∷ []) at in
     (subst AreKeyed (sym end) (keyed_push lines.entries line keyed), ap (map (λ e. e.1)) end ∙ map-append (λ e. e.1) lines.entries ((line_key line, line) ∷ []))

@@ -63,7 +63,10 @@ root_coincidence_text n k = decimal n ++ (codes " coincidence root " ++ (decimal
 -- the coincidence of line n with row k, by the key and the input that gave its octets again
 unfoldable pub rows_coincidence_text : ℕ → ℕ → List ℕ → KdfInput → List ℕ
 rows_coincidence_text n k key input =
-    decimal n ++ (codes " coincidence rows " ++ (decimal k ++ (codes " " ++ (encode_lower key ++ (codes " " ++ (encode_lower (kdf_string input) ++ codes "\n"))))))
+    decimal n
+    ++ (codes " coincidence rows "
+    ++ (decimal k
+    ++ (codes " " ++ (encode_lower key ++ (codes " " ++ (encode_lower (kdf_string input) ++ codes "\n"))))))
 
 abbrev pub coincidence_text : ℕ → ℕ → Option Derived → List ℕ
 coincidence_text n k None = root_coincidence_text n k

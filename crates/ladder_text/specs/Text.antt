@@ -64,7 +64,10 @@ line_of_three name r word =
 unfoldable pub line_of_four : List ℕ → List ℕ → List ℕ → List ℕ → Option LadderLine
 line_of_four name r first second =
     if bytes_eq name (codes "star") then option_and_then (λ key. option_map (Star key) (cell_of first second)) (row_of r)
-    else if bytes_eq name (codes "alg") then option_and_then (λ key. option_and_then (λ type. option_map (Alg key type) (identity_of type second)) (type_of first)) (row_of r)
+    else if bytes_eq name (codes "alg") then
+    option_and_then
+    (λ key. option_and_then (λ type. option_map (Alg key type) (identity_of type second)) (type_of first))
+    (row_of r)
     else None
 
 -- the line that these words are, whatever rows there are
@@ -141,7 +144,9 @@ next_line so_far words =
 -- the lines that follow so many, or the number of the first bad one, counted from 1
 abbrev pub reading_from : List LadderLine → List (List ℕ) → Result (List LadderLine) ℕ
 reading_from so_far [] = Ok so_far
-reading_from so_far (text ∷ texts) = option_map_or (λ line. reading_from (so_far ++ line ∷ []) texts) (next_line so_far (words_of text)) (Err (length so_far + 1))
+reading_from so_far (text ∷ texts) =
+    option_map_or (λ line. reading_from (so_far ++ line ∷ []) texts) (next_line so_far (words_of text))
+    (Err (length so_far + 1))
 
 -- what a text reads as: its ladder lines, or the number of its first bad line
 unfoldable pub reading_of : List ℕ → Result (List LadderLine) ℕ

@@ -76,7 +76,10 @@ fn write_line<W: Sink>(
     requires awaits { Awaits ladder.old.rows line.now }
     ensures line { (rows : List KeyRow) → StandsFor rows ladder.old.rows → meets (map (λ r. r.line) rows) line.now ≡ true
         → TextAt result (ends_at (place_in rows line.now)) (text_at (place_in rows line.now) rows number line.now) (W.told out.old) (W.told out.new) }
-    ensures rows { (rows : List KeyRow) → StandsFor rows ladder.old.rows → meets (map (λ r. r.line) rows) line.now ≡ true → StandsFor (rows_after (place_in rows line.now) rows line.now) ladder.new.rows }
+    ensures rows { (rows : List KeyRow)
+        → StandsFor rows ladder.old.rows
+        → meets (map (λ r. r.line) rows) line.now ≡ true
+        → StandsFor (rows_after (place_in rows line.now) rows line.now) ladder.new.rows }
     ensures ladder { IsLadder ladder.new.rows }
     ensures memory { result ≡ Ending.Memory → WasRefused }
     ensures no_fault { result ≢ Ending.WriteFault → NoFault (W.told out.old) (W.told out.new) }
@@ -91,7 +94,6 @@ fn write_line<W: Sink>(
             let text = coincidence_line(alloc, number, row, &asked);
             write_text(text, Ending::Coincidence, out)
         }
-        Err(LadderFault::Memory) => Ending::Memory,
     }
 }
 
@@ -139,10 +141,17 @@ fn place(ladder: &mut Ladder, asked: &Asked) -> Result<Row, LadderFault>
     requires room { 0 < ladder.old.spare }
     requires ladder { IsLadder ladder.old.rows }
     requires asked { IsAsked ladder.old.rows asked.now }
-    ensures answer { (rows : List KeyRow) (line : LadderLine) → StandsFor rows ladder.old.rows → meets (map (λ r. r.line) rows) line ≡ true → Asks rows line asked.now → result ≡ answer_at (place_in rows line) rows line }
-    ensures rows { (rows : List KeyRow) (line : LadderLine) → StandsFor rows ladder.old.rows → meets (map (λ r. r.line) rows) line ≡ true → Asks rows line asked.now → StandsFor (rows_after (place_in rows line) rows line) ladder.new.rows }
+    ensures answer { (rows : List KeyRow) (line : LadderLine)
+        → StandsFor rows ladder.old.rows
+        → meets (map (λ r. r.line) rows) line ≡ true
+        → Asks rows line asked.now
+        → result ≡ answer_at (place_in rows line) rows line }
+    ensures rows { (rows : List KeyRow) (line : LadderLine)
+        → StandsFor rows ladder.old.rows
+        → meets (map (λ r. r.line) rows) line ≡ true
+        → Asks rows line asked.now
+        → StandsFor (rows_after (place_in rows line) rows line) ladder.new.rows }
     ensures ladder { IsLadder ladder.new.rows }
-    ensures no_memory { result ≢ Err LadderFault.Memory }
 {
     match asked {
         Asked::Root(octets) => ladder.root(*octets),

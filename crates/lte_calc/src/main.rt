@@ -4,8 +4,6 @@
 mod calc;
 mod lines;
 mod status;
-#[cfg(test)]
-mod tests;
 
 use edge_io::{ReaderSource, WriterSink};
 use status::Status;

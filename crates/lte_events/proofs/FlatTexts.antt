@@ -24,7 +24,12 @@ module _ {T : Type 0} (flat octets : List ℕ) where
       let cut : take p.len (drop p.start (flat ++ octets)) ≡ octets = rw (start, len, drop-append_seam flat octets) (take-length octets) in
       λ i. record { tag = p.tag; octets = cut i }
 
-  pub items_put : (pieces : List (Piece T)) (p : Piece T) → AreWithin pieces flat → p.start ≡ length flat → p.len ≡ length octets → map (item_of (flat ++ octets)) (pieces ++ p ∷ []) ≡ map (item_of flat) pieces ++ record { tag = p.tag; octets = octets } ∷ []
+  pub items_put : (pieces : List (Piece T)) (p : Piece T)
+      → AreWithin pieces flat
+      → p.start ≡ length flat
+      → p.len ≡ length octets
+      → map (item_of (flat ++ octets)) (pieces ++ p ∷ [])
+      ≡ map (item_of flat) pieces ++ record { tag = p.tag; octets = octets } ∷ []
   items_put pieces p within start len =
       let before = items_stay pieces within in
       let last = item_put p start len in

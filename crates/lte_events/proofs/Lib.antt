@@ -1,3 +1,4 @@
 pub mod FlatTexts
 pub mod SiteFacts
 pub mod Paired
+pub mod InRange

@@ -24,7 +24,12 @@ unfolding IsDistinct
 no_cell = record { within = omega arith; none_twice = tt; stations = All-nil _ }
 
 -- a table with one more cell, which does not stand yet
-pub one_more : (sites : List Site) (station : ℕ) (cell : Place) → IsCellTable sites → length sites < 32 → list_any (is_site cell) sites ≡ false → station ≤ 7 → IsCellTable (sites ++ record { station = station; cell = cell } ∷ [])
+pub one_more : (sites : List Site) (station : ℕ) (cell : Place)
+    → IsCellTable sites
+    → length sites < 32
+    → list_any (is_site cell) sites ≡ false
+    → station ≤ 7
+    → IsCellTable (sites ++ record { station = station; cell = cell } ∷ [])
 one_more sites station cell table room absent within = record {
   within = grind (arith, common_steps);
   none_twice = IsDistinct-push same_cell sites (record { station = station; cell = cell }) table.none_twice absent;
@@ -40,7 +45,9 @@ found_stands p (s ∷ sites) = ⊎_elim
     (cases_Bool (p s))
 
 -- what holds of all holds of what is found
-pub found_within : (p : Site → Bool) (sites : List Site) → All (λ s. s.station ≤ 7) sites → IfSome (option_map (λ s. s.station) (find p sites)) (λ station. station ≤ 7)
+pub found_within : (p : Site → Bool) (sites : List Site)
+    → All (λ s. s.station ≤ 7) sites
+    → IfSome (option_map (λ s. s.station) (find p sites)) (λ station. station ≤ 7)
 found_within p [] table = tt
 found_within p (s ∷ sites) table = ⊎_elim
     (λ (yes : p s ≡ true). rw yes (table 0 s (omega arith)))

@@ -2,7 +2,7 @@ pub mod Answer
 pub mod Site
 pub mod Reply
 pub mod Ranges
-pub mod Conditions
+pub mod Scenario
 pub mod Listed
 pub mod Texts
 pub mod Joined

@@ -1,9 +1,9 @@
 ghost use Rattle.std.specs.Prelude.{◌≡◌};
 ghost use Rattle.lte_events.specs.Reply.{reply_of};
 
-use crate::{Address, Answer, Few};
+use crate::{Address, Answer};
 use annex_a_keys::Derived;
-use rec_base::{Octets, Use, UserText, Way};
+use rec_base::{Few, Octets, Use, UserText, Way};
 
 /// A record as an actor sends it.
 #[derive(Clone, PartialEq, Eq, Debug, Drop)]

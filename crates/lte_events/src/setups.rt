@@ -1,5 +1,6 @@
-use crate::{Cells, Few};
+use crate::Cells;
 use alg_choice::{Caps, Eea, Priority};
+use rec_base::Few;
 
 /// What a station starts with.
 #[derive(Clone, Copy, Debug, PartialEq, Eq)]

@@ -88,7 +88,10 @@ module _ {K C : Type 0} (r : Reading K C) (s : Core K C) where
   start_has (Some p) (Some keys) e f = tt
   start_has (Some p) None e f = smc_has p e f (choice_of s.priority p.caps) refl
 
-  connect_has : (cell : Place) (t : Option ℕ) (o : Option (CoreContext K)) (trigger : Option ℕ) → station_of cell s.cells ≡ t → s.context ≡ o → s.trigger ≡ trigger
+  connect_has : (cell : Place) (t : Option ℕ) (o : Option (CoreContext K)) (trigger : Option ℕ)
+      → station_of cell s.cells ≡ t
+      → s.context ≡ o
+      → s.trigger ≡ trigger
       → ActHas s (Connect cell) (connect_row s.next cell t (option_map (map_core_context unseen) o) trigger)
   connect_has cell None o trigger e f g = tt
   connect_has cell (Some target) None trigger e f g = tt

@@ -73,7 +73,7 @@ ends events = replay (open_octets toy) machine start events
 -- the number of the core's connection: a change of the key begins the next one
 abbrev connection : RunState Term ℕ (Outgoing Term ℕ) → Option ℕ
 connection (Running w) = option_map (λ link. link.conn) w.core.link
-connection (Stopped chance) = None
+connection (Stopped coincidence) = None
 
 first_number : connection (ends opening) ≡ Some 1
 unfolding computing
@@ -90,7 +90,7 @@ count_down other = None
 
 abbrev newest_count : RunState Term ℕ (Outgoing Term ℕ) → Option ℕ
 newest_count (Running w) = count_down (reverse w.sent)
-newest_count (Stopped chance) = None
+newest_count (Stopped coincidence) = None
 
 -- a station sends RRC data on SRB1
 abbrev data_from : ℕ → Event

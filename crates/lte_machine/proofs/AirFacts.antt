@@ -101,7 +101,8 @@ module _ {K C : Type 0} (r : Reading K C) (s : Station K C) (air : ℕ) (on : Wh
   module _ (c : Context K C) (e : s.context ≡ Some c) (there : c.air ≡ air) where
     starting_has : c.starting ≡ true → (w : Which) → on ≡ w → FrontHas (starting_front c.bearers w pdu)
     starting_has f (OnSrb Signalling1) g =
-        counted_has OnStarting (srb_count c.bearers.srb1.receive pdu) (λ n h. record { context = c; serving = e; there = there; starting = f; on_is = g; counts = h })
+        counted_has OnStarting (srb_count c.bearers.srb1.receive pdu)
+        (λ n h. record { context = c; serving = e; there = there; starting = f; on_is = g; counts = h })
     starting_has f (OnSrb Signalling2) g = λ o. tt
     starting_has f (OnDrb drb) g = λ o. tt
 
@@ -110,27 +111,37 @@ module _ {K C : Type 0} (r : Reading K C) (s : Station K C) (air : ℕ) (on : Wh
         counted_has (OnSignalling srb) (srb_count (srb_counts srb c.bearers).receive pdu)
         (λ n h. record { context = c; serving = e; there = there; active = f; on_is = g; counts = h })
     active_has f (OnDrb drb) g =
-        counted_has (OnUser drb) (drb_count (drb_counts drb c.bearers).receive pdu) (λ n h. record { context = c; serving = e; there = there; active = f; on_is = g; counts = h })
+        counted_has (OnUser drb) (drb_count (drb_counts drb c.bearers).receive pdu)
+        (λ n h. record { context = c; serving = e; there = there; active = f; on_is = g; counts = h })
 
     context_has : (starting : Bool) → c.starting ≡ starting → FrontHas (context_front starting c.bearers on pdu)
     context_has true f = starting_has f on refl
     context_has false f = active_has f on refl
 
-  prepared_has : (o : Option (Prep K C)) → at_air air s.preps ≡ o → (w : Which) → on ≡ w → FrontHas (prepared_front (option_map (map_prep unseen r.ncc) o) air w pdu)
+  prepared_has : (o : Option (Prep K C))
+      → at_air air s.preps ≡ o
+      → (w : Which)
+      → on ≡ w
+      → FrontHas (prepared_front (option_map (map_prep unseen r.ncc) o) air w pdu)
   prepared_has None e w g = λ o. tt
   prepared_has (Some p) e (OnSrb Signalling1) g =
       counted_has (OnPrepared air p.by) (srb_count 0 pdu) (λ n h. record { at_is = refl; prep = p; found = e; by_is = refl; on_is = g; counts = h })
   prepared_has (Some p) e (OnSrb Signalling2) g = λ o. tt
   prepared_has (Some p) e (OnDrb drb) g = λ o. tt
 
-  front_by : (o : Option (Context K C)) → s.context ≡ o → FrontHas (air_front_by (option_map (map_context unseen r.ncc) o) (option_map (map_prep unseen r.ncc) (at_air air s.preps)) air on pdu)
+  front_by : (o : Option (Context K C))
+      → s.context ≡ o
+      → FrontHas (air_front_by (option_map (map_context unseen r.ncc) o)
+      (option_map (map_prep unseen r.ncc) (at_air air s.preps)) air on pdu)
   front_by None e = prepared_has (at_air air s.preps) refl on refl
   front_by (Some c) e =
       by_test FrontHas (c.air == air) _ _ (λ f. context_has c e (same_of c.air air f) c.starting refl) (λ f. prepared_has (at_air air s.preps) refl on refl)
 
   -- the front of a PDU
   pub front_has : FrontHas (air_front (plain_station r s) air on pdu)
-  front_has = subst (λ p. FrontHas (air_front_by (plain_station r s).context p air on pdu)) (sym (at_air-map unseen r.ncc air s.preps)) (front_by s.context refl)
+  front_has =
+      subst (λ p. FrontHas (air_front_by (plain_station r s).context p air on pdu))
+      (sym (at_air-map unseen r.ncc air s.preps)) (front_by s.context refl)
 
   module _ (text : List ℕ) where
     started_has : (count : ℕ) → AtStarting s air on pdu count → (read : Result RrcRecord RecFault)
@@ -168,17 +179,23 @@ module _ {K C : Type 0} (r : Reading K C) (s : Station K C) (air : ℕ) (on : Wh
     arrived_has at count by h (Ok (RrcData data')) f = tt
     arrived_has at count by h (Ok (KeyChange cell algs station a)) f = tt
 
-  row_has : (front : AirFront) → air_front (plain_station r s) air on pdu ≡ front → FrontHas front → (outcome : Outcome) → AirHas outcome (air_row (plain_station r s) front outcome)
+  row_has : (front : AirFront)
+      → air_front (plain_station r s) air on pdu ≡ front
+      → FrontHas front
+      → (outcome : Outcome)
+      → AirHas outcome (air_row (plain_station r s) front outcome)
   row_has (AirSettled row) e h outcome = h outcome
   row_has (OnStarting count) e h (Differs wanted got) = tt
   row_has (OnStarting count) e h (Opened text) =
       started_has text count h (read_rrc text) (λ x f. (record { front_is = e; text = text; opened = refl }, f))
   row_has (OnSignalling srb count) e h (Differs wanted got) = tt
-  row_has (OnSignalling srb count) e h (Opened text) = rrc_has text srb count h (read_rrc text) (λ x f. (record { front_is = e; text = text; opened = refl }, f))
+  row_has (OnSignalling srb count) e h (Opened text) =
+      rrc_has text srb count h (read_rrc text) (λ x f. (record { front_is = e; text = text; opened = refl }, f))
   row_has (OnUser drb count) e h (Differs wanted got) = tt
   row_has (OnUser drb count) e h (Opened text) = (h, record { front_is = e; text = text; opened = refl }, refl)
   row_has (OnPrepared at by count) e h (Differs wanted got) = tt
-  row_has (OnPrepared at by count) e h (Opened text) = arrived_has text at count by h (read_rrc text) (λ x f. (record { front_is = e; text = text; opened = refl }, f))
+  row_has (OnPrepared at by count) e h (Opened text) =
+      arrived_has text at count by h (read_rrc text) (λ x f. (record { front_is = e; text = text; opened = refl }, f))
 
   -- the row of a PDU
   pub air_has : (outcome : Outcome) → AirHas outcome (air_row (plain_station r s) (air_front (plain_station r s) air on pdu) outcome)

@@ -10,7 +10,9 @@ use Rattle.lte_machine.specs.StationRecords.{s1_acked, x2_acked}
 
 module _ {K C : Type 0} (Q : Option (Attempt K C) → Type 0) where
   -- answered on S1, and on X2
-  pub s1_acked_so : (ncc : ℕ) (algs : Algs) (air : ℕ) → ((start : S1Start) → Q (Some (OverS1 (S1Open start))) → Q (Some (s1_acked ncc algs air (OverS1 (S1Open start))))) →
+  pub s1_acked_so : (ncc : ℕ) (algs : Algs) (air : ℕ) →
+      ((start : S1Start) → Q (Some (OverS1 (S1Open start))) →
+      Q (Some (s1_acked ncc algs air (OverS1 (S1Open start))))) →
       (o : Option (Attempt K C)) → Q o → Q (option_map (s1_acked ncc algs air) o)
   s1_acked_so ncc algs air f None h = h
   s1_acked_so ncc algs air f (Some (OverX2 state)) h = h
@@ -20,7 +22,9 @@ module _ {K C : Type 0} (Q : Option (Attempt K C) → Type 0) where
   s1_acked_so ncc algs air f (Some (OverS1 (S1Ready acked))) h = h
   s1_acked_so ncc algs air f (Some (OverS1 (S1Commanded sent))) h = h
 
-  pub x2_acked_so : (algs : Algs) (air : ℕ) → ((start : X2Start K C) → Q (Some (OverX2 (X2Open start))) → Q (Some (x2_acked algs air (OverX2 (X2Open start))))) →
+  pub x2_acked_so : (algs : Algs) (air : ℕ) →
+      ((start : X2Start K C) → Q (Some (OverX2 (X2Open start))) →
+      Q (Some (x2_acked algs air (OverX2 (X2Open start))))) →
       (o : Option (Attempt K C)) → Q o → Q (option_map (x2_acked algs air) o)
   x2_acked_so algs air f None h = h
   x2_acked_so algs air f (Some (OverS1 state)) h = h

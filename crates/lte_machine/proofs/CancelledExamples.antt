@@ -34,7 +34,7 @@ ends events = replay (open_octets toy) machine start events
 
 abbrev in_end : {A : Type 0} → A → (World_ → A) → RunState Term ℕ (Outgoing Term ℕ) → A
 in_end none f (Running w) = f w
-in_end none f (Stopped chance) = none
+in_end none f (Stopped coincidence) = none
 
 -- two preparations under one key: a request is cancelled at the source, and made again
 abbrev prepared_twice : List Event

@@ -35,7 +35,7 @@ module _ {K C Row : Type 0} (does : Row → Core K C → CoreDone K C) (Known : 
   Case s row = Known s row → P s (does row s)
 
   module _ (s : Core K C) (row : Row) where
-    by_procedure : ((k : Option (Keys K)) → Case (with_procedure s None k) row)
+    pub by_procedure : ((k : Option (Keys K)) → Case (with_procedure s None k) row)
         → ((p : CorePartial K) → Case (with_procedure s (Some p) None) row)
         → ((p : CorePartial K) (keys : Keys K) → Case (with_procedure s (Some p) (Some keys)) row)
         → (o : Option (CorePartial K)) (k : Option (Keys K)) → Case (with_procedure s o k) row
@@ -43,17 +43,17 @@ module _ {K C Row : Type 0} (does : Row → Core K C → CoreDone K C) (Known : 
     by_procedure n m f (Some p) None = m p
     by_procedure n m f (Some p) (Some keys) = f p keys
 
-    by_partial : Case (with_partial s None) row → ((p : CorePartial K) → Case (with_partial s (Some p)) row)
+    pub by_partial : Case (with_partial s None) row → ((p : CorePartial K) → Case (with_partial s (Some p)) row)
         → (o : Option (CorePartial K)) → Case (with_partial s o) row
     by_partial n f None = n
     by_partial n f (Some p) = f p
 
-    by_context : Case (with_context s None) row → ((c : CoreContext K) → Case (with_context s (Some c)) row)
+    pub by_context : Case (with_context s None) row → ((c : CoreContext K) → Case (with_context s (Some c)) row)
         → (o : Option (CoreContext K)) → Case (with_context s o) row
     by_context n f None = n
     by_context n f (Some c) = f c
 
-    by_link : Case (with_link s None) row → ((link : CoreLink K C) → Case (with_link s (Some link)) row)
+    pub by_link : Case (with_link s None) row → ((link : CoreLink K C) → Case (with_link s (Some link)) row)
         → (o : Option (CoreLink K C)) → Case (with_link s o) row
     by_link n f None = n
     by_link n f (Some link) = f link

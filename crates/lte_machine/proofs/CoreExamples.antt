@@ -115,7 +115,8 @@ secured =
 answers_secured : answers start secured ≡
     (Done ∷ Done ∷ SmcOpen ∷ WrongKind 0x02 ∷ BadRecord (faults.TheVariants.BadField 1) ∷ Done ∷ Done ∷ MacFails 0 (1 ∷ []) (2 ∷ [])
     ∷ WrongKind 0x04 ∷ BadRecord faults.TheVariants.Short ∷ Done ∷ [])
-unfolding core_header estimate_of least choice_of has_bit read_nas number_at number_of field_at command_of reject_of bare data_of of_size number_in algs_at caps_at rest_at
+unfolding core_header estimate_of least choice_of has_bit read_nas number_at number_of field_at command_of reject_of
+    bare data_of of_size number_in algs_at caps_at rest_at
 answers_secured = refl
 
 -- the core then: its context, whose COUNTs go on behind the two Commands and the Complete, and the trigger
@@ -135,7 +136,8 @@ context_secured : with_context ≡ record start {
   });
   trigger = Some 0;
 }
-unfolding core_header estimate_of least choice_of has_bit read_nas number_at number_of field_at command_of reject_of bare data_of of_size number_in algs_at caps_at rest_at
+unfolding core_header estimate_of least choice_of has_bit read_nas number_at number_of field_at command_of reject_of
+    bare data_of of_size number_in algs_at caps_at rest_at
 context_secured = refl
 
 -- NAS messages under the context, and a connection for a Service Request
@@ -148,7 +150,8 @@ connected =
 
 answers_connected : answers with_context connected ≡
     (Done ∷ NoTrigger ∷ MacFails 256 (1 ∷ []) (2 ∷ []) ∷ WrongKind 0x02 ∷ NoSmc ∷ Done ∷ Done ∷ NoSmc ∷ Done ∷ [])
-unfolding core_header estimate_of least choice_of has_bit read_nas number_at number_of field_at command_of reject_of bare data_of of_size number_in algs_at caps_at rest_at
+unfolding core_header estimate_of least choice_of has_bit read_nas number_at number_of field_at command_of reject_of
+    bare data_of of_size number_in algs_at caps_at rest_at
 answers_connected = refl
 
 -- connection 2, whose KeNB has the COUNT of the Service Request; a path switch, and a handover through the core
@@ -182,7 +185,8 @@ told_moved :
     ∷ None ∷ None ∷ None ∷ None ∷ None ∷ None ∷ None ∷ []))
     × (alarms with_connection moved ≡
     (false ∷ true ∷ false ∷ false ∷ false ∷ false ∷ false ∷ false ∷ false ∷ false ∷ false ∷ false ∷ []))
-unfolding core_header estimate_of least choice_of has_bit read_nas number_at number_of field_at command_of reject_of bare data_of of_size number_in algs_at caps_at rest_at
+unfolding core_header estimate_of least choice_of has_bit read_nas number_at number_of field_at command_of reject_of
+    bare data_of of_size number_in algs_at caps_at rest_at
 told_moved = (refl, refl, refl, refl)
 
 -- the last number of a connection, and the end of the downlink COUNTs
@@ -193,5 +197,6 @@ at_the_end =
 
 answers_at_the_end : answers (record with_context { next = 0xffffffff }) at_the_end ≡
     (Done ∷ CountSpent ∷ Done ∷ Done ∷ NumberSpent ∷ Done ∷ NoAlgorithm ∷ [])
-unfolding core_header estimate_of least choice_of has_bit read_nas number_at number_of field_at command_of reject_of bare data_of of_size number_in algs_at caps_at rest_at
+unfolding core_header estimate_of least choice_of has_bit read_nas number_at number_of field_at command_of reject_of
+    bare data_of of_size number_in algs_at caps_at rest_at
 answers_at_the_end = refl

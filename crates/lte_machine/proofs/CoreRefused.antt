@@ -1,116 +1,78 @@
--- What a refused step of the core leaves: the state as it was, and nothing given out but the answer.
-use Rattle.std.proofs.Common.{◌≡◌, ℕ, Bool, refl}
-use Rattle.std.specs.Prelude.{◌≢◌, List, Option, Some, None}
-use Rattle.alg_choice.specs.declared.algs.Algs.{Algs}
+-- A row of the core is refused or done, and a refused step of the core leaves it as it was.
+use Rattle.std.proofs.Common.{◌≡◌, ℕ, refl, ap, ◌∙◌}
+use Rattle.std.specs.Prelude.{◌≢◌, Option, Some, None}
 use Rattle.alg_choice.specs.declared.caps.Caps.{Caps}
-use Rattle.annex_a_keys.specs.Cell.{Place}
+use Rattle.lte_events.specs.declared.answers.Answer.{Answer}
 use Rattle.lte_events.specs.declared.answers.Answer.TheVariants.{Done}
 use Rattle.key_model.specs.Reading.{Reading}
-use Rattle.nas_guard.specs.Keys.{Keys}
 use Rattle.lte_machine.specs.CoreChoice.{core_row}
-use Rattle.lte_machine.specs.CoreKeys.{CoreDone, authenticated, smc_started, smc_complete, key_changed, service_asked, nas_opened, sealed_reject, nas_sent, nas_skipped, context_set_up, path_switched, handover_asked, handover_notified, core_does}
-use Rattle.lte_machine.specs.CoreRows.{NasRefused, PlainReject, SmcComplete, SmcChange, ServiceAsked, NasOpened, SealedReject, RecordRefused, PathSwitched, HandoverAsked, HandoverOrdered, HandoverNotified, HandoverCancelled, ActRefused, SmcStarted, ContextSetUp, ContextReleased, NasSent, NasSkipped, CoreRow, OfNas, OfRecord, OfAct, OfAuth}
-use Rattle.lte_machine.specs.CoreState.{Core, CorePartial, CoreContext, CoreLink, CoreInput}
+use Rattle.lte_machine.specs.CoreKeys.{CoreDone, authenticated, core_does_nas, core_does_record, core_does_act, core_does}
+use Rattle.lte_machine.specs.CoreRows.{CoreNasRow, NasRefused, PlainReject, SmcComplete, SmcChange, ServiceAsked, NasOpened, SealedReject, CoreRecordRow, RecordRefused, PathSwitched, HandoverAsked, HandoverOrdered, HandoverNotified, HandoverCancelled, CoreActRow, ActRefused, SmcStarted, ContextSetUp, ContextReleased, NasSent, NasSkipped, CoreRow, OfNas, OfRecord, OfAct, OfAuth}
+use Rattle.lte_machine.specs.CoreState.{Core, CoreInput}
 use Rattle.lte_machine.specs.CoreStep.{plain_core, core_front_of, core_root, core_step}
 use Rattle.lte_machine.specs.Opening.{Outcome}
-use Rattle.lte_machine.specs.Reply.{only}
+use Rattle.lte_machine.proofs.CoreCases.{by_procedure, by_partial, by_context, by_link}
+use Rattle.lte_machine.proofs.Tests.{Anything}
 
--- rows that are done whatever the state holds
+-- how a row ends: refused with this answer, or done
+pub data Ends {Row : Type 0} (refused : Answer → Row) (row : Row) (answer : Answer) : Type 0 where
+  IsRefused : row ≡ refused answer → Ends refused row answer
+  IsDone : answer ≡ Done → Ends refused row answer
 
-pub authenticated-done : {K C : Type 0} (ksi : ℕ) (caps : Caps) (root : Option K) (s : Core K C) → (authenticated ksi caps root s).1.answer ≡ Done
-authenticated-done ksi caps None s = refl
-authenticated-done ksi caps (Some root) s = refl
+abbrev Answers : {K C : Type 0} → Core K C → CoreDone K C → Type 0
+Answers s done = done.1.answer ≡ Done
 
-pub smc_started-done : {K C : Type 0} (r : Reading K C) (ksi : ℕ) (algs : Algs) (caps : Caps) (count : ℕ) (partial : Option (CorePartial K)) (s : Core K C) → (smc_started r ksi algs caps count partial s).1.answer ≡ Done
-smc_started-done r ksi algs caps count None s = refl
-smc_started-done r ksi algs caps count (Some partial) s = refl
+module _ {K C : Type 0} (r : Reading K C) where
+  pub nas_ends : (s : Core K C) (row : CoreNasRow) → Ends NasRefused row (core_does_nas r row s).1.answer
+  nas_ends s (NasRefused answer) = IsRefused refl
+  nas_ends s PlainReject = IsDone refl
+  nas_ends s (SmcComplete count) =
+      IsDone (by_procedure (core_does_nas r) Anything Answers s (SmcComplete count) (λ k h. refl) (λ p h. refl) (λ p k h. refl) s.partial s.procedure tt)
+  nas_ends s (SmcChange count conn next station) =
+      IsDone (by_procedure (core_does_nas r) Anything Answers s (SmcChange count conn next station) (λ k h. refl) (λ p h. refl) (λ p k h. refl)
+      s.partial s.procedure tt)
+  nas_ends s (ServiceAsked count) = IsDone (by_context (core_does_nas r) Anything Answers s (ServiceAsked count) (λ h. refl) (λ c h. refl) s.context tt)
+  nas_ends s (NasOpened count text) =
+      IsDone (by_context (core_does_nas r) Anything Answers s (NasOpened count text) (λ h. refl) (λ c h. refl) s.context tt)
+  nas_ends s (SealedReject count) = IsDone (by_context (core_does_nas r) Anything Answers s (SealedReject count) (λ h. refl) (λ c h. refl) s.context tt)
 
-pub smc_complete-done : {K C : Type 0} (count : ℕ) (partial : Option (CorePartial K)) (keys : Option (Keys K)) (s : Core K C) → (smc_complete count partial keys s).1.answer ≡ Done
-smc_complete-done count None keys s = refl
-smc_complete-done count (Some partial) None s = refl
-smc_complete-done count (Some partial) (Some keys) s = refl
+  pub record_ends : (s : Core K C) (row : CoreRecordRow) → Ends RecordRefused row (core_does_record r row s).1.answer
+  record_ends s (RecordRefused answer) = IsRefused refl
+  record_ends s (PathSwitched conn station number alarm) =
+      IsDone (by_link (core_does_record r) Anything Answers s (PathSwitched conn station number alarm) (λ h. refl) (λ l h. refl) s.link tt)
+  record_ends s (HandoverAsked conn source attempt cell target caps) =
+      IsDone (by_link (core_does_record r) Anything Answers s (HandoverAsked conn source attempt cell target caps) (λ h. refl) (λ l h. refl) s.link tt)
+  record_ends s (HandoverOrdered conn source attempt cell ncc algs air) = IsDone refl
+  record_ends s (HandoverNotified station) =
+      IsDone (by_link (core_does_record r) Anything Answers s (HandoverNotified station) (λ h. refl) (λ l h. refl) s.link tt)
+  record_ends s (HandoverCancelled conn source attempt cell target) = IsDone refl
 
-pub key_changed-done : {K C : Type 0} (r : Reading K C) (count conn next station : ℕ) (partial : Option (CorePartial K)) (keys : Option (Keys K)) (s : Core K C) → (key_changed r count conn next station partial keys s).1.answer ≡ Done
-key_changed-done r count conn next station None keys s = refl
-key_changed-done r count conn next station (Some partial) None s = refl
-key_changed-done r count conn next station (Some partial) (Some keys) s = refl
+  pub act_ends : (s : Core K C) (row : CoreActRow) → Ends ActRefused row (core_does_act r row s).1.answer
+  act_ends s (ActRefused answer) = IsRefused refl
+  act_ends s (SmcStarted ksi algs caps count) =
+      IsDone (by_partial (core_does_act r) Anything Answers s (SmcStarted ksi algs caps count) (λ h. refl) (λ p h. refl) s.partial tt)
+  act_ends s (ContextSetUp conn cell target caps count) =
+      IsDone (by_context (core_does_act r) Anything Answers s (ContextSetUp conn cell target caps count) (λ h. refl) (λ c h. refl) s.context tt)
+  act_ends s (ContextReleased conn station) = IsDone refl
+  act_ends s (NasSent count text) = IsDone (by_context (core_does_act r) Anything Answers s (NasSent count text) (λ h. refl) (λ c h. refl) s.context tt)
+  act_ends s (NasSkipped n) = IsDone (by_context (core_does_act r) Anything Answers s (NasSkipped n) (λ h. refl) (λ c h. refl) s.context tt)
 
-pub service_asked-done : {K C : Type 0} (count : ℕ) (context : Option (CoreContext K)) (s : Core K C) → (service_asked count context s).1.answer ≡ Done
-service_asked-done count None s = refl
-service_asked-done count (Some context) s = refl
+  -- a row that is not done leaves the core
+  left : {Row : Type 0} (refused : Answer → Row) (does : Row → Core K C → CoreDone K C) (s : Core K C) → ((answer : Answer) → (does (refused answer) s).0 ≡ s)
+      → (row : Row) → Ends refused row (does row s).1.answer → (does row s).1.answer ≢ Done → (does row s).0 ≡ s
+  left refused does s stays row (IsRefused e) h = ap (λ x. (does x s).0) e ∙ stays (does row s).1.answer
+  left refused does s stays row (IsDone e) h = absurd (h e)
 
-pub nas_opened-done : {K C : Type 0} (count : ℕ) (text : List ℕ) (context : Option (CoreContext K)) (s : Core K C) → (nas_opened count text context s).1.answer ≡ Done
-nas_opened-done count text None s = refl
-nas_opened-done count text (Some context) s = refl
+  authenticated_done : (ksi : ℕ) (caps : Caps) (root : Option K) (s : Core K C) → Answers s (authenticated ksi caps root s)
+  authenticated_done ksi caps None s = refl
+  authenticated_done ksi caps (Some root) s = refl
 
-pub sealed_reject-done : {K C : Type 0} (count : ℕ) (context : Option (CoreContext K)) (s : Core K C) → (sealed_reject count context s).1.answer ≡ Done
-sealed_reject-done count None s = refl
-sealed_reject-done count (Some context) s = refl
+  does_left : (s : Core K C) (row : CoreRow) (root : Option K) → (core_does r row root s).1.answer ≢ Done → (core_does r row root s).0 ≡ s
+  does_left s (OfNas row) root = left NasRefused (core_does_nas r) s (λ answer. refl) row (nas_ends s row)
+  does_left s (OfRecord row) root = left RecordRefused (core_does_record r) s (λ answer. refl) row (record_ends s row)
+  does_left s (OfAct row) root = left ActRefused (core_does_act r) s (λ answer. refl) row (act_ends s row)
+  does_left s (OfAuth ksi caps) root = λ h. absurd (h (authenticated_done ksi caps root s))
 
-pub nas_sent-done : {K C : Type 0} (count : ℕ) (text : List ℕ) (context : Option (CoreContext K)) (s : Core K C) → (nas_sent count text context s).1.answer ≡ Done
-nas_sent-done count text None s = refl
-nas_sent-done count text (Some context) s = refl
-
-pub nas_skipped-done : {K C : Type 0} (n : ℕ) (context : Option (CoreContext K)) (s : Core K C) → (nas_skipped n context s).1.answer ≡ Done
-nas_skipped-done n None s = refl
-nas_skipped-done n (Some context) s = refl
-
-pub context_set_up-done : {K C : Type 0} (r : Reading K C) (conn : ℕ) (cell : Place) (target : ℕ) (caps : Caps) (count : ℕ) (context : Option (CoreContext K)) (s : Core K C) → (context_set_up r conn cell target caps count context s).1.answer ≡ Done
-context_set_up-done r conn cell target caps count None s = refl
-context_set_up-done r conn cell target caps count (Some context) s = refl
-
-pub path_switched-done : {K C : Type 0} (r : Reading K C) (conn : ℕ) (station : ℕ) (number : ℕ) (alarm : Bool) (link : Option (CoreLink K C)) (s : Core K C) → (path_switched r conn station number alarm link s).1.answer ≡ Done
-path_switched-done r conn station number alarm None s = refl
-path_switched-done r conn station number alarm (Some link) s = refl
-
-pub handover_asked-done : {K C : Type 0} (r : Reading K C) (conn : ℕ) (source : ℕ) (attempt : ℕ) (cell : Place) (target : ℕ) (caps : Caps) (link : Option (CoreLink K C)) (s : Core K C) → (handover_asked r conn source attempt cell target caps link s).1.answer ≡ Done
-handover_asked-done r conn source attempt cell target caps None s = refl
-handover_asked-done r conn source attempt cell target caps (Some link) s = refl
-
-pub handover_notified-done : {K C : Type 0} (station : ℕ) (link : Option (CoreLink K C)) (s : Core K C) → (handover_notified station link s).1.answer ≡ Done
-handover_notified-done station None s = refl
-handover_notified-done station (Some link) s = refl
-
--- what a row does is done, or leaves the state and gives out the answer alone
-data Leaves {K C : Type 0} (s : Core K C) (d : CoreDone K C) : Type 0 where
-  IsDone : d.1.answer ≡ Done → Leaves s d
-  IsLeft : d.0 ≡ s → d.1 ≡ only d.1.answer → Leaves s d
-
-does_leaves : {K C : Type 0} (r : Reading K C) (row : CoreRow) (root : Option K) (s : Core K C) → Leaves s (core_does r row root s)
-does_leaves r (OfNas (NasRefused answer)) root s = IsLeft refl refl
-does_leaves r (OfNas PlainReject) root s = IsDone refl
-does_leaves r (OfNas (SmcComplete count)) root s = IsDone (smc_complete-done count s.partial s.procedure s)
-does_leaves r (OfNas (SmcChange count conn next station)) root s =
-    IsDone (key_changed-done r count conn next station s.partial s.procedure s)
-does_leaves r (OfNas (ServiceAsked count)) root s = IsDone (service_asked-done count s.context s)
-does_leaves r (OfNas (NasOpened count text)) root s = IsDone (nas_opened-done count text s.context s)
-does_leaves r (OfNas (SealedReject count)) root s = IsDone (sealed_reject-done count s.context s)
-does_leaves r (OfRecord (RecordRefused answer)) root s = IsLeft refl refl
-does_leaves r (OfRecord (PathSwitched conn station number alarm)) root s =
-    IsDone (path_switched-done r conn station number alarm s.link s)
-does_leaves r (OfRecord (HandoverAsked conn source attempt cell target caps)) root s =
-    IsDone (handover_asked-done r conn source attempt cell target caps s.link s)
-does_leaves r (OfRecord (HandoverOrdered conn source attempt cell ncc algs air)) root s = IsDone refl
-does_leaves r (OfRecord (HandoverNotified station)) root s = IsDone (handover_notified-done station s.link s)
-does_leaves r (OfRecord (HandoverCancelled conn source attempt cell target)) root s = IsDone refl
-does_leaves r (OfAct (ActRefused answer)) root s = IsLeft refl refl
-does_leaves r (OfAct (SmcStarted ksi algs caps count)) root s = IsDone (smc_started-done r ksi algs caps count s.partial s)
-does_leaves r (OfAct (ContextSetUp conn cell target caps count)) root s =
-    IsDone (context_set_up-done r conn cell target caps count s.context s)
-does_leaves r (OfAct (ContextReleased conn station)) root s = IsDone refl
-does_leaves r (OfAct (NasSent count text)) root s = IsDone (nas_sent-done count text s.context s)
-does_leaves r (OfAct (NasSkipped n)) root s = IsDone (nas_skipped-done n s.context s)
-does_leaves r (OfAuth ksi caps) root s = IsDone (authenticated-done ksi caps root s)
-
--- of a row that is not done
-
-state_left : {K C : Type 0} (s : Core K C) (d : CoreDone K C) → Leaves s d → d.1.answer ≢ Done → d.0 ≡ s
-state_left s d (IsDone e) refusal = absurd (refusal e)
-state_left s d (IsLeft e alone) refusal = e
-
--- a refused step of the core changes nothing
-pub core_refused : {K C : Type 0} (r : Reading K C) (s : Core K C) (i : CoreInput K C) (outcome : Outcome) → (core_step r s i outcome).1.answer ≢ Done → (core_step r s i outcome).0 ≡ s
-core_refused r s i outcome refusal = state_left s (core_does r row (core_root i) s) (does_leaves r row (core_root i) s) refusal
-  where
-    row : CoreRow
-    row = core_row (plain_core r s) (core_front_of r s i) outcome
+  -- a refused step of the core changes nothing
+  pub core_refused : (s : Core K C) (i : CoreInput K C) (outcome : Outcome) → (core_step r s i outcome).1.answer ≢ Done → (core_step r s i outcome).0 ≡ s
+  core_refused s i outcome = does_left s (core_row (plain_core r s) (core_front_of r s i) outcome) (core_root i)

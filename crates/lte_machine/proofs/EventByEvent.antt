@@ -1,6 +1,8 @@
 -- A run and what it tells, event by event.
 use Rattle.std.proofs.Common.{◌≡◌, refl, sym, ap, ◌∙◌, ℕ, zero, suc, List, [], ◌∷◌, ◌++◌, take, length, Option, Some, None, subst, map}
 use Rattle.std.specs.Prelude.{slice_get}
+use Rattle.std.specs.List.{AllByRecursion as AllOf}
+use Rattle.lte_events.specs.Ranges.{IsEvent, IsSetup}
 use Rattle.lte_events.specs.declared.events.Event.{Event}
 use Rattle.lte_events.specs.declared.setups.Setup.{Setup}
 use Rattle.key_model.specs.Term.{Term}
@@ -11,23 +13,24 @@ use Rattle.lte_machine.specs.Ciphers.{annex_b}
 use Rattle.lte_machine.specs.Ladder.{Clash, ladder_of}
 use Rattle.lte_machine.specs.Machines.{Kept, written_machine, machine_in_octets}
 use Rattle.lte_machine.specs.Opening.{Opening, Outcome, open_octets}
-use Rattle.lte_machine.specs.Ranges.{AllOf, IsEvent, IsSetup}
 use Rattle.lte_machine.specs.Run.{RunState, Running, Stopped, after, turn, replay, EventReport, Reported, Coincided, reported, event_report, report, first_world}
-use Rattle.lte_machine.specs.Step.{StepResult, Continues, Stops, by_ladder, by_chance, opening_chance, attempted, next}
-use Rattle.lte_machine.specs.Tuples.{Chance}
+use Rattle.lte_machine.specs.Step.{StepResult, Continues, Stops, by_ladder, by_coincidence, opening_coincidence, attempted, next}
+use Rattle.lte_machine.specs.Tuples.{Coincidence}
 use Rattle.lte_machine.specs.Wire.{Outgoing}
 use Rattle.lte_machine.specs.World.{Machine, World, Line, happens}
 use Rattle.lte_machine.proofs.AnnexB.{annex_b_ciphers}
 use Rattle.lte_machine.proofs.WholeRun.{run_is_value, tale_is_value}
 use Rattle.key_model.specs.Value.{value_of}
-use Rattle.lte_machine.proofs.StillRun.{still_one}
+use Rattle.lte_machine.proofs.StillRun.{still_one, over_stays}
 
 module _ {K C S : Type 0} (by_octets : Opening K → List ℕ → Outcome) (m : Machine K C S) where
   pub replay_snoc : (r : RunState K C S) (es : List Event) (e : Event) → replay by_octets m r (es ++ e ∷ []) ≡ turn by_octets m (replay by_octets m r es) e
   replay_snoc r [] e = refl
   replay_snoc r (d ∷ es) e = replay_snoc (turn by_octets m r d) es e
 
-  pub tale_snoc : (r : RunState K C S) (es : List Event) (e : Event) → report by_octets m r (es ++ e ∷ []) ≡ report by_octets m r es ++ event_report by_octets m (replay by_octets m r es) e ∷ []
+  pub tale_snoc : (r : RunState K C S) (es : List Event) (e : Event)
+      → report by_octets m r (es ++ e ∷ [])
+      ≡ report by_octets m r es ++ event_report by_octets m (replay by_octets m r es) e ∷ []
   tale_snoc r [] e = refl
   tale_snoc r (d ∷ es) e = ap (λ s. event_report by_octets m r d ∷ s) (tale_snoc (turn by_octets m r d) es e)
 
@@ -35,29 +38,29 @@ module _ {K C S : Type 0} (by_octets : Opening K → List ℕ → Outcome) (m : 
   told_each r [] = refl
   told_each r (e ∷ es) = ap suc (told_each (turn by_octets m r e) es)
 
-  -- a run that is over stays so, and tells its coincidence
-  pub over_stays : (chance : Chance K) (es : List Event) → replay by_octets m (Stopped chance) es ≡ Stopped chance
-  over_stays chance [] = refl
-  over_stays chance (e ∷ es) = over_stays chance es
-
   -- where a run goes on, it went on by each prefix
   abbrev GoesOn : RunState K C S → Type 0
   GoesOn r = (w : World K C S) × (r ≡ Running w)
 
   went_on : (r : RunState K C S) (es : List Event) (u : World K C S) → replay by_octets m r es ≡ Running u → GoesOn r
   went_on (Running w) es u is = (w, refl)
-  went_on (Stopped chance) es u is = let bad : Stopped chance ≡ Running u = sym (over_stays chance es) ∙ is in absurd cc
+  went_on (Stopped coincidence) es u is = let bad : Stopped coincidence ≡ Running u = sym (over_stays by_octets m coincidence es) ∙ is in absurd cc
 
   replay_parts : (r : RunState K C S) (es fs : List Event) → replay by_octets m r (es ++ fs) ≡ replay by_octets m (replay by_octets m r es) fs
   replay_parts r [] fs = refl
   replay_parts r (e ∷ es) fs = replay_parts (turn by_octets m r e) es fs
 
-  pub prefix_goes_on : (r : RunState K C S) (es fs : List Event) (u : World K C S) → replay by_octets m r (es ++ fs) ≡ Running u → GoesOn (replay by_octets m r es)
+  pub prefix_goes_on : (r : RunState K C S) (es fs : List Event) (u : World K C S)
+      → replay by_octets m r (es ++ fs) ≡ Running u
+      → GoesOn (replay by_octets m r es)
   prefix_goes_on r es fs u is = went_on (replay by_octets m r es) fs u (sym (replay_parts r es fs) ∙ is)
 
   -- a run that is over has the event at which it stopped
-  one_more : (w u : World K C S) (e : Event) (es : List Event) (chance : Chance K) → turn by_octets m (Running w) e ≡ Running u → EndsAt by_octets m u es chance → EndsAt by_octets m w (e ∷ es) chance
-  one_more w u e es chance is h = record {
+  one_more : (w u : World K C S) (e : Event) (es : List Event) (coincidence : Coincidence K)
+      → turn by_octets m (Running w) e ≡ Running u
+      → EndsAt by_octets m u es coincidence
+      → EndsAt by_octets m w (e ∷ es) coincidence
+  one_more w u e es coincidence is h = record {
     before = e ∷ h.before;
     event = h.event;
     rest = h.rest;
@@ -67,16 +70,21 @@ module _ {K C S : Type 0} (by_octets : Opening K → List ℕ → Outcome) (m : 
     stops = h.stops;
   }
 
-  same_chance : (a b : Chance K) (es : List Event) → replay by_octets m (Stopped a) es ≡ Stopped b → a ≡ b
-  same_chance a b es is = let one : Stopped a ≡ Stopped b = sym (over_stays a es) ∙ is in cc
+  same_coincidence : (a b : Coincidence K) (es : List Event) → replay by_octets m (Stopped a) es ≡ Stopped b → a ≡ b
+  same_coincidence a b es is = let one : Stopped a ≡ Stopped b = sym (over_stays by_octets m a es) ∙ is in cc
 
-  pub ends_at : (w : World K C S) (es : List Event) (chance : Chance K) → replay by_octets m (Running w) es ≡ Stopped chance → EndsAt by_octets m w es chance
-  ends_at w [] chance is = absurd cc
-  ends_at w (e ∷ es) chance is = by (next by_octets m w e) refl is (λ u. ends_at u es chance)
+  pub ends_at : (w : World K C S) (es : List Event) (coincidence : Coincidence K)
+      → replay by_octets m (Running w) es ≡ Stopped coincidence
+      → EndsAt by_octets m w es coincidence
+  ends_at w [] coincidence is = absurd cc
+  ends_at w (e ∷ es) coincidence is = by (next by_octets m w e) refl is (λ u. ends_at u es coincidence)
     where
-      by : (s : StepResult K C S) → next by_octets m w e ≡ s → replay by_octets m (after s) es ≡ Stopped chance
-          → ((u : World K C S) → replay by_octets m (Running u) es ≡ Stopped chance → EndsAt by_octets m u es chance) → EndsAt by_octets m w (e ∷ es) chance
-      by (Continues u line) is k rest = one_more w u e es chance (ap after is) (rest u k)
+      by : (s : StepResult K C S) → next by_octets m w e ≡ s → replay by_octets m (after s) es ≡ Stopped coincidence
+          → ((u : World K C S)
+          → replay by_octets m (Running u) es ≡ Stopped coincidence
+          → EndsAt by_octets m u es coincidence)
+          → EndsAt by_octets m w (e ∷ es) coincidence
+      by (Continues u line) is k rest = one_more w u e es coincidence (ap after is) (rest u k)
       by (Stops c) is k rest = record {
         before = [];
         event = e;
@@ -84,7 +92,7 @@ module _ {K C S : Type 0} (by_octets : Opening K → List ℕ → Outcome) (m : 
         world = w;
         parts = refl;
         went_on = refl;
-        stops = is ∙ ap (λ x. Stops x) (same_chance c chance es k);
+        stops = is ∙ ap (λ x. Stops x) (same_coincidence c coincidence es k);
       }
 
   -- WHAT IS TOLD OF A STEP
@@ -99,26 +107,36 @@ module _ {K C S : Type 0} (by_octets : Opening K → List ℕ → Outcome) (m : 
   step_one h None u line is = (cc, cc)
   step_one h (Some clash) u line is = absurd cc
 
-  step_two : (h : World K C S × Line K) (o : Option (Chance K)) (u : World K C S) (line : Line K) → by_chance m.reading.same o h ≡ Continues u line → (u ≡ h.0) × (line ≡ h.1)
+  step_two : (h : World K C S × Line K) (o : Option (Coincidence K)) (u : World K C S) (line : Line K)
+      → by_coincidence m.reading.same o h ≡ Continues u line
+      → (u ≡ h.0) × (line ≡ h.1)
   step_two h None u line is = step_one h (ladder_of m.reading.same h.0.history).clash u line is
-  step_two h (Some chance) u line is = absurd cc
+  step_two h (Some coincidence) u line is = absurd cc
 
   -- a step that goes on is what happens
-  pub step_is : (w : World K C S) (e : Event) (u : World K C S) (line : Line K) → next by_octets m w e ≡ Continues u line → (u ≡ (happens m w e).0) × (line ≡ (happens m w e).1)
-  step_is w e u line is = step_two (happens m w e) (opening_chance by_octets m (attempted m w e)) u line is
+  pub step_is : (w : World K C S) (e : Event) (u : World K C S) (line : Line K)
+      → next by_octets m w e ≡ Continues u line
+      → (u ≡ (happens m w e).0) × (line ≡ (happens m w e).1)
+  step_is w e u line is = step_two (happens m w e) (opening_coincidence by_octets m (attempted m w e)) u line is
 
 -- THE WRITTEN MACHINE
 
-pub written_still : (setup : Setup) (events : List Event) → IsSetup setup → AllOf IsEvent events → (u : World (List ℕ) ℕ Kept) → octet_run setup events ≡ Running u → IsValueOfRun setup events u
+pub written_still : (setup : Setup) (events : List Event)
+    → IsSetup setup
+    → AllOf IsEvent events
+    → (u : World (List ℕ) ℕ Kept)
+    → octet_run setup events ≡ Running u
+    → IsValueOfRun setup events u
 written_still setup events set are u is =
     by (written_run setup events) refl (sym (run_is_value annex_b annex_b_ciphers setup set events are) ∙ is)
   where
     by : (r : RunState Term ℕ (Outgoing Term ℕ)) → written_run setup events ≡ r → run_value annex_b r ≡ Running u → IsValueOfRun setup events u
     by (Running w) e f = let one : in_octets w ≡ u = cc in record { world = w; runs = e; value = sym one }
-    by (Stopped chance) e f = absurd cc
+    by (Stopped coincidence) e f = absurd cc
 
 -- the world after a step
-pub step_after : (setup : Setup) (events : List Event) (k : ℕ) (w : World Term ℕ (Outgoing Term ℕ)) (e : Event) (u : World Term ℕ (Outgoing Term ℕ)) (line : Line Term)
+pub step_after : (setup : Setup) (events : List Event) (k : ℕ) (w : World Term ℕ (Outgoing Term ℕ)) (e : Event)
+    (u : World Term ℕ (Outgoing Term ℕ)) (line : Line Term)
     → IsStep setup events k w e u line → written_run setup (take k events ++ e ∷ []) ≡ Running u
 step_after setup events k w e u line h =
     replay_snoc (open_octets annex_b_terms) (written_machine annex_b) (Running (first_world setup)) (take k events) e
@@ -129,32 +147,47 @@ take_more [] k e is = absurd cc
 take_more (d ∷ es) zero e is = let one : d ≡ e = cc in ap (λ x. x ∷ []) one
 take_more (d ∷ es) (suc k) e is = ap (λ xs. d ∷ xs) (take_more es k e is)
 
-pub step_takes : (setup : Setup) (events : List Event) (k : ℕ) (w : World Term ℕ (Outgoing Term ℕ)) (e : Event) (u : World Term ℕ (Outgoing Term ℕ)) (line : Line Term)
+pub step_takes : (setup : Setup) (events : List Event) (k : ℕ) (w : World Term ℕ (Outgoing Term ℕ)) (e : Event)
+    (u : World Term ℕ (Outgoing Term ℕ)) (line : Line Term)
     → IsStep setup events k w e u line → written_run setup (take (suc k) events) ≡ Running u
 step_takes setup events k w e u line h = ap (written_run setup) (take_more events k e h.event) ∙ step_after setup events k w e u line h
 
 -- the line of a step is what is told of its event
-pub step_told : (setup : Setup) (events : List Event) (k : ℕ) (w : World Term ℕ (Outgoing Term ℕ)) (e : Event) (u : World Term ℕ (Outgoing Term ℕ)) (line : Line Term)
+pub step_told : (setup : Setup) (events : List Event) (k : ℕ) (w : World Term ℕ (Outgoing Term ℕ)) (e : Event)
+    (u : World Term ℕ (Outgoing Term ℕ)) (line : Line Term)
     → IsStep setup events k w e u line → slice_get (written_report setup events) k ≡ Some (Reported line)
 step_told setup events k w e u line h =
     told_at (open_octets annex_b_terms) (written_machine annex_b) (Running (first_world setup)) events k e h.event
     ∙ ap (λ r. Some (event_report (open_octets annex_b_terms) (written_machine annex_b) r e)) h.before ∙ ap (λ s. Some (reported s)) h.goes_on
 
 -- and a line that was told is that of a step
-pub told_step : (setup : Setup) (events : List Event) (k : ℕ) (line : Line Term) → slice_get (written_report setup events) k ≡ Some (Reported line) → Told setup events k line
+pub told_step : (setup : Setup) (events : List Event) (k : ℕ) (line : Line Term)
+    → slice_get (written_report setup events) k ≡ Some (Reported line)
+    → Told setup events k line
 told_step setup events k line is = by_event (slice_get events k) refl
   where
-    by_next : (e : Event) (w : World Term ℕ (Outgoing Term ℕ)) (s : StepResult Term ℕ (Outgoing Term ℕ)) → slice_get events k ≡ Some e → written_run setup (take k events) ≡ Running w
+    by_next : (e : Event) (w : World Term ℕ (Outgoing Term ℕ)) (s : StepResult Term ℕ (Outgoing Term ℕ))
+        → slice_get events k ≡ Some e
+        → written_run setup (take k events) ≡ Running w
         → next (open_octets annex_b_terms) (written_machine annex_b) w e ≡ s → Some (reported s) ≡ Some (Reported line) → Told setup events k line
-    by_next e w (Continues u l) f g h same = let one : l ≡ line = cc in record { world = w; event = e; after = u; step = record { event = f; before = g; goes_on = h ∙ ap (λ x. Continues u x) one } }
-    by_next e w (Stops chance) f g h same = absurd cc
+    by_next e w (Continues u l) f g h same =
+        let one : l ≡ line = cc in
+        record {
+          world = w;
+          event = e;
+          after = u;
+          step = record { event = f; before = g; goes_on = h ∙ ap (λ x. Continues u x) one };
+        }
+    by_next e w (Stops coincidence) f g h same = absurd cc
 
     by_run : (e : Event) (r : RunState Term ℕ (Outgoing Term ℕ)) → slice_get events k ≡ Some e → written_run setup (take k events) ≡ r
         → Some (event_report (open_octets annex_b_terms) (written_machine annex_b) r e) ≡ Some (Reported line) → Told setup events k line
     by_run e (Running w) f g same = by_next e w (next (open_octets annex_b_terms) (written_machine annex_b) w e) f g refl same
-    by_run e (Stopped chance) f g same = absurd cc
+    by_run e (Stopped coincidence) f g same = absurd cc
 
-    no_event : (es : List Event) (r : RunState Term ℕ (Outgoing Term ℕ)) (j : ℕ) → slice_get es j ≡ None → slice_get (report (open_octets annex_b_terms) (written_machine annex_b) r es) j ≡ None
+    no_event : (es : List Event) (r : RunState Term ℕ (Outgoing Term ℕ)) (j : ℕ)
+        → slice_get es j ≡ None
+        → slice_get (report (open_octets annex_b_terms) (written_machine annex_b) r es) j ≡ None
     no_event [] r j f = refl
     no_event (d ∷ es) r zero f = absurd cc
     no_event (d ∷ es) r (suc j) f = no_event es (turn (open_octets annex_b_terms) (written_machine annex_b) r d) j f
@@ -166,7 +199,8 @@ told_step setup events k line is = by_event (slice_get events k) refl
         (sym (told_at (open_octets annex_b_terms) (written_machine annex_b) (Running (first_world setup)) events k e f) ∙ is)
 
 -- world and line of a step are what happens
-pub step_happens : (setup : Setup) (events : List Event) (k : ℕ) (w : World Term ℕ (Outgoing Term ℕ)) (e : Event) (u : World Term ℕ (Outgoing Term ℕ)) (line : Line Term)
+pub step_happens : (setup : Setup) (events : List Event) (k : ℕ) (w : World Term ℕ (Outgoing Term ℕ)) (e : Event)
+    (u : World Term ℕ (Outgoing Term ℕ)) (line : Line Term)
     → IsStep setup events k w e u line → (u, line) ≡ happens (written_machine annex_b) w e
 step_happens setup events k w e u line h =
     let same = step_is (open_octets annex_b_terms) (written_machine annex_b) w e u line h.goes_on in λ j. (same.0 j, same.1 j)
@@ -186,12 +220,16 @@ got_of_map f (x ∷ xs) zero y e = (x, refl, cc)
 got_of_map f (x ∷ xs) (suc k) y e = got_of_map f xs k y e
 
 -- a line in octets is the value of a line
-line_of_value : (s : EventReport Term) (line : Line (List ℕ)) → Reported line ≡ report_value s → (told : Line Term) × (s ≡ Reported told) × (line ≡ map_line value_of told)
+line_of_value : (s : EventReport Term) (line : Line (List ℕ))
+    → Reported line ≡ report_value s
+    → (told : Line Term) × (s ≡ Reported told) × (line ≡ map_line value_of told)
 line_of_value (Reported told) line e = (told, refl, cc)
-line_of_value (Coincided chance) line e = absurd cc
+line_of_value (Coincided coincidence) line e = absurd cc
 
 module _ (setup : Setup) (events : List Event) (set : IsSetup setup) (are : AllOf IsEvent events) where
-  pub step_of_value : (k : ℕ) (v : World (List ℕ) ℕ Kept) (e : Event) (u : World (List ℕ) ℕ Kept) (line : Line (List ℕ)) → IsOctetStep setup events k v e u line → IsValueOfStep setup events k v e u line
+  pub step_of_value : (k : ℕ) (v : World (List ℕ) ℕ Kept) (e : Event) (u : World (List ℕ) ℕ Kept) (line : Line (List ℕ))
+      → IsOctetStep setup events k v e u line
+      → IsValueOfStep setup events k v e u line
   step_of_value k v e u line h = record {
     world = was.world;
     later = step.after;
@@ -231,7 +269,9 @@ module _ (setup : Setup) (events : List Event) (set : IsSetup setup) (are : AllO
       same_world = still_one (sym step.step.before ∙ was.runs)
 
       here : IsStep setup events k was.world e step.after told.0
-      here = subst (λ w. IsStep setup events k w e step.after told.0) same_world (subst (λ d. IsStep setup events k step.world d step.after told.0) same_event step.step)
+      here =
+          subst (λ w. IsStep setup events k w e step.after told.0) same_world
+          (subst (λ d. IsStep setup events k step.world d step.after told.0) same_event step.step)
 
       -- and the world after it
       runs : octet_run setup (take (suc k) events) ≡ Running u

@@ -2,12 +2,11 @@
 -- 7.2.8.1.1).
 use Rattle.std.specs.Prelude.{◌≡◌, if◌then◌else◌, List, [], ◌∷◌, ◌++◌, drop, take, replicate, Option, ℕ}
 use Rattle.std.proofs.Common.{refl}
-use Rattle.rec_base.specs.declared.ways.Way.TheVariants.{Initial, Horizontal, Vertical, Given, Completed, Chained}
+use Rattle.rec_base.specs.declared.ways.Way.TheVariants.{Horizontal, Vertical, Given, Completed, Chained}
 use Rattle.lte_events.specs.declared.answers.Answer.TheVariants.{MacFails}
 use Rattle.lte_events.specs.declared.classes.Class.{Class}
 use Rattle.lte_events.specs.declared.events.Event.{Event}
 use Rattle.lte_events.specs.declared.setups.FirstNcc.{FirstNcc}
-use Rattle.lte_events.specs.declared.setups.Setup.{Setup}
 use Rattle.key_model.specs.Term.{Term, Root, Kenb, Nh, same_term}
 use Rattle.lte_machine.specs.Opening.{open_octets}
 use Rattle.lte_machine.specs.Run.{RunState, Running, Stopped, first_world, replay, report}
@@ -67,7 +66,7 @@ held_by t (h ∷ held) = if same_term h.key t then h.holder ∷ held_by t held e
 
 abbrev hold : RunState Term ℕ (Outgoing Term ℕ) → List Holder
 hold (Running w) = held_by (Nh kasme (Kenb kasme 0)) w.held
-hold (Stopped chance) = []
+hold (Stopped coincidence) = []
 
 abbrev holders : List Event → List Holder
 holders events = hold (replay (open_octets toy) machine begins events)

@@ -9,7 +9,8 @@ use Rattle.lte_machine.proofs.Rows.{Well, Addable, add_row_grows, is_member_is, 
 
 module _ (same : Term → Term → Bool) where
   -- the first clash stays
-  clash_stays : (rows : List (RowOrigin Term)) (c : Clash Term) (ms : List (RowOrigin Term)) → (add_rows same (record { rows = rows; clash = Some c }) ms).clash ≡ Some c
+  clash_stays : (rows : List (RowOrigin Term)) (c : Clash Term) (ms : List (RowOrigin Term))
+      → (add_rows same (record { rows = rows; clash = Some c }) ms).clash ≡ Some c
   clash_stays rows c [] = refl
   clash_stays rows c (m ∷ ms) = clash_stays rows c ms
 
@@ -49,10 +50,12 @@ rows_grow rows ts [] s add calm = s
 rows_grow rows ts (m ∷ ms) s add calm =
     let one : (add_row same_value rows m).clash ≡ None = no_clash_before same_value (add_row same_value rows m) ms calm in
     let grown = add_row_grows rows s.well m add.0 one in
-    let is : add_row same_value rows m ≡ record { rows = (add_row same_value rows m).rows; clash = None } = λ j. record { rows = (add_row same_value rows m).rows; clash = one j } in
+    let is : add_row same_value rows m ≡ record { rows = (add_row same_value rows m).rows; clash = None } =
+    λ j. record { rows = (add_row same_value rows m).rows; clash = one j } in
     let keys : keys_of (add_row same_value rows m).rows ≡ with_new (is_member (row_key m) ts) (row_key m) ts =
     grown.keys ∙ ap (λ us. with_new (is_member (row_key m) us) (row_key m) us) s.keys in
-    let later = rows_grow (add_row same_value rows m).rows (with_new (is_member (row_key m) ts) (row_key m) ts) ms (record { well = grown.well; keys = keys }) add.1
+    let later = rows_grow (add_row same_value rows m).rows (with_new (is_member (row_key m) ts) (row_key m) ts) ms
+    (record { well = grown.well; keys = keys }) add.1
     (ap (λ l. (add_rows same_value l ms).clash) (sym is) ∙ calm) in
     subst (λ l. Stand (add_rows same_value l ms).rows (distinct_after (with_new (is_member (row_key m) ts) (row_key m) ts) (keys_of ms))) (sym is) later
 
@@ -68,11 +71,15 @@ distinct_append seen [] us = refl
 distinct_append seen (t ∷ ts) us = distinct_append (with_new (is_member t seen) t seen) ts us
 
 -- one step more
-pub laddered_more : (history ms : List (RowOrigin Term)) → Laddered history → ((ladder_of same_value history).clash ≡ None → Addables (ladder_of same_value history).rows ms) → Laddered (history ++ ms)
+pub laddered_more : (history ms : List (RowOrigin Term))
+    → Laddered history
+    → ((ladder_of same_value history).clash ≡ None → Addables (ladder_of same_value history).rows ms)
+    → Laddered (history ++ ms)
 laddered_more history ms ladder add calm =
     let before = calm_before same_value history ms calm in
     let joined = add_rows_append same_value no_rows history ms in
-    let is : ladder_of same_value history ≡ record { rows = (ladder_of same_value history).rows; clash = None } = λ j. record { rows = (ladder_of same_value history).rows; clash = before j } in
+    let is : ladder_of same_value history ≡ record { rows = (ladder_of same_value history).rows; clash = None } =
+    λ j. record { rows = (ladder_of same_value history).rows; clash = before j } in
     let whole : ladder_of same_value (history ++ ms) ≡ add_rows same_value (record { rows = (ladder_of same_value history).rows; clash = None }) ms =
     joined ∙ ap (λ l. add_rows same_value l ms) is in
     let stand = rows_grow (ladder_of same_value history).rows (distinct_terms history) ms (ladder before) (add before) (ap (λ l. l.clash) (sym whole) ∙ calm) in

@@ -1,6 +1,8 @@
 -- The machine over terms and the machine in octets agree; so the run in octets is the value of the run in terms.
 use Rattle.std.proofs.Common.{◌≡◌, ℕ, List, map, Option, Some, None, refl, ap, sym, ◌∙◌}
 use Rattle.std.specs.Prelude.{option_map}
+use Rattle.std.specs.List.{AllByRecursion as AllOf}
+use Rattle.lte_events.specs.Ranges.{IsEvent}
 use Rattle.lte_events.specs.declared.events.Event.{Event}
 use Rattle.key_model.specs.Chain.{ncc_of}
 use Rattle.key_model.specs.Term.{Term}
@@ -12,7 +14,6 @@ use Rattle.lte_machine.specs.Ciphers.{Ciphers, under_keys, nas_octets, srb_octet
 use Rattle.lte_machine.specs.Opening.{Opening, OpensNothing, OpensNas, OpensSrb, OpensDrb, open_octets}
 use Rattle.lte_machine.specs.Carried.{run_value, report_value}
 use Rattle.lte_machine.specs.Machines.{Kept, machine_in_octets, opening_by_octets, written_machine, written_in_values, kept_in_values}
-use Rattle.lte_machine.specs.Ranges.{AllOf, IsEvent}
 use Rattle.lte_machine.specs.Run.{RunState, replay, report}
 use Rattle.lte_machine.specs.World.{Machine, World}
 use Rattle.lte_machine.proofs.AnnexB.{under_keys_ciphers, values_respect}
@@ -23,12 +24,15 @@ use Rattle.lte_machine.proofs.CipherLaws.{AreCiphers}
 use Rattle.lte_machine.proofs.MapSteps.{map_opening}
 
 module _ {K L : Type 0} (f : K → L) (c : Ciphers L) where
-  nas_octets-map : (header : ℕ) (u : KeyUse K) (e : Option (Ciphering K)) (text : List ℕ) → nas_octets c header (map_use f u) (option_map (map_ciphering f) e) text ≡ nas_octets (under_keys f c) header u e text
+  nas_octets-map : (header : ℕ) (u : KeyUse K) (e : Option (Ciphering K)) (text : List ℕ)
+      → nas_octets c header (map_use f u) (option_map (map_ciphering f) e) text
+      ≡ nas_octets (under_keys f c) header u e text
   unfolding nas_octets
   nas_octets-map header u None text = refl
   nas_octets-map header u (Some e) text = refl
 
-  srb_octets-map : (u : KeyUse K) (e : Option (Ciphering K)) (text : List ℕ) → srb_octets c (map_use f u) (option_map (map_ciphering f) e) text ≡ srb_octets (under_keys f c) u e text
+  srb_octets-map : (u : KeyUse K) (e : Option (Ciphering K)) (text : List ℕ)
+      → srb_octets c (map_use f u) (option_map (map_ciphering f) e) text ≡ srb_octets (under_keys f c) u e text
   unfolding srb_octets
   srb_octets-map u None text = refl
   srb_octets-map u (Some e) text = refl
@@ -102,12 +106,16 @@ module _ (c : Ciphers (List ℕ)) where
     pub run_in_octets : (r : RunState Term ℕ (Outgoing Term ℕ)) (es : List Event) → AllOf IsEvent es → Is r
         → replay (open_octets c) (machine_in_octets c) (run_value c r) es ≡ run_value c (replay (open_octets (under_keys value_of c)) (written_machine c) r es)
     run_in_octets r es are i =
-        sym (replay-map m q value_of ncc_of (kept_in_values c) agree (open_octets (under_keys value_of c)) (open_octets c) (open_octets-map value_of c) I k r es are i)
+        sym (replay-map m q value_of ncc_of (kept_in_values c) agree (open_octets (under_keys value_of c))
+        (open_octets c) (open_octets-map value_of c) I k r es are i)
         ∙ ap (run_value c) (sym (replay_same same_value (under_keys value_of c) (under_keys_ciphers value_of c good) (values_respect c) written_in_values r es))
 
     -- and what is told of its events is the value of what is told of the written machine's
     pub tale_in_octets : (r : RunState Term ℕ (Outgoing Term ℕ)) (es : List Event) → AllOf IsEvent es → Is r
-        → report (open_octets c) (machine_in_octets c) (run_value c r) es ≡ map report_value (report (open_octets (under_keys value_of c)) (written_machine c) r es)
+        → report (open_octets c) (machine_in_octets c) (run_value c r) es
+        ≡ map report_value (report (open_octets (under_keys value_of c)) (written_machine c) r es)
     tale_in_octets r es are i =
-        sym (report-map m q value_of ncc_of (kept_in_values c) agree (open_octets (under_keys value_of c)) (open_octets c) (open_octets-map value_of c) I k r es are i)
-        ∙ ap (map report_value) (sym (tale_same same_value (under_keys value_of c) (under_keys_ciphers value_of c good) (values_respect c) written_in_values r es))
+        sym (report-map m q value_of ncc_of (kept_in_values c) agree (open_octets (under_keys value_of c))
+        (open_octets c) (open_octets-map value_of c) I k r es are i)
+        ∙ ap (map report_value) (sym (tale_same same_value (under_keys value_of c) (under_keys_ciphers value_of c good)
+        (values_respect c) written_in_values r es))

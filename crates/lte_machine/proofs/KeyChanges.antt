@@ -70,7 +70,7 @@ keys_of took = map (λ t. t.key) took
 
 abbrev taken : RunState Term ℕ (Outgoing Term ℕ) → List Term
 taken (Running w) = keys_of w.took
-taken (Stopped chance) = []
+taken (Stopped coincidence) = []
 
 abbrev at_end : List Event → RunState Term ℕ (Outgoing Term ℕ)
 at_end events = replay (open_octets toy) machine start events
@@ -90,7 +90,7 @@ order = spelling_of (RrcRecord.KeyChange (place 0) (record { eea = Eea2 }) 0 2)
 abbrev too_early : RunState Term ℕ (Outgoing Term ℕ) → Answer
 too_early (Running w) =
     (phone_step machine.reading w.phone (PhoneAirPdu 0 1 Srb1 (1 ∷ 0 ∷ 0 ∷ 0 ∷ 0 ∷ [])) (Opened order)).1.answer
-too_early (Stopped chance) = Done
+too_early (Stopped coincidence) = Done
 
 nothing_new : too_early (at_end opening) ≡ NoTrigger
 unfolding computing
@@ -100,7 +100,7 @@ nothing_new = refl
 abbrev on_srb2 : RunState Term ℕ (Outgoing Term ℕ) → Answer
 on_srb2 (Running w) =
     (phone_step machine.reading w.phone (PhoneAirPdu 0 1 Srb2 (0 ∷ 0 ∷ 0 ∷ 0 ∷ 0 ∷ [])) (Opened order)).1.answer
-on_srb2 (Stopped chance) = Done
+on_srb2 (Stopped coincidence) = Done
 
 other_bearer : on_srb2 (at_end (opening ++ renewed)) ≡ WrongKind 6
 unfolding computing

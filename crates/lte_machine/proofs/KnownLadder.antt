@@ -33,7 +33,8 @@ outs_in history ds =
 
 -- EACH DERIVATION MAY BE ADDED
 
-clash_stays : (rows : List (RowOrigin Term)) (c : Clash Term) (ms : List (RowOrigin Term)) → (add_rows same_value (record { rows = rows; clash = Some c }) ms).clash ≡ Some c
+clash_stays : (rows : List (RowOrigin Term)) (c : Clash Term) (ms : List (RowOrigin Term))
+    → (add_rows same_value (record { rows = rows; clash = Some c }) ms).clash ≡ Some c
 clash_stays rows c [] = refl
 clash_stays rows c (m ∷ ms) = clash_stays rows c ms
 
@@ -70,12 +71,16 @@ chain_addables rows (d ∷ ds) well c calm =
     let is : add_row same_value rows (Of d) ≡ record { rows = after; clash = None } = λ j. record { rows = after; clash = one j } in (
       c.0,
       chain_addables after ds grown.well
-          (chain_more (Plus (λ t. Member t (keys_of rows)) d.out) (λ t. Member t (keys_of after)) (after_one d.out (keys_of rows) (keys_of after) grown.keys) ds c.1)
+          (chain_more (Plus (λ t. Member t (keys_of rows)) d.out) (λ t. Member t (keys_of after))
+          (after_one d.out (keys_of rows) (keys_of after) grown.keys) ds c.1)
           (ap (λ l. (add_rows same_value l (map Of ds)).clash) (sym is) ∙ calm),
     )
 
 -- a history goes on by derivations from keys that stand in it
-pub laddered_chain : (history : List (RowOrigin Term)) (ds : List (Derivation Term)) → Laddered history → Chain (λ t. Member t (keys_of history)) ds → Laddered (history ++ map Of ds)
+pub laddered_chain : (history : List (RowOrigin Term)) (ds : List (Derivation Term))
+    → Laddered history
+    → Chain (λ t. Member t (keys_of history)) ds
+    → Laddered (history ++ map Of ds)
 laddered_chain history ds ladder c calm = laddered_more history (map Of ds) ladder addables calm
   where
     addables : (ladder_of same_value history).clash ≡ None → Addables (ladder_of same_value history).rows (map Of ds)
@@ -86,9 +91,13 @@ laddered_chain history ds ladder c calm = laddered_more history (map Of ds) ladd
         let whole : ladder_of same_value (history ++ map Of ds) ≡ add_rows same_value (record { rows = rows; clash = None }) (map Of ds) =
         add_rows_append same_value no_rows history (map Of ds) ∙ ap (λ l. add_rows same_value l (map Of ds)) is in
         chain_addables rows ds stand.well
-        (chain_more (λ t. Member t (keys_of history)) (λ t. Member t (keys_of rows)) (λ t m. subst (Member t) (sym stand.keys) (among_distinct [] (keys_of history) t m)) ds c)
+        (chain_more (λ t. Member t (keys_of history)) (λ t. Member t (keys_of rows))
+        (λ t m. subst (Member t) (sym stand.keys) (among_distinct [] (keys_of history) t m)) ds c)
         (ap (λ l. l.clash) (sym whole) ∙ calm)
 
 -- and by a root that no row is
-pub laddered_root : (history : List (RowOrigin Term)) (root : Term) → Laddered history → root_row same_value root (ladder_of same_value history).rows ≡ None → Laddered (history ++ OfRoot root ∷ [])
+pub laddered_root : (history : List (RowOrigin Term)) (root : Term)
+    → Laddered history
+    → root_row same_value root (ladder_of same_value history).rows ≡ None
+    → Laddered (history ++ OfRoot root ∷ [])
 laddered_root history root ladder none = laddered_more history (OfRoot root ∷ []) ladder (λ calm. (none, tt))

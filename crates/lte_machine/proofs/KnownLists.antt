@@ -1,6 +1,7 @@
 -- Lists each of whose items is so, derivations each from known keys, and what is known to more.
 use Rattle.std.proofs.Common.{◌≡◌, refl, ℕ, zero, suc, ◌-◌, Bool, true, false, cond, nat_lt, List, [], ◌∷◌, ◌++◌, length, Option, Some, None, inl, inr}
 use Rattle.std.specs.Prelude.{◌⊎◌, ℤ, pos, negsuc, filter, find, slice_get}
+use Rattle.std.specs.List.{AllByRecursion as AllOf}
 use Rattle.alg_choice.specs.declared.algs.Algs.{Algs}
 use Rattle.key_model.specs.Derivation.{Derivation, star_made}
 use Rattle.key_model.specs.Term.{Term, Star}
@@ -14,7 +15,6 @@ use Rattle.lte_machine.specs.PhoneState.{Partial, NasContext, Radio, Idle, Conne
 use Rattle.lte_machine.specs.StationState.{Station, Context, Attempt, OverX2, OverS1, Within, X2State, X2Open, X2Ready, X2Commanded, Renewing}
 use Rattle.lte_machine.specs.CoreState.{Core, CorePartial, CoreContext, CoreLink}
 use Rattle.lte_machine.specs.World.{with_one, put_if, put_station, newest_if, record_at, uses_in}
-use Rattle.lte_machine.specs.Ranges.{AllOf}
 use Rattle.lte_machine.specs.Known.{AsKnown, NasKnown, PairKnown, PartialKnown, NasContextKnown, RadioKnown, PhoneKnown, X2Known, AttemptKnown, ContextKnown, PrepKnown, StationKnown, CorePartialKnown, ProcedureKnown, CoreContextKnown, LinkKnown, CoreKnown, CipheringKnown, SentKnown}
 use Rattle.lte_machine.proofs.Rows.{From, from_more}
 
@@ -82,7 +82,11 @@ all_each P f (x ∷ xs) = (f x, all_each P f xs)
 -- what is so of all of a list is so of each
 pub each_of : {A B : Type 0} (P : A → B → Type 0) (xs : List B) → AllOf (λ x. (y : A) → AllOf (P y) xs → P y x) xs
 each_of P [] = tt
-each_of P (x ∷ xs) = ((λ y h. h.0), all_more (λ z. (y : _) → AllOf (P y) xs → P y z) (λ z. (y : _) → AllOf (P y) (x ∷ xs) → P y z) (λ z f y h. f y h.1) xs (each_of P xs))
+each_of P (x ∷ xs) = (
+  (λ y h. h.0),
+  all_more (λ z. (y : _) → AllOf (P y) xs → P y z) (λ z. (y : _) → AllOf (P y) (x ∷ xs) → P y z)
+      (λ z f y h. f y h.1) xs (each_of P xs),
+)
 
 module _ (P : Station Term ℕ → Type 0) (id : ℕ) (new : Station Term ℕ) (n : P new) where
   put_one : (b : Bool) (s : Station Term ℕ) → P s → P (put_if b new s)

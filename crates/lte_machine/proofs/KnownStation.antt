@@ -1,6 +1,7 @@
 -- Each row of a station derives from keys that are known, and leaves keys that are.
 use Rattle.std.proofs.Common.{◌≡◌, refl, subst, ℕ, nat_le, Bool, [], ◌∷◌, ◌++◌, Option, Some, None, option_map}
 use Rattle.std.specs.Prelude.{not}
+use Rattle.std.specs.List.{AllByRecursion as AllOf}
 use Rattle.key_model.specs.Term.{Term}
 use Rattle.key_model.specs.HandoverTable.{NumberedKey}
 use Rattle.key_model.specs.Reading.{term_reading_by}
@@ -11,7 +12,6 @@ use Rattle.lte_machine.specs.StationState.{Station, Context, Attempt, OverX2, Ov
 use Rattle.lte_machine.specs.StationRows.{StationRow, OfRecord, OfAir, OfAct}
 use Rattle.lte_machine.specs.StationKeys.{x2_spent, spent_in, commanded, given_up, with_security, with_rrc_taken, with_packet_taken, with_skipped, station_does}
 use Rattle.lte_machine.specs.StationRecords.{with_pair, with_s1_ack, with_x2_ack, source_release}
-use Rattle.lte_machine.specs.Ranges.{AllOf}
 use Rattle.lte_machine.specs.Known.{PairKnown, StationKeyKnown, X2Known, AttemptKnown, ContextKnown, PrepKnown, StationKnown, SentKnown}
 use Rattle.lte_machine.proofs.StationCases.{Any, RecordCases, AirCases, ActCases, record_case, air_case, act_case}
 use Rattle.lte_machine.proofs.AttemptSteps.{s1_acked_so, x2_acked_so, commanded_so}
@@ -87,14 +87,50 @@ module _ (same : Term → Term → Bool) (P Q : Term → Type 0) (s : Station Te
         nothing = λ answer. (tt, λ o. (q, tt));
         given = λ conn cell caps algs air kenb k. (as_chain same P kenb.key algs k.0, λ o. ((((k.1, tt), (o.0, o.1.0, o.1.1.0), tt), tt), (o.1.0, tt)));
         released = λ key k. (tt, λ o. ((tt, tt), tt));
-        taken = λ conn origin pair k. (tt, λ o. ((mapped_known Q (with_pair pair) (λ c h. ((h.0.0, k.1), h.1, h.2)) s.context q.0, q.1), release_known Q conn origin));
-        by_s1 = λ w pair k. (star_chain same P pair.key w.cell.pci w.cell.earfcn w.algs k.0, λ o. ((q.0, admitted_known w.conn _ ((o.0, tt), (o.1.0, o.1.1.0, o.1.1.1.0))), tt));
+        taken = λ conn origin pair k. (
+          tt,
+          λ o. (
+            (mapped_known Q (with_pair pair) (λ c h. ((h.0.0, k.1), h.1, h.2)) s.context q.0, q.1),
+            release_known Q conn origin,
+          ),
+        );
+        by_s1 = λ w pair k. (
+          star_chain same P pair.key w.cell.pci w.cell.earfcn w.algs k.0,
+          λ o. ((q.0, admitted_known w.conn _ ((o.0, tt), (o.1.0, o.1.1.0, o.1.1.1.0))), tt),
+        );
         by_x2 = λ w star k. (as_chain same P star.key w.algs k.0, λ o. ((q.0, admitted_known w.conn _ ((k.1, tt), (o.0, o.1.0, o.1.1.0))), tt));
-        acked_s1 = λ ncc algs air key k. (tt, λ o. ((mapped_known Q (with_s1_ack ncc algs air) (λ c h. (h.0, h.1, s1_acked_so (AttemptKnown Q) ncc algs air (λ start m. tt) c.attempt h.2)) s.context q.0, q.1), tt));
-        acked_x2 = λ algs air key k. (tt, λ o. ((mapped_known Q (with_x2_ack algs air) (λ c h. (h.0, h.1, x2_acked_so (AttemptKnown Q) algs air (λ start m. m) c.attempt h.2)) s.context q.0, q.1), tt));
+        acked_s1 = λ ncc algs air key k. (
+          tt,
+          λ o. (
+            (
+              mapped_known Q (with_s1_ack ncc algs air)
+                  (λ c h.
+                  (h.0, h.1, s1_acked_so (AttemptKnown Q) ncc algs air (λ start m. tt) c.attempt h.2))
+                  s.context q.0,
+              q.1,
+            ),
+            tt,
+          ),
+        );
+        acked_x2 = λ algs air key k. (
+          tt,
+          λ o. (
+            (
+              mapped_known Q (with_x2_ack algs air)
+                  (λ c h. (h.0, h.1, x2_acked_so (AttemptKnown Q) algs air (λ start m. m) c.attempt h.2))
+                  s.context q.0,
+              q.1,
+            ),
+            tt,
+          ),
+        );
         cancelled = λ from key k. (tt, λ o. ((q.0, all_filter (PrepKnown Q) (λ x. not (is_of from.source from.attempt x)) s.preps q.1), tt));
         left = λ key k. (tt, λ o. ((tt, q.1), tt));
-        renewed = λ conn number air count c e kenb k. let h = here c e in (star_chain same P kenb.key c.cell.pci c.cell.earfcn c.algs k.0, λ o. (((h.0, h.1, tt), (((o.0, tt), (o.1.0, o.1.1.0, o.1.1.1.0)), tt)), (h.1.1, h.1.0)));
+        renewed = λ conn number air count c e kenb k.
+            let h = here c e in (
+              star_chain same P kenb.key c.cell.pci c.cell.earfcn c.algs k.0,
+              λ o. (((h.0, h.1, tt), (((o.0, tt), (o.1.0, o.1.1.0, o.1.1.1.0)), tt)), (h.1.1, h.1.0)),
+            );
       }
 
   air_keeps : AirCases (term_reading_by same) s Any (StationKeeps P Q)
@@ -113,14 +149,54 @@ module _ (same : Term → Term → Bool) (P Q : Term → Type 0) (s : Station Te
   act_keeps =
       record {
         nothing = λ answer. (tt, λ o. (q, tt));
-        by_x2 = λ number target cell k c e. let h = here c e in let b = before c e in (((base_known P c.key.pair c.key.kenb c.key.number b.0.0 b.0.1, tt, refl), tt), λ o. ((((h.0.0, tt), h.1, (o.0, h.0.1)), q.1), o.0));
+        by_x2 = λ number target cell k c e.
+            let h = here c e in
+            let b = before c e in (
+              ((base_known P c.key.pair c.key.kenb c.key.number b.0.0 b.0.1, tt, refl), tt),
+              λ o. ((((h.0.0, tt), h.1, (o.0, h.0.1)), q.1), o.0),
+            );
         by_s1 = λ number target cell k c e. let h = here c e in (tt, λ o. (((h.0, h.1, tt), q.1), tt));
-        within = λ number air cell k c e. let h = here c e in let b = before c e in (star_chain same P _ cell.pci cell.earfcn c.algs (base_known P c.key.pair c.key.kenb c.key.number b.0.0 b.0.1), λ o. ((((h.0.0, tt), h.1, (o.0, h.0.1)), all_append (PrepKnown Q) s.preps _ q.1 (((o.0, tt), (o.1.0, o.1.1.0, o.1.1.1.0)), tt)), tt));
-        commanded = λ order count k c e. let h = here c e in (tt, λ o. (((h.0, h.1, commanded_so (AttemptKnown Q) order (λ a m. tt) (λ a m. tt) (λ a m. tt) c.attempt h.2), q.1), (h.1.1, h.1.0)));
+        within = λ number air cell k c e.
+            let h = here c e in
+            let b = before c e in (
+              star_chain same P _ cell.pci cell.earfcn c.algs
+                  (base_known P c.key.pair c.key.kenb c.key.number b.0.0 b.0.1),
+              λ o. (
+                (
+                  ((h.0.0, tt), h.1, (o.0, h.0.1)),
+                  all_append (PrepKnown Q) s.preps _ q.1 (((o.0, tt), (o.1.0, o.1.1.0, o.1.1.1.0)), tt),
+                ),
+                tt,
+              ),
+            );
+        commanded = λ order count k c e.
+            let h = here c e in (
+              tt,
+              λ o. (
+                (
+                  (
+                    h.0,
+                    h.1,
+                    commanded_so (AttemptKnown Q) order (λ a m. tt) (λ a m. tt) (λ a m. tt) c.attempt h.2,
+                  ),
+                  q.1,
+                ),
+                (h.1.1, h.1.0),
+              ),
+            );
         changed = λ renewal count k c e. let h = here c e in (tt, λ o. ((h, q.1), (h.1.1, h.1.0)));
         cancelled_x2 = λ conn number target k. (tt, λ o. ((mapped_known Q given_up (given_up_known Q) s.context q.0, q.1), tt));
         cancelled_s1 = λ conn number cell k. (tt, λ o. ((mapped_known Q given_up (given_up_known Q) s.context q.0, q.1), tt));
-        cancelled_within = λ number k. (tt, λ o. ((mapped_known Q given_up (given_up_known Q) s.context q.0, all_filter (PrepKnown Q) (λ x. not (is_of s.id number x)) s.preps q.1), tt));
+        cancelled_within = λ number k. (
+          tt,
+          λ o. (
+            (
+              mapped_known Q given_up (given_up_known Q) s.context q.0,
+              all_filter (PrepKnown Q) (λ x. not (is_of s.id number x)) s.preps q.1,
+            ),
+            tt,
+          ),
+        );
         asked = λ number k c e. let h = here c e in (tt, λ o. ((h, q.1), tt));
         packet = λ drb count text k c e. let h = here c e in (tt, λ o. ((h, q.1), h.1.2));
         text = λ srb count text k c e. let h = here c e in (tt, λ o. ((h, q.1), (h.1.1, h.1.0)));
@@ -128,9 +204,13 @@ module _ (same : Term → Term → Bool) (P Q : Term → Type 0) (s : Station Te
       }
 
 -- each row of a station, where the key of the record that was read is known
-pub station_does_keeps : (same : Term → Term → Bool) (P Q : Term → Type 0) → ((t : Term) → P t → Q t) → (row : StationRow) (key : Option (NumberedKey Term ℕ)) (s : Station Term ℕ) →
+pub station_does_keeps : (same : Term → Term → Bool) (P Q : Term → Type 0) → ((t : Term) → P t → Q t) →
+    (row : StationRow) (key : Option (NumberedKey Term ℕ)) (s : Station Term ℕ) →
     PairKnown P key → StationKnown P s → StationKeeps P Q (station_does (term_reading_by same) row key s)
 station_does_keeps same P Q f (OfRecord row) key s k p =
-    record_case (term_reading_by same) s (StationKeeps P Q) (λ row key. PairKnown P key × PairKnown Q key) (record_keeps same P Q s p (station_more P Q f s p)) row key (k, pair_more P Q f key k)
-station_does_keeps same P Q f (OfAir row) key s k p = air_case (term_reading_by same) s (StationKeeps P Q) Any (air_keeps same P Q s p (station_more P Q f s p)) row tt
-station_does_keeps same P Q f (OfAct row) key s k p = act_case (term_reading_by same) s (StationKeeps P Q) Any (act_keeps same P Q s p (station_more P Q f s p)) row tt
+    record_case (term_reading_by same) s (StationKeeps P Q) (λ row key. PairKnown P key × PairKnown Q key)
+    (record_keeps same P Q s p (station_more P Q f s p)) row key (k, pair_more P Q f key k)
+station_does_keeps same P Q f (OfAir row) key s k p =
+    air_case (term_reading_by same) s (StationKeeps P Q) Any (air_keeps same P Q s p (station_more P Q f s p)) row tt
+station_does_keeps same P Q f (OfAct row) key s k p =
+    act_case (term_reading_by same) s (StationKeeps P Q) Any (act_keeps same P Q s p (station_more P Q f s p)) row tt

@@ -1,5 +1,6 @@
 -- Every key of every world of every run was reported, and the rows of its ladder stand for the distinct terms.
 use Rattle.std.proofs.Common.{◌≡◌, refl, ℕ, List, [], ◌∷◌, ◌++◌, map, Option, Some, None, option_map, inl}
+use Rattle.std.specs.List.{AllByRecursion as AllOf}
 use Rattle.alg_choice.specs.declared.caps.Caps.{Caps}
 use Rattle.lte_events.specs.declared.answers.Answer.{Answer}
 use Rattle.lte_events.specs.declared.events.Event.{Event}
@@ -13,7 +14,6 @@ use Rattle.key_model.specs.Term.{Term}
 use Rattle.key_model.specs.Value.{same_value}
 use Rattle.lte_machine.specs.Wire.{KeyUse, Outgoing, SealedNas, PlainNas, SealedRrc, UserPacket, Between}
 use Rattle.lte_machine.specs.Opening.{Opening, Outcome}
-use Rattle.lte_machine.specs.Ranges.{AllOf}
 use Rattle.lte_machine.specs.Reply.{Reply}
 use Rattle.lte_machine.specs.Ladder.{RowOrigin, OfRoot, Of}
 use Rattle.lte_machine.specs.PhoneState.{Phone, PhoneInput}
@@ -39,6 +39,7 @@ use Rattle.lte_machine.proofs.KnownPhone.{PhoneKeeps, phone_does_keeps}
 use Rattle.lte_machine.proofs.KnownStation.{StationKeeps, station_does_keeps}
 use Rattle.lte_machine.proofs.KnownCore.{CoreKeeps, core_does_keeps}
 use Rattle.lte_machine.proofs.Routing.{Turns, no_root, happens_by}
+use Rattle.lte_machine.proofs.Worlds.{TheWorld}
 
 -- a world whose keys were all reported, each derived from keys reported before
 pub record Grounds (w : World Term ℕ (Outgoing Term ℕ)) : Type 0 where
@@ -50,7 +51,10 @@ derived_known : (Q : Term → Type 0) (holder : Holder) (ds : List (Derivation T
 derived_known Q holder [] o = tt
 derived_known Q holder (d ∷ ds) o = (o.0, derived_known Q holder ds o.1)
 
-holds_known : (Q : Term → Type 0) (holder : Holder) (o : Option Term) (ds : List (Derivation Term)) → OfSome Q o → AllOut Q ds → AllOf (λ h. Q h.key) (holds holder o ds)
+holds_known : (Q : Term → Type 0) (holder : Holder) (o : Option Term) (ds : List (Derivation Term))
+    → OfSome Q o
+    → AllOut Q ds
+    → AllOf (λ h. Q h.key) (holds holder o ds)
 holds_known Q holder None ds k o = derived_known Q holder ds o
 holds_known Q holder (Some key) ds k o = (k, derived_known Q holder ds o)
 
@@ -78,10 +82,9 @@ some_more P Q f None h = tt
 some_more P Q f (Some t) h = f t h
 
 -- of any machine over terms whose keys are one where their values are
-module _ (root : ℕ → List ℕ → Term) (octets : Outgoing Term ℕ → List ℕ) (sender : Option (Outgoing Term ℕ) → Option (KeyUse Term)) (opener : Opening Term → List ℕ → Option (Outgoing Term ℕ) → Outcome) where
-  abbrev TheWorld : Type 0
-  TheWorld = World Term ℕ (Outgoing Term ℕ)
-
+module _ (root : ℕ → List ℕ → Term) (octets : Outgoing Term ℕ → List ℕ)
+    (sender : Option (Outgoing Term ℕ) → Option (KeyUse Term))
+    (opener : Opening Term → List ℕ → Option (Outgoing Term ℕ) → Outcome) where
   abbrev m : Machine Term ℕ (Outgoing Term ℕ)
   m = machine_by same_value root octets sender opener
 
@@ -101,7 +104,8 @@ module _ (root : ℕ → List ℕ → Term) (octets : Outgoing Term ℕ → List
 
   -- THE STEP OF ONE ACTOR
 
-  phone_after_grounds : (w : TheWorld) (d : Phone Term ℕ × Reply Term ℕ) → PhoneKeeps (IsReported w) (After w d.1.derived) d → OfSome (IsReported w) d.1.received →
+  phone_after_grounds : (w : TheWorld) (d : Phone Term ℕ × Reply Term ℕ) →
+      PhoneKeeps (IsReported w) (After w d.1.derived) d → OfSome (IsReported w) d.1.received →
       Grounds w → Grounds (phone_after m w d).0
   phone_after_grounds w d k c g =
       let P : Term → Type 0 = IsReported w in
@@ -116,8 +120,13 @@ module _ (root : ℕ → List ℕ → Term) (octets : Outgoing Term ℕ → List
           core = core_more P Q f w.core g.keys.core;
           stations = all_more (StationKnown P) (StationKnown Q) (station_more P Q f) w.stations g.keys.stations;
           sent = all_one (SentKnown Q) d.1.sent w.sent (all_more (SentKnown P) (SentKnown Q) (sent_more P Q f) w.sent g.keys.sent) done.1;
-          uses = all_append (λ u. Q u.key) w.uses (uses_in d.1.sent) (all_more (λ u. P u.key) (λ u. Q u.key) (λ u h. f u.key h) w.uses g.keys.uses) (uses_in_known Q d.1.sent done.1);
-          held = all_append (λ h. Q h.key) w.held (holds AtPhone d.1.received d.1.derived) (all_more (λ h. P h.key) (λ h. Q h.key) (λ h k. f h.key k) w.held g.keys.held)
+          uses =
+              all_append (λ u. Q u.key) w.uses (uses_in d.1.sent)
+              (all_more (λ u. P u.key) (λ u. Q u.key) (λ u h. f u.key h) w.uses g.keys.uses)
+              (uses_in_known Q d.1.sent done.1);
+          held =
+              all_append (λ h. Q h.key) w.held (holds AtPhone d.1.received d.1.derived)
+              (all_more (λ h. P h.key) (λ h. Q h.key) (λ h k. f h.key k) w.held g.keys.held)
               (holds_known Q AtPhone d.1.received d.1.derived (some_more P Q f d.1.received c) outs);
         };
       }
@@ -137,13 +146,19 @@ module _ (root : ℕ → List ℕ → Term) (octets : Outgoing Term ℕ → List
           core = done.0;
           stations = all_more (StationKnown P) (StationKnown Q) (station_more P Q f) w.stations g.keys.stations;
           sent = all_one (SentKnown Q) d.1.sent w.sent (all_more (SentKnown P) (SentKnown Q) (sent_more P Q f) w.sent g.keys.sent) done.1;
-          uses = all_append (λ u. Q u.key) w.uses (uses_in d.1.sent) (all_more (λ u. P u.key) (λ u. Q u.key) (λ u h. f u.key h) w.uses g.keys.uses) (uses_in_known Q d.1.sent done.1);
-          held = all_append (λ h. Q h.key) w.held (holds AtCore d.1.received d.1.derived) (all_more (λ h. P h.key) (λ h. Q h.key) (λ h k. f h.key k) w.held g.keys.held)
+          uses =
+              all_append (λ u. Q u.key) w.uses (uses_in d.1.sent)
+              (all_more (λ u. P u.key) (λ u. Q u.key) (λ u h. f u.key h) w.uses g.keys.uses)
+              (uses_in_known Q d.1.sent done.1);
+          held =
+              all_append (λ h. Q h.key) w.held (holds AtCore d.1.received d.1.derived)
+              (all_more (λ h. P h.key) (λ h. Q h.key) (λ h k. f h.key k) w.held g.keys.held)
               (holds_known Q AtCore d.1.received d.1.derived (some_more P Q f d.1.received c) outs);
         };
       }
 
-  station_after_grounds : (w : TheWorld) (id : ℕ) (d : Station Term ℕ × Reply Term ℕ) → StationKeeps (IsReported w) (After w d.1.derived) d → OfSome (IsReported w) d.1.received →
+  station_after_grounds : (w : TheWorld) (id : ℕ) (d : Station Term ℕ × Reply Term ℕ) →
+      StationKeeps (IsReported w) (After w d.1.derived) d → OfSome (IsReported w) d.1.received →
       Grounds w → Grounds (station_after m w id d).0
   station_after_grounds w id d k c g =
       let P : Term → Type 0 = IsReported w in
@@ -156,10 +171,17 @@ module _ (root : ℕ → List ℕ → Term) (octets : Outgoing Term ℕ → List
         keys = record {
           phone = phone_more P Q f w.phone g.keys.phone;
           core = core_more P Q f w.core g.keys.core;
-          stations = all_put (StationKnown Q) id d.0 done.0 w.stations (all_more (StationKnown P) (StationKnown Q) (station_more P Q f) w.stations g.keys.stations);
+          stations =
+              all_put (StationKnown Q) id d.0 done.0 w.stations
+              (all_more (StationKnown P) (StationKnown Q) (station_more P Q f) w.stations g.keys.stations);
           sent = all_one (SentKnown Q) d.1.sent w.sent (all_more (SentKnown P) (SentKnown Q) (sent_more P Q f) w.sent g.keys.sent) done.1;
-          uses = all_append (λ u. Q u.key) w.uses (uses_in d.1.sent) (all_more (λ u. P u.key) (λ u. Q u.key) (λ u h. f u.key h) w.uses g.keys.uses) (uses_in_known Q d.1.sent done.1);
-          held = all_append (λ h. Q h.key) w.held (holds (AtStation id) d.1.received d.1.derived) (all_more (λ h. P h.key) (λ h. Q h.key) (λ h k. f h.key k) w.held g.keys.held)
+          uses =
+              all_append (λ u. Q u.key) w.uses (uses_in d.1.sent)
+              (all_more (λ u. P u.key) (λ u. Q u.key) (λ u h. f u.key h) w.uses g.keys.uses)
+              (uses_in_known Q d.1.sent done.1);
+          held =
+              all_append (λ h. Q h.key) w.held (holds (AtStation id) d.1.received d.1.derived)
+              (all_more (λ h. P h.key) (λ h. Q h.key) (λ h k. f h.key k) w.held g.keys.held)
               (holds_known Q (AtStation id) d.1.received d.1.derived (some_more P Q f d.1.received c) outs);
         };
       }
@@ -186,33 +208,41 @@ module _ (root : ℕ → List ℕ → Term) (octets : Outgoing Term ℕ → List
       let d = phone_step r w.phone input outcome in
       let Q : Term → Type 0 = After w d.1.derived in
       phone_after_grounds w d
-      (phone_does_keeps same_value (IsReported w) Q (after_more w d.1.derived) (phone_row (plain_phone r w.phone) (front_of r w.phone input) outcome) (phone_root input) w.phone
+      (phone_does_keeps same_value (IsReported w) Q (after_more w d.1.derived)
+      (phone_row (plain_phone r w.phone) (front_of r w.phone input) outcome) (phone_root input) w.phone
       (some_more (IsReported w) Q (after_more w d.1.derived) (phone_root input) k) g.keys.phone)
       tt g
 
-  core_turn_grounds : (w : TheWorld) (input : CoreInput Term ℕ) (came : Option (Outgoing Term ℕ)) → OfSome (IsReported w) (core_root input) → OfSome (IsReported w) (core_received input) →
+  core_turn_grounds : (w : TheWorld) (input : CoreInput Term ℕ) (came : Option (Outgoing Term ℕ)) →
+      OfSome (IsReported w) (core_root input) → OfSome (IsReported w) (core_received input) →
       Grounds w → Grounds (core_turn m w input came).0
   core_turn_grounds w input came k c g =
       let outcome = opener (core_opens r w.core input) (core_pdu_in input) came in
       let d = core_step r w.core input outcome in
       let Q : Term → Type 0 = After w d.1.derived in
       core_after_grounds w d
-      (core_does_keeps same_value (IsReported w) Q (after_more w d.1.derived) (core_row (plain_core r w.core) (core_front_of r w.core input) outcome) (core_root input) w.core
+      (core_does_keeps same_value (IsReported w) Q (after_more w d.1.derived)
+      (core_row (plain_core r w.core) (core_front_of r w.core input) outcome) (core_root input) w.core
       (some_more (IsReported w) Q (after_more w d.1.derived) (core_root input) k) g.keys.core)
       c g
 
-  station_turn_grounds : (w : TheWorld) (id : ℕ) (input : StationInput Term ℕ) (came : Option (Outgoing Term ℕ)) (s : Station Term ℕ) → PairKnown (IsReported w) (station_key input) →
+  station_turn_grounds : (w : TheWorld) (id : ℕ) (input : StationInput Term ℕ) (came : Option (Outgoing Term ℕ))
+      (s : Station Term ℕ) → PairKnown (IsReported w) (station_key input) →
       StationKnown (IsReported w) s → Grounds w → Grounds (turn_of m w id input came (Some s)).0
   station_turn_grounds w id input came s k h g =
       let outcome = opener (station_opens r s input) (station_pdu_in input) came in
       let d = station_step r s input outcome in
       station_after_grounds w id d
-      (station_does_keeps same_value (IsReported w) (After w d.1.derived) (after_more w d.1.derived) (station_row_of r s input outcome) (station_key input) s k h)
+      (station_does_keeps same_value (IsReported w) (After w d.1.derived) (after_more w d.1.derived)
+      (station_row_of r s input outcome) (station_key input) s k h)
       (pair_key_known (IsReported w) (station_key input) k) g
 
   -- AN EVENT
 
-  authenticated_grounds : (w : TheWorld) (ksi : ℕ) (key : Term) (caps : Caps) → known_root m w key ≡ None → Grounds w → Grounds (authenticated m w ksi key caps).0
+  authenticated_grounds : (w : TheWorld) (ksi : ℕ) (key : Term) (caps : Caps)
+      → known_root m w key ≡ None
+      → Grounds w
+      → Grounds (authenticated m w ksi key caps).0
   authenticated_grounds w ksi key caps none g =
       let P : Term → Type 0 = IsReported w in
       let new : List (RowOrigin Term) = OfRoot key ∷ [] in

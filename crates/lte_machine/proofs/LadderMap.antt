@@ -45,17 +45,22 @@ module _ {K L : Type 0} (same : K → K → Bool) (same' : L → L → Bool) (f 
   hit_if-map true h o = refl
   hit_if-map false h o = refl
 
-  hit_from-map : (key : K) (i : ℕ) (rows : List (RowOrigin K)) → option_map (map_hit f) (hit_from same key i rows) ≡ hit_from same' (f key) i (map (map_row f) rows)
+  hit_from-map : (key : K) (i : ℕ) (rows : List (RowOrigin K))
+      → option_map (map_hit f) (hit_from same key i rows) ≡ hit_from same' (f key) i (map (map_row f) rows)
   hit_from-map key i [] = refl
   hit_from-map key i (row ∷ rows) =
       hit_if-map (same (row_key row) key) (record { place = i; found = row }) (hit_from same key (i + 1) rows)
-      ∙ (λ j. hit_if ((sym (e (row_key row) key) ∙ ap (λ k. same' k (f key)) (row_key-map row)) j) (record { place = i; found = map_row f row }) (hit_from-map key (i + 1) rows j))
+      ∙ (λ j. hit_if ((sym (e (row_key row) key) ∙ ap (λ k. same' k (f key)) (row_key-map row)) j)
+      (record { place = i; found = map_row f row }) (hit_from-map key (i + 1) rows j))
 
-  stands-map : (b : Bool) (rows : List (RowOrigin K)) (place : ℕ) (o : RowOrigin K) → map_ladder f (stands_or_not b rows place o) ≡ stands_or_not b (map (map_row f) rows) place (map_row f o)
+  stands-map : (b : Bool) (rows : List (RowOrigin K)) (place : ℕ) (o : RowOrigin K)
+      → map_ladder f (stands_or_not b rows place o) ≡ stands_or_not b (map (map_row f) rows) place (map_row f o)
   stands-map true rows place o = refl
   stands-map false rows place o = refl
 
-  added_at-map : (rows : List (RowOrigin K)) (o : RowOrigin K) (h : Option (Hit K)) → map_ladder f (added_at same rows o h) ≡ added_at same' (map (map_row f) rows) (map_row f o) (option_map (map_hit f) h)
+  added_at-map : (rows : List (RowOrigin K)) (o : RowOrigin K) (h : Option (Hit K))
+      → map_ladder f (added_at same rows o h)
+      ≡ added_at same' (map (map_row f) rows) (map_row f o) (option_map (map_hit f) h)
   added_at-map rows o None = λ j. record { rows = map-append (map_row f) rows (o ∷ []) j; clash = None }
   added_at-map rows o (Some h) =
       stands-map (same_origin same h.found o) rows h.place o
@@ -64,9 +69,12 @@ module _ {K L : Type 0} (same : K → K → Bool) (same' : L → L → Bool) (f 
   add_row-map : (rows : List (RowOrigin K)) (o : RowOrigin K) → map_ladder f (add_row same rows o) ≡ add_row same' (map (map_row f) rows) (map_row f o)
   add_row-map rows o =
       added_at-map rows o (hit same (row_key o) rows)
-      ∙ ap (added_at same' (map (map_row f) rows) (map_row f o)) (hit_from-map (row_key o) 0 rows ∙ ap (λ k. hit_from same' k 0 (map (map_row f) rows)) (row_key-map o))
+      ∙ ap (added_at same' (map (map_row f) rows) (map_row f o))
+      (hit_from-map (row_key o) 0 rows ∙ ap (λ k. hit_from same' k 0 (map (map_row f) rows)) (row_key-map o))
 
-  added_unless-map : (c : Option (Clash K)) (rows : List (RowOrigin K)) (o : RowOrigin K) → map_ladder f (added_unless c same rows o) ≡ added_unless (option_map (map_clash f) c) same' (map (map_row f) rows) (map_row f o)
+  added_unless-map : (c : Option (Clash K)) (rows : List (RowOrigin K)) (o : RowOrigin K)
+      → map_ladder f (added_unless c same rows o)
+      ≡ added_unless (option_map (map_clash f) c) same' (map (map_row f) rows) (map_row f o)
   added_unless-map None rows o = add_row-map rows o
   added_unless-map (Some c) rows o = refl
 

@@ -72,7 +72,8 @@ octet_rows_stand history h =
     keys-map [] = refl
     keys-map (row ∷ rows) = λ j. sym (row_key-map same_value bytes_eq value_of (λ a b. refl) row) j ∷ keys-map rows j
 
-module _ (c : Ciphers Term) (between : Fields → Option (NumberedKey Term ℕ) → List ℕ) (opener : Opening Term → List ℕ → Option (Outgoing Term ℕ) → Outcome) where
+module _ (c : Ciphers Term) (between : Fields → Option (NumberedKey Term ℕ) → List ℕ)
+    (opener : Opening Term → List ℕ → Option (Outgoing Term ℕ) → Outcome) where
   -- every world of every run, with any opener
   pub always_grounds : (setup : Setup) (es : List Event) → Grounds (run (written_with c between opener) (first_world setup) es)
   always_grounds setup es = run_grounds Root (octets_of c between) sender_of opener (first_world setup) es (first_grounds setup)
@@ -179,7 +180,8 @@ module _ (P : Term → Type 0) where
   station_opens_known (FromStationAir (OnStarting count)) s h = starting_opens count s.context h.0
   station_opens_known (FromStationAir (OnSignalling srb count)) s h = signalling_opens srb count s.context h.0
   station_opens_known (FromStationAir (OnUser drb count)) s h = user_opens drb count s.context h.0
-  station_opens_known (FromStationAir (OnPrepared air by count)) s h = prepared_opens count (at_air air s.preps) (all_find (PrepKnown P) (is_at air) s.preps h.1)
+  station_opens_known (FromStationAir (OnPrepared air by count)) s h =
+      prepared_opens count (at_air air s.preps) (all_find (PrepKnown P) (is_at air) s.preps h.1)
 
   link_opens : (srb : Srb) (count : ℕ) (radio : Radio Term ℕ) → RadioKnown P radio → OpeningKnown P (signalling_expects srb count radio)
   link_opens srb count Idle h = tt

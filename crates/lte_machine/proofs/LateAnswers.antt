@@ -41,7 +41,7 @@ at_station id other = false
 
 abbrev holds_key : ℕ → Term → RunState Term ℕ (Outgoing Term ℕ) → Bool
 holds_key id t (Running w) = list_any (λ h. at_station id h.holder && same_term h.key t) w.held
-holds_key id t (Stopped chance) = false
+holds_key id t (Stopped coincidence) = false
 
 abbrev to_stale : List Event
 to_stale = take 16 ordinary ++ ask 1 ∷ number 10 ∷ number 11 ∷ []
@@ -104,7 +104,7 @@ last_of (t ∷ took) made = compared t t.came (made_for t made)
 
 abbrev at_end : RunState Term ℕ (Outgoing Term ℕ) → Option (ℕ × Bool)
 at_end (Running w) = last_of (reverse w.took) w.made
-at_end (Stopped chance) = None
+at_end (Stopped coincidence) = None
 
 -- how far ahead the key was that the phone was ordered last, and whether the phone took it
 abbrev pub last_order : List Event → Option (ℕ × Bool)

@@ -27,6 +27,7 @@ pub mod CoreMap
 pub mod CoreRefused
 pub mod LadderMap
 pub mod WorldMap
+pub mod Worlds
 pub mod NextSame
 pub mod ReplayMap
 mod PhoneExamples
@@ -63,5 +64,4 @@ pub mod StillRun
 pub mod LadderRun
 pub mod MixedRun
 pub mod Mixed
-pub mod Fitting
 pub mod EventByEvent

@@ -17,7 +17,10 @@ by_terms c (OpensSrb u e) pdu came = open_by_uses same_term c (OpensSrb u e) pdu
 by_terms c other pdu came = open_by_uses same_value c other pdu came
 
 -- the machine whose keys are one where their values are, with this opener
-abbrev pub written_with : Ciphers Term → (Fields → Option (NumberedKey Term ℕ) → List ℕ) → (Opening Term → List ℕ → Option (Outgoing Term ℕ) → Outcome) → Machine Term ℕ (Outgoing Term ℕ)
+abbrev pub written_with : Ciphers Term
+    → (Fields → Option (NumberedKey Term ℕ) → List ℕ)
+    → (Opening Term → List ℕ → Option (Outgoing Term ℕ) → Outcome)
+    → Machine Term ℕ (Outgoing Term ℕ)
 written_with c between opener = record (machine_over same_value c between) { opener = opener }
 
 abbrev pub mixed : Ciphers Term → (Fields → Option (NumberedKey Term ℕ) → List ℕ) → Machine Term ℕ (Outgoing Term ℕ)

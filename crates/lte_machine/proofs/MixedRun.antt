@@ -33,7 +33,7 @@ use Rattle.lte_machine.specs.StationStep.{station_front_of, station_opens, stati
 use Rattle.lte_machine.specs.CoreState.{CoreInput, CoreActs, CoreNasPdu, CoreRecord}
 use Rattle.lte_machine.specs.CoreStep.{core_front_of, core_opens, core_pdu_in, core_step}
 use Rattle.lte_events.specs.Class.{class_of}
-use Rattle.lte_machine.specs.World.{Machine, World, phone_after, core_after, station_after, phone_turn, core_turn, station_of_id, turn_of, station_turn, auth_unless, known_root, next_root, content_in, arrives, record_at, delivery, is_sent, injected, happens}
+use Rattle.lte_machine.specs.World.{Machine, phone_after, core_after, station_after, phone_turn, core_turn, station_of_id, turn_of, station_turn, auth_unless, known_root, next_root, content_in, arrives, record_at, delivery, is_sent, injected, happens}
 use Rattle.lte_machine.specs.Machines.{sender_of, machine_over}
 use Rattle.lte_machine.specs.Run.{Running, replay, first_world}
 use Rattle.lte_machine.specs.Distinct.{keys_of, Member, OneValueOneTerm}
@@ -45,6 +45,7 @@ use Rattle.lte_machine.proofs.KnownLadder.{still_in, new_in, laddered_chain}
 use Rattle.lte_machine.proofs.KnownWorld.{Grounds, happens_grounds, first_grounds}
 use Rattle.lte_machine.proofs.StillRun.{goes_on, still_one}
 use Rattle.lte_machine.proofs.LadderRun.{OpeningKnown, core_opens_known, station_opens_known, link_opens_known}
+use Rattle.lte_machine.proofs.Worlds.{TheWorld}
 
 -- TWO KEYS BY VALUE AND BY TERM
 
@@ -104,7 +105,9 @@ SenderAgrees u e (Some (SealedRrc dir station air srb i f text)) = Agree u.key i
 SenderAgrees u e (Some (SealedNas dir header i f text)) = Agree u.key i.key
 SenderAgrees u e other = Unit {0}
 
-sender_agrees : (u : KeyUse Term) (e : Option (Ciphering Term)) (came : Option (Outgoing Term ℕ)) → SenderAgrees u e came → srb_sender same_value u e came ≡ srb_sender same_term u e came
+sender_agrees : (u : KeyUse Term) (e : Option (Ciphering Term)) (came : Option (Outgoing Term ℕ))
+    → SenderAgrees u e came
+    → srb_sender same_value u e came ≡ srb_sender same_term u e came
 sender_agrees u e None h = refl
 sender_agrees u e (Some (SealedNas dir header i f text)) h = λ j. judged (use_agrees u i h j) false text
 sender_agrees u e (Some (PlainNas octets)) h = refl
@@ -122,7 +125,11 @@ module _ (ts : List Term) (own : OneValueOneTerm ts) where
   ciphering_in (Some e) None h k = tt
   ciphering_in (Some e) (Some f) h k = agree_here ts own e.under.key f.under.key h k
 
-  sender_in : (u : KeyUse Term) (e : Option (Ciphering Term)) (came : Option (Outgoing Term ℕ)) → InTs u.key → CipheringKnown InTs e → OfSome (SentKnown InTs) came → SenderAgrees u e came
+  sender_in : (u : KeyUse Term) (e : Option (Ciphering Term)) (came : Option (Outgoing Term ℕ))
+      → InTs u.key
+      → CipheringKnown InTs e
+      → OfSome (SentKnown InTs) came
+      → SenderAgrees u e came
   sender_in u e None h k c = tt
   sender_in u e (Some (SealedNas dir header i f text)) h k c = agree_here ts own u.key i.key h c.0
   sender_in u e (Some (PlainNas octets)) h k c = tt
@@ -141,7 +148,8 @@ module _ (ts : List Term) (own : OneValueOneTerm ts) where
 -- NAS MESSAGES OPEN BY VALUES IN BOTH
 
 command_same : (c : Ciphers Term) (count : ℕ) (algs : Algs) (o : Option (Partial Term)) (pdu : List ℕ) (came : Option (Outgoing Term ℕ)) →
-    open_by_uses same_value c (command_expects (term_reading_by same_value) count algs o) pdu came ≡ by_terms c (command_expects (term_reading_by same_value) count algs o) pdu came
+    open_by_uses same_value c (command_expects (term_reading_by same_value) count algs o) pdu came
+    ≡ by_terms c (command_expects (term_reading_by same_value) count algs o) pdu came
 command_same c count algs None pdu came = refl
 command_same c count algs (Some p) pdu came = refl
 
@@ -159,9 +167,6 @@ packet_same c drb count (Connected l) pdu came = refl
 -- ONE EVENT
 
 module _ (c : Ciphers Term) (between : Fields → Option (NumberedKey Term ℕ) → List ℕ) where
-  abbrev TheWorld : Type 0
-  TheWorld = World Term ℕ (Outgoing Term ℕ)
-
   abbrev m : Machine Term ℕ (Outgoing Term ℕ)
   m = machine_over same_value c between
 
@@ -176,14 +181,18 @@ module _ (c : Ciphers Term) (between : Fields → Option (NumberedKey Term ℕ) 
   by_value o pdu came = open_by_uses same_value c o pdu came
 
   -- by the first one's sender a record is a foreign one where its key is another
-  foreign_differs : (u : KeyUse Term) (e : Option (Ciphering Term)) (pdu : List ℕ) → open_foreign c (OpensSrb u e) pdu ≡ Differs (srb_wanted c u e pdu) (srb_got c e pdu)
+  foreign_differs : (u : KeyUse Term) (e : Option (Ciphering Term)) (pdu : List ℕ)
+      → open_foreign c (OpensSrb u e) pdu ≡ Differs (srb_wanted c u e pdu) (srb_got c e pdu)
   unfolding open_foreign
   foreign_differs u e pdu = refl
 
   foreign : (u i : KeyUse Term) (e : Option (Ciphering Term)) (pdu : List ℕ) (b : Bool) (text : List ℕ) → same_term u.key i.key ≡ false →
       open_case c (OpensSrb u e) pdu (judged (same_uses same_term u i) b text) ≡ Differs (srb_wanted c u e pdu) (srb_got c e pdu)
   foreign u i e pdu b text n =
-      ap (λ x. open_case c (OpensSrb u e) pdu (judged (x && (u.count == i.count) && (u.bearer == i.bearer) && same_dir u.dir i.dir) b text)) n ∙ foreign_differs u e pdu
+      ap (λ x. open_case c (OpensSrb u e) pdu
+      (judged (x && (u.count == i.count) && (u.bearer == i.bearer) && same_dir u.dir i.dir) b text))
+      n
+      ∙ foreign_differs u e pdu
 
   module _ (w : TheWorld) (g : Grounds w) (calm : Calm w) where
     own : OneValueOneTerm (keys_of w.history)
@@ -203,7 +212,9 @@ module _ (c : Ciphers Term) (between : Fields → Option (NumberedKey Term ℕ) 
     start_does radio true count algs station air (Opened text) = link_secured r station air algs count w.phone radio
     start_does radio false count algs station air (Opened text) = (w.phone, only NotAddressed)
 
-    start_is : (named : Bool) (count : ℕ) (algs : Algs) (station air : ℕ) (o : Outcome) → start_does w.phone.radio named count algs station air o ≡ air_does r (start_row count algs named station air o) w.phone
+    start_is : (named : Bool) (count : ℕ) (algs : Algs) (station air : ℕ) (o : Outcome)
+        → start_does w.phone.radio named count algs station air o
+        ≡ air_does r (start_row count algs named station air o) w.phone
     start_is named count algs station air (Differs wanted got) = refl
     start_is true count algs station air (Opened text) = refl
     start_is false count algs station air (Opened text) = refl
@@ -219,10 +230,12 @@ module _ (c : Ciphers Term) (between : Fields → Option (NumberedKey Term ℕ) 
         (new_in w.history (map Of ds) (as_keys_of r x.kenb algs).rrc_int (inr (inl refl))) (still_in w.history (map Of ds) l k) a
 
     -- where the two machines take a record for different ones, both refuse it
-    apart_refused : (x : Waiting Term) (named : Bool) (count : ℕ) (algs : Algs) (station air : ℕ) (l : Term) → RadioKnown (IsReported w) (Connecting x) → IsReported w l →
+    apart_refused : (x : Waiting Term) (named : Bool) (count : ℕ) (algs : Algs) (station air : ℕ) (l : Term) →
+        RadioKnown (IsReported w) (Connecting x) → IsReported w l →
         Apart (as_keys_of r x.kenb algs).rrc_int l → (o : Outcome) (wanted got : List ℕ) →
         Calm (phone_world (start_does (Connecting x) named count algs station air o)) →
-        phone_world (start_does (Connecting x) named count algs station air o) ≡ phone_world (start_does (Connecting x) named count algs station air (Differs wanted got))
+        phone_world (start_does (Connecting x) named count algs station air o)
+        ≡ phone_world (start_does (Connecting x) named count algs station air (Differs wanted got))
     apart_refused x named count algs station air l h k a (Differs wanted' got') wanted got later = refl
     apart_refused x false count algs station air l h k a (Opened text) wanted got later = refl
     apart_refused x true count algs station air l h k a (Opened text) wanted got later = absurd (secured_apart x count algs station air l h k a later)
@@ -232,20 +245,27 @@ module _ (c : Ciphers Term) (between : Fields → Option (NumberedKey Term ℕ) 
         Calm (phone_world (start_does radio named count algs station air o)) →
         phone_world (start_does radio named count algs station air o) ≡ phone_world (start_does radio named count algs station air p)
 
-    same_outcome : (radio : Radio Term ℕ) (named : Bool) (count : ℕ) (algs : Algs) (station air : ℕ) (o p : Outcome) → o ≡ p → StartSame radio named count algs station air o p
+    same_outcome : (radio : Radio Term ℕ) (named : Bool) (count : ℕ) (algs : Algs) (station air : ℕ) (o p : Outcome)
+        → o ≡ p
+        → StartSame radio named count algs station air o p
     same_outcome radio named count algs station air o p e later = ap (λ x. phone_world (start_does radio named count algs station air x)) e
 
-    start_by : (x : Waiting Term) (named : Bool) (count : ℕ) (algs : Algs) (station air : ℕ) (l : Term) → RadioKnown (IsReported w) (Connecting x) → IsReported w l →
-        (o p : Outcome) (wanted got : List ℕ) → (Agree (as_keys_of r x.kenb algs).rrc_int l → o ≡ p) → (same_term (as_keys_of r x.kenb algs).rrc_int l ≡ false → p ≡ Differs wanted got) →
+    start_by : (x : Waiting Term) (named : Bool) (count : ℕ) (algs : Algs) (station air : ℕ) (l : Term) →
+        RadioKnown (IsReported w) (Connecting x) → IsReported w l →
+        (o p : Outcome) (wanted got : List ℕ) → (Agree (as_keys_of r x.kenb algs).rrc_int l → o ≡ p) →
+        (same_term (as_keys_of r x.kenb algs).rrc_int l ≡ false → p ≡ Differs wanted got) →
         Agree (as_keys_of r x.kenb algs).rrc_int l ⊎ Apart (as_keys_of r x.kenb algs).rrc_int l → StartSame (Connecting x) named count algs station air o p
-    start_by x named count algs station air l h k o p wanted got alike other (inl e) later = same_outcome (Connecting x) named count algs station air o p (alike e) later
+    start_by x named count algs station air l h k o p wanted got alike other (inl e) later =
+        same_outcome (Connecting x) named count algs station air o p (alike e) later
     start_by x named count algs station air l h k o p wanted got alike other (inr a) later =
         apart_refused x named count algs station air l h k a o wanted got later
         ∙ ap (λ y. phone_world (start_does (Connecting x) named count algs station air y)) (sym (other a.1))
 
     start_came : (x : Waiting Term) (named : Bool) (count : ℕ) (algs : Algs) (station air : ℕ) (pdu : List ℕ) (came : Option (Outgoing Term ℕ)) →
         RadioKnown (IsReported w) (Connecting x) → CameKnown came →
-        StartSame (Connecting x) named count algs station air (by_value (start_expects r count algs (Connecting x)) pdu came) (by_terms c (start_expects r count algs (Connecting x)) pdu came)
+        StartSame (Connecting x) named count algs station air
+        (by_value (start_expects r count algs (Connecting x)) pdu came)
+        (by_terms c (start_expects r count algs (Connecting x)) pdu came)
     start_came x named count algs station air pdu None h k later = refl
     start_came x named count algs station air pdu (Some (PlainNas octets)) h k later = refl
     start_came x named count algs station air pdu (Some (UserPacket dir st a drb f text)) h k later = refl
@@ -269,7 +289,8 @@ module _ (c : Ciphers Term) (between : Fields → Option (NumberedKey Term ℕ) 
 
     start_same : (radio : Radio Term ℕ) (named : Bool) (count : ℕ) (algs : Algs) (station air : ℕ) (pdu : List ℕ) (came : Option (Outgoing Term ℕ)) →
         RadioKnown (IsReported w) radio → CameKnown came →
-        StartSame radio named count algs station air (by_value (start_expects r count algs radio) pdu came) (by_terms c (start_expects r count algs radio) pdu came)
+        StartSame radio named count algs station air (by_value (start_expects r count algs radio) pdu came)
+        (by_terms c (start_expects r count algs radio) pdu came)
     start_same Idle named count algs station air pdu came h k later = refl
     start_same (Connecting x) named count algs station air pdu came h k later = start_came x named count algs station air pdu came h k later
     start_same (Connected l) named count algs station air pdu came h k later = refl
@@ -285,10 +306,15 @@ module _ (c : Ciphers Term) (between : Fields → Option (NumberedKey Term ℕ) 
         phone_world (phone_done plain front root (by_value (phone_expects r front w.phone) pdu came))
         ≡ phone_world (phone_done plain front root (by_terms c (phone_expects r front w.phone) pdu came))
 
-    phone_by : (plain : PlainPhone) (root : Option Term) (front : PhoneFront) (o p : Outcome) → o ≡ p → phone_world (phone_done plain front root o) ≡ phone_world (phone_done plain front root p)
+    phone_by : (plain : PlainPhone) (root : Option Term) (front : PhoneFront) (o p : Outcome)
+        → o ≡ p
+        → phone_world (phone_done plain front root o) ≡ phone_world (phone_done plain front root p)
     phone_by plain root front o p e = ap (λ x. phone_world (phone_done plain front root x)) e
 
-    phone_same : (plain : PlainPhone) (root : Option Term) (front : PhoneFront) (pdu : List ℕ) (came : Option (Outgoing Term ℕ)) → CameKnown came → PhoneSame plain root front pdu came
+    phone_same : (plain : PlainPhone) (root : Option Term) (front : PhoneFront) (pdu : List ℕ)
+        (came : Option (Outgoing Term ℕ))
+        → CameKnown came
+        → PhoneSame plain root front pdu came
     phone_same plain root (Settled row) pdu came k later = refl
     phone_same plain root (FromNas (NasSettled row)) pdu came k later = refl
     phone_same plain root (FromNas (AtCommand count algs caps)) pdu came k later =
@@ -300,13 +326,15 @@ module _ (c : Ciphers Term) (between : Fields → Option (NumberedKey Term ℕ) 
         phone_by plain root (FromAir (AtPacket drb count)) _ _ (packet_same c drb count w.phone.radio pdu came)
     phone_same plain root (FromAir (AtSignalling srb count ncc)) pdu came k later =
         phone_by plain root (FromAir (AtSignalling srb count ncc)) _ _
-        (opens_same (keys_of w.history) own c (signalling_expects srb count w.phone.radio) pdu came (link_opens_known (IsReported w) srb count w.phone.radio g.keys.phone.2) k)
+        (opens_same (keys_of w.history) own c (signalling_expects srb count w.phone.radio) pdu came
+        (link_opens_known (IsReported w) srb count w.phone.radio g.keys.phone.2) k)
     phone_same plain root (FromAir (AtStart count algs named station air)) pdu came k later =
         let o : Outcome = by_value (start_expects r count algs w.phone.radio) pdu came in
         let p : Outcome = by_terms c (start_expects r count algs w.phone.radio) pdu came in
         let is = start_is named count algs station air in
         sym (ap phone_world (is o))
-        ∙ start_same w.phone.radio named count algs station air pdu came g.keys.phone.2 k (ap (λ d. (ladder_of same_value (phone_world d).history).clash) (is o) ∙ later)
+        ∙ start_same w.phone.radio named count algs station air pdu came g.keys.phone.2 k
+        (ap (λ d. (ladder_of same_value (phone_world d).history).clash) (is o) ∙ later)
         ∙ ap phone_world (is p)
 
     phone_turn_same : (input : PhoneInput Term) (came : Option (Outgoing Term ℕ)) → CameKnown came → Calm (phone_turn m w input came).0 →
@@ -315,19 +343,26 @@ module _ (c : Ciphers Term) (between : Fields → Option (NumberedKey Term ℕ) 
 
     -- A STEP OF THE CORE, AND OF A STATION
 
-    core_turn_same : (input : CoreInput Term ℕ) (came : Option (Outgoing Term ℕ)) → CameKnown came → (core_turn m w input came).0 ≡ (core_turn (mixed c between) w input came).0
+    core_turn_same : (input : CoreInput Term ℕ) (came : Option (Outgoing Term ℕ))
+        → CameKnown came
+        → (core_turn m w input came).0 ≡ (core_turn (mixed c between) w input came).0
     core_turn_same input came k =
         ap (λ x. (core_after m w (core_step r w.core input x)).0)
-        (opens_same (keys_of w.history) own c (core_opens r w.core input) (core_pdu_in input) came (core_opens_known (IsReported w) (core_front_of r w.core input) w.core g.keys.core) k)
+        (opens_same (keys_of w.history) own c (core_opens r w.core input) (core_pdu_in input) came
+        (core_opens_known (IsReported w) (core_front_of r w.core input) w.core g.keys.core) k)
 
-    turn_of_same : (id : ℕ) (input : StationInput Term ℕ) (came : Option (Outgoing Term ℕ)) (o : Option (Station Term ℕ)) → OfSome (StationKnown (IsReported w)) o → CameKnown came →
+    turn_of_same : (id : ℕ) (input : StationInput Term ℕ) (came : Option (Outgoing Term ℕ))
+        (o : Option (Station Term ℕ)) → OfSome (StationKnown (IsReported w)) o → CameKnown came →
         (turn_of m w id input came o).0 ≡ (turn_of (mixed c between) w id input came o).0
     turn_of_same id input came None h k = refl
     turn_of_same id input came (Some s) h k =
         ap (λ x. (station_after m w id (station_step r s input x)).0)
-        (opens_same (keys_of w.history) own c (station_opens r s input) (station_pdu_in input) came (station_opens_known (IsReported w) (station_front_of r s input) s h) k)
+        (opens_same (keys_of w.history) own c (station_opens r s input) (station_pdu_in input) came
+        (station_opens_known (IsReported w) (station_front_of r s input) s h) k)
 
-    station_turn_same : (id : ℕ) (input : StationInput Term ℕ) (came : Option (Outgoing Term ℕ)) → CameKnown came → (station_turn m w id input came).0 ≡ (station_turn (mixed c between) w id input came).0
+    station_turn_same : (id : ℕ) (input : StationInput Term ℕ) (came : Option (Outgoing Term ℕ))
+        → CameKnown came
+        → (station_turn m w id input came).0 ≡ (station_turn (mixed c between) w id input came).0
     station_turn_same id input came k =
         turn_of_same id input came (station_of_id id w.stations) (all_find (StationKnown (IsReported w)) (λ s. s.id == id) w.stations g.keys.stations) k
 
@@ -351,7 +386,9 @@ module _ (c : Ciphers Term) (between : Fields → Option (NumberedKey Term ℕ) 
     delivered_same None k later = refl
     delivered_same (Some x) k later = arrives_same (address_of x) (octets_of c between x) (Some x) k later
 
-    injected_same : (to : Address) (pdu : List ℕ) (o : Option ℕ) → Calm (injected m w to pdu o).0 → (injected m w to pdu o).0 ≡ (injected (mixed c between) w to pdu o).0
+    injected_same : (to : Address) (pdu : List ℕ) (o : Option ℕ)
+        → Calm (injected m w to pdu o).0
+        → (injected m w to pdu o).0 ≡ (injected (mixed c between) w to pdu o).0
     injected_same to pdu None later = arrives_same to pdu None tt later
     injected_same to pdu (Some number) later = refl
 

@@ -128,7 +128,12 @@ module _ {K C : Type 0} (r : Reading K C) (s : Core K C) (pdu : List ℕ) where
       by_test HeaderHas (length pdu == 0) _ _ (λ e. tt) (λ e. by_test HeaderHas (core_takes (first_in pdu)) _ _ (λ f. tt) (λ f. tt))
 
   -- a plain message
-  plain_text_has : (keys : Keys K) → s.procedure ≡ Some keys → s.context ≡ None → core_header pdu ≡ Ok 0 → (read : Result NasRecord RecFault) → read_nas (drop 1 pdu) ≡ read
+  plain_text_has : (keys : Keys K)
+      → s.procedure ≡ Some keys
+      → s.context ≡ None
+      → core_header pdu ≡ Ok 0
+      → (read : Result NasRecord RecFault)
+      → read_nas (drop 1 pdu) ≡ read
       → Has (NasSettled (plain_text_row read))
   plain_text_has keys e f h (Err fault) g = λ o. tt
   plain_text_has keys e f h (Ok (SecurityModeCommand ksi algs caps)) g = λ o. tt
@@ -144,7 +149,12 @@ module _ {K C : Type 0} (r : Reading K C) (s : Core K C) (pdu : List ℕ) where
   plain_has (Some keys) None e f h = plain_text_has keys e f h (read_nas (drop 1 pdu)) refl
 
   -- a message of header type 4, and one of another
-  opens_complete_has : (keys : Keys K) → s.procedure ≡ Some keys → core_header pdu ≡ Ok 4 → nat_lt (length pdu) 6 ≡ false → (count : Result ℕ NoneLeft) → estimate_of 0 (sn_in pdu) ≡ count
+  opens_complete_has : (keys : Keys K)
+      → s.procedure ≡ Some keys
+      → core_header pdu ≡ Ok 4
+      → nat_lt (length pdu) 6 ≡ false
+      → (count : Result ℕ NoneLeft)
+      → estimate_of 0 (sn_in pdu) ≡ count
       → Has (opens_complete count)
   opens_complete_has keys e h l (Err spent) f = λ o. tt
   opens_complete_has keys e h l (Ok count) f = record { keys = keys; running = e; header = h; long = l; counted = f }
@@ -154,7 +164,11 @@ module _ {K C : Type 0} (r : Reading K C) (s : Core K C) (pdu : List ℕ) where
   complete_front_has None e h l = λ o. tt
   complete_front_has (Some keys) e h l = opens_complete_has keys e h l (estimate_of 0 (sn_in pdu)) refl
 
-  opens_protected_has : (c : CoreContext K) (header : ℕ) → s.context ≡ Some c → core_header pdu ≡ Ok header → nat_lt (length pdu) 6 ≡ false → (count : Result ℕ NoneLeft)
+  opens_protected_has : (c : CoreContext K) (header : ℕ)
+      → s.context ≡ Some c
+      → core_header pdu ≡ Ok header
+      → nat_lt (length pdu) 6 ≡ false
+      → (count : Result ℕ NoneLeft)
       → estimate_of c.nas.receive (sn_in pdu) ≡ count → Has (opens_protected header count)
   opens_protected_has c header e h l (Err spent) f = λ o. tt
   opens_protected_has c header e h l (Ok count) f = record { context = c; in_use = e; header_is = h; long = l; counted = f }
@@ -164,7 +178,10 @@ module _ {K C : Type 0} (r : Reading K C) (s : Core K C) (pdu : List ℕ) where
   protected_front_has None header e h l = λ o. tt
   protected_front_has (Some c) header e h l = opens_protected_has c header e h l (estimate_of c.nas.receive (sn_in pdu)) refl
 
-  by_header_has : (header : Result ℕ Answer) → core_header pdu ≡ header → HeaderHas header → Has (core_nas_front (plain_core r s).procedure (plain_core r s).context pdu header)
+  by_header_has : (header : Result ℕ Answer)
+      → core_header pdu ≡ header
+      → HeaderHas header
+      → Has (core_nas_front (plain_core r s).procedure (plain_core r s).context pdu header)
   by_header_has (Err answer) e h = λ o. h
   by_header_has (Ok header) e h =
       by_test Has (header == 0) _ _ (λ f. plain_has s.procedure s.context refl refl (typed 0 f)) (λ f.
@@ -186,7 +203,11 @@ module _ {K C : Type 0} (r : Reading K C) (s : Core K C) (pdu : List ℕ) where
       by_test (NasHas r s pdu outcome) (nat_le NUMBERS s.next) _ _ (λ f. (c, inr f))
       (λ f. (c, record { link = link; stands = e; conn_is = refl; next_is = refl; station_is = refl; left = f }))
 
-  complete_has : (count : ℕ) (text : List ℕ) → nas_front r s pdu ≡ OpensComplete count → ByProcedure s pdu count → (read : Result NasRecord RecFault) → read_nas text ≡ read
+  complete_has : (count : ℕ) (text : List ℕ)
+      → nas_front r s pdu ≡ OpensComplete count
+      → ByProcedure s pdu count
+      → (read : Result NasRecord RecFault)
+      → read_nas text ≡ read
       → NasHas r s pdu (Opened text) (complete_row count s.next (plain_core r s).link read)
   complete_has count text e b (Err fault) f = tt
   complete_has count text e b (Ok (SecurityModeCommand ksi algs caps)) f = tt
@@ -201,7 +222,11 @@ module _ {K C : Type 0} (r : Reading K C) (s : Core K C) (pdu : List ℕ) where
   reject_has outcome count cause x None e = tt
   reject_has outcome count cause x (Some keys) e = (cause, keys, e, x)
 
-  protected_has : (header count : ℕ) (text : List ℕ) → nas_front r s pdu ≡ OpensProtected header count → ByContext s pdu header count → (read : Result NasRecord RecFault) → read_nas text ≡ read
+  protected_has : (header count : ℕ) (text : List ℕ)
+      → nas_front r s pdu ≡ OpensProtected header count
+      → ByContext s pdu header count
+      → (read : Result NasRecord RecFault)
+      → read_nas text ≡ read
       → NasHas r s pdu (Opened text) (protected_row (plain_core r s).procedure count read)
   protected_has header count text e b (Err fault) f = tt
   protected_has header count text e b (Ok (SecurityModeCommand ksi algs caps)) f = tt

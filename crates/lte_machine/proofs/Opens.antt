@@ -10,7 +10,7 @@ use Rattle.lte_machine.specs.Ciphers.{Ciphers, ciphered_by, nas_octets, srb_octe
 use Rattle.key_model.specs.HandoverTable.{NumberedKey}
 use Rattle.s1x2_rec.specs.Fields.{Fields}
 use Rattle.lte_machine.specs.Opening.{Opening, OpensNothing, OpensNas, OpensSrb, OpensDrb, Opened, Differs, accepted_of, by_macs, decided, open_octets, open_foreign, open_by_uses, open_case, judged, same_uses, same_ciphering, nas_wanted, srb_wanted, srb_got, srb_text}
-use Rattle.lte_machine.specs.Tuples.{Tuples, tuple_chance, same_sender, tuples_unless}
+use Rattle.lte_machine.specs.Tuples.{Tuples, tuple_coincidence, same_sender, tuples_unless}
 use Rattle.lte_machine.proofs.CipherLaws.{AreCiphers}
 
 -- uses and cipherings that are one by the test have one MAC and one keystream
@@ -86,40 +86,47 @@ drb_opens c good f e text crypts = ap Opened ((λ j. crypts j (c.crypt f text)) 
 -- octets that are not accepted show both MACs
 module _ {K : Type 0} (c : Ciphers K) (same : K → K → Bool) where
   not_accepted : (b : Bool) (u : KeyUse K) (sender : Option (KeyUse K)) (wanted got text : List ℕ) → same_sender same sender u ≡ false
-      → tuple_chance same sender (accepted_of (OpensNas u None) (by_macs b wanted got text)) ≡ None → by_macs b wanted got text ≡ Differs wanted got
+      → tuple_coincidence same sender (accepted_of (OpensNas u None) (by_macs b wanted got text)) ≡ None → by_macs b wanted got text ≡ Differs wanted got
   not_accepted false u sender wanted got text other calm = refl
   not_accepted true u sender wanted got text other calm =
-      let chance : tuple_chance same sender (Some u) ≡ Some (Tuples sender u) = ap (λ b. tuples_unless b sender u) other in
+      let coincidence : tuple_coincidence same sender (Some u) ≡ Some (Tuples sender u) = ap (λ b. tuples_unless b sender u) other in
       cc
 
   pub nas_foreign : (u : KeyUse K) (e : Option (Ciphering K)) (pdu : List ℕ) (sender : Option (KeyUse K)) → same_sender same sender u ≡ false
-      → tuple_chance same sender (accepted_of (OpensNas u e) (open_octets c (OpensNas u e) pdu)) ≡ None
+      → tuple_coincidence same sender (accepted_of (OpensNas u e) (open_octets c (OpensNas u e) pdu)) ≡ None
       → open_foreign c (OpensNas u e) pdu ≡ open_octets c (OpensNas u e) pdu
   unfolding open_octets open_foreign
   nas_foreign u e pdu sender other calm =
       sym (by_test (bytes_eq (nas_wanted c u pdu) (mac_in pdu)) calm)
     where
-      by_test : (b : Bool) → tuple_chance same sender (accepted_of (OpensNas u e) (by_macs b (nas_wanted c u pdu) (mac_in pdu) (ciphered_by c e (sent_in pdu)))) ≡ None
+      by_test : (b : Bool)
+          → tuple_coincidence same sender
+          (accepted_of (OpensNas u e) (by_macs b (nas_wanted c u pdu) (mac_in pdu) (ciphered_by c e (sent_in pdu))))
+          ≡ None
           → by_macs b (nas_wanted c u pdu) (mac_in pdu) (ciphered_by c e (sent_in pdu)) ≡ Differs (nas_wanted c u pdu) (mac_in pdu)
       by_test true h = not_accepted true u sender (nas_wanted c u pdu) (mac_in pdu) (ciphered_by c e (sent_in pdu)) other h
       by_test false h = refl
 
   pub srb_foreign : (u : KeyUse K) (e : Option (Ciphering K)) (pdu : List ℕ) (sender : Option (KeyUse K)) → same_sender same sender u ≡ false
-      → tuple_chance same sender (accepted_of (OpensSrb u e) (open_octets c (OpensSrb u e) pdu)) ≡ None
+      → tuple_coincidence same sender (accepted_of (OpensSrb u e) (open_octets c (OpensSrb u e) pdu)) ≡ None
       → open_foreign c (OpensSrb u e) pdu ≡ open_octets c (OpensSrb u e) pdu
   unfolding open_octets open_foreign
   srb_foreign u e pdu sender other calm =
       sym (by_test (bytes_eq (srb_wanted c u e pdu) (srb_got c e pdu)) calm)
     where
-      by_test : (b : Bool) → tuple_chance same sender (accepted_of (OpensSrb u e) (by_macs b (srb_wanted c u e pdu) (srb_got c e pdu) (srb_text c e pdu))) ≡ None
+      by_test : (b : Bool)
+          → tuple_coincidence same sender
+          (accepted_of (OpensSrb u e) (by_macs b (srb_wanted c u e pdu) (srb_got c e pdu) (srb_text c e pdu)))
+          ≡ None
           → by_macs b (srb_wanted c u e pdu) (srb_got c e pdu) (srb_text c e pdu) ≡ Differs (srb_wanted c u e pdu) (srb_got c e pdu)
       by_test true h = not_accepted true u sender (srb_wanted c u e pdu) (srb_got c e pdu) (srb_text c e pdu) other h
       by_test false h = refl
 
 -- a record opens alike by the uses of its sender and by its octets, where that is no coincidence
-module _ {K C : Type 0} (c : Ciphers K) (good : AreCiphers c) (same : K → K → Bool) (respects : Respects same c) (between : Fields → Option (NumberedKey K C) → List ℕ) where
+module _ {K C : Type 0} (c : Ciphers K) (good : AreCiphers c) (same : K → K → Bool) (respects : Respects same c)
+    (between : Fields → Option (NumberedKey K C) → List ℕ) where
   pub nas_alike : (u : KeyUse K) (e : Option (Ciphering K)) (x : Outgoing K C)
-      → tuple_chance same (integrity_of x) (accepted_of (OpensNas u e) (open_octets c (OpensNas u e) (octets_of c between x))) ≡ None
+      → tuple_coincidence same (integrity_of x) (accepted_of (OpensNas u e) (open_octets c (OpensNas u e) (octets_of c between x))) ≡ None
       → open_by_uses same c (OpensNas u e) (octets_of c between x) (Some x) ≡ open_octets c (OpensNas u e) (octets_of c between x)
   nas_alike u e (SealedNas dir header i f text) calm = by_tests (same_uses same u i) (same_ciphering same e f) refl refl
     where
@@ -139,7 +146,7 @@ module _ {K C : Type 0} (c : Ciphers K) (good : AreCiphers c) (same : K → K �
   nas_alike u e (Between to fields key) calm = nas_foreign c same u e (between fields key) None refl calm
 
   pub srb_alike : (u : KeyUse K) (e : Option (Ciphering K)) (x : Outgoing K C)
-      → tuple_chance same (integrity_of x) (accepted_of (OpensSrb u e) (open_octets c (OpensSrb u e) (octets_of c between x))) ≡ None
+      → tuple_coincidence same (integrity_of x) (accepted_of (OpensSrb u e) (open_octets c (OpensSrb u e) (octets_of c between x))) ≡ None
       → open_by_uses same c (OpensSrb u e) (octets_of c between x) (Some x) ≡ open_octets c (OpensSrb u e) (octets_of c between x)
   srb_alike u e (SealedRrc dir station air srb i f text) calm = by_tests (same_uses same u i) (same_ciphering same e f) refl refl
     where
@@ -159,7 +166,7 @@ module _ {K C : Type 0} (c : Ciphers K) (good : AreCiphers c) (same : K → K �
   srb_alike u e (Between to fields key) calm = srb_foreign c same u e (between fields key) None refl calm
 
   -- and so does what nobody sent
-  pub unsent_alike : (p : Opening K) (pdu : List ℕ) → tuple_chance same None (accepted_of p (open_octets c p pdu)) ≡ None
+  pub unsent_alike : (p : Opening K) (pdu : List ℕ) → tuple_coincidence same None (accepted_of p (open_octets c p pdu)) ≡ None
       → open_by_uses {C = C} same c p pdu None ≡ open_octets c p pdu
   unsent_alike OpensNothing pdu calm = refl
   unsent_alike (OpensNas u e) pdu calm = nas_foreign c same u e pdu None refl calm
@@ -167,7 +174,7 @@ module _ {K C : Type 0} (c : Ciphers K) (good : AreCiphers c) (same : K → K �
   unsent_alike (OpensDrb e) pdu calm = refl
 
   pub sent_alike : (p : Opening K) (x : Outgoing K C)
-      → tuple_chance same (integrity_of x) (accepted_of p (open_octets c p (octets_of c between x))) ≡ None
+      → tuple_coincidence same (integrity_of x) (accepted_of p (open_octets c p (octets_of c between x))) ≡ None
       → open_by_uses same c p (octets_of c between x) (Some x) ≡ open_octets c p (octets_of c between x)
   sent_alike OpensNothing x calm = refl
   sent_alike (OpensNas u e) x calm = nas_alike u e x calm

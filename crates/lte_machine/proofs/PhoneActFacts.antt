@@ -2,6 +2,7 @@
 -- the passed tests say.
 use Rattle.std.proofs.Common.{◌≡◌, refl, sym, ◌∙◌, ℕ, Bool, true, false, List, Option, Some, None, option_map, nat_le}
 use Rattle.std.specs.Prelude.{⊤}
+use Rattle.lte_events.specs.Ranges.{IsPhoneAct}
 use Rattle.lte_events.specs.declared.acts.PhoneAct as acts
 use Rattle.lte_events.specs.declared.acts.PhoneAct.{PhoneAct}
 use Rattle.key_model.specs.Reading.{Reading}
@@ -12,7 +13,6 @@ use Rattle.lte_machine.specs.PhoneChoice.{unless_spent, under_context, service_r
 use Rattle.lte_machine.specs.PhoneRows.{ActRow, ActRefused, ServiceRequested, CompleteResent, WentIdle, PacketSent, RrcSent, NasSent, NasSkipped, BearerSkipped}
 use Rattle.lte_machine.specs.PhoneState.{NasContext, Link, Radio, Idle, Connecting, Connected, Phone, map_context, map_radio}
 use Rattle.lte_machine.specs.PhoneStep.{plain_phone}
-use Rattle.lte_machine.specs.Ranges.{IsPhoneAct}
 use Rattle.lte_machine.specs.Reply.{unseen}
 use Rattle.lte_machine.proofs.Tests.{by_test}
 
@@ -66,7 +66,11 @@ module _ {K C : Type 0} (r : Reading K C) (s : Phone K C) where
   left_has act true row f = tt
   left_has act false row f = f refl
 
-  under_has : (act : PhoneAct) (row : ActRow) → (HasCount s → Has act row) → (o : Option (NasContext K)) → s.context ≡ o → Has act (under_context (option_map (map_context unseen) o) row)
+  under_has : (act : PhoneAct) (row : ActRow)
+      → (HasCount s → Has act row)
+      → (o : Option (NasContext K))
+      → s.context ≡ o
+      → Has act (under_context (option_map (map_context unseen) o) row)
   under_has act row f None e = tt
   under_has act row f (Some c) e = left_has act (nat_le nas_count_limit c.send) row (λ b. f (record { context = c; in_use = e; left = b }))
 
@@ -80,7 +84,9 @@ module _ {K C : Type 0} (r : Reading K C) (s : Phone K C) where
   resend_has (Connecting w) e = tt
   resend_has (Connected l) e =
       by_test (Has acts.TheVariants.ResendComplete) l.by_handover _ _
-      (λ b. left_has acts.TheVariants.ResendComplete (is_spent l.bearers.srb1) CompleteResent (λ c. record { link = l; connected = e; by_handover = b; left = c })) (λ b. tt)
+      (λ b. left_has acts.TheVariants.ResendComplete (is_spent l.bearers.srb1) CompleteResent
+      (λ c. record { link = l; connected = e; by_handover = b; left = c }))
+      (λ b. tt)
 
   idle_has : (radio : Radio K C) → s.radio ≡ radio → Has acts.TheVariants.GoIdle (idle_row (map_radio unseen r.ncc radio))
   idle_has Idle e = tt
@@ -105,11 +111,15 @@ module _ {K C : Type 0} (r : Reading K C) (s : Phone K C) where
       left_has (acts.TheVariants.SendRrc bearer text) (is_spent (srb_counts srb l.bearers)) (RrcSent srb text)
       (λ b. record { bearer = bearer; act_is = refl; link = l; connected = e; left = b })
 
-  nas_skipped_has : (n : ℕ) (o : Option (NasContext K)) → s.context ≡ o → Has (acts.TheVariants.Skip None n) (nas_skipped_row n (option_map (map_context unseen) o))
+  nas_skipped_has : (n : ℕ) (o : Option (NasContext K))
+      → s.context ≡ o
+      → Has (acts.TheVariants.Skip None n) (nas_skipped_row n (option_map (map_context unseen) o))
   nas_skipped_has n None e = tt
   nas_skipped_has n (Some c) e = (c, e)
 
-  skipped_has : (bearer : Bearer) (n : ℕ) (radio : Radio K C) → s.radio ≡ radio → Has (acts.TheVariants.Skip (Some bearer) n) (bearer_skipped_row (which bearer) n (map_radio unseen r.ncc radio))
+  skipped_has : (bearer : Bearer) (n : ℕ) (radio : Radio K C)
+      → s.radio ≡ radio
+      → Has (acts.TheVariants.Skip (Some bearer) n) (bearer_skipped_row (which bearer) n (map_radio unseen r.ncc radio))
   skipped_has bearer n Idle e = tt
   skipped_has bearer n (Connecting w) e = tt
   skipped_has bearer n (Connected l) e = (l, e)

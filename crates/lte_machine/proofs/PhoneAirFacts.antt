@@ -68,7 +68,8 @@ pub record Takes {K C : Type 0} (s : Phone K C) (station air : ℕ) (on : Which)
   pub counted : drb_count (drb_counts drb here.link.bearers).receive pdu ≡ Ok count
 
 -- an RRC text of the connection that opened
-pub record Reads {K C : Type 0} (r : Reading K C) (s : Phone K C) (station air : ℕ) (on : Which) (pdu : List ℕ) (outcome : Outcome) (srb : Srb) (count : ℕ) (x : RrcRecord) : Type 0 where
+pub record Reads {K C : Type 0} (r : Reading K C) (s : Phone K C) (station air : ℕ) (on : Which) (pdu : List ℕ)
+    (outcome : Outcome) (srb : Srb) (count : ℕ) (x : RrcRecord) : Type 0 where
   pub own : ℕ
   pub front : phone_air r s station air on pdu ≡ AtSignalling srb count own
   pub by : Hears r s station air on pdu srb count own
@@ -77,7 +78,8 @@ pub record Reads {K C : Type 0} (r : Reading K C) (s : Phone K C) (station air :
   pub reads : read_rrc text ≡ Ok x
 
 -- the security of the connection starts: the command opened, and names the phone's station and air address
-pub record Secures {K C : Type 0} (r : Reading K C) (s : Phone K C) (station air : ℕ) (on : Which) (pdu : List ℕ) (outcome : Outcome) (st a : ℕ) (algs : Algs) (count : ℕ) : Type 0 where
+pub record Secures {K C : Type 0} (r : Reading K C) (s : Phone K C) (station air : ℕ) (on : Which) (pdu : List ℕ)
+    (outcome : Outcome) (st a : ℕ) (algs : Algs) (count : ℕ) : Type 0 where
   pub named : Bool
   pub front : phone_air r s station air on pdu ≡ AtStart count algs named st a
   pub by : Waits s station air on pdu count algs named st a
@@ -86,7 +88,8 @@ pub record Secures {K C : Type 0} (r : Reading K C) (s : Phone K C) (station air
   pub opened : outcome ≡ Opened text
 
 -- a handover command with algorithms of the phone's own, and the steps of the chain from its number to the command's
-pub record Orders {K C : Type 0} (r : Reading K C) (s : Phone K C) (station air : ℕ) (on : Which) (pdu : List ℕ) (outcome : Outcome) (cell : Place) (steps : ℕ) (algs : Algs) (st a : ℕ) : Type 0 where
+pub record Orders {K C : Type 0} (r : Reading K C) (s : Phone K C) (station air : ℕ) (on : Which) (pdu : List ℕ)
+    (outcome : Outcome) (cell : Place) (steps : ℕ) (algs : Algs) (st a : ℕ) : Type 0 where
   pub count : ℕ
   pub ncc : ℕ
   pub read : Reads r s station air on pdu outcome Signalling1 count (Reconfiguration cell ncc algs st a)
@@ -137,7 +140,12 @@ module _ {K C : Type 0} (r : Reading K C) (s : Phone K C) (station air : ℕ) (o
   start_read_has w e b count c (Ok (RrcData text)) f = λ o. tt
   start_read_has w e b count c (Ok (KeyChange cell algs st a)) f = λ o. tt
 
-  start_at_has : (w : Waiting K) → s.radio ≡ Connecting w → on ≡ OnSrb Signalling1 → (count : Result ℕ PdcpFault) → srb_count 0 pdu ≡ count → FrontHas (start_at s.caps station air pdu count)
+  start_at_has : (w : Waiting K)
+      → s.radio ≡ Connecting w
+      → on ≡ OnSrb Signalling1
+      → (count : Result ℕ PdcpFault)
+      → srb_count 0 pdu ≡ count
+      → FrontHas (start_at s.caps station air pdu count)
   start_at_has w e b (Err fault) c = λ o. tt
   start_at_has w e b (Ok count) c = start_read_has w e b count c (read_rrc (unciphered_text pdu)) refl
 
@@ -147,17 +155,29 @@ module _ {K C : Type 0} (r : Reading K C) (s : Phone K C) (station air : ℕ) (o
   waiting_has w e (OnDrb drb) b = λ o. tt
 
   -- a connected phone
-  signalling_at_has : (here : Linked s station air) (srb : Srb) → on ≡ OnSrb srb → (count : Result ℕ PdcpFault) → srb_count (srb_counts srb here.link.bearers).receive pdu ≡ count
+  signalling_at_has : (here : Linked s station air) (srb : Srb)
+      → on ≡ OnSrb srb
+      → (count : Result ℕ PdcpFault)
+      → srb_count (srb_counts srb here.link.bearers).receive pdu ≡ count
       → FrontHas (signalling_at srb (r.ncc here.link.chain.number) count)
   signalling_at_has here srb b (Err fault) c = λ o. tt
   signalling_at_has here srb b (Ok count) c = record { here = here; bearer = b; counted = c; own_is = refl }
 
-  packet_at_has : (here : Linked s station air) (drb : Drb) → on ≡ OnDrb drb → (count : Result ℕ PdcpFault) → drb_count (drb_counts drb here.link.bearers).receive pdu ≡ count
+  packet_at_has : (here : Linked s station air) (drb : Drb)
+      → on ≡ OnDrb drb
+      → (count : Result ℕ PdcpFault)
+      → drb_count (drb_counts drb here.link.bearers).receive pdu ≡ count
       → FrontHas (packet_at drb count)
   packet_at_has here drb b (Err fault) c = λ o. tt
   packet_at_has here drb b (Ok count) c = record { here = here; bearer = b; counted = c }
 
-  linked_has : (l : Link K C) → s.radio ≡ Connected l → l.station ≡ station → l.air ≡ air → (which : Which) → on ≡ which → FrontHas (linked_front (map_link unseen r.ncc l) pdu which)
+  linked_has : (l : Link K C)
+      → s.radio ≡ Connected l
+      → l.station ≡ station
+      → l.air ≡ air
+      → (which : Which)
+      → on ≡ which
+      → FrontHas (linked_front (map_link unseen r.ncc l) pdu which)
   linked_has l e f g (OnSrb srb) b =
       signalling_at_has (record { link = l; connected = e; station_is = f; air_is = g }) srb b (srb_count (srb_counts srb l.bearers).receive pdu) refl
   linked_has l e f g (OnDrb drb) b =
@@ -175,19 +195,23 @@ module _ {K C : Type 0} (r : Reading K C) (s : Phone K C) (station air : ℕ) (o
   front_has = radio_has s.radio refl
 
   -- a text of the connection
-  command_has : (outcome : Outcome) (srb : Srb) (count own ncc : ℕ) (cell : Place) (algs : Algs) (st a : ℕ) → (x : Reads r s station air on pdu outcome srb count (Reconfiguration cell ncc algs st a))
+  command_has : (outcome : Outcome) (srb : Srb) (count own ncc : ℕ) (cell : Place) (algs : Algs) (st a : ℕ)
+      → (x : Reads r s station air on pdu outcome srb count (Reconfiguration cell ncc algs st a))
       → own ≡ x.own → AirHas outcome (command_taken s.caps srb own cell ncc algs st a)
   command_has outcome Signalling1 count own ncc cell algs st a x e =
       by_test (AirHas outcome) (are_supported s.caps algs) _ _
       (λ b. record { count = count; ncc = ncc; read = x; supported = b; steps_is = ap (λ n. steps_to n ncc) e }) (λ b. tt)
   command_has outcome Signalling2 count own ncc cell algs st a x e = tt
 
-  change_has : (outcome : Outcome) (srb : Srb) (count : ℕ) (cell : Place) (algs : Algs) (st a : ℕ) → Reads r s station air on pdu outcome srb count (KeyChange cell algs st a)
+  change_has : (outcome : Outcome) (srb : Srb) (count : ℕ) (cell : Place) (algs : Algs) (st a : ℕ)
+      → Reads r s station air on pdu outcome srb count (KeyChange cell algs st a)
       → AirHas outcome (change_taken s.caps srb cell algs st a)
   change_has outcome Signalling1 count cell algs st a x = by_test (AirHas outcome) (are_supported s.caps algs) _ _ (λ b. (count, x, b)) (λ b. tt)
   change_has outcome Signalling2 count cell algs st a x = tt
 
-  text_has : (srb : Srb) (count own : ℕ) (text : List ℕ) → phone_air r s station air on pdu ≡ AtSignalling srb count own → Hears r s station air on pdu srb count own
+  text_has : (srb : Srb) (count own : ℕ) (text : List ℕ)
+      → phone_air r s station air on pdu ≡ AtSignalling srb count own
+      → Hears r s station air on pdu srb count own
       → (read : Result RrcRecord RecFault) → read_rrc text ≡ read → AirHas (Opened text) (signalling_read s.caps srb count own read)
   text_has srb count own text e h (Err fault) f = tt
   text_has srb count own text e h (Ok (SecurityModeCommand algs st a)) f = tt

@@ -67,7 +67,10 @@ handover ncc algs = 0x03 ∷ 0 ∷ 11 ∷ 0 ∷ 0 ∷ 0 ∷ 101 ∷ ncc ∷ algs
 
 -- all that reads and counts is open where this is
 computing : Unit {0}
-unfolding least estimate_of has_bit are_supported number_of field_at number_at of_size number_in algs_at caps_at cell_at rest_at nas_reading.command_of nas_reading.reject_of nas_reading.bare nas_reading.data_of nas_reading.read_nas nas_texts.spelling_of rrc_reading.command_of rrc_reading.reconfiguration_of rrc_reading.bare rrc_reading.data_of rrc_reading.read_rrc rrc_texts.spelling_of in_32_bits srb_count drb_count header_for_phone
+unfolding least estimate_of has_bit are_supported number_of field_at number_at of_size number_in algs_at caps_at cell_at
+    rest_at nas_reading.command_of nas_reading.reject_of nas_reading.bare nas_reading.data_of nas_reading.read_nas
+    nas_texts.spelling_of rrc_reading.command_of rrc_reading.reconfiguration_of rrc_reading.bare rrc_reading.data_of
+    rrc_reading.read_rrc rrc_texts.spelling_of in_32_bits srb_count drb_count header_for_phone
 computing = tt
 
 -- inputs, each with the outcome of its opening, and what is told of each step
@@ -245,7 +248,11 @@ under_context =
     ∷ ((PhoneNasPdu (message 0x27 3 []), Opened (5 ∷ 9 ∷ [])), Done, None)
     ∷ []
 
-rejects_under_context : given (after new (authentication ∷ (PhoneNasPdu (message 0x37 4 (nas_command 0 0x22 0xa0)), closed) ∷ authentication ∷ [])) under_context ≡ wanted under_context
+rejects_under_context : given
+    (after new
+    (authentication ∷ (PhoneNasPdu (message 0x37 4 (nas_command 0 0x22 0xa0)), closed) ∷ authentication ∷ []))
+    under_context
+    ≡ wanted under_context
 unfolding computing
 rejects_under_context = refl
 
@@ -307,6 +314,8 @@ unfolding computing
 sent_again = refl
 
 -- a long packet is cut
-long_packet : map (λ (x : Reply Term ℕ). option_map length x.opened) (replies linked ((PhoneAirPdu 0 1 Drb1 (128 ∷ 0 ∷ []), Opened (replicate 1501 7)) ∷ [])) ≡ (Some 1500 ∷ [])
+long_packet : map (λ (x : Reply Term ℕ). option_map length x.opened)
+    (replies linked ((PhoneAirPdu 0 1 Drb1 (128 ∷ 0 ∷ []), Opened (replicate 1501 7)) ∷ []))
+    ≡ (Some 1500 ∷ [])
 unfolding computing
 long_packet = refl

@@ -24,7 +24,8 @@ use Rattle.nh_chain.proofs.CarryFacts.{reached_after-map, map_reached}
 use Rattle.lte_machine.proofs.MapSteps.{map_opening, map_phone_step}
 
 -- the use under which a record was accepted
-accepted_of-map : {K L : Type 0} (f : K → L) (o : Opening K) (outcome : Outcome) → option_map (map_use f) (accepted_of o outcome) ≡ accepted_of (map_opening f o) outcome
+accepted_of-map : {K L : Type 0} (f : K → L) (o : Opening K) (outcome : Outcome)
+    → option_map (map_use f) (accepted_of o outcome) ≡ accepted_of (map_opening f o) outcome
 accepted_of-map f OpensNothing outcome = refl
 accepted_of-map f (OpensNas u e) (Opened text) = refl
 accepted_of-map f (OpensNas u e) (Differs wanted got) = refl
@@ -32,7 +33,8 @@ accepted_of-map f (OpensSrb u e) (Opened text) = refl
 accepted_of-map f (OpensSrb u e) (Differs wanted got) = refl
 accepted_of-map f (OpensDrb e) outcome = refl
 
-ciphering_if-map : {K L : Type 0} (f : K → L) (b : Bool) (e : Ciphering K) → option_map (map_ciphering f) (ciphering_if b e) ≡ ciphering_if b (map_ciphering f e)
+ciphering_if-map : {K L : Type 0} (f : K → L) (b : Bool) (e : Ciphering K)
+    → option_map (map_ciphering f) (ciphering_if b e) ≡ ciphering_if b (map_ciphering f e)
 ciphering_if-map f true e = refl
 ciphering_if-map f false e = refl
 
@@ -77,11 +79,13 @@ module _ {K C L D : Type 0} (r : Reading K C) (q : Reading L D) (f : K → L) (g
 
   -- the uses that an opening needs
 
-  command_expects-map : (count : ℕ) (algs : Algs) (o : Option (Partial K)) → map_opening f (command_expects r count algs o) ≡ command_expects q count algs (option_map (map_partial f) o)
+  command_expects-map : (count : ℕ) (algs : Algs) (o : Option (Partial K))
+      → map_opening f (command_expects r count algs o) ≡ command_expects q count algs (option_map (map_partial f) o)
   command_expects-map count algs None = refl
   command_expects-map count algs (Some p) = rw (c.alg p.root 2 eia2_identity) refl
 
-  message_expects-map : (count header : ℕ) (o : Option (NasContext K)) → map_opening f (message_expects count header o) ≡ message_expects count header (option_map (map_context f) o)
+  message_expects-map : (count header : ℕ) (o : Option (NasContext K))
+      → map_opening f (message_expects count header o) ≡ message_expects count header (option_map (map_context f) o)
   message_expects-map count header None = refl
   message_expects-map count header (Some n) = rw (ciphering_if-map f) refl
 
@@ -90,17 +94,20 @@ module _ {K C L D : Type 0} (r : Reading K C) (q : Reading L D) (f : K → L) (g
   nas_expects-map (AtCommand count algs caps) s = command_expects-map count algs s.partial
   nas_expects-map (AtMessage count header) s = message_expects-map count header s.context
 
-  start_expects-map : (count : ℕ) (algs : Algs) (radio : Radio K C) → map_opening f (start_expects r count algs radio) ≡ start_expects q count algs (map_radio f g radio)
+  start_expects-map : (count : ℕ) (algs : Algs) (radio : Radio K C)
+      → map_opening f (start_expects r count algs radio) ≡ start_expects q count algs (map_radio f g radio)
   start_expects-map count algs Idle = refl
   start_expects-map count algs (Connecting w) = rw (c.alg w.kenb 4 eia2_identity) refl
   start_expects-map count algs (Connected l) = refl
 
-  signalling_expects-map : (srb : Srb) (count : ℕ) (radio : Radio K C) → map_opening f (signalling_expects srb count radio) ≡ signalling_expects srb count (map_radio f g radio)
+  signalling_expects-map : (srb : Srb) (count : ℕ) (radio : Radio K C)
+      → map_opening f (signalling_expects srb count radio) ≡ signalling_expects srb count (map_radio f g radio)
   signalling_expects-map srb count Idle = refl
   signalling_expects-map srb count (Connecting w) = refl
   signalling_expects-map srb count (Connected l) = refl
 
-  packet_expects-map : (drb : Drb) (count : ℕ) (radio : Radio K C) → map_opening f (packet_expects drb count radio) ≡ packet_expects drb count (map_radio f g radio)
+  packet_expects-map : (drb : Drb) (count : ℕ) (radio : Radio K C)
+      → map_opening f (packet_expects drb count radio) ≡ packet_expects drb count (map_radio f g radio)
   packet_expects-map drb count Idle = refl
   packet_expects-map drb count (Connecting w) = refl
   packet_expects-map drb count (Connected l) = refl
@@ -118,25 +125,34 @@ module _ {K C L D : Type 0} (r : Reading K C) (q : Reading L D) (f : K → L) (g
 
   -- the rows on NAS messages
 
-  authenticated-map : (ksi : ℕ) (s : Phone K C) (root : Option K) → map_phone_step f g (authenticated ksi s root) ≡ authenticated ksi (map_phone f g s) (option_map f root)
+  authenticated-map : (ksi : ℕ) (s : Phone K C) (root : Option K)
+      → map_phone_step f g (authenticated ksi s root) ≡ authenticated ksi (map_phone f g s) (option_map f root)
   authenticated-map ksi s None = refl
   authenticated-map ksi s (Some root) = refl
 
-  rejected_under-map : (answer : Answer) (cause : ℕ) (s : Phone K C) (o : Option (NasContext K)) → map_phone_step f g (rejected_under answer cause s o) ≡ rejected_under answer cause (map_phone f g s) (option_map (map_context f) o)
+  rejected_under-map : (answer : Answer) (cause : ℕ) (s : Phone K C) (o : Option (NasContext K))
+      → map_phone_step f g (rejected_under answer cause s o)
+      ≡ rejected_under answer cause (map_phone f g s) (option_map (map_context f) o)
   rejected_under-map answer cause s None = refl
   rejected_under-map answer cause s (Some n) = refl
 
-  context_taken-map : (algs : Algs) (count : ℕ) (s : Phone K C) (o : Option (Partial K)) → map_phone_step f g (context_taken r algs count s o) ≡ context_taken q algs count (map_phone f g s) (option_map (map_partial f) o)
+  context_taken-map : (algs : Algs) (count : ℕ) (s : Phone K C) (o : Option (Partial K))
+      → map_phone_step f g (context_taken r algs count s o)
+      ≡ context_taken q algs count (map_phone f g s) (option_map (map_partial f) o)
   context_taken-map algs count s None = refl
   context_taken-map algs count s (Some p) =
       rw (c.kenb p.root 0, c.alg p.root 1 (identity_of algs.eea), c.alg p.root 2 eia2_identity) refl
 
-  context_taken_connected-map : (algs : Algs) (count : ℕ) (s : Phone K C) (o : Option (Partial K)) → map_phone_step f g (context_taken_connected r algs count s o) ≡ context_taken_connected q algs count (map_phone f g s) (option_map (map_partial f) o)
+  context_taken_connected-map : (algs : Algs) (count : ℕ) (s : Phone K C) (o : Option (Partial K))
+      → map_phone_step f g (context_taken_connected r algs count s o)
+      ≡ context_taken_connected q algs count (map_phone f g s) (option_map (map_partial f) o)
   context_taken_connected-map algs count s None = refl
   context_taken_connected-map algs count s (Some p) =
       rw (c.alg p.root 1 (identity_of algs.eea), c.alg p.root 2 eia2_identity) refl
 
-  nas_opened-map : (count : ℕ) (text : List ℕ) (s : Phone K C) (o : Option (NasContext K)) → map_phone_step f g (nas_opened count text s o) ≡ nas_opened count text (map_phone f g s) (option_map (map_context f) o)
+  nas_opened-map : (count : ℕ) (text : List ℕ) (s : Phone K C) (o : Option (NasContext K))
+      → map_phone_step f g (nas_opened count text s o)
+      ≡ nas_opened count text (map_phone f g s) (option_map (map_context f) o)
   nas_opened-map count text s None = refl
   nas_opened-map count text s (Some n) = refl
 
@@ -150,17 +166,30 @@ module _ {K C L D : Type 0} (r : Reading K C) (q : Reading L D) (f : K → L) (g
 
   -- the rows on PDUs of radio bearers
 
-  link_secured-map : (station air : ℕ) (algs : Algs) (count : ℕ) (s : Phone K C) (radio : Radio K C) → map_phone_step f g (link_secured r station air algs count s radio) ≡ link_secured q station air algs count (map_phone f g s) (map_radio f g radio)
+  link_secured-map : (station air : ℕ) (algs : Algs) (count : ℕ) (s : Phone K C) (radio : Radio K C)
+      → map_phone_step f g (link_secured r station air algs count s radio)
+      ≡ link_secured q station air algs count (map_phone f g s) (map_radio f g radio)
   link_secured-map station air algs count s Idle = refl
   link_secured-map station air algs count s (Connecting w) =
       rw (c.alg w.kenb 3 (identity_of algs.eea), c.alg w.kenb 4 eia2_identity, c.alg w.kenb 5 (identity_of algs.eea), ← c.ncc r.first, c.first) refl
   link_secured-map station air algs count s (Connected l) = refl
 
-  arrived-map : (algs : Algs) (station air : ℕ) (s : Phone K C) (came : Came K C) (x : Reached K C) → map_phone_step f g (arrived r algs station air s came x) ≡ arrived q algs station air (map_phone f g s) (map_came f g came) (map_reached f g x)
+  arrived-map : (algs : Algs) (station air : ℕ) (s : Phone K C) (came : Came K C) (x : Reached K C)
+      → map_phone_step f g (arrived r algs station air s came x)
+      ≡ arrived q algs station air (map_phone f g s) (map_came f g came) (map_reached f g x)
   arrived-map algs station air s came x =
-      rw (map-append (map_derivation f) x.made (as_derivations r x.star.key algs), c.alg x.star.key 3 (identity_of algs.eea), c.alg x.star.key 4 eia2_identity, c.alg x.star.key 5 (identity_of algs.eea), ← c.ncc x.star.number) refl
+      rw (
+        map-append (map_derivation f) x.made (as_derivations r x.star.key algs),
+        c.alg x.star.key 3 (identity_of algs.eea),
+        c.alg x.star.key 4 eia2_identity,
+        c.alg x.star.key 5 (identity_of algs.eea),
+        ← c.ncc x.star.number,
+      )
+      refl
 
-  handed_over-map : (cell : Place) (steps : ℕ) (algs : Algs) (station air : ℕ) (s : Phone K C) (radio : Radio K C) → map_phone_step f g (handed_over r cell steps algs station air s radio) ≡ handed_over q cell steps algs station air (map_phone f g s) (map_radio f g radio)
+  handed_over-map : (cell : Place) (steps : ℕ) (algs : Algs) (station air : ℕ) (s : Phone K C) (radio : Radio K C)
+      → map_phone_step f g (handed_over r cell steps algs station air s radio)
+      ≡ handed_over q cell steps algs station air (map_phone f g s) (map_radio f g radio)
   handed_over-map cell steps algs station air s Idle = refl
   handed_over-map cell steps algs station air s (Connecting w) = refl
   handed_over-map cell steps algs station air s (Connected l) =
@@ -170,13 +199,19 @@ module _ {K C L D : Type 0} (r : Reading K C) (q : Reading L D) (f : K → L) (g
   reached_anew-map : (root : K) (cell : Place) → map_reached f g (reached_anew r root cell) ≡ reached_anew q (f root) cell
   reached_anew-map root cell = rw (c.star (r.kenb root 0) cell.pci cell.earfcn, c.kenb root 0, c.first) refl
 
-  changed_unless-map : (cell : Place) (algs : Algs) (station air : ℕ) (s : Phone K C) (before : Before K C) (root : K) (same : Bool) → map_phone_step f g (changed_unless r cell algs station air s before root same) ≡ changed_unless q cell algs station air (map_phone f g s) (map_before f g before) (f root) same
+  changed_unless-map : (cell : Place) (algs : Algs) (station air : ℕ) (s : Phone K C) (before : Before K C)
+      (root : K) (same : Bool)
+      → map_phone_step f g (changed_unless r cell algs station air s before root same)
+      ≡ changed_unless q cell algs station air (map_phone f g s) (map_before f g before) (f root) same
   changed_unless-map cell algs station air s before root true = refl
   changed_unless-map cell algs station air s before root false =
       arrived-map algs station air s (Changed before root) (reached_anew r root cell)
       ∙ ap (arrived q algs station air (map_phone f g s) (Changed (map_before f g before) (f root))) (reached_anew-map root cell)
 
-  key_changed-map : (cell : Place) (algs : Algs) (station air : ℕ) (s : Phone K C) (radio : Radio K C) (o : Option (NasContext K)) → map_phone_step f g (key_changed r cell algs station air s radio o) ≡ key_changed q cell algs station air (map_phone f g s) (map_radio f g radio) (option_map (map_context f) o)
+  key_changed-map : (cell : Place) (algs : Algs) (station air : ℕ) (s : Phone K C) (radio : Radio K C)
+      (o : Option (NasContext K))
+      → map_phone_step f g (key_changed r cell algs station air s radio o)
+      ≡ key_changed q cell algs station air (map_phone f g s) (map_radio f g radio) (option_map (map_context f) o)
   key_changed-map cell algs station air s Idle o = refl
   key_changed-map cell algs station air s (Connecting w) o = refl
   key_changed-map cell algs station air s (Connected l) None = refl
@@ -184,12 +219,16 @@ module _ {K C L D : Type 0} (r : Reading K C) (q : Reading L D) (f : K → L) (g
       changed_unless-map cell algs station air s (before_of l) n.root (r.same n.root l.chain.root)
       ∙ ap (changed_unless q cell algs station air (map_phone f g s) (before_of (map_link f g l)) (f n.root)) (sym (c.same n.root l.chain.root))
 
-  rrc_opened-map : (srb : Srb) (count : ℕ) (text : List ℕ) (s : Phone K C) (radio : Radio K C) → map_phone_step f g (rrc_opened srb count text s radio) ≡ rrc_opened srb count text (map_phone f g s) (map_radio f g radio)
+  rrc_opened-map : (srb : Srb) (count : ℕ) (text : List ℕ) (s : Phone K C) (radio : Radio K C)
+      → map_phone_step f g (rrc_opened srb count text s radio)
+      ≡ rrc_opened srb count text (map_phone f g s) (map_radio f g radio)
   rrc_opened-map srb count text s Idle = refl
   rrc_opened-map srb count text s (Connecting w) = refl
   rrc_opened-map srb count text s (Connected l) = refl
 
-  packet_opened-map : (drb : Drb) (count : ℕ) (text : List ℕ) (s : Phone K C) (radio : Radio K C) → map_phone_step f g (packet_opened drb count text s radio) ≡ packet_opened drb count text (map_phone f g s) (map_radio f g radio)
+  packet_opened-map : (drb : Drb) (count : ℕ) (text : List ℕ) (s : Phone K C) (radio : Radio K C)
+      → map_phone_step f g (packet_opened drb count text s radio)
+      ≡ packet_opened drb count text (map_phone f g s) (map_radio f g radio)
   packet_opened-map drb count text s Idle = refl
   packet_opened-map drb count text s (Connecting w) = refl
   packet_opened-map drb count text s (Connected l) = refl
@@ -204,34 +243,43 @@ module _ {K C L D : Type 0} (r : Reading K C) (q : Reading L D) (f : K → L) (g
 
   -- the rows on acts of the phone's own
 
-  service_requested-map : (s : Phone K C) (o : Option (NasContext K)) → map_phone_step f g (service_requested r s o) ≡ service_requested q (map_phone f g s) (option_map (map_context f) o)
+  service_requested-map : (s : Phone K C) (o : Option (NasContext K))
+      → map_phone_step f g (service_requested r s o)
+      ≡ service_requested q (map_phone f g s) (option_map (map_context f) o)
   service_requested-map s None = refl
   service_requested-map s (Some n) = rw (c.kenb n.root n.send) refl
 
-  complete_resent-map : (s : Phone K C) (radio : Radio K C) → map_phone_step f g (complete_resent s radio) ≡ complete_resent (map_phone f g s) (map_radio f g radio)
+  complete_resent-map : (s : Phone K C) (radio : Radio K C)
+      → map_phone_step f g (complete_resent s radio) ≡ complete_resent (map_phone f g s) (map_radio f g radio)
   complete_resent-map s Idle = refl
   complete_resent-map s (Connecting w) = refl
   complete_resent-map s (Connected l) = refl
 
-  packet_sent-map : (drb : Drb) (text : List ℕ) (s : Phone K C) (radio : Radio K C) → map_phone_step f g (packet_sent drb text s radio) ≡ packet_sent drb text (map_phone f g s) (map_radio f g radio)
+  packet_sent-map : (drb : Drb) (text : List ℕ) (s : Phone K C) (radio : Radio K C)
+      → map_phone_step f g (packet_sent drb text s radio) ≡ packet_sent drb text (map_phone f g s) (map_radio f g radio)
   packet_sent-map drb text s Idle = refl
   packet_sent-map drb text s (Connecting w) = refl
   packet_sent-map drb text s (Connected l) = refl
 
-  rrc_sent-map : (srb : Srb) (text : List ℕ) (s : Phone K C) (radio : Radio K C) → map_phone_step f g (rrc_sent srb text s radio) ≡ rrc_sent srb text (map_phone f g s) (map_radio f g radio)
+  rrc_sent-map : (srb : Srb) (text : List ℕ) (s : Phone K C) (radio : Radio K C)
+      → map_phone_step f g (rrc_sent srb text s radio) ≡ rrc_sent srb text (map_phone f g s) (map_radio f g radio)
   rrc_sent-map srb text s Idle = refl
   rrc_sent-map srb text s (Connecting w) = refl
   rrc_sent-map srb text s (Connected l) = refl
 
-  nas_sent-map : (text : List ℕ) (s : Phone K C) (o : Option (NasContext K)) → map_phone_step f g (nas_sent text s o) ≡ nas_sent text (map_phone f g s) (option_map (map_context f) o)
+  nas_sent-map : (text : List ℕ) (s : Phone K C) (o : Option (NasContext K))
+      → map_phone_step f g (nas_sent text s o) ≡ nas_sent text (map_phone f g s) (option_map (map_context f) o)
   nas_sent-map text s None = refl
   nas_sent-map text s (Some n) = refl
 
-  nas_skipped-map : (n : ℕ) (s : Phone K C) (o : Option (NasContext K)) → map_phone_step f g (nas_skipped n s o) ≡ nas_skipped n (map_phone f g s) (option_map (map_context f) o)
+  nas_skipped-map : (n : ℕ) (s : Phone K C) (o : Option (NasContext K))
+      → map_phone_step f g (nas_skipped n s o) ≡ nas_skipped n (map_phone f g s) (option_map (map_context f) o)
   nas_skipped-map n s None = refl
   nas_skipped-map n s (Some m) = refl
 
-  bearer_skipped-map : (bearer : Which) (n : ℕ) (s : Phone K C) (radio : Radio K C) → map_phone_step f g (bearer_skipped bearer n s radio) ≡ bearer_skipped bearer n (map_phone f g s) (map_radio f g radio)
+  bearer_skipped-map : (bearer : Which) (n : ℕ) (s : Phone K C) (radio : Radio K C)
+      → map_phone_step f g (bearer_skipped bearer n s radio)
+      ≡ bearer_skipped bearer n (map_phone f g s) (map_radio f g radio)
   bearer_skipped-map bearer n s Idle = refl
   bearer_skipped-map bearer n s (Connecting w) = refl
   bearer_skipped-map bearer n s (Connected l) = refl
@@ -247,7 +295,8 @@ module _ {K C L D : Type 0} (r : Reading K C) (q : Reading L D) (f : K → L) (g
   act_does-map (NasSkipped n) s = nas_skipped-map n s s.context
   act_does-map (BearerSkipped bearer n) s = bearer_skipped-map bearer n s s.radio
 
-  phone_does-map : (row : PhoneRow) (root : Option K) (s : Phone K C) → map_phone_step f g (phone_does r row root s) ≡ phone_does q row (option_map f root) (map_phone f g s)
+  phone_does-map : (row : PhoneRow) (root : Option K) (s : Phone K C)
+      → map_phone_step f g (phone_does r row root s) ≡ phone_does q row (option_map f root) (map_phone f g s)
   phone_does-map (OfAuth (Authenticated ksi)) root s = authenticated-map ksi s root
   phone_does-map (OfNas row) root s = nas_does-map row s
   phone_does-map (OfAir row) root s = air_does-map row s
@@ -260,7 +309,8 @@ module _ {K C L D : Type 0} (r : Reading K C) (q : Reading L D) (f : K → L) (g
       phone_expects-map (front_of r s i) s
       ∙ (λ j. phone_expects q (front_of-map s i j) (map_phone f g s))
 
-  pub phone_step_map : (s : Phone K C) (i : PhoneInput K) (outcome : Outcome) → map_phone_step f g (phone_step r s i outcome) ≡ phone_step q (map_phone f g s) (map_phone_input f i) outcome
+  pub phone_step_map : (s : Phone K C) (i : PhoneInput K) (outcome : Outcome)
+      → map_phone_step f g (phone_step r s i outcome) ≡ phone_step q (map_phone f g s) (map_phone_input f i) outcome
   phone_step_map s i outcome =
       let done = phone_does-map (phone_row (plain_phone r s) (front_of r s i) outcome) (phone_root i) s
       ∙ (λ j. phone_does q (phone_row (sym (plain_phone-map s) j) (front_of-map s i j) outcome) (phone_root-map i j) (map_phone f g s)) in

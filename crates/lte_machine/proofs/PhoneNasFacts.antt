@@ -14,9 +14,8 @@ use Rattle.nas_guard.specs.Open.{sn_in, sent_in}
 use Rattle.nas_rec.specs.Reading.{read_nas}
 use Rattle.nas_rec.specs.declared.records.NasRecord.{NasRecord}
 use Rattle.nas_rec.specs.declared.records.NasRecord.TheVariants.{SecurityModeCommand, SecurityModeComplete, SecurityModeReject, ServiceRequest, NasData}
-use Rattle.lte_machine.specs.Kinds.{same_caps}
 use Rattle.lte_machine.specs.Opening.{Outcome, Opened, Differs}
-use Rattle.lte_machine.specs.PhoneChoice.{NasFront, NasSettled, AtCommand, AtMessage, header_for_phone, rejected, rejected_unspecified, capabilities_mismatch, command_at, command_read, command_front, message_at, message_front, nas_by_header, context_row, command_row, message_read, nas_row}
+use Rattle.lte_machine.specs.PhoneChoice.{NasFront, NasSettled, AtCommand, AtMessage, header_for_phone, rejected, rejected_unspecified, capabilities_mismatch, command_at, command_read, command_front, message_at, message_front, nas_by_header, context_row, same_caps, command_row, message_read, nas_row}
 use Rattle.lte_machine.specs.PhoneRows.{NasRow, NasRefused, RejectedPlain, RejectedUnder, ContextTaken, ContextTakenConnected, NasOpened}
 use Rattle.lte_machine.specs.PhoneState.{Partial, NasContext, Link, Radio, Idle, Connecting, Connected, Phone, map_partial, map_context, map_radio}
 use Rattle.lte_machine.specs.PhoneStep.{plain_phone}
@@ -78,13 +77,19 @@ module _ {K C : Type 0} (r : Reading K C) (s : Phone K C) (pdu : List ℕ) where
   FrontHas (AtMessage count header) = ByContext s pdu count header
 
   -- a Reject, by the context in use
-  rejected_has : (outcome : Outcome) (answer : Answer) (cause : ℕ) (o : Option (NasContext K)) → s.context ≡ o → NasHas outcome (rejected answer cause (option_map (map_context unseen) o))
+  rejected_has : (outcome : Outcome) (answer : Answer) (cause : ℕ) (o : Option (NasContext K))
+      → s.context ≡ o
+      → NasHas outcome (rejected answer cause (option_map (map_context unseen) o))
   rejected_has outcome answer cause None e = e
   rejected_has outcome answer cause (Some c) e =
       by_test (NasHas outcome) (nat_le nas_count_limit c.send) _ _ (λ b. tt) (λ b. record { context = c; in_use = e; left = b })
 
   -- a command
-  command_at_has : header_for_phone pdu ≡ Ok 3 → (p : Partial K) → s.partial ≡ Some p → (algs : Algs) (caps : Caps) → read_nas (sent_in pdu) ≡ Ok (SecurityModeCommand p.ksi algs caps)
+  command_at_has : header_for_phone pdu ≡ Ok 3
+      → (p : Partial K)
+      → s.partial ≡ Some p
+      → (algs : Algs) (caps : Caps)
+      → read_nas (sent_in pdu) ≡ Ok (SecurityModeCommand p.ksi algs caps)
       → are_supported s.caps algs ≡ true → (count : Result ℕ NoneLeft) → estimate_of 0 (sn_in pdu) ≡ count → FrontHas (command_at algs caps count)
   command_at_has t p e algs caps f g (Err none) h = λ o. tt
   command_at_has t p e algs caps f g (Ok count) h = record { header_is = t; partial = p; holds = e; reads = f; supported = g; counted = h }
@@ -95,7 +100,9 @@ module _ {K C : Type 0} (r : Reading K C) (s : Phone K C) (pdu : List ℕ) where
   command_read_has t p e (Ok (SecurityModeCommand ksi algs caps)) f =
       by_test FrontHas (ksi == p.ksi) _ _
       (λ b. by_test FrontHas (are_supported s.caps algs) _ _
-      (λ g. command_at_has t p e algs caps (subst (λ k. read_nas (sent_in pdu) ≡ Ok (SecurityModeCommand k algs caps)) (same_of ksi p.ksi b) f) g (estimate_of 0 (sn_in pdu)) refl)
+      (λ g. command_at_has t p e algs caps
+      (subst (λ k. read_nas (sent_in pdu) ≡ Ok (SecurityModeCommand k algs caps)) (same_of ksi p.ksi b) f) g
+      (estimate_of 0 (sn_in pdu)) refl)
       (λ g o. rejected_has o _ rejected_unspecified s.context refl))
       (λ b o. rejected_has o _ rejected_unspecified s.context refl)
   command_read_has t p e (Ok SecurityModeComplete) f = λ o. tt
@@ -103,21 +110,35 @@ module _ {K C : Type 0} (r : Reading K C) (s : Phone K C) (pdu : List ℕ) where
   command_read_has t p e (Ok ServiceRequest) f = λ o. tt
   command_read_has t p e (Ok (NasData text)) f = λ o. tt
 
-  command_front_has : header_for_phone pdu ≡ Ok 3 → (p : Option (Partial K)) → s.partial ≡ p → FrontHas (command_front s.caps (plain_phone r s).context pdu (option_map (map_partial unseen) p))
+  command_front_has : header_for_phone pdu ≡ Ok 3
+      → (p : Option (Partial K))
+      → s.partial ≡ p
+      → FrontHas (command_front s.caps (plain_phone r s).context pdu (option_map (map_partial unseen) p))
   command_front_has t None e = λ o. tt
   command_front_has t (Some p) e = command_read_has t p e (read_nas (sent_in pdu)) refl
 
   -- another message
-  message_at_has : (header : ℕ) → header_for_phone pdu ≡ Ok header → (c : NasContext K) → s.context ≡ Some c → (count : Result ℕ NoneLeft) → estimate_of c.receive (sn_in pdu) ≡ count
+  message_at_has : (header : ℕ)
+      → header_for_phone pdu ≡ Ok header
+      → (c : NasContext K)
+      → s.context ≡ Some c
+      → (count : Result ℕ NoneLeft)
+      → estimate_of c.receive (sn_in pdu) ≡ count
       → FrontHas (message_at header count)
   message_at_has header t c e (Err none) f = λ o. tt
   message_at_has header t c e (Ok count) f = record { header_is = t; context = c; in_use = e; counted = f }
 
-  message_front_has : (header : ℕ) → header_for_phone pdu ≡ Ok header → (c : Option (NasContext K)) → s.context ≡ c → FrontHas (message_front header pdu (option_map (map_context unseen) c))
+  message_front_has : (header : ℕ)
+      → header_for_phone pdu ≡ Ok header
+      → (c : Option (NasContext K))
+      → s.context ≡ c
+      → FrontHas (message_front header pdu (option_map (map_context unseen) c))
   message_front_has header t None e = λ o. tt
   message_front_has header t (Some c) e = message_at_has header t c e (estimate_of c.receive (sn_in pdu)) refl
 
-  by_header_has : (header : Result ℕ Answer) → header_for_phone pdu ≡ header → FrontHas (nas_by_header s.caps (plain_phone r s).partial (plain_phone r s).context pdu header)
+  by_header_has : (header : Result ℕ Answer)
+      → header_for_phone pdu ≡ header
+      → FrontHas (nas_by_header s.caps (plain_phone r s).partial (plain_phone r s).context pdu header)
   by_header_has (Err answer) e = λ o. tt
   by_header_has (Ok header) e =
       by_test FrontHas (header == 3) _ _ (λ b. command_front_has (subst (λ h. header_for_phone pdu ≡ Ok h) (same_of header 3 b) e) s.partial refl)
@@ -142,7 +163,11 @@ module _ {K C : Type 0} (r : Reading K C) (s : Phone K C) (pdu : List ℕ) where
       (λ b. context_has (Opened text) algs count (record { caps = caps; front = e; by = h; text = text; opened = refl; same = b }) s.radio refl)
       (λ b. rejected_has (Opened text) _ capabilities_mismatch s.context refl)
 
-  message_has : (count header : ℕ) (text : List ℕ) → phone_nas r s pdu ≡ AtMessage count header → ByContext s pdu count header → (read : Result NasRecord RecFault) → read_nas text ≡ read
+  message_has : (count header : ℕ) (text : List ℕ)
+      → phone_nas r s pdu ≡ AtMessage count header
+      → ByContext s pdu count header
+      → (read : Result NasRecord RecFault)
+      → read_nas text ≡ read
       → NasHas (Opened text) (message_read count read)
   message_has count header text e h (Err fault) f = tt
   message_has count header text e h (Ok (SecurityModeCommand ksi algs caps)) f = tt
@@ -151,7 +176,11 @@ module _ {K C : Type 0} (r : Reading K C) (s : Phone K C) (pdu : List ℕ) where
   message_has count header text e h (Ok ServiceRequest) f = tt
   message_has count header text e h (Ok (NasData text')) f = record { header = header; front = e; by = h; text = text; opened = refl; reads = f }
 
-  row_has : (front : NasFront) → phone_nas r s pdu ≡ front → FrontHas front → (outcome : Outcome) → NasHas outcome (nas_row s.caps (plain_phone r s).context (plain_phone r s).radio front outcome)
+  row_has : (front : NasFront)
+      → phone_nas r s pdu ≡ front
+      → FrontHas front
+      → (outcome : Outcome)
+      → NasHas outcome (nas_row s.caps (plain_phone r s).context (plain_phone r s).radio front outcome)
   row_has (NasSettled row) e h outcome = h outcome
   row_has (AtCommand count algs caps) e h outcome = command_has count algs caps e h outcome
   row_has (AtMessage count header) e h (Differs wanted got) = tt

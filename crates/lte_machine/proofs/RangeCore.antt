@@ -3,6 +3,7 @@ use Rattle.std.proofs.Common.{◌≡◌, sym, subst, ℕ, ◌+◌, ◌<◌, ◌�
 use Rattle.std.proofs.lemmas.Bool.Decides.{nat_tests}
 use Rattle.alg_choice.specs.declared.caps.Caps.{Caps}
 use Rattle.annex_a_keys.specs.Cell.{Place, IsCell}
+use Rattle.lte_events.specs.Ranges.{IsCoreAct}
 use Rattle.lte_events.specs.declared.acts.CoreAct.{CoreAct}
 use Rattle.key_model.specs.Reading.{Reading, term_reading_by}
 use Rattle.key_model.specs.Term.{Term}
@@ -11,7 +12,6 @@ use Rattle.rec_base.specs.Ranges.{IsNumber}
 use Rattle.alg_choice.specs.Caps.{IsCaps}
 use Rattle.s1x2_rec.specs.Spelling.{FieldsInRange}
 use Rattle.lte_machine.specs.Opening.{Outcome}
-use Rattle.lte_machine.specs.Ranges.{IsCoreAct}
 use Rattle.lte_machine.specs.Reply.{unseen}
 use Rattle.lte_machine.specs.CoreState.{Core, CoreContext, CoreLink, CoreInput, CoreAuth, CoreActs, CoreNasPdu, CoreRecord, map_core_context}
 use Rattle.lte_machine.specs.CoreChoice.{NUMBERS, caps_in_use, core_fields_row, core_act_row}
@@ -49,14 +49,19 @@ module _ {K C : Type 0} (s : Core K C) (h : CoreRanged s) where
   set_up_ranged act conn cell target caps count i f =
       (unspent conn f.conn_is f.left, subst IsCoreAct f.act_is i, context_caps f.context f.in_use caps f.caps_is)
 
-  switch_ranged : (fields : Fields) (conn station number : ℕ) (alarm : Bool) → FieldsInRange fields → Switches s fields conn station number alarm → IsNumber conn × IsNumber number
+  switch_ranged : (fields : Fields) (conn station number : ℕ) (alarm : Bool)
+      → FieldsInRange fields
+      → Switches s fields conn station number alarm
+      → IsNumber conn × IsNumber number
   switch_ranged fields conn station number alarm i f = let k = subst FieldsInRange f.fields_is i in (k.0, k.2)
 
   caps_ranged : (o : Option (CoreContext K)) → CoreContextRanged o → IsCaps (caps_in_use (option_map (map_core_context unseen) o))
   caps_ranged None k = (omega arith, omega arith)
   caps_ranged (Some c) k = k
 
-  ask_ranged : (fields : Fields) (conn source attempt : ℕ) (cell : Place) (target : ℕ) (caps : Caps) → FieldsInRange fields → Asks s fields conn source attempt cell target caps
+  ask_ranged : (fields : Fields) (conn source attempt : ℕ) (cell : Place) (target : ℕ) (caps : Caps)
+      → FieldsInRange fields
+      → Asks s fields conn source attempt cell target caps
       → IsNumber conn × (source ≤ 7) × IsNumber attempt × IsCell cell × IsCaps caps
   ask_ranged fields conn source attempt cell target caps i f =
       let k = subst FieldsInRange f.fields_is i in (k.0, k.1, k.2, k.3, subst IsCaps (sym f.caps_is) (caps_ranged s.context h.2))

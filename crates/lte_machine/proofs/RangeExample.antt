@@ -1,11 +1,11 @@
 -- The premises of the whole run hold of the ordinary scenario.
 use Rattle.std.proofs.Common.{refl, ℕ, ◌<◌, arith}
 use Rattle.std.specs.Prelude.{[], ◌∷◌, All}
-use Rattle.std.specs.List.{IsDistinct}
+use Rattle.std.specs.List.{IsDistinct, AllByRecursion as AllOf}
 use Rattle.std.proofs.lemmas.List.Elements.{All-cons, All-nil, All-replicate}
 use Rattle.annex_a_keys.specs.Cell.{IsCell}
 use Rattle.rec_base.specs.Ranges.{IsText}
-use Rattle.lte_machine.specs.Ranges.{AllOf, IsEvent, IsStation, IsSiteOf, IsSetup}
+use Rattle.lte_events.specs.Ranges.{IsEvent, IsStation, IsSiteOf, IsSetup}
 use Rattle.lte_machine.proofs.Ordinary.{ordinary}
 use Rattle.lte_machine.proofs.Scenario.{place, setup, auth}
 

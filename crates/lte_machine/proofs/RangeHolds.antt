@@ -1,5 +1,6 @@
 -- What of the actors and of what was sent is in range, in every world of every run.
 use Rattle.std.proofs.Common.{ℕ, ◌≤◌, Option, Some, None, option_map, Result, Ok, Err}
+use Rattle.std.specs.List.{AllByRecursion as AllOf}
 use Rattle.rec_base.specs.declared.faults.RecFault.{RecFault}
 use Rattle.key_model.specs.Chain.{ncc_of}
 use Rattle.key_model.specs.HandoverTable.{NumberedKey}
@@ -12,7 +13,7 @@ use Rattle.s1x2_rec.specs.Spelling.{FieldsInRange}
 use Rattle.annex_a_keys.specs.Cell.{IsCell}
 use Rattle.ho_prep.specs.declared.origins.By.{By}
 use Rattle.ho_prep.specs.Prep.{Prep}
-use Rattle.lte_machine.specs.Ranges.{AllOf, IsStationAct, IsCoreAct}
+use Rattle.lte_events.specs.Ranges.{IsStationAct, IsCoreAct}
 use Rattle.lte_machine.specs.Reply.{Origin}
 use Rattle.lte_machine.specs.Wire.{Outgoing, Between}
 use Rattle.lte_machine.specs.StationState.{Station, Context, Attempt, OverX2, OverS1, Within, X2State, X2Open, X2Ready, X2Commanded, S1State, S1Open, S1Ready, S1Commanded, StationInput, StationActs, AirPdu, StationRecord, Renewing}

@@ -17,5 +17,6 @@ nothing_ranged (Some (SealedRrc dir station air srb u e text)) h = tt
 nothing_ranged (Some (UserPacket dir station air drb e text)) h = tt
 nothing_ranged (Some (Between to fields key)) h = absurd h
 
-pub phone_does_sends : (same : Term → Term → Bool) (row : PhoneRow) (root : Option Term) (s : Phone Term ℕ) → SentRanged (phone_does (term_reading_by same) row root s).1.sent
+pub phone_does_sends : (same : Term → Term → Bool) (row : PhoneRow) (root : Option Term) (s : Phone Term ℕ)
+    → SentRanged (phone_does (term_reading_by same) row root s).1.sent
 phone_does_sends same row root s = nothing_ranged (phone_does (term_reading_by same) row root s).1.sent (phone_gives same row root s).0

@@ -1,7 +1,9 @@
 -- A station's step keeps its state in range, and what it sends on S1 and X2 is in range.
 use Rattle.std.proofs.Common.{◌≡◌, sym, subst, ℕ, ◌+◌, ◌≤◌, ◌<◌, Bool, List, [], ◌∷◌, ◌++◌, Option, Some, None, option_map, Ok, Err, arith}
 use Rattle.std.specs.Prelude.{filter, not, nat_le}
+use Rattle.std.specs.List.{AllByRecursion as AllOf}
 use Rattle.annex_a_keys.specs.Cell.{Place, IsCell}
+use Rattle.lte_events.specs.Ranges.{IsStationAct}
 use Rattle.lte_events.specs.declared.acts.HoKind.{HoKind}
 use Rattle.lte_events.specs.declared.acts.StationAct.{StationAct}
 use Rattle.key_model.specs.Chain.{ncc_of}
@@ -18,7 +20,6 @@ use Rattle.x2_handover.specs.Attempt.{X2Start}
 use Rattle.s1_handover.specs.Attempt.{S1Start}
 use Rattle.lte_machine.specs.Bearers.{Which, which}
 use Rattle.lte_machine.specs.Opening.{Outcome}
-use Rattle.lte_machine.specs.Ranges.{AllOf, IsStationAct}
 use Rattle.lte_machine.specs.Reply.{Origin, Reply, unseen}
 use Rattle.lte_machine.specs.StationState.{Station, Context, X2State, X2Open, X2Ready, X2Commanded, S1State, S1Open, S1Ready, S1Commanded, Interface, StationInput, StationActs, AirPdu, StationRecord}
 use Rattle.lte_machine.specs.StationRows.{Admitted}
@@ -69,7 +70,8 @@ s1_began_ranged (S1Commanded sent) start e h = absurd e
 -- CONTEXTS
 
 -- a context that changes
-with_ranged : (f : Context Term ℕ → Context Term ℕ) → ((c : Context Term ℕ) → ContextRanged (Some c) → ContextRanged (Some (f c))) → (o : Option (Context Term ℕ)) →
+with_ranged : (f : Context Term ℕ → Context Term ℕ) →
+    ((c : Context Term ℕ) → ContextRanged (Some c) → ContextRanged (Some (f c))) → (o : Option (Context Term ℕ)) →
     ContextRanged o → ContextRanged (option_map f o)
 with_ranged f k None h = tt
 with_ranged f k (Some c) h = k c h
@@ -112,9 +114,17 @@ module _ (same : Term → Term → Bool) where
     admitted_ranged w a i = (i.0, i.1, i.2, i.3, i.4, drawn w.air s.next a.air_is a.left h.1)
 
     admitted_preps : (w : Admitted) (p : Prep Term ℕ) → PrepRanged p → AllOf PrepRanged (filter (λ q. nat_le w.conn q.conn) s.preps ++ p ∷ [])
-    admitted_preps w p f = all_append PrepRanged (filter (λ q. nat_le w.conn q.conn) s.preps) (p ∷ []) (all_filter PrepRanged (λ q. nat_le w.conn q.conn) s.preps h.3) (f, tt)
+    admitted_preps w p f =
+        all_append PrepRanged (filter (λ q. nat_le w.conn q.conn) s.preps) (p ∷ [])
+        (all_filter PrepRanged (λ q. nat_le w.conn q.conn) s.preps h.3) (f, tt)
 
-    renewed_ranged : (fields : Fields) → FieldsInRange fields → (conn number held : ℕ) → fields ≡ ContextModification held conn → number ≡ s.next → s.next + 1 < 4294967296 → IsNumber conn × IsNumber number
+    renewed_ranged : (fields : Fields)
+        → FieldsInRange fields
+        → (conn number held : ℕ)
+        → fields ≡ ContextModification held conn
+        → number ≡ s.next
+        → s.next + 1 < 4294967296
+        → IsNumber conn × IsNumber number
     renewed_ranged fields i conn number held says e lt =
         let f : IsNumber held × IsNumber conn = subst FieldsInRange says i in (f.1, drawn number s.next e (omega arith) h.1)
 
@@ -122,16 +132,71 @@ module _ (same : Term → Term → Bool) where
     record_ranged on fields i =
         record {
           nothing = λ answer. (h, tt);
-          given = λ conn cell caps algs air kenb k. let f : FieldsInRange (InitialContext conn cell caps) = subst FieldsInRange k.fields_is i in ((h.0, next_up air, (f.0, f.1, f.2, tt, tt), tt), tt);
+          given = λ conn cell caps algs air kenb k.
+              let f : FieldsInRange (InitialContext conn cell caps) = subst FieldsInRange k.fields_is i in
+              ((h.0, next_up air, (f.0, f.1, f.2, tt, tt), tt), tt);
           released = λ key k. ((h.0, h.1, tt, tt), tt);
-          taken = λ conn origin pair k. let c = here k.context k.serving in ((h.0, h.1, with_ranged (with_pair pair) (λ c k. k) s.context h.2, h.3), release_ranged conn origin (subst IsNumber (sym k.conn_is) c.0) (subst OriginRanged (sym k.origin_is) c.4));
-          by_s1 = λ w pair k. let f = admitted_ranged w k.admits (subst FieldsInRange k.fields_is i) in ((h.0, next_up w.air, h.2, admitted_preps w _ (f.0, f.1, f.2, f.3, f.4, tt)), ((f.0, f.1, f.2, f.3, three_bits pair.number, f.5), tt));
-          by_x2 = λ w star k. let f = admitted_ranged w k.admits (subst FieldsInRange k.fields_is i) in ((h.0, next_up w.air, h.2, admitted_preps w _ (f.0, f.1, f.2, f.3, f.4, tt)), ((f.0, f.2, f.3, f.5), tt));
-          acked_s1 = λ ncc algs air key k. ((h.0, h.1, with_ranged (with_s1_ack ncc algs air) (λ c k. (k.0, k.1, k.2, s1_acked_so (λ o. AttemptRanged o) ncc algs air (λ start m. m) c.attempt k.3, k.4)) s.context h.2, h.3), tt);
-          acked_x2 = λ algs air key k. ((h.0, h.1, with_ranged (with_x2_ack algs air) (λ c k. (k.0, k.1, k.2, x2_acked_so (λ o. AttemptRanged o) algs air (λ start m. m) c.attempt k.3, k.4)) s.context h.2, h.3), tt);
+          taken = λ conn origin pair k.
+              let c = here k.context k.serving in (
+                (h.0, h.1, with_ranged (with_pair pair) (λ c k. k) s.context h.2, h.3),
+                release_ranged conn origin (subst IsNumber (sym k.conn_is) c.0)
+                    (subst OriginRanged (sym k.origin_is) c.4),
+              );
+          by_s1 = λ w pair k.
+              let f = admitted_ranged w k.admits (subst FieldsInRange k.fields_is i) in (
+                (h.0, next_up w.air, h.2, admitted_preps w _ (f.0, f.1, f.2, f.3, f.4, tt)),
+                ((f.0, f.1, f.2, f.3, three_bits pair.number, f.5), tt),
+              );
+          by_x2 = λ w star k.
+              let f = admitted_ranged w k.admits (subst FieldsInRange k.fields_is i) in
+              ((h.0, next_up w.air, h.2, admitted_preps w _ (f.0, f.1, f.2, f.3, f.4, tt)), ((f.0, f.2, f.3, f.5), tt));
+          acked_s1 = λ ncc algs air key k. (
+            (
+              h.0,
+              h.1,
+              with_ranged (with_s1_ack ncc algs air)
+                  (λ c k. (
+                    k.0,
+                    k.1,
+                    k.2,
+                    s1_acked_so (λ o. AttemptRanged o) ncc algs air (λ start m. m) c.attempt k.3,
+                    k.4,
+                  ))
+                  s.context h.2,
+              h.3,
+            ),
+            tt,
+          );
+          acked_x2 = λ algs air key k. (
+            (
+              h.0,
+              h.1,
+              with_ranged (with_x2_ack algs air)
+                  (λ c k. (
+                    k.0,
+                    k.1,
+                    k.2,
+                    x2_acked_so (λ o. AttemptRanged o) algs air (λ start m. m) c.attempt k.3,
+                    k.4,
+                  ))
+                  s.context h.2,
+              h.3,
+            ),
+            tt,
+          );
           cancelled = λ from key k. ((h.0, h.1, h.2, all_filter PrepRanged (λ p. not (is_of from.source from.attempt p)) s.preps h.3), tt);
           left = λ key k. ((h.0, h.1, tt, h.3), tt);
-          renewed = λ conn number air count c e kenb k. let d = here c e in let f = renewed_ranged fields i conn number k.context.conn k.fields_is k.number_is k.left in ((h.0, next_up air, (d.0, d.1, d.2, tt, d.4), ((f.0, h.0, f.1, d.1, d.2, origin_within c.origin d.4), tt)), tt);
+          renewed = λ conn number air count c e kenb k.
+              let d = here c e in
+              let f = renewed_ranged fields i conn number k.context.conn k.fields_is k.number_is k.left in (
+                (
+                  h.0,
+                  next_up air,
+                  (d.0, d.1, d.2, tt, d.4),
+                  ((f.0, h.0, f.1, d.1, d.2, origin_within c.origin d.4), tt),
+                ),
+                tt,
+              );
         }
 
     -- how the preparation came that completes
@@ -146,12 +211,34 @@ module _ (same : Term → Term → Bool) where
           opened = λ srb count text k. ((h.0, h.1, with_ranged (with_rrc_taken srb count) (λ c k. k) s.context h.2, h.3), tt);
           packet = λ drb count text k. ((h.0, h.1, with_ranged (with_packet_taken drb count) (λ c k. k) s.context h.2, h.3), tt);
           by_s1 = λ at count k p e. let f = found at p e in ((h.0, h.1, (f.0, f.3, f.4, tt, tt), tt), ((f.0, h.0, f.3), tt));
-          within = λ at count origin k p e. let f = found at p e in ((h.0, h.1, (f.0, f.3, f.4, tt, subst OriginRanged (sym k.1) (by_ranged air on pdu at (By.Intra k.0) count k.2.0)), tt), tt);
-          by_x2 = λ at count number k p e. let f = found at p e in ((h.0, next_up number, (f.0, f.3, f.4, tt, (f.1, f.2)), tt), ((f.0, h.0, drawn number s.next k.0 k.1 h.1, f.3, f.4), tt));
+          within = λ at count origin k p e.
+              let f = found at p e in (
+                (
+                  h.0,
+                  h.1,
+                  (
+                    f.0,
+                    f.3,
+                    f.4,
+                    tt,
+                    subst OriginRanged (sym k.1) (by_ranged air on pdu at (By.Intra k.0) count k.2.0),
+                  ),
+                  tt,
+                ),
+                tt,
+              );
+          by_x2 = λ at count number k p e.
+              let f = found at p e in (
+                (h.0, next_up number, (f.0, f.3, f.4, tt, (f.1, f.2)), tt),
+                ((f.0, h.0, drawn number s.next k.0 k.1 h.1, f.3, f.4), tt),
+              );
         }
 
     -- a handover that begins draws its number, and its cell is in range
-    starts_ranged : (act : StationAct) (kind : HoKind) (number target : ℕ) (cell : Place) → Starts s act kind number target cell → IsStationAct act → IsNumber number × IsCell cell
+    starts_ranged : (act : StationAct) (kind : HoKind) (number target : ℕ) (cell : Place)
+        → Starts s act kind number target cell
+        → IsStationAct act
+        → IsNumber number × IsCell cell
     starts_ranged act kind number target cell f i = (drawn number s.next f.number_is f.left h.1, subst IsStationAct f.act_is i)
 
     cancels_x2_ranged : (act : StationAct) (conn number target : ℕ) → CancelsX2 s act conn number target → IsNumber conn × IsNumber number
@@ -169,13 +256,48 @@ module _ (same : Term → Term → Bool) where
     act_ranged act i =
         record {
           nothing = λ answer. (h, tt);
-          by_x2 = λ number target cell k c e. let d = here c e in let f = starts_ranged act HoKind.X2 number target cell k i in ((h.0, next_up number, (d.0, d.1, d.2, f.0, d.4), h.3), ((d.0, h.0, f.0, f.1, d.2), (tt, three_bits _)));
-          by_s1 = λ number target cell k c e. let d = here c e in let f = starts_ranged act HoKind.S1 number target cell k i in ((h.0, next_up number, (d.0, d.1, d.2, f, d.4), h.3), ((d.0, h.0, f.0, f.1), tt));
-          within = λ number air cell k c e. let d = here c e in let f = starts_ranged act HoKind.Intra number s.id cell k.starts i in ((h.0, next_up air, (d.0, d.1, d.2, f.0, d.4), all_append PrepRanged s.preps _ h.3 ((d.0, h.0, f.0, f.1, d.2, origin_within c.origin d.4), tt)), tt);
-          commanded = λ order count k c e. let d = here c e in ((h.0, h.1, (d.0, d.1, d.2, commanded_so (λ o. AttemptRanged o) order (λ a m. tt) (λ a m. tt) (λ a m. tt) c.attempt d.3, d.4), h.3), tt);
+          by_x2 = λ number target cell k c e.
+              let d = here c e in
+              let f = starts_ranged act HoKind.X2 number target cell k i in
+              ((h.0, next_up number, (d.0, d.1, d.2, f.0, d.4), h.3), ((d.0, h.0, f.0, f.1, d.2), (tt, three_bits _)));
+          by_s1 = λ number target cell k c e.
+              let d = here c e in
+              let f = starts_ranged act HoKind.S1 number target cell k i in
+              ((h.0, next_up number, (d.0, d.1, d.2, f, d.4), h.3), ((d.0, h.0, f.0, f.1), tt));
+          within = λ number air cell k c e.
+              let d = here c e in
+              let f = starts_ranged act HoKind.Intra number s.id cell k.starts i in (
+                (
+                  h.0,
+                  next_up air,
+                  (d.0, d.1, d.2, f.0, d.4),
+                  all_append PrepRanged s.preps _ h.3 ((d.0, h.0, f.0, f.1, d.2, origin_within c.origin d.4), tt),
+                ),
+                tt,
+              );
+          commanded = λ order count k c e.
+              let d = here c e in (
+                (
+                  h.0,
+                  h.1,
+                  (
+                    d.0,
+                    d.1,
+                    d.2,
+                    commanded_so (λ o. AttemptRanged o) order (λ a m. tt) (λ a m. tt) (λ a m. tt) c.attempt d.3,
+                    d.4,
+                  ),
+                  h.3,
+                ),
+                tt,
+              );
           changed = λ renewal count k c e. ((h.0, h.1, here c e, h.3), tt);
-          cancelled_x2 = λ conn number target k. let f = cancels_x2_ranged act conn number target k in ((h.0, h.1, given_up_ranged s.context h.2, h.3), ((f.0, h.0, f.1), tt));
-          cancelled_s1 = λ conn number cell k. let f = cancels_s1_ranged act conn number cell k in ((h.0, h.1, given_up_ranged s.context h.2, h.3), ((f.0, h.0, f.1, f.2), tt));
+          cancelled_x2 = λ conn number target k.
+              let f = cancels_x2_ranged act conn number target k in
+              ((h.0, h.1, given_up_ranged s.context h.2, h.3), ((f.0, h.0, f.1), tt));
+          cancelled_s1 = λ conn number cell k.
+              let f = cancels_s1_ranged act conn number cell k in
+              ((h.0, h.1, given_up_ranged s.context h.2, h.3), ((f.0, h.0, f.1, f.2), tt));
           cancelled_within = λ number k. ((h.0, h.1, given_up_ranged s.context h.2, all_filter PrepRanged (λ p. not (is_of s.id number p)) s.preps h.3), tt);
           asked = λ number k c e. let d = here c e in ((h.0, next_up number, d, h.3), ((d.0, h.0, drawn number s.next k.number_is k.left h.1, d.1, d.2), tt));
           packet = λ drb count text k c e. ((h.0, h.1, here c e, h.3), tt);
@@ -184,8 +306,13 @@ module _ (same : Term → Term → Bool) where
         }
 
   -- one step
-  pub station_step_ranged : (s : Station Term ℕ) (i : StationInput Term ℕ) (outcome : Outcome) → StationRanged s → StationInputRanged i → StationDone (station_step r s i outcome)
-  station_step_ranged s (StationActs act) outcome h f = act_case r s StationDone (StationActHas r s act) (act_ranged s h act f) (act_row (plain_station r s) act) (station_act_has r s act)
+  pub station_step_ranged : (s : Station Term ℕ) (i : StationInput Term ℕ) (outcome : Outcome)
+      → StationRanged s
+      → StationInputRanged i
+      → StationDone (station_step r s i outcome)
+  station_step_ranged s (StationActs act) outcome h f =
+      act_case r s StationDone (StationActHas r s act) (act_ranged s h act f) (act_row (plain_station r s) act)
+      (station_act_has r s act)
   station_step_ranged s (AirPdu air bearer pdu) outcome h f =
       air_case r s StationDone (AirHas r s air (which bearer) pdu outcome) (air_ranged s h air (which bearer) pdu outcome)
       (air_row (plain_station r s) (air_front (plain_station r s) air (which bearer) pdu) outcome) (air_has r s air (which bearer) pdu outcome)

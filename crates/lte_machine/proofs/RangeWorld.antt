@@ -1,10 +1,12 @@
 -- Every event keeps the world in range; so what was sent on S1 and X2 reads back.
 use Rattle.std.proofs.Common.{◌≡◌, ℕ, Bool, List, [], ◌∷◌, Option, Some, None, option_map, Ok}
 use Rattle.std.proofs.lemmas.List.Elements.{recursion_from_All}
+use Rattle.std.specs.List.{AllByRecursion as AllOf}
 use Rattle.lte_events.specs.declared.events.Event.{Event}
 use Rattle.lte_events.specs.declared.setups.Setup.{Setup}
 use Rattle.lte_events.specs.declared.setups.StationSetup.{StationSetup}
 use Rattle.lte_events.specs.Site.{Site}
+use Rattle.lte_events.specs.Ranges.{IsEvent, IsStation, IsSetup}
 use Rattle.key_model.specs.Chain.{ncc_of}
 use Rattle.key_model.specs.HandoverLines.{map_numbered}
 use Rattle.key_model.specs.HandoverTable.{NumberedKey}
@@ -17,7 +19,6 @@ use Rattle.s1x2_rec.proofs.Contents.{content_again}
 use Rattle.lte_machine.specs.Wire.{KeyUse, Outgoing, SealedNas, PlainNas, SealedRrc, UserPacket, Between}
 use Rattle.lte_machine.specs.Ciphers.{written}
 use Rattle.lte_machine.specs.Opening.{Opening, Outcome, Opened}
-use Rattle.lte_machine.specs.Ranges.{AllOf, IsEvent, IsStation, IsSetup}
 use Rattle.lte_machine.specs.PhoneState.{PhoneInput}
 use Rattle.lte_machine.specs.PhoneChoice.{phone_row}
 use Rattle.lte_machine.specs.PhoneStep.{plain_phone, front_of, phone_root, phone_opens, phone_pdu_in, phone_step}
@@ -25,7 +26,7 @@ use Rattle.lte_machine.specs.StationState.{Station, StationInput, StationActs, A
 use Rattle.lte_machine.specs.StationStep.{station_opens, station_pdu_in, station_step}
 use Rattle.lte_machine.specs.CoreState.{CoreInput, CoreAuth, CoreActs, CoreNasPdu, CoreRecord}
 use Rattle.lte_machine.specs.CoreStep.{core_opens, core_pdu_in, core_step}
-use Rattle.lte_machine.specs.World.{Machine, World, phone_turn, core_turn, turn_of, next_root, content_in, happens}
+use Rattle.lte_machine.specs.World.{Machine, phone_turn, core_turn, turn_of, next_root, content_in, happens}
 use Rattle.lte_machine.specs.Machines.{machine_by, content_of}
 use Rattle.lte_machine.specs.Run.{stations_of, first_world}
 use Rattle.lte_machine.proofs.RangeKeys.{octets_value, length_value}
@@ -35,6 +36,7 @@ use Rattle.lte_machine.proofs.RangeCore.{core_step_ranged}
 use Rattle.lte_machine.proofs.RangePhone.{phone_does_sends}
 use Rattle.lte_machine.proofs.KnownLists.{OfSome, all_one, all_put}
 use Rattle.lte_machine.proofs.Routing.{Turns, happens_by}
+use Rattle.lte_machine.proofs.Worlds.{TheWorld}
 
 -- what was sent, as it is read
 read_ranged : (x : Outgoing Term ℕ) → RecordRanged x → ReadRanged (content_of x)
@@ -48,9 +50,6 @@ read_ranged (Between to fields key) h = h.0
 
 module _ (same : Term → Term → Bool) (root : ℕ → List ℕ → Term) (octets : Outgoing Term ℕ → List ℕ)
     (sender : Option (Outgoing Term ℕ) → Option (KeyUse Term)) (opener : Opening Term → List ℕ → Option (Outgoing Term ℕ) → Outcome) where
-  abbrev TheWorld : Type 0
-  TheWorld = World Term ℕ (Outgoing Term ℕ)
-
   abbrev m : Machine Term ℕ (Outgoing Term ℕ)
   m = machine_by same root octets sender opener
 
@@ -71,7 +70,10 @@ module _ (same : Term → Term → Bool) (root : ℕ → List ℕ → Term) (oct
         let k = core_step_ranged same w.core h.0 i outcome f in
         (k.0, h.1, all_one RecordRanged (core_step m.reading w.core i outcome).1.sent w.sent h.2 k.1)
 
-    station_turn_ranged : (id : ℕ) (i : StationInput Term ℕ) (came : Option (Outgoing Term ℕ)) (s : Station Term ℕ) → StationInputRanged i → StationRanged s → Ranged (turn_of m w id i came (Some s)).0
+    station_turn_ranged : (id : ℕ) (i : StationInput Term ℕ) (came : Option (Outgoing Term ℕ)) (s : Station Term ℕ)
+        → StationInputRanged i
+        → StationRanged s
+        → Ranged (turn_of m w id i came (Some s)).0
     station_turn_ranged id i came s f is =
         let outcome = m.opener (station_opens m.reading s i) (station_pdu_in i) came in
         let d = station_step m.reading s i outcome in
@@ -133,5 +135,8 @@ key_in_range (ContextModification conn next) key h = key_back 0 key h
 
 -- the octets of a record in range are read as the record
 pub reads_back : (fields : Fields) (key : Option (NumberedKey Term ℕ)) → FieldsInRange fields → KeyRanged fields key →
-    read_core (written fields (option_map (map_numbered value_of ncc_of) key)) ≡ Ok (record { fields = fields; key = option_map (map_numbered value_of ncc_of) key })
-reads_back fields key f k = content_again (record { fields = fields; key = option_map (map_numbered value_of ncc_of) key }) (record { fields = f; key = key_in_range fields key k })
+    read_core (written fields (option_map (map_numbered value_of ncc_of) key))
+    ≡ Ok (record { fields = fields; key = option_map (map_numbered value_of ncc_of) key })
+reads_back fields key f k =
+    content_again (record { fields = fields; key = option_map (map_numbered value_of ncc_of) key })
+    (record { fields = f; key = key_in_range fields key k })

@@ -31,7 +31,8 @@ pub two_left : (n : ℕ) → runs_out 2 n ≡ false → n + 1 < 4294967296
 two_left n e = grind (arith, nat_tests)
 
 -- a context is set up: in a cell of the station's own, of a newer connection, and the next number is its air address
-pub record Gives {K C : Type 0} (s : Station K C) (on : Interface) (fields : Fields) (conn : ℕ) (cell : Place) (caps : Caps) (algs : Algs) (air : ℕ) : Type 0 where
+pub record Gives {K C : Type 0} (s : Station K C) (on : Interface) (fields : Fields) (conn : ℕ) (cell : Place)
+    (caps : Caps) (algs : Algs) (air : ℕ) : Type 0 where
   pub on_is : on ≡ OnS1
   pub fields_is : fields ≡ InitialContext conn cell caps
   pub newer : s.last < conn
@@ -155,18 +156,33 @@ module _ {K C : Type 0} (r : Reading K C) (s : Station K C) (on : Interface) (fi
   abbrev Has : RecordRow → Type 0
   Has row = RecordHas r s on fields row
 
-  initial_has : (conn : ℕ) (cell : Place) (caps : Caps) → on ≡ OnS1 → fields ≡ InitialContext conn cell caps → Has (initial_row (plain_station r s) conn cell caps)
+  initial_has : (conn : ℕ) (cell : Place) (caps : Caps)
+      → on ≡ OnS1
+      → fields ≡ InitialContext conn cell caps
+      → Has (initial_row (plain_station r s) conn cell caps)
   initial_has conn cell caps via says =
       by_test Has (nat_le conn s.last) _ _ (λ e. tt) (λ e.
-      by_test Has (is_own (plain_station r s) cell) _ _ (λ f. chosen (above_of conn s.last e) (own_so s.id (station_of cell s.cells) f) (choice_of s.priority caps) refl) (λ f. tt))
+      by_test Has (is_own (plain_station r s) cell) _ _
+      (λ f.
+      chosen (above_of conn s.last e) (own_so s.id (station_of cell s.cells) f) (choice_of s.priority caps) refl)
+      (λ f. tt))
     where
-      chosen : s.last < conn → station_of cell s.cells ≡ Some s.id → (c : Result Algs Unmatched) → choice_of s.priority caps ≡ c → Has (initial_choice (plain_station r s) conn cell caps c)
+      chosen : s.last < conn
+          → station_of cell s.cells ≡ Some s.id
+          → (c : Result Algs Unmatched)
+          → choice_of s.priority caps ≡ c
+          → Has (initial_choice (plain_station r s) conn cell caps c)
       chosen newer own (Err none) f = tt
       chosen newer own (Ok algs) f =
           by_test Has (runs_out 1 s.next) _ _ (λ e. tt)
           (λ e. record { on_is = via; fields_is = says; newer = newer; own = own; chosen = f; air_is = refl; left = one_left s.next e })
 
-  release_has : (conn : ℕ) → on ≡ OnS1 → fields ≡ ContextRelease conn → (o : Option (Context K C)) → s.context ≡ o → Has (release_row conn (option_map (map_context unseen r.ncc) o))
+  release_has : (conn : ℕ)
+      → on ≡ OnS1
+      → fields ≡ ContextRelease conn
+      → (o : Option (Context K C))
+      → s.context ≡ o
+      → Has (release_row conn (option_map (map_context unseen r.ncc) o))
   release_has conn via says None e = tt
   release_has conn via says (Some c) e =
       by_test Has (c.conn == conn) _ _
@@ -193,16 +209,24 @@ module _ {K C : Type 0} (r : Reading K C) (s : Station K C) (on : Interface) (fi
         }) (λ g. tt)
 
   admitted_has : (conn : ℕ) (from : Origin) (cell : Place) (caps : Caps) (row : Admitted → RecordRow)
-      → ((algs : Algs) → (let w : Admitted = record { conn = conn; from = from; cell = cell; caps = caps; algs = algs; air = s.next } in Admits r s w → Has (row w)))
+      → ((algs : Algs)
+      → (let w : Admitted =
+      record { conn = conn; from = from; cell = cell; caps = caps; algs = algs; air = s.next } in
+      Admits r s w → Has (row w)))
       → Has (admitted_row (plain_station r s) conn from cell caps row)
   admitted_has conn from cell caps row f =
       by_test Has (nat_lt conn s.last) _ _ (λ e. tt) (λ old.
       by_test Has (not (is_own (plain_station r s) cell)) _ _ (λ e. tt) (λ other.
       by_test Has (nat_le from.attempt (slice_index s.seen from.source)) _ _ (λ e. tt) (λ seen.
       by_test Has ((conn == s.last) && is_full (plain_station r s)) _ _ (λ e. tt) (λ room.
-      chosen (at_least_of conn s.last old) (own_so s.id (station_of cell s.cells) (own_is (is_own (plain_station r s) cell) other)) (above_of from.attempt (slice_index s.seen from.source) seen) room (choice_of s.priority caps) refl))))
+      chosen (at_least_of conn s.last old)
+      (own_so s.id (station_of cell s.cells) (own_is (is_own (plain_station r s) cell) other))
+      (above_of from.attempt (slice_index s.seen from.source) seen) room (choice_of s.priority caps) refl))))
     where
-      chosen : s.last ≤ conn → station_of cell s.cells ≡ Some s.id → slice_index s.seen from.source < from.attempt → ((conn == s.last) && is_full (plain_station r s)) ≡ false
+      chosen : s.last ≤ conn
+          → station_of cell s.cells ≡ Some s.id
+          → slice_index s.seen from.source < from.attempt
+          → ((conn == s.last) && is_full (plain_station r s)) ≡ false
           → (c : Result Algs Unmatched) → choice_of s.priority caps ≡ c → Has (admitted_choice (plain_station r s) conn from cell caps row c)
       chosen at_least own new room (Err none) g = tt
       chosen at_least own new room (Ok algs) g =
@@ -320,7 +344,8 @@ module _ {K C : Type 0} (r : Reading K C) (s : Station K C) where
   s1_has (PathSwitchAnswer conn number) = answer_has r s OnS1 _ conn number refl refl s.context refl
   s1_has (HandoverRequired conn station attempt cell) = tt
   s1_has (HandoverRequest conn source attempt cell caps) =
-      admitted_has r s OnS1 _ conn (record { source = source; attempt = attempt }) cell caps PreparedByS1 (λ algs a. record { on_is = refl; fields_is = refl; admits = a })
+      admitted_has r s OnS1 _ conn (record { source = source; attempt = attempt }) cell caps PreparedByS1
+      (λ algs a. record { on_is = refl; fields_is = refl; admits = a })
   s1_has (HandoverRequestAck conn source attempt cell ncc algs air) = tt
   s1_has (HandoverCommand conn attempt cell ncc algs air) = s1_ack_has r s OnS1 _ conn attempt cell ncc algs air refl refl s.context refl
   s1_has (HandoverNotify conn station cell) = tt
@@ -343,13 +368,15 @@ module _ {K C : Type 0} (r : Reading K C) (s : Station K C) where
   x2_has (HandoverNotify conn station cell) = tt
   x2_has (HandoverCancel conn source attempt cell) = tt
   x2_has (X2Request conn source attempt cell caps) =
-      admitted_has r s OnX2 _ conn (record { source = source; attempt = attempt }) cell caps PreparedByX2 (λ algs a. record { on_is = refl; fields_is = refl; admits = a })
+      admitted_has r s OnX2 _ conn (record { source = source; attempt = attempt }) cell caps PreparedByX2
+      (λ algs a. record { on_is = refl; fields_is = refl; admits = a })
   x2_has (X2Ack conn attempt cell algs air) = x2_ack_has r s OnX2 _ conn attempt cell algs air refl refl s.context refl
   x2_has (X2Cancel conn source attempt) = cancel_has r s OnX2 _ (record { source = source; attempt = attempt })
   x2_has (X2Release conn attempt) = x2_release_has r s OnX2 _ conn attempt refl refl s.context refl
   x2_has (ContextModification conn next) = tt
 
   -- the row of a record that reads
-  pub record_has : (on : Interface) (content : Content K C) → RecordHas r s on content.fields (record_row (plain_station r s) on (Ok (map_content unseen r.ncc content)))
+  pub record_has : (on : Interface) (content : Content K C)
+      → RecordHas r s on content.fields (record_row (plain_station r s) on (Ok (map_content unseen r.ncc content)))
   record_has OnS1 content = s1_has content.fields
   record_has OnX2 content = x2_has content.fields

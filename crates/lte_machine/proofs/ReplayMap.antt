@@ -1,14 +1,14 @@
 -- A run in octets is the value of the run in terms: coincidences, lines and all.
 use Rattle.std.proofs.Common.{◌≡◌, ℕ, Bool, true, false, List, [], ◌∷◌, map, Option, Some, None, refl, ap, sym, ◌∙◌}
 use Rattle.std.specs.Prelude.{option_map, ◌&&◌, ◌==◌}
-use Rattle.std.specs.List.{position_from}
+use Rattle.std.specs.List.{position_from, AllByRecursion as AllOf}
 use Rattle.lte_events.specs.declared.addresses.Address.{Address}
 use Rattle.lte_events.specs.declared.events.Event.{Event}
 use Rattle.key_model.specs.Use.{map_use}
 use Rattle.lte_machine.specs.Wire.{KeyUse}
 use Rattle.lte_machine.specs.Opening.{Opening, OpensNothing, OpensNas, OpensSrb, OpensDrb, Outcome, Opened, Differs, accepted_of, same_dir, same_uses}
 use Rattle.lte_machine.specs.Ladder.{Clash, ladder_of}
-use Rattle.lte_machine.specs.Tuples.{Chance, tuples_unless, same_sender, tuple_chance}
+use Rattle.lte_machine.specs.Tuples.{Coincidence, tuples_unless, same_sender, tuple_coincidence}
 use Rattle.lte_machine.specs.PhoneState.{PhoneInput, PhoneActs, PhoneNasPdu, PhoneAirPdu, map_phone_input}
 use Rattle.lte_machine.specs.PhoneStep.{phone_pdu_in}
 use Rattle.lte_machine.specs.StationState.{Station, StationInput, StationActs, AirPdu, StationRecord, OnS1, OnX2, map_station, map_station_input}
@@ -16,11 +16,11 @@ use Rattle.lte_machine.specs.StationStep.{station_pdu_in}
 use Rattle.lte_machine.specs.CoreState.{CoreInput, CoreActs, CoreNasPdu, CoreRecord, map_core_input}
 use Rattle.lte_machine.specs.CoreStep.{core_pdu_in}
 use Rattle.lte_events.specs.Class.{class_of}
+use Rattle.lte_events.specs.Ranges.{IsEvent}
 use Rattle.lte_machine.specs.World.{Machine, World, Line, station_of_id, content_in, record_at, is_sent, happens}
-use Rattle.lte_machine.specs.Step.{Attempted, attempted, phone_attempts, core_attempts, attempts_at, station_attempts, arrival_attempts, delivery_attempts, injection_attempts, opening_chance, StepResult, Continues, Stops, by_ladder, by_chance, next}
+use Rattle.lte_machine.specs.Step.{Attempted, attempted, phone_attempts, core_attempts, attempts_at, station_attempts, arrival_attempts, delivery_attempts, injection_attempts, opening_coincidence, StepResult, Continues, Stops, by_ladder, by_coincidence, next}
 use Rattle.lte_machine.specs.Run.{RunState, Running, Stopped, after, turn, replay, reported, event_report, report}
-use Rattle.lte_machine.specs.Ranges.{AllOf, IsEvent}
-use Rattle.lte_machine.specs.Carried.{map_world, map_line, map_clash, map_chance, map_run_state, map_report}
+use Rattle.lte_machine.specs.Carried.{map_world, map_line, map_clash, map_coincidence, map_run_state, map_report}
 use Rattle.lte_machine.proofs.PhoneMap.{phone_opens_map}
 use Rattle.lte_machine.proofs.CoreMap.{core_opens_map}
 use Rattle.lte_machine.proofs.StationMap.{station_opens_map}
@@ -33,10 +33,11 @@ map_attempted f z a = record { opening = map_opening f a.opening; octets = a.oct
 
 abbrev map_next : {K C S L D T : Type 0} → (K → L) → (C → D) → (S → T) → StepResult K C S → StepResult L D T
 map_next f g z (Continues w line) = Continues (map_world f g z w) (map_line f line)
-map_next f g z (Stops chance) = Stops (map_chance f chance)
+map_next f g z (Stops coincidence) = Stops (map_coincidence f coincidence)
 
 module _ {K C S L D T : Type 0} (m : Machine K C S) (q : Machine L D T) (f : K → L) (g : C → D) (z : S → T) (a : Agree m q f g z)
-    (by_octets : Opening K → List ℕ → Outcome) (by_octets' : Opening L → List ℕ → Outcome) (opens : (p : Opening K) (pdu : List ℕ) → by_octets' (map_opening f p) pdu ≡ by_octets p pdu) where
+    (by_octets : Opening K → List ℕ → Outcome) (by_octets' : Opening L → List ℕ → Outcome)
+    (opens : (p : Opening K) (pdu : List ℕ) → by_octets' (map_opening f p) pdu ≡ by_octets p pdu) where
   accepted-map : (p : Opening K) (o : Outcome) → option_map (map_use f) (accepted_of p o) ≡ accepted_of (map_opening f p) o
   accepted-map OpensNothing o = refl
   accepted-map (OpensNas u e) (Opened text) = refl
@@ -48,22 +49,33 @@ module _ {K C S L D T : Type 0} (m : Machine K C S) (q : Machine L D T) (f : K �
   same_uses-map : (u v : KeyUse K) → same_uses m.reading.same u v ≡ same_uses q.reading.same (map_use f u) (map_use f v)
   same_uses-map u v = ap (λ b. b && (u.count == v.count) && (u.bearer == v.bearer) && same_dir u.dir v.dir) (sym (a.carries.same u.key v.key))
 
-  same_sender-map : (o : Option (KeyUse K)) (u : KeyUse K) → same_sender m.reading.same o u ≡ same_sender q.reading.same (option_map (map_use f) o) (map_use f u)
+  same_sender-map : (o : Option (KeyUse K)) (u : KeyUse K)
+      → same_sender m.reading.same o u ≡ same_sender q.reading.same (option_map (map_use f) o) (map_use f u)
   same_sender-map None u = refl
   same_sender-map (Some v) u = same_uses-map u v
 
-  tuples-map : (b : Bool) (o : Option (KeyUse K)) (u : KeyUse K) → option_map (map_chance f) (tuples_unless b o u) ≡ tuples_unless b (option_map (map_use f) o) (map_use f u)
+  tuples-map : (b : Bool) (o : Option (KeyUse K)) (u : KeyUse K)
+      → option_map (map_coincidence f) (tuples_unless b o u) ≡ tuples_unless b (option_map (map_use f) o) (map_use f u)
   tuples-map true o u = refl
   tuples-map false o u = refl
 
-  tuple_chance-map : (o accepted : Option (KeyUse K)) → option_map (map_chance f) (tuple_chance m.reading.same o accepted) ≡ tuple_chance q.reading.same (option_map (map_use f) o) (option_map (map_use f) accepted)
-  tuple_chance-map o None = refl
-  tuple_chance-map o (Some u) = tuples-map (same_sender m.reading.same o u) o u ∙ ap (λ b. tuples_unless b (option_map (map_use f) o) (map_use f u)) (same_sender-map o u)
+  tuple_coincidence-map : (o accepted : Option (KeyUse K))
+      → option_map (map_coincidence f) (tuple_coincidence m.reading.same o accepted)
+      ≡ tuple_coincidence q.reading.same (option_map (map_use f) o) (option_map (map_use f) accepted)
+  tuple_coincidence-map o None = refl
+  tuple_coincidence-map o (Some u) =
+      tuples-map (same_sender m.reading.same o u) o u
+      ∙ ap (λ b. tuples_unless b (option_map (map_use f) o) (map_use f u)) (same_sender-map o u)
 
-  chance-map : (x : Attempted K S) → option_map (map_chance f) (opening_chance by_octets m x) ≡ opening_chance by_octets' q (map_attempted f z x)
-  chance-map x =
-      tuple_chance-map (m.sender x.came) (accepted_of x.opening (by_octets x.opening x.octets))
-      ∙ (λ j. tuple_chance q.reading.same (sym (a.sender x.came) j) ((accepted-map x.opening (by_octets x.opening x.octets) ∙ ap (accepted_of (map_opening f x.opening)) (sym (opens x.opening x.octets))) j))
+  coincidence-map : (x : Attempted K S)
+      → option_map (map_coincidence f) (opening_coincidence by_octets m x)
+      ≡ opening_coincidence by_octets' q (map_attempted f z x)
+  coincidence-map x =
+      tuple_coincidence-map (m.sender x.came) (accepted_of x.opening (by_octets x.opening x.octets))
+      ∙ (λ j. tuple_coincidence q.reading.same (sym (a.sender x.came) j)
+      ((accepted-map x.opening (by_octets x.opening x.octets)
+      ∙ ap (accepted_of (map_opening f x.opening)) (sym (opens x.opening x.octets)))
+      j))
 
   phone_attempts-map : (w : World K C S) (i : PhoneInput K) (pdu : List ℕ) → phone_pdu_in i ≡ pdu → phone_pdu_in (map_phone_input f i) ≡ pdu → (o : Option S)
       → map_attempted f z (phone_attempts m w i o) ≡ phone_attempts q (map_world f g z w) (map_phone_input f i) (option_map z o)
@@ -81,7 +93,10 @@ module _ {K C S L D T : Type 0} (m : Machine K C S) (q : Machine L D T) (f : K �
     came = option_map z o;
   }
 
-  attempts_at-map : (i : StationInput K C) (pdu : List ℕ) → station_pdu_in i ≡ pdu → station_pdu_in (map_station_input f g i) ≡ pdu → (o : Option S) (s : Option (Station K C))
+  attempts_at-map : (i : StationInput K C) (pdu : List ℕ)
+      → station_pdu_in i ≡ pdu
+      → station_pdu_in (map_station_input f g i) ≡ pdu
+      → (o : Option S) (s : Option (Station K C))
       → map_attempted f z (attempts_at m i o s) ≡ attempts_at q (map_station_input f g i) (option_map z o) (option_map (map_station f g) s)
   attempts_at-map i pdu e e' o None = refl
   attempts_at-map i pdu e e' o (Some s) = λ j. record {
@@ -90,18 +105,25 @@ module _ {K C S L D T : Type 0} (m : Machine K C S) (q : Machine L D T) (f : K �
     came = option_map z o;
   }
 
-  station_attempts-map : (w : World K C S) (id : ℕ) (i : StationInput K C) (pdu : List ℕ) → station_pdu_in i ≡ pdu → station_pdu_in (map_station_input f g i) ≡ pdu → (o : Option S)
+  station_attempts-map : (w : World K C S) (id : ℕ) (i : StationInput K C) (pdu : List ℕ)
+      → station_pdu_in i ≡ pdu
+      → station_pdu_in (map_station_input f g i) ≡ pdu
+      → (o : Option S)
       → map_attempted f z (station_attempts m w id i o) ≡ station_attempts q (map_world f g z w) id (map_station_input f g i) (option_map z o)
   station_attempts-map w id i pdu e e' o =
       attempts_at-map i pdu e e' o (station_of_id id w.stations)
       ∙ ap (attempts_at q (map_station_input f g i) (option_map z o)) (station_of_id-map m q f g z a id w.stations)
 
-  arrival-map : (w : World K C S) (to : Address) (pdu : List ℕ) (o : Option S) → BackAt m q f g z a to o → map_attempted f z (arrival_attempts m w to pdu o) ≡ arrival_attempts q (map_world f g z w) to pdu (option_map z o)
+  arrival-map : (w : World K C S) (to : Address) (pdu : List ℕ) (o : Option S)
+      → BackAt m q f g z a to o
+      → map_attempted f z (arrival_attempts m w to pdu o)
+      ≡ arrival_attempts q (map_world f g z w) to pdu (option_map z o)
   arrival-map w Address.PhoneNas pdu o back = phone_attempts-map w (PhoneNasPdu pdu) pdu refl refl o
   arrival-map w (Address.Phone station air bearer) pdu o back = phone_attempts-map w (PhoneAirPdu station air bearer pdu) pdu refl refl o
   arrival-map w Address.CoreNas pdu o back = core_attempts-map w (CoreNasPdu pdu) pdu refl refl o
   arrival-map w Address.CoreS1 pdu o back =
-      core_attempts-map w (CoreRecord (content_in m o)) [] refl refl o ∙ ap (λ c. core_attempts q (map_world f g z w) (CoreRecord c) (option_map z o)) (sym back)
+      core_attempts-map w (CoreRecord (content_in m o)) [] refl refl o
+      ∙ ap (λ c. core_attempts q (map_world f g z w) (CoreRecord c) (option_map z o)) (sym back)
   arrival-map w (Address.StationAir station air bearer) pdu o back = station_attempts-map w station (AirPdu air bearer pdu) pdu refl refl o
   arrival-map w (Address.StationS1 station) pdu o back =
       station_attempts-map w station (StationRecord OnS1 (content_in m o)) [] refl refl o
@@ -110,7 +132,9 @@ module _ {K C S L D T : Type 0} (m : Machine K C S) (q : Machine L D T) (f : K �
       station_attempts-map w station (StationRecord OnX2 (content_in m o)) [] refl refl o
       ∙ ap (λ c. station_attempts q (map_world f g z w) station (StationRecord OnX2 c) (option_map z o)) (sym back)
 
-  delivery-map : (w : World K C S) (o : Option S) → BackIf m q f g z a o → map_attempted f z (delivery_attempts m w o) ≡ delivery_attempts q (map_world f g z w) (option_map z o)
+  delivery-map : (w : World K C S) (o : Option S)
+      → BackIf m q f g z a o
+      → map_attempted f z (delivery_attempts m w o) ≡ delivery_attempts q (map_world f g z w) (option_map z o)
   delivery-map w None back = refl
   delivery-map w (Some x) back =
       arrival-map w (m.address x) (m.octets x) (Some x) back
@@ -125,7 +149,8 @@ module _ {K C S L D T : Type 0} (m : Machine K C S) (q : Machine L D T) (f : K �
   none_back (Address.StationS1 station) = refl
   none_back (Address.StationX2 station) = refl
 
-  injection-map : (w : World K C S) (to : Address) (octets : List ℕ) (o : Option ℕ) → map_attempted f z (injection_attempts m w to octets o) ≡ injection_attempts q (map_world f g z w) to octets o
+  injection-map : (w : World K C S) (to : Address) (octets : List ℕ) (o : Option ℕ)
+      → map_attempted f z (injection_attempts m w to octets o) ≡ injection_attempts q (map_world f g z w) to octets o
   injection-map w to octets None = arrival-map w to octets None (none_back to)
   injection-map w to octets (Some number) = refl
 
@@ -134,7 +159,9 @@ module _ {K C S L D T : Type 0} (m : Machine K C S) (q : Machine L D T) (f : K �
   attempted-map w (Event.Phone act) back = phone_attempts-map w (PhoneActs act) [] refl refl None
   attempted-map w (Event.Station id act) back = station_attempts-map w id (StationActs act) [] refl refl None
   attempted-map w (Event.Core act) back = core_attempts-map w (CoreActs act) [] refl refl None
-  attempted-map w (Event.Deliver i) back = delivery-map w (record_at i w.sent) back ∙ ap (delivery_attempts q (map_world f g z w)) (chosen-map m q f g z a i w.sent)
+  attempted-map w (Event.Deliver i) back =
+      delivery-map w (record_at i w.sent) back
+      ∙ ap (delivery_attempts q (map_world f g z w)) (chosen-map m q f g z a i w.sent)
   attempted-map w (Event.Inject to octets) back =
       injection-map w to octets (position_from (is_sent m (class_of to) octets) 0 w.sent)
       ∙ ap (injection_attempts q (map_world f g z w) to octets) (found-map m q f g z a (class_of to) octets 0 w.sent)
@@ -143,27 +170,29 @@ module _ {K C S L D T : Type 0} (m : Machine K C S) (q : Machine L D T) (f : K �
   ladder-map None h = refl
   ladder-map (Some clash) h = refl
 
-  by_chance-map : (o : Option (Chance K)) (h : World K C S × Line K) → map_next f g z (by_chance m.reading.same o h) ≡ by_chance q.reading.same (option_map (map_chance f) o) (map_told f g z h)
-  by_chance-map (Some chance) h = refl
-  by_chance-map None h =
+  by_coincidence-map : (o : Option (Coincidence K)) (h : World K C S × Line K)
+      → map_next f g z (by_coincidence m.reading.same o h)
+      ≡ by_coincidence q.reading.same (option_map (map_coincidence f) o) (map_told f g z h)
+  by_coincidence-map (Some coincidence) h = refl
+  by_coincidence-map None h =
       ladder-map (ladder_of m.reading.same h.0.history).clash h
       ∙ ap (λ l. by_ladder l.clash (map_told f g z h)) (ladder_of-map m.reading.same q.reading.same f a.carries.same h.0.history)
 
   -- what comes of an event is carried
   pub next-map : (w : World K C S) (e : Event) → BackOf m q f g z a w e → map_next f g z (next by_octets m w e) ≡ next by_octets' q (map_world f g z w) e
   next-map w e back =
-      by_chance-map (opening_chance by_octets m (attempted m w e)) (happens m w e)
-      ∙ (λ j. by_chance q.reading.same
-      ((chance-map (attempted m w e) ∙ ap (opening_chance by_octets' q) (attempted-map w e back)) j)
+      by_coincidence-map (opening_coincidence by_octets m (attempted m w e)) (happens m w e)
+      ∙ (λ j. by_coincidence q.reading.same
+      ((coincidence-map (attempted m w e) ∙ ap (opening_coincidence by_octets' q) (attempted-map w e back)) j)
       (happens-map m q f g z a w e back j))
 
   after-map : (n : StepResult K C S) → map_run_state f g z (after n) ≡ after (map_next f g z n)
   after-map (Continues w line) = refl
-  after-map (Stops chance) = refl
+  after-map (Stops coincidence) = refl
 
   reported-map : (n : StepResult K C S) → map_report f (reported n) ≡ reported (map_next f g z n)
   reported-map (Continues w line) = refl
-  reported-map (Stops chance) = refl
+  reported-map (Stops coincidence) = refl
 
   -- a property of worlds that every event keeps, and by which what was sent reads back
   pub record Keeps (I : World K C S → Type 0) : Type 0 where
@@ -173,35 +202,44 @@ module _ {K C S L D T : Type 0} (m : Machine K C S) (q : Machine L D T) (f : K �
   module _ (I : World K C S → Type 0) (k : Keeps I) where
     abbrev pub Holds : RunState K C S → Type 0
     Holds (Running w) = I w
-    Holds (Stopped chance) = Unit {0}
+    Holds (Stopped coincidence) = Unit {0}
 
     next_holds : (h : World K C S × Line K) (o : Option (Clash K)) → I h.0 → Holds (after (by_ladder o h))
     next_holds h None i = i
     next_holds h (Some clash) i = tt
 
-    chance_holds : (o : Option (Chance K)) (h : World K C S × Line K) → I h.0 → Holds (after (by_chance m.reading.same o h))
-    chance_holds None h i = next_holds h (ladder_of m.reading.same h.0.history).clash i
-    chance_holds (Some chance) h i = tt
+    coincidence_holds : (o : Option (Coincidence K)) (h : World K C S × Line K) → I h.0 → Holds (after (by_coincidence m.reading.same o h))
+    coincidence_holds None h i = next_holds h (ladder_of m.reading.same h.0.history).clash i
+    coincidence_holds (Some coincidence) h i = tt
 
     pub turn_holds : (r : RunState K C S) (e : Event) → IsEvent e → Holds r → Holds (turn by_octets m r e)
-    turn_holds (Stopped chance) e is i = tt
-    turn_holds (Running w) e is i = chance_holds (opening_chance by_octets m (attempted m w e)) (happens m w e) (k.keeps w e is i)
+    turn_holds (Stopped coincidence) e is i = tt
+    turn_holds (Running w) e is i = coincidence_holds (opening_coincidence by_octets m (attempted m w e)) (happens m w e) (k.keeps w e is i)
 
     turn-map : (r : RunState K C S) (e : Event) → IsEvent e → Holds r → map_run_state f g z (turn by_octets m r e) ≡ turn by_octets' q (map_run_state f g z r) e
-    turn-map (Stopped chance) e is i = refl
+    turn-map (Stopped coincidence) e is i = refl
     turn-map (Running w) e is i = after-map (next by_octets m w e) ∙ ap after (next-map w e (k.back w e is i))
 
-    pub replay-map : (r : RunState K C S) (es : List Event) → AllOf IsEvent es → Holds r → map_run_state f g z (replay by_octets m r es) ≡ replay by_octets' q (map_run_state f g z r) es
+    pub replay-map : (r : RunState K C S) (es : List Event)
+        → AllOf IsEvent es
+        → Holds r
+        → map_run_state f g z (replay by_octets m r es) ≡ replay by_octets' q (map_run_state f g z r) es
     replay-map r [] are i = refl
     replay-map r (e ∷ es) are i =
         replay-map (turn by_octets m r e) es are.1 (turn_holds r e are.0 i)
         ∙ ap (λ x. replay by_octets' q x es) (turn-map r e are.0 i)
 
-    event_report-map : (r : RunState K C S) (e : Event) → IsEvent e → Holds r → map_report f (event_report by_octets m r e) ≡ event_report by_octets' q (map_run_state f g z r) e
-    event_report-map (Stopped chance) e is i = refl
+    event_report-map : (r : RunState K C S) (e : Event)
+        → IsEvent e
+        → Holds r
+        → map_report f (event_report by_octets m r e) ≡ event_report by_octets' q (map_run_state f g z r) e
+    event_report-map (Stopped coincidence) e is i = refl
     event_report-map (Running w) e is i = reported-map (next by_octets m w e) ∙ ap reported (next-map w e (k.back w e is i))
 
-    pub report-map : (r : RunState K C S) (es : List Event) → AllOf IsEvent es → Holds r → map (map_report f) (report by_octets m r es) ≡ report by_octets' q (map_run_state f g z r) es
+    pub report-map : (r : RunState K C S) (es : List Event)
+        → AllOf IsEvent es
+        → Holds r
+        → map (map_report f) (report by_octets m r es) ≡ report by_octets' q (map_run_state f g z r) es
     report-map r [] are i = refl
     report-map r (e ∷ es) are i = λ j.
         event_report-map r e are.0 i j

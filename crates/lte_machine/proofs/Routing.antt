@@ -1,6 +1,6 @@
 -- An event is an authentication, the turn of one actor, or reaches nobody: what holds of each of these holds of every event.
 use Rattle.std.proofs.Common.{◌≡◌, refl, subst, ℕ, ◌==◌, Bool, true, false, cond, List, [], ◌∷◌, Option, Some, None}
-use Rattle.std.specs.List.{position_from}
+use Rattle.std.specs.List.{position_from, AllByRecursion as AllOf}
 use Rattle.std.proofs.lemmas.Bool.{eqb-true}
 use Rattle.alg_choice.specs.declared.caps.Caps.{Caps}
 use Rattle.rec_base.specs.declared.bearers.Bearer.{Bearer}
@@ -10,7 +10,6 @@ use Rattle.lte_events.specs.declared.addresses.Address.{Address}
 use Rattle.lte_events.specs.declared.answers.Answer.{Answer}
 use Rattle.lte_events.specs.declared.answers.Answer.TheVariants.{NoUe, NoRecord, Sent, RepeatedRoot}
 use Rattle.lte_events.specs.declared.events.Event.{Event}
-use Rattle.lte_machine.specs.Ranges.{AllOf}
 use Rattle.lte_machine.specs.PhoneState.{PhoneInput, PhoneAuth, PhoneActs, PhoneNasPdu, PhoneAirPdu}
 use Rattle.lte_machine.specs.PhoneStep.{phone_root}
 use Rattle.lte_machine.specs.StationState.{Station, StationInput, StationActs, AirPdu, StationRecord, Interface, OnS1, OnX2}
@@ -54,18 +53,24 @@ PhoneGets E T (PhoneNasPdu pdu) came = T Address.PhoneNas pdu came
 PhoneGets E T (PhoneAirPdu station air bearer pdu) came = T (Address.Phone station air bearer) pdu came
 
 -- P holds of each turn and of what it opens, where E holds of the event, T of what comes to an address and Q of the station
-pub record Turns {K C S : Type 0} (m : Machine K C S) (w : World K C S) (E : Event → Type 0) (T : Address → List ℕ → Option S → Type 0) (Q : Station K C → Type 0)
+pub record Turns {K C S : Type 0} (m : Machine K C S) (w : World K C S) (E : Event → Type 0)
+    (T : Address → List ℕ → Option S → Type 0) (Q : Station K C → Type 0)
     (P : World K C S × Line K → Attempted K S → Type 0) : Type 0 where
   pub auth : (ksi : ℕ) (octets : List ℕ) (caps : Caps) → E (Event.Auth ksi octets caps) → known_root m w (m.root (next_root w) octets) ≡ None
       → P (authenticated m w ksi (m.root (next_root w) octets) caps) opens_none
   pub phone : (input : PhoneInput K) (came : Option S) → IsTurn input → PhoneGets E T input came → P (phone_turn m w input came) (phone_attempts m w input came)
   pub core_acts : (act : CoreAct) → E (Event.Core act) → P (core_turn m w (CoreActs act) None) (core_attempts m w (CoreActs act) None)
-  pub core_nas : (pdu : List ℕ) (came : Option S) → T Address.CoreNas pdu came → P (core_turn m w (CoreNasPdu pdu) came) (core_attempts m w (CoreNasPdu pdu) came)
+  pub core_nas : (pdu : List ℕ) (came : Option S)
+      → T Address.CoreNas pdu came
+      → P (core_turn m w (CoreNasPdu pdu) came) (core_attempts m w (CoreNasPdu pdu) came)
   pub core_record : (pdu : List ℕ) (came : Option S) → T Address.CoreS1 pdu came
       → P (core_turn m w (CoreRecord (content_in m came)) came) (core_attempts m w (CoreRecord (content_in m came)) came)
   pub station_acts : (id : ℕ) (act : StationAct) → E (Event.Station id act) → (s : Station K C) → Found w Q id s
       → P (turn_of m w id (StationActs act) None (Some s)) (attempts_at m (StationActs act) None (Some s))
-  pub station_air : (id air : ℕ) (bearer : Bearer) (pdu : List ℕ) (came : Option S) → T (Address.StationAir id air bearer) pdu came → (s : Station K C) → Found w Q id s
+  pub station_air : (id air : ℕ) (bearer : Bearer) (pdu : List ℕ) (came : Option S)
+      → T (Address.StationAir id air bearer) pdu came
+      → (s : Station K C)
+      → Found w Q id s
       → P (turn_of m w id (AirPdu air bearer pdu) came (Some s)) (attempts_at m (AirPdu air bearer pdu) came (Some s))
   pub station_record : (on : Interface) (id : ℕ) (pdu : List ℕ) (came : Option S) → T (address_on on id) pdu came → (s : Station K C) → Found w Q id s
       → P (turn_of m w id (StationRecord on (content_in m came)) came (Some s)) (attempts_at m (StationRecord on (content_in m came)) came (Some s))
@@ -86,13 +91,17 @@ found_in Q id ss s h e = subst (OfSome Q) e (all_find Q (λ t. t.id == id) ss h)
 
 module _ {K C S : Type 0} {m : Machine K C S} {w : World K C S} {E : Event → Type 0} {T : Address → List ℕ → Option S → Type 0} {Q : Station K C → Type 0}
     {P : World K C S × Line K → Attempted K S → Type 0}
-    (t : Turns m w E T Q P) (foreign : (to : Address) (pdu : List ℕ) → T to pdu None) (sent : AllOf (λ x. T (m.address x) (m.octets x) (Some x)) w.sent) (stations : AllOf Q w.stations) where
+    (t : Turns m w E T Q P) (foreign : (to : Address) (pdu : List ℕ) → T to pdu None)
+    (sent : AllOf (λ x. T (m.address x) (m.octets x) (Some x)) w.sent) (stations : AllOf Q w.stations) where
   auth_by : (ksi : ℕ) (octets : List ℕ) (caps : Caps) → E (Event.Auth ksi octets caps) → (o : Option ℕ) → known_root m w (m.root (next_root w) octets) ≡ o
       → P (auth_unless m w ksi (m.root (next_root w) octets) caps o) opens_none
   auth_by ksi octets caps is None new = t.auth ksi octets caps is new
   auth_by ksi octets caps is (Some row) new = t.none (RepeatedRoot row)
 
-  station_by : (id : ℕ) (input : StationInput K C) (came : Option S) → ((s : Station K C) → Found w Q id s → P (turn_of m w id input came (Some s)) (attempts_at m input came (Some s)))
+  station_by : (id : ℕ) (input : StationInput K C) (came : Option S)
+      → ((s : Station K C)
+      → Found w Q id s
+      → P (turn_of m w id input came (Some s)) (attempts_at m input came (Some s)))
       → (o : Option (Station K C)) → station_of_id id w.stations ≡ o → P (turn_of m w id input came o) (attempts_at m input came o)
   station_by id input came turn None e = t.none NoUe
   station_by id input came turn (Some s) e = turn s (record { there = e; own = found_id id w.stations s e; holds = found_in Q id w.stations s stations e })

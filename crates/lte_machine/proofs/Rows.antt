@@ -1,15 +1,14 @@
 -- The rows of a ladder stand for the distinct terms, each with a value of its own, where no clash has come.
-use Rattle.std.proofs.Common.{◌≡◌, ℕ, ◌+◌, Bool, true, false, List, [], ◌∷◌, ◌++◌, Option, Some, None, refl, ap, sym, ◌∙◌, subst}
+use Rattle.std.proofs.Common.{◌≡◌, ℕ, ◌+◌, Bool, true, false, List, [], ◌∷◌, ◌++◌, Option, Some, None, refl, ap, sym, ◌∙◌, subst, inl, inr}
 use Rattle.std.specs.Prelude.{◌⊎◌, ◌||◌}
-use Rattle.std.proofs.Common.{inl, inr}
 use Rattle.std.proofs.lemmas.Bool.Decides.{Decides-and, Decides-eqb}
 use Rattle.std.proofs.lemmas.List.{map-append}
+use Rattle.std.specs.List.{AllByRecursion as AllOf}
 use Rattle.key_model.specs.Derivation.{Input, FromCount, FromSync, FromCell, FromAlg, Derivation}
 use Rattle.key_model.specs.Term.{Term, Kenb, Nh, Star, Alg, same_term}
 use Rattle.key_model.specs.Value.{value_of, same_value}
 use Rattle.key_model.proofs.TermFacts.{same_term-Decides, same_value-Decides}
 use Rattle.lte_machine.specs.Ladder.{RowOrigin, OfRoot, Of, row_key, same_input, same_origin, Hit, hit_if, hit_from, hit, stands_or_not, added_at, add_row, root_place, root_if, root_row}
-use Rattle.lte_machine.specs.Ranges.{AllOf}
 use Rattle.lte_machine.specs.Distinct.{keys_of, Member, is_member, with_new, OneValueOneTerm}
 use Rattle.lte_machine.proofs.Tests.{both_true}
 
@@ -90,11 +89,20 @@ pub record Found (P : RowOrigin Term → Type 0) (key : Term) (rows : List (RowO
 some_is : {A : Type 0} {a b : A} → Some a ≡ Some b → a ≡ b
 some_is e = cc
 
-found_one : (P : RowOrigin Term → Type 0) (key : Term) (i : ℕ) (rows : List (RowOrigin Term)) → AllOf P rows → (h : Hit Term) → hit_from same_value key i rows ≡ Some h → Found P key rows h
+found_one : (P : RowOrigin Term → Type 0) (key : Term) (i : ℕ) (rows : List (RowOrigin Term))
+    → AllOf P rows
+    → (h : Hit Term)
+    → hit_from same_value key i rows ≡ Some h
+    → Found P key rows h
 found_one P key i [] all h e = cc
 found_one P key i (row ∷ rows) all h e = by_test (same_value (row_key row) key) refl e (found_one P key (i + 1) rows all.1 h)
   where
-    here : (g : Hit Term) → g ≡ h → P g.found → Member (row_key g.found) (keys_of (row ∷ rows)) → value_of (row_key g.found) ≡ value_of key → Found P key (row ∷ rows) h
+    here : (g : Hit Term)
+        → g ≡ h
+        → P g.found
+        → Member (row_key g.found) (keys_of (row ∷ rows))
+        → value_of (row_key g.found) ≡ value_of key
+        → Found P key (row ∷ rows) h
     here g is p m v = subst (λ x. Found P key (row ∷ rows) x) is (record { among = m; value = v; holds = p })
 
     by_test : (b : Bool) → same_value (row_key row) key ≡ b → hit_if b (record { place = i; found = row }) (hit_from same_value key (i + 1) rows) ≡ Some h
@@ -105,7 +113,12 @@ found_one P key i (row ∷ rows) all h e = by_test (same_value (row_key row) key
     by_test false t e rest = let r = rest e in record { among = inr r.among; value = r.value; holds = r.holds }
 
 -- where nothing is hit, no row has the value
-missed : (key : Term) (i : ℕ) (rows : List (RowOrigin Term)) → hit_from same_value key i rows ≡ None → (t : Term) → Member t (keys_of rows) → value_of t ≡ value_of key → ⊥
+missed : (key : Term) (i : ℕ) (rows : List (RowOrigin Term))
+    → hit_from same_value key i rows ≡ None
+    → (t : Term)
+    → Member t (keys_of rows)
+    → value_of t ≡ value_of key
+    → ⊥
 missed key i [] e t m v = m
 missed key i (row ∷ rows) e t m v = by_test (same_value (row_key row) key) refl e (missed key (i + 1) rows)
   where
@@ -168,7 +181,14 @@ pub record Grown (rows : List (RowOrigin Term)) (key : Term) (after : List (RowO
   pub well : Well after
   pub keys : keys_of after ≡ with_new (is_member key (keys_of rows)) key (keys_of rows)
 
-same_made : (ts : List Term) → OneValueOneTerm ts → (i j : Input Term) (k l : Term) → SyncIn (λ t. Member t ts) i → SyncIn (λ t. Member t ts) j → k ≡ l → same_input same_value i j ≡ true → made_of k i ≡ made_of l j
+same_made : (ts : List Term)
+    → OneValueOneTerm ts
+    → (i j : Input Term) (k l : Term)
+    → SyncIn (λ t. Member t ts) i
+    → SyncIn (λ t. Member t ts) j
+    → k ≡ l
+    → same_input same_value i j ≡ true
+    → made_of k i ≡ made_of l j
 same_made ts own (FromCount m) (FromCount n) k l a b e h = λ x. Kenb (e x) ((Decides-eqb m n).0 h x)
 same_made ts own (FromCount m) (FromSync u) k l a b e h = cc
 same_made ts own (FromCount m) (FromCell p q) k l a b e h = cc
@@ -189,7 +209,12 @@ same_made ts own (FromAlg p q) (FromAlg r s) k l a b e h =
     let both = (Decides-and _ _ (Decides-eqb p r) (Decides-eqb q s)).0 h in λ x. Alg (e x) (both.0 x) (both.1 x)
 
 -- a row that stands is the same derivation: its key is the key added
-stands_same : (rows : List (RowOrigin Term)) → Well rows → (o : RowOrigin Term) → Addable rows o → (h : Hit Term) → Found (RowOk (keys_of rows)) (row_key o) rows h
+stands_same : (rows : List (RowOrigin Term))
+    → Well rows
+    → (o : RowOrigin Term)
+    → Addable rows o
+    → (h : Hit Term)
+    → Found (RowOk (keys_of rows)) (row_key o) rows h
     → root_row same_value (row_key o) rows ≡ root_place h.place h.found → same_origin same_value h.found o ≡ true → row_key h.found ≡ row_key o
 stands_same rows well (OfRoot k) add h found at e = by_origin h.found at e
   where
@@ -205,13 +230,21 @@ stands_same rows well (Of d) add h found at e = by_origin h.found found.holds e
         let key : g.key ≡ d.key = well.own g.key d.key ok.0 add.0 ((same_value-Decides g.key d.key).0 two.0) in
         ok.2 ∙ same_made (keys_of rows) well.own g.input d.input g.key d.key ok.1 add.1 key two.1 ∙ sym add.2
 
-grown_new : (rows : List (RowOrigin Term)) → Well rows → (o : RowOrigin Term) → Addable rows o → hit same_value (row_key o) rows ≡ None → Grown rows (row_key o) (rows ++ o ∷ [])
+grown_new : (rows : List (RowOrigin Term))
+    → Well rows
+    → (o : RowOrigin Term)
+    → Addable rows o
+    → hit same_value (row_key o) rows ≡ None
+    → Grown rows (row_key o) (rows ++ o ∷ [])
 grown_new rows well o add none = record {
   well = record {
     own = subst OneValueOneTerm (sym (keys_append rows o)) (own_more (keys_of rows) (row_key o) well.own (λ t m v. missed (row_key o) 0 rows none t m v));
     made = subst (λ ts. AllOf (RowOk ts) (rows ++ o ∷ [])) (sym (keys_append rows o))
         (all_of_append (RowOk (keys_of rows ++ row_key o ∷ [])) rows o
-        (all_of_weaken (RowOk (keys_of rows)) (RowOk (keys_of rows ++ row_key o ∷ [])) (row_more (keys_of rows) (keys_of rows ++ row_key o ∷ []) (λ t m. member_left t (keys_of rows) (row_key o ∷ []) m)) rows well.made)
+        (all_of_weaken (RowOk (keys_of rows)) (RowOk (keys_of rows ++ row_key o ∷ []))
+        (row_more (keys_of rows) (keys_of rows ++ row_key o ∷ [])
+        (λ t m. member_left t (keys_of rows) (row_key o ∷ []) m))
+        rows well.made)
         (row_more (keys_of rows) (keys_of rows ++ row_key o ∷ []) (λ t m. member_left t (keys_of rows) (row_key o ∷ []) m) o (addable_row rows o add)));
   };
   keys = keys_append rows o ∙ sym (ap (λ b. with_new b (row_key o) (keys_of rows)) (not_member (is_member (row_key o) (keys_of rows)) refl));
@@ -221,7 +254,14 @@ grown_new rows well o add none = record {
     not_member true e = absurd (missed (row_key o) 0 rows none (row_key o) (is_member_is (row_key o) (keys_of rows) e) refl)
     not_member false e = e
 
-grown_stands : (rows : List (RowOrigin Term)) → Well rows → (o : RowOrigin Term) → Addable rows o → (h : Hit Term) → hit same_value (row_key o) rows ≡ Some h → same_origin same_value h.found o ≡ true → Grown rows (row_key o) rows
+grown_stands : (rows : List (RowOrigin Term))
+    → Well rows
+    → (o : RowOrigin Term)
+    → Addable rows o
+    → (h : Hit Term)
+    → hit same_value (row_key o) rows ≡ Some h
+    → same_origin same_value h.found o ≡ true
+    → Grown rows (row_key o) rows
 grown_stands rows well o add h is e =
     let found = found_one (RowOk (keys_of rows)) (row_key o) 0 rows well.made h is in
     let key = stands_same rows well o add h found (ap root_if is) e in
@@ -229,13 +269,26 @@ grown_stands rows well o add h is e =
     record { well = well; keys = sym (ap (λ b. with_new b (row_key o) (keys_of rows)) (member_is (row_key o) (keys_of rows) among)) }
 
 -- one origin more, with no clash
-pub add_row_grows : (rows : List (RowOrigin Term)) → Well rows → (o : RowOrigin Term) → Addable rows o → (add_row same_value rows o).clash ≡ None → Grown rows (row_key o) (add_row same_value rows o).rows
+pub add_row_grows : (rows : List (RowOrigin Term))
+    → Well rows
+    → (o : RowOrigin Term)
+    → Addable rows o
+    → (add_row same_value rows o).clash ≡ None
+    → Grown rows (row_key o) (add_row same_value rows o).rows
 add_row_grows rows well o add calm = by_hit (hit same_value (row_key o) rows) refl calm
   where
-    by_origin : (h : Hit Term) → hit same_value (row_key o) rows ≡ Some h → (b : Bool) → same_origin same_value h.found o ≡ b → (stands_or_not b rows h.place o).clash ≡ None → Grown rows (row_key o) (stands_or_not b rows h.place o).rows
+    by_origin : (h : Hit Term)
+        → hit same_value (row_key o) rows ≡ Some h
+        → (b : Bool)
+        → same_origin same_value h.found o ≡ b
+        → (stands_or_not b rows h.place o).clash ≡ None
+        → Grown rows (row_key o) (stands_or_not b rows h.place o).rows
     by_origin h is true e calm = grown_stands rows well o add h is e
     by_origin h is false e calm = cc
 
-    by_hit : (x : Option (Hit Term)) → hit same_value (row_key o) rows ≡ x → (added_at same_value rows o x).clash ≡ None → Grown rows (row_key o) (added_at same_value rows o x).rows
+    by_hit : (x : Option (Hit Term))
+        → hit same_value (row_key o) rows ≡ x
+        → (added_at same_value rows o x).clash ≡ None
+        → Grown rows (row_key o) (added_at same_value rows o x).rows
     by_hit None is calm = grown_new rows well o add is
     by_hit (Some h) is calm = by_origin h is (same_origin same_value h.found o) refl calm

@@ -13,7 +13,7 @@ use Rattle.lte_machine.specs.CoreState.{Core, CoreLink, map_core_context, map_co
 use Rattle.lte_machine.specs.CoreRows.{CoreRecordRow, RecordRefused, PathSwitched, HandoverAsked, HandoverOrdered, HandoverNotified, HandoverCancelled}
 use Rattle.lte_machine.specs.CoreChoice.{caps_in_use, asked_at, cancelled_at, of_link, core_fields_row}
 use Rattle.lte_machine.specs.CoreStep.{plain_core}
-use Rattle.lte_machine.specs.Kinds.{same_caps}
+use Rattle.lte_machine.specs.PhoneChoice.{same_caps}
 use Rattle.lte_machine.specs.Reply.{unseen}
 use Rattle.lte_machine.proofs.Tests.{by_test, same_of}
 
@@ -77,14 +77,20 @@ RecordHas s fields (HandoverCancelled conn source attempt cell target) =
 
 module _ {K C : Type 0} (r : Reading K C) (s : Core K C) where
   -- a record of the connection
-  of_link_has : (fields : Fields) (conn : ℕ) (row : CoreRecordRow) → ((held : ℕ) → held ≡ held_number s.link → IsOld s fields held conn) → (LinkIs s.link conn → RecordHas s fields row)
+  of_link_has : (fields : Fields) (conn : ℕ) (row : CoreRecordRow)
+      → ((held : ℕ) → held ≡ held_number s.link → IsOld s fields held conn)
+      → (LinkIs s.link conn → RecordHas s fields row)
       → (o : Option (CoreLink K C)) → s.link ≡ o → RecordHas s fields (of_link (option_map (map_core_link unseen r.ncc) o) conn row)
   of_link_has fields conn row old f None e = old 0 (sym (ap held_number e))
   of_link_has fields conn row old f (Some link) e =
       by_test (RecordHas s fields) (link.conn == conn) _ _ (λ b. f (subst (λ o. LinkIs o conn) (sym e) (same_of link.conn conn b)))
       (λ b. old link.conn (sym (ap held_number e)))
 
-  asked_has : (conn source attempt : ℕ) (cell : Place) → LinkIs s.link conn → nat_le attempt (slice_index s.attempts source) ≡ false → (t : Option ℕ) → station_of cell s.cells ≡ t
+  asked_has : (conn source attempt : ℕ) (cell : Place)
+      → LinkIs s.link conn
+      → nat_le attempt (slice_index s.attempts source) ≡ false
+      → (t : Option ℕ)
+      → station_of cell s.cells ≡ t
       → RecordHas s (HandoverRequired conn source attempt cell) (asked_at conn source attempt cell (caps_in_use (plain_core r s).context) t)
   asked_has conn source attempt cell l n None e = tt
   asked_has conn source attempt cell l n (Some target) e = record { fields_is = refl; linked = l; new = n; site = e; caps_is = refl }
@@ -108,9 +114,12 @@ module _ {K C : Type 0} (r : Reading K C) (s : Core K C) where
       (λ b. asked_has conn source attempt cell l b (station_of cell s.cells) refl)) s.link refl
   record_has (HandoverRequestAck conn source attempt cell ncc algs air) =
       of_link_has (HandoverRequestAck conn source attempt cell ncc algs air) conn _ (λ held e. (e, refl)) (λ l. (refl, l)) s.link refl
-  record_has (HandoverNotify conn station cell) = of_link_has (HandoverNotify conn station cell) conn _ (λ held e. (e, refl)) (λ l. (conn, cell, refl, l)) s.link refl
+  record_has (HandoverNotify conn station cell) =
+      of_link_has (HandoverNotify conn station cell) conn _ (λ held e. (e, refl))
+      (λ l. (conn, cell, refl, l)) s.link refl
   record_has (HandoverCancel conn source attempt cell) =
-      of_link_has (HandoverCancel conn source attempt cell) conn _ (λ held e. (e, refl)) (λ l. cancelled_has conn source attempt cell l (station_of cell s.cells) refl) s.link refl
+      of_link_has (HandoverCancel conn source attempt cell) conn _ (λ held e. (e, refl))
+      (λ l. cancelled_has conn source attempt cell l (station_of cell s.cells) refl) s.link refl
   record_has (InitialContext conn cell caps) = tt
   record_has (ContextRelease conn) = tt
   record_has (PathSwitchAnswer conn number) = tt

@@ -146,14 +146,18 @@ brief l = (without_macs l.answer, l.sent, option_map (λ n. (n.ncc, n.way)) l.no
 abbrev pub briefs : List (EventReport Term) → List (Option Brief)
 briefs [] = []
 briefs (Reported l ∷ reported) = Some (brief l) ∷ briefs reported
-briefs (Coincided chance ∷ reported) = None ∷ briefs reported
+briefs (Coincided coincidence ∷ reported) = None ∷ briefs reported
 
 abbrev pub told : List Event → List (Option Brief)
 told events = briefs (report (open_octets toy) machine start events)
 
 -- what a run computes with
 unfoldable pub computing : Unit {0}
-unfolding least estimate_of has_bit choice_of are_supported number_of field_at number_at octets_of of_size number_in algs_at caps_at cell_at rest_at nas_reading.command_of nas_reading.reject_of nas_reading.bare nas_reading.data_of nas_reading.read_nas nas_texts.spelling_of rrc_reading.command_of rrc_reading.reconfiguration_of rrc_reading.key_change_of rrc_reading.bare rrc_reading.data_of rrc_reading.read_rrc rrc_texts.spelling_of in_32_bits srb_count drb_count header_for_phone core_header open_octets open_foreign nas_octets srb_octets drb_octets
+unfolding least estimate_of has_bit choice_of are_supported number_of field_at number_at octets_of of_size number_in
+    algs_at caps_at cell_at rest_at nas_reading.command_of nas_reading.reject_of nas_reading.bare nas_reading.data_of
+    nas_reading.read_nas nas_texts.spelling_of rrc_reading.command_of rrc_reading.reconfiguration_of
+    rrc_reading.key_change_of rrc_reading.bare rrc_reading.data_of rrc_reading.read_rrc rrc_texts.spelling_of in_32_bits
+    srb_count drb_count header_for_phone core_header open_octets open_foreign nas_octets srb_octets drb_octets
 computing = tt
 
 -- the answer, with NCC and way of the note

@@ -192,7 +192,11 @@ module _ {K C : Type 0} (r : Reading K C) (s : Station K C) (act : StationAct) w
   unspent_has counts row f = by_test Has (is_spent counts) _ _ (λ e. tt) f
 
   module _ (c : Context K C) (e : s.context ≡ Some c) where
-    begun_has : (kind : HoKind) (target : ℕ) (cell : Place) → act ≡ Start kind cell → c.starting ≡ false → c.attempt ≡ None → station_of cell s.cells ≡ Some target
+    begun_has : (kind : HoKind) (target : ℕ) (cell : Place)
+        → act ≡ Start kind cell
+        → c.starting ≡ false
+        → c.attempt ≡ None
+        → station_of cell s.cells ≡ Some target
         → is_misplaced kind (target == s.id) ≡ false → Has (begun_row (plain_station r s) target cell kind)
     begun_has HoKind.X2 target cell a f g h i =
         by_test Has (runs_out 1 s.next) _ _ (λ j. tt)
@@ -233,9 +237,21 @@ module _ {K C : Type 0} (r : Reading K C) (s : Station K C) (act : StationAct) w
     ordered_has : act ≡ Command → (attempt : Attempt K C) → c.attempt ≡ Some attempt → (order : Order) → Orders r attempt order
         → Has (unless_spent c.bearers.srb1 (HandoverCommanded order c.bearers.srb1.send))
     ordered_has a attempt f order g =
-        unspent_has c.bearers.srb1 _ (λ h. record { act_is = a; context = c; serving = e; attempt = attempt; trying = f; orders = g; count_is = refl; unspent = h })
+        unspent_has c.bearers.srb1 _ (λ h. record {
+          act_is = a;
+          context = c;
+          serving = e;
+          attempt = attempt;
+          trying = f;
+          orders = g;
+          count_is = refl;
+          unspent = h;
+        })
 
-    command_has : act ≡ Command → (o : Option (Attempt K C)) → c.attempt ≡ o → Has (attempt_command_row (option_map (map_attempt unseen r.ncc) o) c.bearers.srb1)
+    command_has : act ≡ Command
+        → (o : Option (Attempt K C))
+        → c.attempt ≡ o
+        → Has (attempt_command_row (option_map (map_attempt unseen r.ncc) o) c.bearers.srb1)
     command_has a None f = tt
     command_has a (Some (OverX2 (X2Open start))) f = tt
     command_has a (Some (OverX2 (X2Ready acked))) f = ordered_has a _ f _ refl
@@ -251,21 +267,83 @@ module _ {K C : Type 0} (r : Reading K C) (s : Station K C) (act : StationAct) w
 
     x2_cancel_has : act ≡ Cancel → (state : X2State K C) → c.attempt ≡ Some (OverX2 state) → Has (x2_cancel_row c.conn (map_x2_state unseen r.ncc state))
     x2_cancel_has a (X2Open start) f =
-        record { act_is = a; context = c; serving = e; state = X2Open start; trying = f; start = start; began = refl; conn_is = refl; number_is = refl; target_is = refl }
+        record {
+          act_is = a;
+          context = c;
+          serving = e;
+          state = X2Open start;
+          trying = f;
+          start = start;
+          began = refl;
+          conn_is = refl;
+          number_is = refl;
+          target_is = refl;
+        }
     x2_cancel_has a (X2Ready acked) f =
-        record { act_is = a; context = c; serving = e; state = X2Ready acked; trying = f; start = acked.start; began = refl; conn_is = refl; number_is = refl; target_is = refl }
+        record {
+          act_is = a;
+          context = c;
+          serving = e;
+          state = X2Ready acked;
+          trying = f;
+          start = acked.start;
+          began = refl;
+          conn_is = refl;
+          number_is = refl;
+          target_is = refl;
+        }
     x2_cancel_has a (X2Commanded sent) f = tt
 
     s1_cancel_has : act ≡ Cancel → (state : S1State) → c.attempt ≡ Some (OverS1 state) → Has (s1_cancel_row c.conn state)
     s1_cancel_has a (S1Open start) f =
-        record { act_is = a; context = c; serving = e; state = S1Open start; trying = f; start = start; began = refl; conn_is = refl; number_is = refl; cell_is = refl }
+        record {
+          act_is = a;
+          context = c;
+          serving = e;
+          state = S1Open start;
+          trying = f;
+          start = start;
+          began = refl;
+          conn_is = refl;
+          number_is = refl;
+          cell_is = refl;
+        }
     s1_cancel_has a (S1Ready acked) f =
-        record { act_is = a; context = c; serving = e; state = S1Ready acked; trying = f; start = acked.start; began = refl; conn_is = refl; number_is = refl; cell_is = refl }
+        record {
+          act_is = a;
+          context = c;
+          serving = e;
+          state = S1Ready acked;
+          trying = f;
+          start = acked.start;
+          began = refl;
+          conn_is = refl;
+          number_is = refl;
+          cell_is = refl;
+        }
     s1_cancel_has a (S1Commanded sent) f = tt
 
     within_cancel_has : act ≡ Cancel → (state : X2State K C) → c.attempt ≡ Some (Within state) → Has (within_cancel_row (map_x2_state unseen r.ncc state))
-    within_cancel_has a (X2Open start) f = record { act_is = a; context = c; serving = e; state = X2Open start; trying = f; start = start; began = refl; number_is = refl }
-    within_cancel_has a (X2Ready acked) f = record { act_is = a; context = c; serving = e; state = X2Ready acked; trying = f; start = acked.start; began = refl; number_is = refl }
+    within_cancel_has a (X2Open start) f = record {
+      act_is = a;
+      context = c;
+      serving = e;
+      state = X2Open start;
+      trying = f;
+      start = start;
+      began = refl;
+      number_is = refl;
+    }
+    within_cancel_has a (X2Ready acked) f = record {
+      act_is = a;
+      context = c;
+      serving = e;
+      state = X2Ready acked;
+      trying = f;
+      start = acked.start;
+      began = refl;
+      number_is = refl;
+    }
     within_cancel_has a (X2Commanded sent) f = tt
 
     cancel_has : act ≡ Cancel → (o : Option (Attempt K C)) → c.attempt ≡ o → Has (attempt_cancel_row c.conn (option_map (map_attempt unseen r.ncc) o))
@@ -314,7 +392,11 @@ module _ {K C : Type 0} (r : Reading K C) (s : Station K C) (act : StationAct) w
       active_has c.starting _ (λ f. unspent_has (srb_counts srb c.bearers) (RrcSent srb (srb_counts srb c.bearers).send text)
       (λ g. record { bearer = bearer; act_is = a; on = b; context = c; serving = e; active = f; count_is = refl; unspent = g }))
 
-  skip_has : (bearer : Bearer) (n : ℕ) → act ≡ Skip bearer n → (o : Option (Context K C)) → s.context ≡ o → Has (skip_row (which bearer) n (option_map (map_context unseen r.ncc) o))
+  skip_has : (bearer : Bearer) (n : ℕ)
+      → act ≡ Skip bearer n
+      → (o : Option (Context K C))
+      → s.context ≡ o
+      → Has (skip_row (which bearer) n (option_map (map_context unseen r.ncc) o))
   skip_has bearer n a None e = tt
   skip_has bearer n a (Some c) e = active_has c.starting _ (λ f. record { bearer = bearer; act_is = a; on_is = refl; context = c; serving = e; active = f })
 

@@ -190,7 +190,8 @@ last_numbers_run : run (first_of 0 4294967294) last_numbers ≡
     ∷ says NumberSpent ∷ says NumberSpent ∷ says NumberSpent
     ∷ says Done ∷ says Done ∷ says Done
     ∷ says (BadHeader 0) ∷ says Done ∷ []
-unfolding read_rrc command_of reconfiguration_of bare data_of of_size rest_at number_at number_of field_at srb_count drb_count in_32_bits least choice_of has_bit
+unfolding read_rrc command_of reconfiguration_of bare data_of of_size rest_at number_at number_of field_at srb_count
+    drb_count in_32_bits least choice_of has_bit
 last_numbers_run = refl
 
 -- eight preparations of the last connection

@@ -81,7 +81,11 @@ module _ {K C S : Type 0} (m : Machine K C S) where
   run_ids w (e ∷ es) = run_ids (happens m w e).0 es ∙ happens_ids w e
 
 -- so a station that was there is there
-pub still_here : {K C : Type 0} (id : ℕ) (ts ss : List (Station K C)) → ids_of ts ≡ ids_of ss → (s : Station K C) → station_of_id id ss ≡ Some s → (t : Station K C) × (station_of_id id ts ≡ Some t)
+pub still_here : {K C : Type 0} (id : ℕ) (ts ss : List (Station K C))
+    → ids_of ts ≡ ids_of ss
+    → (s : Station K C)
+    → station_of_id id ss ≡ Some s
+    → (t : Station K C) × (station_of_id id ts ≡ Some t)
 still_here id [] [] e s f = absurd cc
 still_here id [] (x ∷ xs) e s f = absurd cc
 still_here id (t ∷ ts) [] e s f = absurd cc
@@ -90,7 +94,10 @@ still_here {K = K} {C = C} id (t ∷ ts) (x ∷ xs) e s f =
     let more : ids_of ts ≡ ids_of xs = cc in
     by (t.id == id) (x.id == id) (ap (λ n. n == id) one) f (still_here id ts xs more)
   where
-    by : (a b : Bool) → a ≡ b → cond b (Some x) (station_of_id id xs) ≡ Some s → ((y : Station K C) → station_of_id id xs ≡ Some y → (u : Station K C) × (station_of_id id ts ≡ Some u))
+    by : (a b : Bool)
+        → a ≡ b
+        → cond b (Some x) (station_of_id id xs) ≡ Some s
+        → ((y : Station K C) → station_of_id id xs ≡ Some y → (u : Station K C) × (station_of_id id ts ≡ Some u))
         → (u : Station K C) × (cond a (Some t) (station_of_id id ts) ≡ Some u)
     by true b g h rest = (t, refl)
     by false true g h rest = absurd cc

@@ -122,13 +122,27 @@ module _ {K C L D : Type 0} {r : Reading K C} {q : Reading L D} {f : K → L} {g
       ≡ record_keys.prepared_by_x2 q w (option_map (map_numbered f g) key) (map_station f g s)
   prepared_by_x2_map w None s = refl
   prepared_by_x2_map w (Some star) s =
-      rw (admitted_preps_map w (record_keys.admitted_prep r w By.X2 star) s, c.alg star.key 3 (identity_of w.algs.eea), c.alg star.key 4 eia2_identity, c.alg star.key 5 (identity_of w.algs.eea), c.ncc star.number) refl
+      rw (
+        admitted_preps_map w (record_keys.admitted_prep r w By.X2 star) s,
+        c.alg star.key 3 (identity_of w.algs.eea),
+        c.alg star.key 4 eia2_identity,
+        c.alg star.key 5 (identity_of w.algs.eea),
+        c.ncc star.number,
+      )
+      refl
 
   prepared_by_s1_with_map : (w : Admitted) (made : Derivation K) (star : NumberedKey K C) (s : Station K C) →
       map_station_done f g (record_keys.prepared_by_s1_with r w made star s)
       ≡ record_keys.prepared_by_s1_with q w (map_derivation f made) (map_numbered f g star) (map_station f g s)
   prepared_by_s1_with_map w made star s =
-      rw (admitted_preps_map w (record_keys.admitted_prep r w By.S1 star) s, c.alg star.key 3 (identity_of w.algs.eea), c.alg star.key 4 eia2_identity, c.alg star.key 5 (identity_of w.algs.eea), c.ncc star.number) refl
+      rw (
+        admitted_preps_map w (record_keys.admitted_prep r w By.S1 star) s,
+        c.alg star.key 3 (identity_of w.algs.eea),
+        c.alg star.key 4 eia2_identity,
+        c.alg star.key 5 (identity_of w.algs.eea),
+        c.ncc star.number,
+      )
+      refl
 
   star_line_map : (base : NumberedKey K C) (cell : Place) →
       map_numbered f g (star_line r base cell.pci cell.earfcn) ≡ star_line q (map_numbered f g base) cell.pci cell.earfcn
@@ -309,7 +323,14 @@ module _ {K C L D : Type 0} {r : Reading K C} {q : Reading L D} {f : K → L} {g
       map_station_done f g (keys.started_within_with r number air cell x o s)
       ≡ keys.started_within_with q number air cell (map_context f g x) (map_opened f g o) (map_station f g s)
   started_within_with_map number air cell x o s =
-      rw (map-append (map_prep f g) s.preps (record_keys.own_prep r x.conn s.id number air cell x o.star ∷ []), c.alg o.star.key 3 (identity_of x.algs.eea), c.alg o.star.key 4 eia2_identity, c.alg o.star.key 5 (identity_of x.algs.eea), c.ncc o.star.number) refl
+      rw (
+        map-append (map_prep f g) s.preps (record_keys.own_prep r x.conn s.id number air cell x o.star ∷ []),
+        c.alg o.star.key 3 (identity_of x.algs.eea),
+        c.alg o.star.key 4 eia2_identity,
+        c.alg o.star.key 5 (identity_of x.algs.eea),
+        c.ncc o.star.number,
+      )
+      refl
 
   started_within_map : (number air : ℕ) (cell : Place) (o : Option (Context K C)) (s : Station K C) →
       map_station_done f g (keys.started_within r number air cell o s)

@@ -3,9 +3,9 @@ use Rattle.std.proofs.Common.{◌≡◌, refl, sym, ap, ◌∙◌, ℕ, List, []
 use Rattle.lte_events.specs.declared.events.Event.{Event}
 use Rattle.lte_machine.specs.Opening.{Opening, Outcome}
 use Rattle.lte_machine.specs.Ladder.{Clash, ladder_of}
-use Rattle.lte_machine.specs.Tuples.{Chance, Rows}
+use Rattle.lte_machine.specs.Tuples.{Coincidence, Rows}
 use Rattle.lte_machine.specs.World.{Machine, World, Line, happens}
-use Rattle.lte_machine.specs.Step.{by_ladder, by_chance, opening_chance, attempted}
+use Rattle.lte_machine.specs.Step.{by_ladder, by_coincidence, opening_coincidence, attempted}
 use Rattle.lte_machine.specs.Run.{Running, Stopped, after, turn, replay}
 use Rattle.lte_machine.proofs.Mixed.{run}
 
@@ -14,12 +14,12 @@ still_one e = cc
 
 module _ {K C S : Type 0} (by_octets : Opening K → List ℕ → Outcome) (m : Machine K C S) where
   -- a run that is over stays so
-  over_stays : (chance : Chance K) (es : List Event) → replay by_octets m (Stopped chance) es ≡ Stopped chance
-  over_stays chance [] = refl
-  over_stays chance (e ∷ es) = over_stays chance es
+  pub over_stays : (coincidence : Coincidence K) (es : List Event) → replay by_octets m (Stopped coincidence) es ≡ Stopped coincidence
+  over_stays coincidence [] = refl
+  over_stays coincidence (e ∷ es) = over_stays coincidence es
 
-  over_or_still : (chance : Chance K) (es : List Event) (u : World K C S) → replay by_octets m (Stopped chance) es ≡ Running u → ⊥
-  over_or_still chance es u e = let bad : Stopped chance ≡ Running u = sym (over_stays chance es) ∙ e in cc
+  over_or_still : (coincidence : Coincidence K) (es : List Event) (u : World K C S) → replay by_octets m (Stopped coincidence) es ≡ Running u → ⊥
+  over_or_still coincidence es u e = let bad : Stopped coincidence ≡ Running u = sym (over_stays coincidence es) ∙ e in cc
 
   -- the ladder of a world has no clash
   abbrev pub Calm : World K C S → Type 0
@@ -34,27 +34,34 @@ module _ {K C S : Type 0} (by_octets : Opening K → List ℕ → Outcome) (m : 
   by_clash h None is es u e = (is, e)
   by_clash h (Some clash) is es u e = absurd (over_or_still (Rows clash) es u e)
 
-  by_tuples : (h : World K C S × Line K) (o : Option (Chance K)) (es : List Event) (u : World K C S)
-      → replay by_octets m (after (by_chance m.reading.same o h)) es ≡ Running u → GoesOn h es u
+  by_tuples : (h : World K C S × Line K) (o : Option (Coincidence K)) (es : List Event) (u : World K C S)
+      → replay by_octets m (after (by_coincidence m.reading.same o h)) es ≡ Running u → GoesOn h es u
   by_tuples h None es u e = by_clash h (ladder_of m.reading.same h.0.history).clash refl es u e
-  by_tuples h (Some chance) es u e = absurd (over_or_still chance es u e)
+  by_tuples h (Some coincidence) es u e = absurd (over_or_still coincidence es u e)
 
   -- the first event of a run that meets no coincidence
-  pub goes_on : (w : World K C S) (e : Event) (es : List Event) (u : World K C S) → replay by_octets m (Running w) (e ∷ es) ≡ Running u → GoesOn (happens m w e) es u
-  goes_on w e es u is = by_tuples (happens m w e) (opening_chance by_octets m (attempted m w e)) es u is
+  pub goes_on : (w : World K C S) (e : Event) (es : List Event) (u : World K C S)
+      → replay by_octets m (Running w) (e ∷ es) ≡ Running u
+      → GoesOn (happens m w e) es u
+  goes_on w e es u is = by_tuples (happens m w e) (opening_coincidence by_octets m (attempted m w e)) es u is
 
   -- and the world after that event
-  after_clash : (h : World K C S × Line K) (o : Option (Clash K)) (es : List Event) (u : World K C S) → replay by_octets m (after (by_ladder o h)) es ≡ Running u → after (by_ladder o h) ≡ Running h.0
+  after_clash : (h : World K C S × Line K) (o : Option (Clash K)) (es : List Event) (u : World K C S)
+      → replay by_octets m (after (by_ladder o h)) es ≡ Running u
+      → after (by_ladder o h) ≡ Running h.0
   after_clash h None es u e = refl
   after_clash h (Some clash) es u e = absurd (over_or_still (Rows clash) es u e)
 
-  after_chance : (h : World K C S × Line K) (o : Option (Chance K)) (es : List Event) (u : World K C S) → replay by_octets m (after (by_chance m.reading.same o h)) es ≡ Running u
-      → after (by_chance m.reading.same o h) ≡ Running h.0
-  after_chance h None es u e = after_clash h (ladder_of m.reading.same h.0.history).clash es u e
-  after_chance h (Some chance) es u e = absurd (over_or_still chance es u e)
+  after_coincidence : (h : World K C S × Line K) (o : Option (Coincidence K)) (es : List Event) (u : World K C S)
+      → replay by_octets m (after (by_coincidence m.reading.same o h)) es ≡ Running u
+      → after (by_coincidence m.reading.same o h) ≡ Running h.0
+  after_coincidence h None es u e = after_clash h (ladder_of m.reading.same h.0.history).clash es u e
+  after_coincidence h (Some coincidence) es u e = absurd (over_or_still coincidence es u e)
 
-  pub turns_to : (w : World K C S) (e : Event) (es : List Event) (u : World K C S) → replay by_octets m (Running w) (e ∷ es) ≡ Running u → turn by_octets m (Running w) e ≡ Running (happens m w e).0
-  turns_to w e es u is = after_chance (happens m w e) (opening_chance by_octets m (attempted m w e)) es u is
+  pub turns_to : (w : World K C S) (e : Event) (es : List Event) (u : World K C S)
+      → replay by_octets m (Running w) (e ∷ es) ≡ Running u
+      → turn by_octets m (Running w) e ≡ Running (happens m w e).0
+  turns_to w e es u is = after_coincidence (happens m w e) (opening_coincidence by_octets m (attempted m w e)) es u is
 
   -- such a run is the plain one
   pub still_is_run : (w : World K C S) (es : List Event) (u : World K C S) → replay by_octets m (Running w) es ≡ Running u → u ≡ run m w es

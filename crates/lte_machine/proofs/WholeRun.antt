@@ -1,11 +1,13 @@
 -- The run in octets is the value of the run of the written machine, for every setup and every list of events.
 use Rattle.std.proofs.Common.{◌≡◌, refl, ap, sym, ◌∙◌, ℕ, List, [], ◌∷◌, map, Option, Some, None}
+use Rattle.std.specs.List.{AllByRecursion as AllOf}
 use Rattle.rec_base.specs.declared.uses.Dir.TheVariants.{Up, Down}
 use Rattle.lte_events.specs.declared.addresses.Address.{Address}
 use Rattle.lte_events.specs.declared.events.Event.{Event}
 use Rattle.lte_events.specs.declared.setups.Setup.{Setup}
 use Rattle.lte_events.specs.declared.setups.StationSetup.{StationSetup}
 use Rattle.lte_events.specs.Site.{Site}
+use Rattle.lte_events.specs.Ranges.{IsEvent, IsSetup}
 use Rattle.key_model.specs.Chain.{ncc_of}
 use Rattle.key_model.specs.Term.{Term, Root}
 use Rattle.key_model.specs.Value.{value_of, same_value}
@@ -15,7 +17,6 @@ use Rattle.lte_machine.specs.Opening.{open_octets}
 use Rattle.lte_machine.specs.StationState.{first_station}
 use Rattle.lte_machine.specs.Carried.{map_stations, run_value, report_value}
 use Rattle.lte_machine.specs.Machines.{Kept, machine_in_octets, sender_of, opening_by_octets, written_machine, written_in_values, kept_in_values}
-use Rattle.lte_machine.specs.Ranges.{AllOf, IsEvent, IsSetup}
 use Rattle.lte_machine.specs.Run.{Running, replay, report, stations_of, first_world}
 use Rattle.lte_machine.specs.World.{Machine, World, record_at}
 use Rattle.lte_machine.proofs.InOctets.{agree, KeepsBack, run_in_octets, tale_in_octets}
@@ -76,7 +77,9 @@ module _ (c : Ciphers (List ℕ)) where
   -- so ranges are a property of worlds by which what was sent reads back
   pub ranged_keeps_back : KeepsBack c Ranged
   ranged_keeps_back = record {
-    keeps = ranged_keeps same_value Root (octets_of (under_keys value_of c) written_in_values) sender_of (λ opening pdu came. open_octets (under_keys value_of c) opening pdu);
+    keeps =
+        ranged_keeps same_value Root (octets_of (under_keys value_of c) written_in_values) sender_of
+        (λ opening pdu came. open_octets (under_keys value_of c) opening pdu);
     back = λ w e is h. ranged_back w e h;
   }
 

@@ -58,17 +58,22 @@ ciphering_use-map f (Some e) = refl
 
 uses_in-map : {K C L D : Type 0} (f : K → L) (g : C → D) (o : Option (Outgoing K C)) → map (map_use f) (uses_in o) ≡ uses_in (option_map (map_outgoing f g) o)
 uses_in-map f g None = refl
-uses_in-map f g (Some (SealedNas dir header u e text)) = map-append (map_use f) (ciphering_use e) (u ∷ []) ∙ ap (λ xs. xs ++ map_use f u ∷ []) (ciphering_use-map f e)
+uses_in-map f g (Some (SealedNas dir header u e text)) =
+    map-append (map_use f) (ciphering_use e) (u ∷ []) ∙ ap (λ xs. xs ++ map_use f u ∷ []) (ciphering_use-map f e)
 uses_in-map f g (Some (PlainNas octets)) = refl
-uses_in-map f g (Some (SealedRrc dir station air srb u e text)) = map-append (map_use f) (ciphering_use e) (u ∷ []) ∙ ap (λ xs. xs ++ map_use f u ∷ []) (ciphering_use-map f e)
+uses_in-map f g (Some (SealedRrc dir station air srb u e text)) =
+    map-append (map_use f) (ciphering_use e) (u ∷ []) ∙ ap (λ xs. xs ++ map_use f u ∷ []) (ciphering_use-map f e)
 uses_in-map f g (Some (UserPacket dir station air drb e text)) = refl
 uses_in-map f g (Some (Between to fields key)) = refl
 
-outs-map : {K L : Type 0} (f : K → L) (holder : Holder) (ds : List (Derivation K)) → map (map_holding f) (map (λ d. record { holder = holder; key = d.out }) ds) ≡ map (λ d. record { holder = holder; key = d.out }) (map (map_derivation f) ds)
+outs-map : {K L : Type 0} (f : K → L) (holder : Holder) (ds : List (Derivation K))
+    → map (map_holding f) (map (λ d. record { holder = holder; key = d.out }) ds)
+    ≡ map (λ d. record { holder = holder; key = d.out }) (map (map_derivation f) ds)
 outs-map f holder [] = refl
 outs-map f holder (d ∷ ds) = ap (λ xs. record { holder = holder; key = f d.out } ∷ xs) (outs-map f holder ds)
 
-holds-map : {K L : Type 0} (f : K → L) (holder : Holder) (o : Option K) (ds : List (Derivation K)) → map (map_holding f) (holds holder o ds) ≡ holds holder (option_map f o) (map (map_derivation f) ds)
+holds-map : {K L : Type 0} (f : K → L) (holder : Holder) (o : Option K) (ds : List (Derivation K))
+    → map (map_holding f) (holds holder o ds) ≡ holds holder (option_map f o) (map (map_derivation f) ds)
 holds-map f holder None ds = outs-map f holder ds
 holds-map f holder (Some key) ds = ap (λ xs. record { holder = holder; key = f key } ∷ xs) (outs-map f holder ds)
 
@@ -98,7 +103,8 @@ module _ {K C S L D T : Type 0} (m : Machine K C S) (q : Machine L D T) (f : K �
   BackAt (Address.StationX2 station) o = content_in q (option_map z o) ≡ map_read f g (content_in m o)
   BackAt other o = Unit {0}
 
-  kept-map : (w : World K C S) (holder : Holder) (r : Reply K C) → map_world f g z (world_with m w holder r) ≡ world_with q (map_world f g z w) holder (map_reply f g r)
+  kept-map : (w : World K C S) (holder : Holder) (r : Reply K C)
+      → map_world f g z (world_with m w holder r) ≡ world_with q (map_world f g z w) holder (map_reply f g r)
   kept-map w holder r = λ j. record {
     events = w.events + 1;
     phone = map_phone f g w.phone;
@@ -107,7 +113,10 @@ module _ {K C S L D T : Type 0} (m : Machine K C S) (q : Machine L D T) (f : K �
     sent = (with_one-map z (m.keep r.sent) w.sent ∙ ap (λ o. with_one o (map z w.sent)) (a.keep r.sent)) j;
     uses = (map-append (map_use f) w.uses (uses_in r.sent) ∙ ap (λ xs. map (map_use f) w.uses ++ xs) (uses_in-map f g r.sent)) j;
     history = (map-append (map_row f) w.history (map Of r.derived) ∙ ap (λ xs. map (map_row f) w.history ++ xs) (origins-map f r.derived)) j;
-    held = (map-append (map_holding f) w.held (holds holder r.received r.derived) ∙ ap (λ xs. map (map_holding f) w.held ++ xs) (holds-map f holder r.received r.derived)) j;
+    held =
+        (map-append (map_holding f) w.held (holds holder r.received r.derived)
+        ∙ ap (λ xs. map (map_holding f) w.held ++ xs) (holds-map f holder r.received r.derived))
+        j;
     made = map (map_made f g) w.made;
     tried = map (map_tried f g) w.tried;
     took = map (map_took f g) w.took;
@@ -128,24 +137,29 @@ module _ {K C S L D T : Type 0} (m : Machine K C S) (q : Machine L D T) (f : K �
     alarm = r.alarm;
   }
 
-  phone_after-map : (w : World K C S) (d : Phone K C × Reply K C) → map_told f g z (phone_after m w d) ≡ phone_after q (map_world f g z w) (map_phone_step f g d)
+  phone_after-map : (w : World K C S) (d : Phone K C × Reply K C)
+      → map_told f g z (phone_after m w d) ≡ phone_after q (map_world f g z w) (map_phone_step f g d)
   phone_after-map w d = λ j. (
     record (kept-map w AtPhone d.1 j) { phone = map_phone f g d.0; took = with_one-map (map_took f g) d.1.took w.took j },
     line_of-map w Who.Phone d.1 j,
   )
 
-  core_after-map : (w : World K C S) (d : Core K C × Reply K C) → map_told f g z (core_after m w d) ≡ core_after q (map_world f g z w) (map_core f g d.0, map_reply f g d.1)
+  core_after-map : (w : World K C S) (d : Core K C × Reply K C)
+      → map_told f g z (core_after m w d) ≡ core_after q (map_world f g z w) (map_core f g d.0, map_reply f g d.1)
   core_after-map w d = λ j. (record (kept-map w AtCore d.1 j) { core = map_core f g d.0 }, line_of-map w Who.Core d.1 j)
 
   put_if-map : (b : Bool) (new old : Station K C) → map_station f g (put_if b new old) ≡ put_if b (map_station f g new) (map_station f g old)
   put_if-map true new old = refl
   put_if-map false new old = refl
 
-  put_station-map : (id : ℕ) (new : Station K C) (ss : List (Station K C)) → map_stations f g (put_station id new ss) ≡ put_station id (map_station f g new) (map_stations f g ss)
+  put_station-map : (id : ℕ) (new : Station K C) (ss : List (Station K C))
+      → map_stations f g (put_station id new ss) ≡ put_station id (map_station f g new) (map_stations f g ss)
   put_station-map id new [] = refl
   put_station-map id new (s ∷ ss) = λ j. put_if-map (s.id == id) new s j ∷ put_station-map id new ss j
 
-  station_after-map : (w : World K C S) (id : ℕ) (d : Station K C × Reply K C) → map_told f g z (station_after m w id d) ≡ station_after q (map_world f g z w) id (map_station f g d.0, map_reply f g d.1)
+  station_after-map : (w : World K C S) (id : ℕ) (d : Station K C × Reply K C)
+      → map_told f g z (station_after m w id d)
+      ≡ station_after q (map_world f g z w) id (map_station f g d.0, map_reply f g d.1)
   station_after-map w id d = λ j. (
     record (kept-map w (AtStation id) d.1 j) {
       stations = put_station-map id d.0 w.stations j;
@@ -165,45 +179,64 @@ module _ {K C S L D T : Type 0} (m : Machine K C S) (q : Machine L D T) (f : K �
       → map_told f g z (phone_turn m w i o) ≡ phone_turn q (map_world f g z w) (map_phone_input f i) (option_map z o)
   phone_turn-map w i pdu e e' o =
       phone_after-map w (phone_step m.reading w.phone i (m.opener (phone_opens m.reading w.phone i) (phone_pdu_in i) o))
-      ∙ ap (phone_after q (map_world f g z w)) (phone_step_map m.reading q.reading f g a.carries w.phone i (m.opener (phone_opens m.reading w.phone i) (phone_pdu_in i) o))
+      ∙ ap (phone_after q (map_world f g z w))
+      (phone_step_map m.reading q.reading f g a.carries w.phone i
+      (m.opener (phone_opens m.reading w.phone i) (phone_pdu_in i) o))
       ∙ ap (λ x. phone_after q (map_world f g z w) (phone_step q.reading (map_phone f g w.phone) (map_phone_input f i) x))
-      (opened-map (phone_opens m.reading w.phone i) (phone_opens q.reading (map_phone f g w.phone) (map_phone_input f i)) (phone_pdu_in i) o (phone_opens_map m.reading q.reading f g a.carries w.phone i)
+      (opened-map (phone_opens m.reading w.phone i)
+      (phone_opens q.reading (map_phone f g w.phone) (map_phone_input f i)) (phone_pdu_in i) o
+      (phone_opens_map m.reading q.reading f g a.carries w.phone i)
       ∙ ap (λ x. q.opener (phone_opens q.reading (map_phone f g w.phone) (map_phone_input f i)) x (option_map z o)) (e ∙ sym e'))
 
   core_turn-map : (w : World K C S) (i : CoreInput K C) (pdu : List ℕ) → core_pdu_in i ≡ pdu → core_pdu_in (map_core_input f g i) ≡ pdu → (o : Option S)
       → map_told f g z (core_turn m w i o) ≡ core_turn q (map_world f g z w) (map_core_input f g i) (option_map z o)
   core_turn-map w i pdu e e' o =
       core_after-map w (core_step m.reading w.core i (m.opener (core_opens m.reading w.core i) (core_pdu_in i) o))
-      ∙ ap (core_after q (map_world f g z w)) (core_step_map m.reading q.reading f g a.carries w.core i (m.opener (core_opens m.reading w.core i) (core_pdu_in i) o))
+      ∙ ap (core_after q (map_world f g z w))
+      (core_step_map m.reading q.reading f g a.carries w.core i
+      (m.opener (core_opens m.reading w.core i) (core_pdu_in i) o))
       ∙ ap (λ x. core_after q (map_world f g z w) (core_step q.reading (map_core f g w.core) (map_core_input f g i) x))
-      (opened-map (core_opens m.reading w.core i) (core_opens q.reading (map_core f g w.core) (map_core_input f g i)) (core_pdu_in i) o (core_opens_map m.reading q.reading f g a.carries w.core i)
+      (opened-map (core_opens m.reading w.core i) (core_opens q.reading (map_core f g w.core) (map_core_input f g i))
+      (core_pdu_in i) o (core_opens_map m.reading q.reading f g a.carries w.core i)
       ∙ ap (λ x. q.opener (core_opens q.reading (map_core f g w.core) (map_core_input f g i)) x (option_map z o)) (e ∙ sym e'))
 
-  turn_of-map : (w : World K C S) (id : ℕ) (i : StationInput K C) (pdu : List ℕ) → station_pdu_in i ≡ pdu → station_pdu_in (map_station_input f g i) ≡ pdu → (o : Option S) (s : Option (Station K C))
+  turn_of-map : (w : World K C S) (id : ℕ) (i : StationInput K C) (pdu : List ℕ)
+      → station_pdu_in i ≡ pdu
+      → station_pdu_in (map_station_input f g i) ≡ pdu
+      → (o : Option S) (s : Option (Station K C))
       → map_told f g z (turn_of m w id i o s) ≡ turn_of q (map_world f g z w) id (map_station_input f g i) (option_map z o) (option_map (map_station f g) s)
   turn_of-map w id i pdu e e' o None = by_world-map w NoUe
   turn_of-map w id i pdu e e' o (Some s) =
       station_after-map w id (station_step m.reading s i (m.opener (station_opens m.reading s i) (station_pdu_in i) o))
       ∙ ap (station_after q (map_world f g z w) id) (station_step_map a.carries s i (m.opener (station_opens m.reading s i) (station_pdu_in i) o))
       ∙ ap (λ x. station_after q (map_world f g z w) id (station_step q.reading (map_station f g s) (map_station_input f g i) x))
-      (opened-map (station_opens m.reading s i) (station_opens q.reading (map_station f g s) (map_station_input f g i)) (station_pdu_in i) o (station_opens_map a.carries s i)
+      (opened-map (station_opens m.reading s i) (station_opens q.reading (map_station f g s) (map_station_input f g i))
+      (station_pdu_in i) o (station_opens_map a.carries s i)
       ∙ ap (λ x. q.opener (station_opens q.reading (map_station f g s) (map_station_input f g i)) x (option_map z o)) (e ∙ sym e'))
 
-  found_if : (b : Bool) (s : Station K C) (o : Option (Station K C)) → option_map (map_station f g) (cond b (Some s) o) ≡ cond b (Some (map_station f g s)) (option_map (map_station f g) o)
+  found_if : (b : Bool) (s : Station K C) (o : Option (Station K C))
+      → option_map (map_station f g) (cond b (Some s) o)
+      ≡ cond b (Some (map_station f g s)) (option_map (map_station f g) o)
   found_if true s o = refl
   found_if false s o = refl
 
   pub station_of_id-map : (id : ℕ) (ss : List (Station K C)) → option_map (map_station f g) (station_of_id id ss) ≡ station_of_id id (map_stations f g ss)
   station_of_id-map id [] = refl
-  station_of_id-map id (s ∷ ss) = found_if (s.id == id) s (station_of_id id ss) ∙ ap (λ o. cond (s.id == id) (Some (map_station f g s)) o) (station_of_id-map id ss)
+  station_of_id-map id (s ∷ ss) =
+      found_if (s.id == id) s (station_of_id id ss)
+      ∙ ap (λ o. cond (s.id == id) (Some (map_station f g s)) o) (station_of_id-map id ss)
 
-  station_turn-map : (w : World K C S) (id : ℕ) (i : StationInput K C) (pdu : List ℕ) → station_pdu_in i ≡ pdu → station_pdu_in (map_station_input f g i) ≡ pdu → (o : Option S)
+  station_turn-map : (w : World K C S) (id : ℕ) (i : StationInput K C) (pdu : List ℕ)
+      → station_pdu_in i ≡ pdu
+      → station_pdu_in (map_station_input f g i) ≡ pdu
+      → (o : Option S)
       → map_told f g z (station_turn m w id i o) ≡ station_turn q (map_world f g z w) id (map_station_input f g i) (option_map z o)
   station_turn-map w id i pdu e e' o =
       turn_of-map w id i pdu e e' o (station_of_id id w.stations)
       ∙ ap (turn_of q (map_world f g z w) id (map_station_input f g i) (option_map z o)) (station_of_id-map id w.stations)
 
-  authenticated-map : (w : World K C S) (ksi : ℕ) (root : K) (caps : Caps) → map_told f g z (authenticated m w ksi root caps) ≡ authenticated q (map_world f g z w) ksi (f root) caps
+  authenticated-map : (w : World K C S) (ksi : ℕ) (root : K) (caps : Caps)
+      → map_told f g z (authenticated m w ksi root caps) ≡ authenticated q (map_world f g z w) ksi (f root) caps
   authenticated-map w ksi root caps = λ j. (
     record (map_world f g z w) {
       events = w.events + 1;
@@ -215,7 +248,8 @@ module _ {K C S L D T : Type 0} (m : Machine K C S) (q : Machine L D T) (f : K �
     line_of-map w Who.Both (only Done) j,
   )
 
-  auth_unless-map : (w : World K C S) (ksi : ℕ) (root : K) (caps : Caps) (o : Option ℕ) → map_told f g z (auth_unless m w ksi root caps o) ≡ auth_unless q (map_world f g z w) ksi (f root) caps o
+  auth_unless-map : (w : World K C S) (ksi : ℕ) (root : K) (caps : Caps) (o : Option ℕ)
+      → map_told f g z (auth_unless m w ksi root caps o) ≡ auth_unless q (map_world f g z w) ksi (f root) caps o
   auth_unless-map w ksi root caps None = authenticated-map w ksi root caps
   auth_unless-map w ksi root caps (Some row) = by_world-map w (RepeatedRoot row)
 
@@ -225,7 +259,9 @@ module _ {K C S L D T : Type 0} (m : Machine K C S) (q : Machine L D T) (f : K �
       ∙ ap (root_row q.reading.same (f root)) (rows-map m.reading.same q.reading.same f a.carries.same w.history)
 
   -- a record that comes to its address, where it reads on S1 and X2 as it was meant
-  pub arrives-map : (w : World K C S) (to : Address) (pdu : List ℕ) (o : Option S) → BackAt to o → map_told f g z (arrives m w to pdu o) ≡ arrives q (map_world f g z w) to pdu (option_map z o)
+  pub arrives-map : (w : World K C S) (to : Address) (pdu : List ℕ) (o : Option S)
+      → BackAt to o
+      → map_told f g z (arrives m w to pdu o) ≡ arrives q (map_world f g z w) to pdu (option_map z o)
   arrives-map w Address.PhoneNas pdu o back = phone_turn-map w (PhoneNasPdu pdu) pdu refl refl o
   arrives-map w (Address.Phone station air bearer) pdu o back = phone_turn-map w (PhoneAirPdu station air bearer pdu) pdu refl refl o
   arrives-map w Address.CoreNas pdu o back = core_turn-map w (CoreNasPdu pdu) pdu refl refl o
@@ -260,7 +296,8 @@ module _ {K C S L D T : Type 0} (m : Machine K C S) (q : Machine L D T) (f : K �
       arrives-map w (m.address x) (m.octets x) (Some x) back
       ∙ (λ j. arrives q (map_world f g z w) (sym (a.address x) j) (sym (a.octets x) j) (Some (z x)))
 
-  pub found-map : (class : Class) (octets : List ℕ) (i : ℕ) (xs : List S) → position_from (is_sent m class octets) i xs ≡ position_from (is_sent q class octets) i (map z xs)
+  pub found-map : (class : Class) (octets : List ℕ) (i : ℕ) (xs : List S)
+      → position_from (is_sent m class octets) i xs ≡ position_from (is_sent q class octets) i (map z xs)
   found-map class octets i [] = refl
   found-map class octets i (x ∷ xs) = λ j. cond (is_sent_same j) (Some i) (found-map class octets (i + 1) xs j)
     where
@@ -276,7 +313,8 @@ module _ {K C S L D T : Type 0} (m : Machine K C S) (q : Machine L D T) (f : K �
   injected_back (Address.StationS1 station) = refl
   injected_back (Address.StationX2 station) = refl
 
-  injected-map : (w : World K C S) (to : Address) (octets : List ℕ) (o : Option ℕ) → map_told f g z (injected m w to octets o) ≡ injected q (map_world f g z w) to octets o
+  injected-map : (w : World K C S) (to : Address) (octets : List ℕ) (o : Option ℕ)
+      → map_told f g z (injected m w to octets o) ≡ injected q (map_world f g z w) to octets o
   injected-map w to octets None = arrives-map w to octets None (injected_back to)
   injected-map w to octets (Some number) = by_world-map w (Sent number)
 

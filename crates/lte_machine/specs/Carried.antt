@@ -8,7 +8,7 @@ use Rattle.lte_machine.specs.Wire.{Outgoing}
 use Rattle.lte_machine.specs.Ciphers.{Ciphers}
 use Rattle.lte_machine.specs.Reply.{map_note, map_made, map_tried, map_took}
 use Rattle.lte_machine.specs.Ladder.{Clash, map_row}
-use Rattle.lte_machine.specs.Tuples.{Chance, Tuples, Rows}
+use Rattle.lte_machine.specs.Tuples.{Coincidence, Tuples, Rows}
 use Rattle.lte_machine.specs.PhoneState.{map_phone}
 use Rattle.lte_machine.specs.StationState.{Station, map_station}
 use Rattle.lte_machine.specs.CoreState.{map_core}
@@ -53,17 +53,17 @@ map_line f l = record {
 abbrev pub map_clash : {K L : Type 0} → (K → L) → Clash K → Clash L
 map_clash f c = record { row = c.row; origin = map_row f c.origin }
 
-abbrev pub map_chance : {K L : Type 0} → (K → L) → Chance K → Chance L
-map_chance f (Tuples sender receiver) = Tuples (option_map (map_use f) sender) (map_use f receiver)
-map_chance f (Rows clash) = Rows (map_clash f clash)
+abbrev pub map_coincidence : {K L : Type 0} → (K → L) → Coincidence K → Coincidence L
+map_coincidence f (Tuples sender receiver) = Tuples (option_map (map_use f) sender) (map_use f receiver)
+map_coincidence f (Rows clash) = Rows (map_clash f clash)
 
 abbrev pub map_run_state : {K C S L D T : Type 0} → (K → L) → (C → D) → (S → T) → RunState K C S → RunState L D T
 map_run_state f g z (Running w) = Running (map_world f g z w)
-map_run_state f g z (Stopped chance) = Stopped (map_chance f chance)
+map_run_state f g z (Stopped coincidence) = Stopped (map_coincidence f coincidence)
 
 abbrev pub map_report : {K L : Type 0} → (K → L) → EventReport K → EventReport L
 map_report f (Reported line) = Reported (map_line f line)
-map_report f (Coincided chance) = Coincided (map_chance f chance)
+map_report f (Coincided coincidence) = Coincided (map_coincidence f coincidence)
 
 -- the value of a run over terms: keys by their octets, chain numbers by their NCCs, records by their octets, COUNTs kept
 abbrev pub run_value : Ciphers (List ℕ) → RunState Term ℕ (Outgoing Term ℕ) → RunState (List ℕ) ℕ Kept

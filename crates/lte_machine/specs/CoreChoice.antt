@@ -18,13 +18,14 @@ use Rattle.nas_guard.specs.declared.sending.CountSpent.{CountSpent as NoneLeft}
 use Rattle.nas_guard.specs.Keys.{Keys}
 use Rattle.nas_guard.specs.Open.{first_in, header_in, sn_in}
 use Rattle.nas_rec.specs.Reading.{read_nas}
+use Rattle.nas_rec.specs.Spelling.{kind_of as nas_kind}
 use Rattle.nas_rec.specs.declared.records.NasRecord.{NasRecord}
 use Rattle.nas_rec.specs.declared.records.NasRecord.TheVariants.{SecurityModeComplete, SecurityModeReject, ServiceRequest, NasData}
 use Rattle.s1x2_rec.specs.Content.{Content}
 use Rattle.s1x2_rec.specs.Fields.{Fields, PathSwitchRequest, HandoverRequired, HandoverRequestAck, HandoverNotify, HandoverCancel, kind_of}
 use Rattle.lte_machine.specs.CoreState.{Core, CorePartial, CoreContext, CoreLink, CoreInput, CoreAuth, CoreActs, CoreNasPdu, CoreRecord}
 use Rattle.lte_machine.specs.CoreRows.{CoreNasRow, NasRefused, PlainReject, SmcComplete, SmcChange, ServiceAsked, NasOpened, SealedReject, CoreRecordRow, RecordRefused, PathSwitched, HandoverAsked, HandoverOrdered, HandoverNotified, HandoverCancelled, CoreActRow, ActRefused, SmcStarted, ContextSetUp, ContextReleased, NasSent, NasSkipped, CoreRow, OfNas, OfRecord, OfAct, OfAuth}
-use Rattle.lte_machine.specs.Kinds.{nas_kind, same_caps}
+use Rattle.lte_machine.specs.PhoneChoice.{same_caps}
 use Rattle.lte_machine.specs.Opening.{Outcome, Opened, Differs}
 
 -- the core, and what it gets, with keys out of sight and chain numbers seen by their NCCs

@@ -1,5 +1,6 @@
 -- All keys of a world: what the phone, the stations and the core hold, what was sent, and what was used.
 use Rattle.std.specs.Prelude.{ℕ, Option, Some, None}
+use Rattle.std.specs.List.{AllByRecursion as AllOf}
 use Rattle.key_model.specs.Term.{Term}
 use Rattle.key_model.specs.HandoverTable.{NumberedKey}
 use Rattle.nas_guard.specs.Keys.{Keys}
@@ -13,7 +14,6 @@ use Rattle.lte_machine.specs.PhoneState.{Partial, NasContext, Radio, Idle, Conne
 use Rattle.lte_machine.specs.StationState.{Station, Context, Attempt, OverX2, OverS1, Within, Renewing, X2State, X2Open, X2Ready, X2Commanded}
 use Rattle.lte_machine.specs.CoreState.{Core, CorePartial, CoreContext, CoreLink}
 use Rattle.lte_machine.specs.World.{World}
-use Rattle.lte_machine.specs.Ranges.{AllOf}
 use Rattle.lte_machine.specs.Distinct.{keys_of, Member}
 
 -- each of the three keys of the access stratum is so, and each of the two NAS keys (TS 33.401 6.2)

@@ -4,7 +4,6 @@ pub mod Ciphers
 pub mod Opening
 pub mod Reply
 pub mod Refusals
-pub mod Kinds
 pub mod PhoneState
 pub mod PhoneRows
 pub mod PhoneChoice
@@ -29,7 +28,6 @@ pub mod Run
 pub mod Machines
 pub mod Carried
 pub mod BothRuns
-pub mod Ranges
 pub mod Distinct
 pub mod Known
 pub mod Standing

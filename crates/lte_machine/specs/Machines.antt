@@ -52,7 +52,12 @@ sender_of None = None
 sender_of (Some x) = integrity_of x
 
 -- a machine over terms, with any roots, octets, senders and opener
-abbrev pub machine_by : (Term → Term → Bool) → (ℕ → List ℕ → Term) → (Outgoing Term ℕ → List ℕ) → (Option (Outgoing Term ℕ) → Option (KeyUse Term)) → (Opening Term → List ℕ → Option (Outgoing Term ℕ) → Outcome) → Machine Term ℕ (Outgoing Term ℕ)
+abbrev pub machine_by : (Term → Term → Bool)
+    → (ℕ → List ℕ → Term)
+    → (Outgoing Term ℕ → List ℕ)
+    → (Option (Outgoing Term ℕ) → Option (KeyUse Term))
+    → (Opening Term → List ℕ → Option (Outgoing Term ℕ) → Outcome)
+    → Machine Term ℕ (Outgoing Term ℕ)
 machine_by same root octets sender opener = record {
   reading = term_reading_by same;
   root = root;

@@ -18,15 +18,17 @@ use Rattle.nas_guard.specs.Open.{first_in, header_in, sn_in, sent_in}
 use Rattle.nas_rec.specs.declared.records.NasRecord as nas
 use Rattle.nas_rec.specs.declared.records.NasRecord.{NasRecord}
 use Rattle.nas_rec.specs.Reading.{read_nas}
+use Rattle.nas_rec.specs.Spelling.{kind_of as nas_kind}
 use Rattle.rrc_rec.specs.declared.records.RrcRecord as rrc
 use Rattle.rrc_rec.specs.declared.records.RrcRecord.{RrcRecord}
+use Rattle.rrc_rec.specs.Forms.{reconfiguration, key_change}
 use Rattle.rrc_rec.specs.Reading.{read_rrc}
+use Rattle.rrc_rec.specs.Spelling.{kind_of as rrc_kind}
 use Rattle.pdcp_guard.specs.declared.pdus.PdcpFault.{PdcpFault}
 use Rattle.pdcp_guard.specs.Srb.{srb_count}
 use Rattle.pdcp_guard.specs.Drb.{drb_count}
 use Rattle.lte_machine.specs.Bearers.{Srb, Signalling1, Signalling2, Drb, Which, OnSrb, OnDrb, which, srb_counts, drb_counts, is_spent}
 use Rattle.lte_machine.specs.Opening.{Outcome, Opened, Differs}
-use Rattle.lte_machine.specs.Kinds.{nas_kind, rrc_kind, same_caps}
 use Rattle.lte_machine.specs.Refusals.{of_pdcp}
 use Rattle.lte_machine.specs.PhoneState.{Partial, NasContext, Link, Radio, Idle, Connecting, Connected, Phone, PhoneInput, PhoneAuth, PhoneActs, PhoneNasPdu, PhoneAirPdu}
 use Rattle.lte_machine.specs.PhoneRows.{Authenticated, NasRow, NasRefused, RejectedPlain, RejectedUnder, ContextTaken, ContextTakenConnected, NasOpened, AirRow, AirRefused, LinkSecured, HandedOver, KeyChanged, RrcOpened, PacketOpened, ActRow, ActRefused, ServiceRequested, CompleteResent, WentIdle, PacketSent, RrcSent, NasSent, NasSkipped, BearerSkipped, PhoneRow, OfAuth, OfNas, OfAir, OfAct}
@@ -130,6 +132,10 @@ abbrev pub context_row : Algs → ℕ → Radio (Unit {0}) ℕ → NasRow
 context_row algs count (Connected link) = ContextTakenConnected algs count
 context_row algs count other = ContextTaken algs count
 
+-- whether capabilities are the same, octet for octet (TS 24.301 5.4.3.3, TS 33.401 7.2.4.2.2)
+abbrev pub same_caps : Caps → Caps → Bool
+same_caps a b = (a.eea == b.eea) && (a.eia == b.eia)
+
 -- the MAC of a command, and then its replayed capabilities (TS 24.301 5.4.3.3, TS 33.401 7.2.4.4)
 abbrev pub command_row :
     Caps → Option (NasContext (Unit {0})) → Radio (Unit {0}) ℕ → ℕ → Algs → Caps → Outcome → NasRow
@@ -212,15 +218,13 @@ abbrev pub command_taken : Caps → Srb → ℕ → Place → ℕ → Algs → �
 command_taken caps Signalling1 own cell ncc algs station air =
     if are_supported caps algs then HandedOver cell (steps_to own ncc) algs station air
     else AirRefused (AlgUnsupported algs)
-command_taken caps Signalling2 own cell ncc algs station air =
-    AirRefused (WrongKind (rrc_kind (rrc.TheVariants.Reconfiguration cell ncc algs station air)))
+command_taken caps Signalling2 own cell ncc algs station air = AirRefused (WrongKind reconfiguration.kind)
 
 -- a key change: the same tests. Whether the phone has another KASME to derive from is looked at with its keys
 abbrev pub change_taken : Caps → Srb → Place → Algs → ℕ → ℕ → AirRow
 change_taken caps Signalling1 cell algs station air =
     if are_supported caps algs then KeyChanged cell algs station air else AirRefused (AlgUnsupported algs)
-change_taken caps Signalling2 cell algs station air =
-    AirRefused (WrongKind (rrc_kind (rrc.TheVariants.KeyChange cell algs station air)))
+change_taken caps Signalling2 cell algs station air = AirRefused (WrongKind key_change.kind)
 
 abbrev pub signalling_read : Caps → Srb → ℕ → ℕ → Result RrcRecord RecFault → AirRow
 signalling_read caps srb count own (Err fault) = AirRefused (BadRecord fault)

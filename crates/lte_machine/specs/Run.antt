@@ -9,25 +9,25 @@ use Rattle.lte_machine.specs.PhoneState.{first_phone}
 use Rattle.lte_machine.specs.StationState.{Station, first_station}
 use Rattle.lte_machine.specs.CoreState.{first_core}
 use Rattle.lte_machine.specs.World.{Machine, World, Line, happens}
-use Rattle.lte_machine.specs.Tuples.{Chance}
+use Rattle.lte_machine.specs.Tuples.{Coincidence}
 use Rattle.lte_machine.specs.Step.{StepResult, Continues, Stops, next}
 
 -- a run goes on in a world, or is over for good
 pub data RunState (K C S : Type 0) : Type 0 where
   Running : World K C S → RunState K C S
-  Stopped : Chance K → RunState K C S
+  Stopped : Coincidence K → RunState K C S
 
 -- a run that goes on
 abbrev pub GoesOn : {K C S : Type 0} → RunState K C S → Type 0
 GoesOn (Running w) = Unit {0}
-GoesOn (Stopped chance) = ⊥
+GoesOn (Stopped coincidence) = ⊥
 
 abbrev pub after : {K C S : Type 0} → StepResult K C S → RunState K C S
 after (Continues w line) = Running w
-after (Stops chance) = Stopped chance
+after (Stops coincidence) = Stopped coincidence
 
 abbrev pub turn : {K C S : Type 0} → (Opening K → List ℕ → Outcome) → Machine K C S → RunState K C S → Event → RunState K C S
-turn by_octets m (Stopped chance) e = Stopped chance
+turn by_octets m (Stopped coincidence) e = Stopped coincidence
 turn by_octets m (Running w) e = after (next by_octets m w e)
 
 -- one event after the other
@@ -43,14 +43,14 @@ run m w (e ∷ es) = run m (happens m w e).0 es
 -- what is told of an event: its line, or the coincidence
 pub data EventReport (K : Type 0) : Type 0 where
   Reported : Line K → EventReport K
-  Coincided : Chance K → EventReport K
+  Coincided : Coincidence K → EventReport K
 
 abbrev pub reported : {K C S : Type 0} → StepResult K C S → EventReport K
 reported (Continues w line) = Reported line
-reported (Stops chance) = Coincided chance
+reported (Stops coincidence) = Coincided coincidence
 
 abbrev pub event_report : {K C S : Type 0} → (Opening K → List ℕ → Outcome) → Machine K C S → RunState K C S → Event → EventReport K
-event_report by_octets m (Stopped chance) e = Coincided chance
+event_report by_octets m (Stopped coincidence) e = Coincided coincidence
 event_report by_octets m (Running w) e = reported (next by_octets m w e)
 
 -- what is told of each event in turn

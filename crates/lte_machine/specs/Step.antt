@@ -4,7 +4,7 @@ use Rattle.lte_events.specs.declared.addresses.Address.{Address}
 use Rattle.lte_events.specs.declared.events.Event.{Event}
 use Rattle.std.specs.List.{position_from}
 use Rattle.lte_machine.specs.Opening.{Opening, OpensNothing, Outcome, accepted_of}
-use Rattle.lte_machine.specs.Tuples.{Chance, Rows, tuple_chance}
+use Rattle.lte_machine.specs.Tuples.{Coincidence, Rows, tuple_coincidence}
 use Rattle.lte_machine.specs.Ladder.{Clash, ladder_of}
 use Rattle.lte_machine.specs.PhoneState.{PhoneInput, PhoneActs, PhoneNasPdu, PhoneAirPdu}
 use Rattle.lte_machine.specs.PhoneStep.{phone_opens, phone_pdu_in}
@@ -67,24 +67,24 @@ attempted m w (Event.Deliver i) = delivery_attempts m w (record_at i w.sent)
 attempted m w (Event.Inject to octets) = injection_attempts m w to octets (position_from (is_sent m (class_of to) octets) 0 w.sent)
 
 -- whether the octets are accepted, by this opener of octets, and not as their sender sealed them
-abbrev pub opening_chance : {K C S : Type 0} → (Opening K → List ℕ → Outcome) → Machine K C S → Attempted K S → Option (Chance K)
-opening_chance by_octets m a =
-    tuple_chance m.reading.same (m.sender a.came) (accepted_of a.opening (by_octets a.opening a.octets))
+abbrev pub opening_coincidence : {K C S : Type 0} → (Opening K → List ℕ → Outcome) → Machine K C S → Attempted K S → Option (Coincidence K)
+opening_coincidence by_octets m a =
+    tuple_coincidence m.reading.same (m.sender a.came) (accepted_of a.opening (by_octets a.opening a.octets))
 
 -- what comes of an event: the world goes on with a line, or the run ends
 pub data StepResult (K C S : Type 0) : Type 0 where
   Continues : World K C S → Line K → StepResult K C S
-  Stops : Chance K → StepResult K C S
+  Stops : Coincidence K → StepResult K C S
 
 abbrev pub by_ladder : {K C S : Type 0} → Option (Clash K) → World K C S × Line K → StepResult K C S
 by_ladder None h = Continues h.0 h.1
 by_ladder (Some clash) h = Stops (Rows clash)
 
-abbrev pub by_chance : {K C S : Type 0} → (K → K → Bool) → Option (Chance K) → World K C S × Line K → StepResult K C S
-by_chance same (Some chance) h = Stops chance
-by_chance same None h = by_ladder (ladder_of same h.0.history).clash h
+abbrev pub by_coincidence : {K C S : Type 0} → (K → K → Bool) → Option (Coincidence K) → World K C S × Line K → StepResult K C S
+by_coincidence same (Some coincidence) h = Stops coincidence
+by_coincidence same None h = by_ladder (ladder_of same h.0.history).clash h
 
 -- one event, where a coincidence of the record accepted comes before one of the derivations
 abbrev pub next : {K C S : Type 0} → (Opening K → List ℕ → Outcome) → Machine K C S → World K C S → Event → StepResult K C S
 next by_octets m w e =
-    by_chance m.reading.same (opening_chance by_octets m (attempted m w e)) (happens m w e)
+    by_coincidence m.reading.same (opening_coincidence by_octets m (attempted m w e)) (happens m w e)

@@ -1,5 +1,7 @@
 // A run event by event, as a program goes that takes one event at a time and tells a line for each.
 ghost use Rattle.std.specs.Prelude.{◌≡◌, ℕ, suc, List, [], ◌∷◌, ◌++◌, length, take, slice_get, Option, Some};
+ghost use Rattle.std.specs.List.{AllByRecursion as AllOf};
+ghost use Rattle.lte_events.specs.Ranges.{IsEvent, IsSetup};
 ghost use Rattle.lte_events.specs.declared.events.Event.{Event};
 ghost use Rattle.lte_events.specs.declared.setups.Setup.{Setup};
 ghost use Rattle.key_model.specs.Term.{Term};
@@ -8,9 +10,8 @@ ghost use Rattle.lte_machine.specs.ByEvent.{EndsAt, IsValueOfRun, IsStep, Told, 
 ghost use Rattle.lte_machine.specs.Ciphers.{annex_b};
 ghost use Rattle.lte_machine.specs.Machines.{Kept, written_machine};
 ghost use Rattle.lte_machine.specs.Opening.{Opening, Outcome};
-ghost use Rattle.lte_machine.specs.Ranges.{AllOf, IsEvent, IsSetup};
 ghost use Rattle.lte_machine.specs.Run.{RunState, Running, Stopped, turn, replay, event_report, report, Reported};
-ghost use Rattle.lte_machine.specs.Tuples.{Chance};
+ghost use Rattle.lte_machine.specs.Tuples.{Coincidence};
 ghost use Rattle.lte_machine.specs.Wire.{Outgoing};
 ghost use Rattle.lte_machine.specs.World.{Machine, World, Line, happens};
 
@@ -35,8 +36,8 @@ pub fn a_run_goes_event_by_event<K, C, S>()
     ensures prefix { (by_octets : Opening K → List ℕ → Outcome) (m : Machine K C S) (r : RunState K C S) (events more : List Event) (u : World K C S) →
         replay by_octets m r (events ++ more) ≡ Running u →
         (w : World K C S) × (replay by_octets m r events ≡ Running w) }
-    ensures ends { (by_octets : Opening K → List ℕ → Outcome) (m : Machine K C S) (w : World K C S) (events : List Event) (chance : Chance K) →
-        replay by_octets m (Running w) events ≡ Stopped chance → EndsAt by_octets m w events chance }
+    ensures ends { (by_octets : Opening K → List ℕ → Outcome) (m : Machine K C S) (w : World K C S) (events : List Event) (coincidence : Coincidence K) →
+        replay by_octets m (Running w) events ≡ Stopped coincidence → EndsAt by_octets m w events coincidence }
 {}
 
 /// Where the run in octets goes on, so does the run over terms, and the world in octets is its value: keys

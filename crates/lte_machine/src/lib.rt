@@ -7,7 +7,6 @@
 mod by_event;
 mod calls;
 mod ladder_rows;
-mod ranges;
 mod refusals;
 mod runs;
 
@@ -16,6 +15,5 @@ pub use by_event::{
 };
 pub use calls::{replies_are_kept, turns_are_calls};
 pub use ladder_rows::{every_key_was_reported, rows_stand_for_the_distinct_terms};
-pub use ranges::what_fits_is_in_range;
 pub use refusals::{refused_core_step, refused_phone_step, refused_station_step};
 pub use runs::{report_in_octets_is_the_value, run_in_octets_is_the_value};

@@ -1,11 +1,12 @@
 // The run in octets and the run of the written machine.
 ghost use Rattle.std.specs.Prelude.{◌≡◌, List, map};
+ghost use Rattle.std.specs.List.{AllByRecursion as AllOf};
+ghost use Rattle.lte_events.specs.Ranges.{IsEvent, IsSetup};
 ghost use Rattle.lte_events.specs.declared.events.Event.{Event};
 ghost use Rattle.lte_events.specs.declared.setups.Setup.{Setup};
 ghost use Rattle.lte_machine.specs.BothRuns.{written_run, written_report, octet_run, octet_report};
 ghost use Rattle.lte_machine.specs.Carried.{run_value, report_value};
 ghost use Rattle.lte_machine.specs.Ciphers.{annex_b};
-ghost use Rattle.lte_machine.specs.Ranges.{AllOf, IsEvent, IsSetup};
 
 /// For every setup and every list of events, the run in octets is the value of the run of the
 /// written machine: each key by its 32 octets, each chain number by its NCC, each record by its

@@ -1,6 +1,6 @@
 -- The uses of a world are those of the records sent, and its holders those who derived a key or received it.
 use Rattle.std.proofs.Common.{◌≡◌, refl, sym, ap, ◌∙◌, subst, ℕ, Bool, List, [], ◌∷◌, ◌++◌, map, Option, Some, None, option_map, Result, Ok, Err}
-use Rattle.std.specs.List.{flat_map, position_from}
+use Rattle.std.specs.List.{flat_map, position_from, AllByRecursion as AllOf}
 use Rattle.std.proofs.lemmas.List.{append-nil}
 use Rattle.std.proofs.lemmas.Grind.{flat_map-append}
 use Rattle.alg_choice.specs.declared.caps.Caps.{Caps}
@@ -25,7 +25,6 @@ use Rattle.lte_machine.specs.Wire.{KeyUse, Outgoing, uses_of}
 use Rattle.lte_events.specs.Class.{class_of}
 use Rattle.lte_machine.specs.World.{Machine, World, Holder, AtPhone, AtCore, AtStation, holds, with_one, uses_in, phone_after, core_after, station_after, by_world, phone_turn, core_turn, turn_of, station_of_id, auth_unless, known_root, next_root, content_in, arrives, record_at, delivery, is_sent, injected, happens}
 use Rattle.lte_machine.specs.Machines.{machine_by}
-use Rattle.lte_machine.specs.Ranges.{AllOf}
 use Rattle.lte_machine.specs.Run.{run}
 use Rattle.lte_machine.proofs.Routing.{happens_each}
 use Rattle.lte_machine.proofs.KnownLists.{all_append}
@@ -33,14 +32,18 @@ use Rattle.lte_properties.specs.Accounts.{UsesAreThoseSent, IsRowOf, key_at, key
 
 -- USES
 
-uses_kept : (us : List (KeyUse Term)) (sent : List (Outgoing Term ℕ)) (o : Option (Outgoing Term ℕ)) → us ≡ flat_map uses_of sent → us ++ uses_in o ≡ flat_map uses_of (with_one o sent)
+uses_kept : (us : List (KeyUse Term)) (sent : List (Outgoing Term ℕ)) (o : Option (Outgoing Term ℕ))
+    → us ≡ flat_map uses_of sent
+    → us ++ uses_in o ≡ flat_map uses_of (with_one o sent)
 uses_kept us sent None h = append-nil us ∙ h
 uses_kept us sent (Some x) h =
     ap (λ v. v ++ uses_of x) h
     ∙ ap (λ v. flat_map uses_of sent ++ v) (sym (append-nil (uses_of x)))
     ∙ sym (flat_map-append uses_of sent (x ∷ []))
 
-module _ (same : Term → Term → Bool) (root : ℕ → List ℕ → Term) (octets : Outgoing Term ℕ → List ℕ) (sender : Option (Outgoing Term ℕ) → Option (KeyUse Term)) (opener : Opening Term → List ℕ → Option (Outgoing Term ℕ) → Outcome) where
+module _ (same : Term → Term → Bool) (root : ℕ → List ℕ → Term) (octets : Outgoing Term ℕ → List ℕ)
+    (sender : Option (Outgoing Term ℕ) → Option (KeyUse Term))
+    (opener : Opening Term → List ℕ → Option (Outgoing Term ℕ) → Outcome) where
   abbrev m : Machine Term ℕ (Outgoing Term ℕ)
   m = machine_by same root octets sender opener
 
@@ -62,11 +65,14 @@ module _ (same : Term → Term → Bool) (root : ℕ → List ℕ → Term) (oct
 
 -- HOLDERS
 
-outs_held : {K : Type 0} (holder : Holder) (ds : List (Derivation K)) → map (λ d. record { holder = holder; key = d.out }) ds ≡ flat_map (each_holds (holder ∷ [])) (map row_key (map Of ds))
+outs_held : {K : Type 0} (holder : Holder) (ds : List (Derivation K))
+    → map (λ d. record { holder = holder; key = d.out }) ds
+    ≡ flat_map (each_holds (holder ∷ [])) (map row_key (map Of ds))
 outs_held holder [] = refl
 outs_held holder (d ∷ ds) = ap (λ v. record { holder = holder; key = d.out } ∷ v) (outs_held holder ds)
 
-holds_is : {K : Type 0} (holder : Holder) (came : Option K) (ds : List (Derivation K)) → holds holder came ds ≡ flat_map (each_holds (holder ∷ [])) (with_read came (map row_key (map Of ds)))
+holds_is : {K : Type 0} (holder : Holder) (came : Option K) (ds : List (Derivation K))
+    → holds holder came ds ≡ flat_map (each_holds (holder ∷ [])) (with_read came (map row_key (map Of ds)))
 holds_is holder None ds = outs_held holder ds
 holds_is holder (Some key) ds = ap (λ v. record { holder = holder; key = key } ∷ v) (outs_held holder ds)
 
@@ -80,19 +86,35 @@ module _ {K C S : Type 0} (m : Machine K C S) (w : World K C S) where
   only_derived (d ∷ ds) = (tt, only_derived ds)
 
   phone_gains : (d : Phone K C × Reply K C) → Gains m w d.1.received (phone_after m w d)
-  phone_gains d = record { derived = map Of d.1.derived; history = refl; roots = only_derived d.1.derived; held = ap (λ v. w.held ++ v) (holds_is AtPhone d.1.received d.1.derived) }
+  phone_gains d = record {
+    derived = map Of d.1.derived;
+    history = refl;
+    roots = only_derived d.1.derived;
+    held = ap (λ v. w.held ++ v) (holds_is AtPhone d.1.received d.1.derived);
+  }
 
   core_gains : (d : Core K C × Reply K C) → Gains m w d.1.received (core_after m w d)
-  core_gains d = record { derived = map Of d.1.derived; history = refl; roots = only_derived d.1.derived; held = ap (λ v. w.held ++ v) (holds_is AtCore d.1.received d.1.derived) }
+  core_gains d = record {
+    derived = map Of d.1.derived;
+    history = refl;
+    roots = only_derived d.1.derived;
+    held = ap (λ v. w.held ++ v) (holds_is AtCore d.1.received d.1.derived);
+  }
 
   station_gains : (id : ℕ) (d : Station K C × Reply K C) → Gains m w d.1.received (station_after m w id d)
-  station_gains id d = record { derived = map Of d.1.derived; history = refl; roots = only_derived d.1.derived; held = ap (λ v. w.held ++ v) (holds_is (AtStation id) d.1.received d.1.derived) }
+  station_gains id d = record {
+    derived = map Of d.1.derived;
+    history = refl;
+    roots = only_derived d.1.derived;
+    held = ap (λ v. w.held ++ v) (holds_is (AtStation id) d.1.received d.1.derived);
+  }
 
   none_gains : (came : Option K) (answer : Answer) → Gains m w came (by_world m w answer)
   none_gains None answer = record { derived = []; history = sym (append-nil w.history); roots = tt; held = sym (append-nil w.held) }
   none_gains (Some key) answer = record { derived = []; history = sym (append-nil w.history); roots = tt; held = sym (append-nil w.held) }
 
-  turn_gains : (id : ℕ) (input : StationInput K C) (came : Option S) (o : Option (Station K C)) → Gains m w (option_map (λ k. k.key) (station_key input)) (turn_of m w id input came o)
+  turn_gains : (id : ℕ) (input : StationInput K C) (came : Option S) (o : Option (Station K C))
+      → Gains m w (option_map (λ k. k.key) (station_key input)) (turn_of m w id input came o)
   turn_gains id input came None = none_gains (option_map (λ k. k.key) (station_key input)) NoUe
   turn_gains id input came (Some s) = station_gains id (station_step m.reading s input (m.opener (station_opens m.reading s input) (station_pdu_in input) came))
 
@@ -106,7 +128,9 @@ module _ {K C S : Type 0} (m : Machine K C S) (w : World K C S) where
   arrives_gains Address.PhoneNas pdu came = phone_turns (PhoneNasPdu pdu) came
   arrives_gains (Address.Phone station air bearer) pdu came = phone_turns (PhoneAirPdu station air bearer pdu) came
   arrives_gains Address.CoreNas pdu came = core_turns (CoreNasPdu pdu) came
-  arrives_gains Address.CoreS1 pdu came = subst (λ o. Gains m w o (core_turn m w (CoreRecord (content_in m came)) came)) (core_read (content_in m came)) (core_turns (CoreRecord (content_in m came)) came)
+  arrives_gains Address.CoreS1 pdu came =
+      subst (λ o. Gains m w o (core_turn m w (CoreRecord (content_in m came)) came)) (core_read (content_in m came))
+      (core_turns (CoreRecord (content_in m came)) came)
   arrives_gains (Address.StationAir station air bearer) pdu came = turn_gains station (AirPdu air bearer pdu) came (station_of_id station w.stations)
   arrives_gains (Address.StationS1 station) pdu came = turn_gains station (StationRecord OnS1 (content_in m came)) came (station_of_id station w.stations)
   arrives_gains (Address.StationX2 station) pdu came = turn_gains station (StationRecord OnX2 (content_in m came)) came (station_of_id station w.stations)
@@ -129,7 +153,12 @@ module _ {K C S : Type 0} (m : Machine K C S) (w : World K C S) where
   injected_gains to pdu (Some number) = none_gains None (Sent number)
 
   auth_gains : (ksi : ℕ) (kasme : List ℕ) (caps : Caps) (o : Option ℕ) → Gains m w None (auth_unless m w ksi (m.root (next_root w) kasme) caps o)
-  auth_gains ksi kasme caps None = record { derived = OfRoot (m.root (next_root w) kasme) ∷ []; history = refl; roots = ((next_root w, kasme, refl), tt); held = refl }
+  auth_gains ksi kasme caps None = record {
+    derived = OfRoot (m.root (next_root w) kasme) ∷ [];
+    history = refl;
+    roots = ((next_root w, kasme, refl), tt);
+    held = refl;
+  }
   auth_gains ksi kasme caps (Some row) = none_gains None (RepeatedRoot row)
 
   pub happens_gains : (e : Event) → Gains m w (key_delivered m w e) (happens m w e)

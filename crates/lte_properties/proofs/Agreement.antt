@@ -20,7 +20,6 @@ pub mod Station
 pub mod StationAct
 pub mod StationOpens
 pub mod StationSends
-pub mod StationWalk
 pub mod Terms
 pub mod Told
 pub mod Whole

@@ -1,5 +1,7 @@
 -- What the lines of every run of the written machine tell of keys.
 use Rattle.std.proofs.Common.{ℕ, List, take, refl, sym, subst}
+use Rattle.std.specs.List.{AllByRecursion as AllOf}
+use Rattle.lte_events.specs.Ranges.{IsEvent, IsSetup}
 use Rattle.lte_events.specs.declared.events.Event.{Event}
 use Rattle.lte_events.specs.declared.setups.Setup.{Setup}
 use Rattle.key_model.specs.Term.{Term, Root}
@@ -11,7 +13,6 @@ use Rattle.lte_machine.specs.World.{World}
 use Rattle.lte_machine.specs.Machines.{sender_of, written_machine, written_in_values}
 use Rattle.lte_machine.specs.Run.{first_world}
 use Rattle.lte_machine.proofs.Mixed.{by_terms}
-use Rattle.lte_machine.specs.Ranges.{AllOf, IsEvent, IsSetup}
 use Rattle.lte_machine.specs.Standing.{RunsTo}
 use Rattle.lte_machine.proofs.AnnexB.{under_keys_ciphers}
 use Rattle.lte_properties.specs.Agreement.{CompletedLines, KeysTold}
@@ -27,13 +28,18 @@ use Rattle.lte_machine.proofs.CipherLaws.{AreCiphers}
 -- what is made and taken is told, in every run
 pub keys_are_told : (c : Ciphers (List ℕ)) (setup : Setup) (events : List Event) → KeysTold (written_machine c) (first_world setup) events
 keys_are_told c setup events =
-    keys_told same_value Root (octets_of (under_keys value_of c) written_in_values) sender_of (open_by_uses same_value (under_keys value_of c)) (first_world setup) events
+    keys_told same_value Root (octets_of (under_keys value_of c) written_in_values) sender_of
+    (open_by_uses same_value (under_keys value_of c)) (first_world setup) events
 
 -- a completed handover is told with a key that the phone had taken, where the run met no coincidence
-pub lines_completed : (c : Ciphers (List ℕ)) → AreCiphers c → (setup : Setup) (events : List Event) (w : World Term ℕ (Outgoing Term ℕ)) → RunsTo c setup events w
+pub lines_completed : (c : Ciphers (List ℕ))
+    → AreCiphers c
+    → (setup : Setup) (events : List Event) (w : World Term ℕ (Outgoing Term ℕ))
+    → RunsTo c setup events w
     → IsSetup setup → AllOf IsEvent events → CompletedLines (written_machine c) (first_world setup) events
 lines_completed c good setup events w is set are =
-    lines_of same_value Root (octets_of (under_keys value_of c) written_in_values) sender_of (open_by_uses same_value (under_keys value_of c)) setup.cells (first_world setup) events
+    lines_of same_value Root (octets_of (under_keys value_of c) written_in_values) sender_of
+    (open_by_uses same_value (under_keys value_of c)) setup.cells (first_world setup) events
     (λ n. subst (λ (v : World Term ℕ (Outgoing Term ℕ)). (d : Conns) × WorldOk setup.cells d v) (sym (way_is c good setup events w is n))
     (always_ok same_value reflexive (under_keys value_of c) (under_keys_ciphers value_of c good) written_in_values (by_terms (under_keys value_of c))
     ((λ u e pdu came. refl), (same_value, λ u e pdu came. refl)) setup set (take n events) (each_of_first n events are)))

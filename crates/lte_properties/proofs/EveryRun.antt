@@ -1,6 +1,8 @@
 -- What holds of every run of the written machine that has met no coincidence: the machine whose SRBs open by terms comes to
 -- the same worlds.
 use Rattle.std.proofs.Common.{◌≡◌, ℕ, zero, suc, List, [], ◌∷◌, map, take, refl, ap, sym, ◌∙◌, subst}
+use Rattle.std.specs.List.{AllByRecursion as AllOf}
+use Rattle.lte_events.specs.Ranges.{IsEvent, IsSetup}
 use Rattle.lte_events.specs.declared.events.Event.{Event}
 use Rattle.lte_events.specs.declared.setups.Setup.{Setup}
 use Rattle.key_model.specs.Term.{Term}
@@ -13,7 +15,6 @@ use Rattle.lte_machine.specs.World.{Machine, World, happens}
 use Rattle.lte_machine.specs.Machines.{sender_of, written_machine, written_in_values}
 use Rattle.lte_machine.specs.Run.{Running, replay, run, first_world}
 use Rattle.lte_machine.proofs.Mixed.{by_terms, mixed}
-use Rattle.lte_machine.specs.Ranges.{AllOf, IsEvent, IsSetup}
 use Rattle.lte_machine.specs.Standing.{RunsTo}
 use Rattle.lte_machine.proofs.AnnexB.{under_keys_ciphers}
 use Rattle.lte_machine.proofs.LadderRun.{uses_apart}
@@ -59,7 +60,8 @@ same_numbers m n w top (e ∷ es) f =
     same_numbers m n u (noted u.core.link top) es (λ i. f (suc i) ∙ ap (λ v. run n v (take i es)) (sym one))
     ∙ (λ j. core_numbers n (one j) (noted (one j).core.link top) es)
 
-module _ (c : Ciphers (List ℕ)) (good : AreCiphers c) (setup : Setup) (events : List Event) (w : World Term ℕ (Outgoing Term ℕ)) (is : RunsTo c setup events w) where
+module _ (c : Ciphers (List ℕ)) (good : AreCiphers c) (setup : Setup) (events : List Event)
+    (w : World Term ℕ (Outgoing Term ℕ)) (is : RunsTo c setup events w) where
   abbrev terms : Ciphers Term
   terms = under_keys value_of c
 
@@ -103,20 +105,32 @@ module _ (c : Ciphers (List ℕ)) (good : AreCiphers c) (setup : Setup) (events 
         let last : run (written_machine c) (first_world setup) events ≡ run (mixed terms written_in_values) (first_world setup) events =
         sym (still_is_run (open_octets terms) (written_machine c) (first_world setup) events w is) ∙ in_mixed in
         subst (λ (v : World Term ℕ (Outgoing Term ℕ)). NoneThere v (run (written_machine c) (first_world setup) events)) (sym (way_is n))
-        (subst (λ (u : World Term ℕ (Outgoing Term ℕ)). NoneThere (run (mixed terms written_in_values) (first_world setup) (take n events)) u) (sym last) (both.1 n))
+        (subst (λ (u : World Term ℕ (Outgoing Term ℕ)).
+        NoneThere (run (mixed terms written_in_values) (first_world setup) (take n events)) u)
+        (sym last) (both.1 n))
 
     -- and one chain for each connection number
     pub chains : ChainsHold (written_machine c) setup events
     chains =
-        let h = chains_over same_value reflexive terms (under_keys_ciphers value_of c good) written_in_values (by_terms terms) ((λ u e pdu came. refl), (same_value, λ u e pdu came. refl)) setup set events are in
+        let h = chains_over same_value reflexive terms (under_keys_ciphers value_of c good) written_in_values
+        (by_terms terms) ((λ u e pdu came. refl), (same_value, λ u e pdu came. refl)) setup set events are in
         let last : run (written_machine c) (first_world setup) events ≡ run (mixed terms written_in_values) (first_world setup) events =
         sym (still_is_run (open_octets terms) (written_machine c) (first_world setup) events w is) ∙ in_mixed in
-        let numbers : core_numbers (written_machine c) (first_world setup) (λ conn. 0) events ≡ core_numbers (mixed terms written_in_values) (first_world setup) (λ conn. 0) events =
+        let numbers : core_numbers (written_machine c) (first_world setup) (λ conn. 0) events
+        ≡ core_numbers (mixed terms written_in_values) (first_world setup) (λ conn. 0) events =
         same_numbers (written_machine c) (mixed terms written_in_values) (first_world setup) (λ conn. 0) events way_is in (
           h.0,
           h.1,
-          subst (λ v. AreChains (record { root = h.0; count = h.1; top = core_numbers (written_machine c) (first_world setup) (λ conn. 0) events }) v) (sym last)
-              (subst (λ top. AreChains (record { root = h.0; count = h.1; top = top }) (run (mixed terms written_in_values) (first_world setup) events)) (sym numbers) h.2),
+          subst (λ v. AreChains (record {
+            root = h.0;
+            count = h.1;
+            top = core_numbers (written_machine c) (first_world setup) (λ conn. 0) events;
+          })
+              v)
+              (sym last)
+              (subst (λ top. AreChains (record { root = h.0; count = h.1; top = top })
+              (run (mixed terms written_in_values) (first_world setup) events))
+              (sym numbers) h.2),
         )
 
     -- and who can derive the key

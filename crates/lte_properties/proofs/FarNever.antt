@@ -4,6 +4,8 @@ use Rattle.std.proofs.Common.{◌≡◌, refl, sym, ap, ◌∙◌, subst, ℕ, s
 use Rattle.std.specs.Prelude.{nat_lt}
 use Rattle.std.proofs.lemmas.Bool.Decides.{nat_tests}
 use Rattle.std.proofs.lemmas.List.{take-take}
+use Rattle.std.specs.List.{AllByRecursion as AllOf}
+use Rattle.lte_events.specs.Ranges.{IsEvent, IsSetup}
 use Rattle.lte_events.specs.declared.events.Event.{Event}
 use Rattle.lte_events.specs.declared.setups.Setup.{Setup}
 use Rattle.key_model.specs.Chain.{ncc_of}
@@ -16,16 +18,15 @@ use Rattle.lte_machine.specs.Ciphers.{annex_b}
 use Rattle.lte_machine.specs.Distinct.{Member}
 use Rattle.lte_machine.specs.Machines.{written_machine}
 use Rattle.lte_machine.specs.Opening.{open_octets}
-use Rattle.lte_machine.specs.Ranges.{AllOf, IsEvent, IsSetup}
 use Rattle.lte_machine.specs.Reply.{Made, Took}
 use Rattle.lte_machine.specs.Run.{Running, run, first_world}
 use Rattle.lte_machine.specs.StationState.{Station, Context}
 use Rattle.lte_machine.specs.StationState as station
-use Rattle.lte_machine.specs.Wire.{Outgoing}
-use Rattle.lte_machine.specs.World.{World, Line}
+use Rattle.lte_machine.specs.World.{Line}
 use Rattle.lte_machine.proofs.AnnexB.{annex_b_ciphers}
 use Rattle.lte_machine.proofs.EventByEvent.{step_takes, written_still, each_of_first}
 use Rattle.lte_machine.proofs.StillRun.{still_is_run}
+use Rattle.lte_machine.proofs.Worlds.{TheWorld}
 use Rattle.lte_properties.specs.Agreement.{is_made_at, made_at, ContextAt, EachStation, IsFar, NoneThere, MadeIsTold, TookIsTold, MadeOnce}
 use Rattle.lte_properties.specs.BySteps.{MakesAt, TakesAt}
 use Rattle.lte_properties.specs.InOctets.{TakesFar, NoContextAt, FarNeverThere}
@@ -33,9 +34,6 @@ use Rattle.lte_properties.proofs.Agreement.Holds.{of_each}
 use Rattle.lte_properties.proofs.Agreement.Later.{found_later, in_front, in_last}
 use Rattle.lte_properties.proofs.EveryRun.{agrees, none_ever}
 use Rattle.lte_properties.proofs.StepByStep.{step_tells, holds_on}
-
-abbrev TheWorld : Type 0
-TheWorld = World Term ℕ (Outgoing Term ℕ)
 
 -- IN OCTETS
 
@@ -56,7 +54,10 @@ made_last P (y ∷ ys) x h = made_last P ys x h.1
 module _ (setup : Setup) (events : List Event) where
   -- WHAT STAYS
 
-  made_stays : (station air : ℕ) (m : Made Term ℕ) → (w u : TheWorld) (line : Line Term) → MadeIsTold w u line → made_at w.made station air ≡ Some m → made_at u.made station air ≡ Some m
+  made_stays : (station air : ℕ) (m : Made Term ℕ) → (w u : TheWorld) (line : Line Term)
+      → MadeIsTold w u line
+      → made_at w.made station air ≡ Some m
+      → made_at u.made station air ≡ Some m
   made_stays station air m w u line (inl same) h = ap (λ ms. made_at ms station air) same.0 ∙ h
   made_stays station air m w u line (inr (n, grows, told)) h =
       ap (λ ms. made_at ms station air) grows ∙ found_later (is_made_at station air) w.made (n ∷ []) m h
@@ -70,17 +71,29 @@ module _ (setup : Setup) (events : List Event) where
     first n = each_of_first n events are
 
     -- what was made at a step is there in each later world
-    made_later : (n : ℕ) (m : Made Term ℕ) (line : Line Term) → MakesAt setup events n m line → (p : ℕ) → n < p → (w : TheWorld) → written_run setup (take p events) ≡ Running w
+    made_later : (n : ℕ) (m : Made Term ℕ) (line : Line Term)
+        → MakesAt setup events n m line
+        → (p : ℕ)
+        → n < p
+        → (w : TheWorld)
+        → written_run setup (take p events) ≡ Running w
         → made_at w.made m.station m.air ≡ Some m
     made_later n m line makes p low w runs =
         let here = step_takes setup events n makes.world makes.event makes.after line makes.step in
         let once : MadeOnce makes.after = (agrees annex_b annex_b_ciphers setup (take (suc n) events) makes.after here set (first (suc n))).made_once in
         let found : made_at makes.after.made m.station m.air ≡ Some m =
-        made_last (λ x. made_at makes.after.made x.station x.air ≡ Some x) makes.world.made m (subst (AllOf (λ x. made_at makes.after.made x.station x.air ≡ Some x)) makes.makes once) in
-        holds_on setup events (λ u. made_at u.made m.station m.air ≡ Some m) (λ i v e u l is. made_stays m.station m.air m v u l (step_tells setup events i v e u l is).0)
+        made_last (λ x. made_at makes.after.made x.station x.air ≡ Some x) makes.world.made m
+        (subst (AllOf (λ x. made_at makes.after.made x.station x.air ≡ Some x)) makes.makes once) in
+        holds_on setup events (λ u. made_at u.made m.station m.air ≡ Some m)
+        (λ i v e u l is. made_stays m.station m.air m v u l (step_tells setup events i v e u l is).0)
         (p - suc n) p (suc n) (omega arith) makes.after w here runs found
 
-    took_later : (k : ℕ) (x : Took Term ℕ) (line : Line Term) → TakesAt setup events k x line → (p : ℕ) → k < p → (w : TheWorld) → written_run setup (take p events) ≡ Running w
+    took_later : (k : ℕ) (x : Took Term ℕ) (line : Line Term)
+        → TakesAt setup events k x line
+        → (p : ℕ)
+        → k < p
+        → (w : TheWorld)
+        → written_run setup (take p events) ≡ Running w
         → Member x w.took
     took_later k x line takes p low w runs =
         let here = step_takes setup events k takes.world takes.event takes.after line takes.step in
@@ -91,14 +104,22 @@ module _ (setup : Setup) (events : List Event) where
 
     module _ (x : Took Term ℕ) (h : TakesFar setup events x) where
       -- by the world after the order, or by a later one
-      by_later : (p n : ℕ) → n ≤ p → h.step < p → (w v : TheWorld) → written_run setup (take n events) ≡ Running w → written_run setup (take p events) ≡ Running v
+      by_later : (p n : ℕ)
+          → n ≤ p
+          → h.step < p
+          → (w v : TheWorld)
+          → written_run setup (take n events) ≡ Running w
+          → written_run setup (take p events) ≡ Running v
           → EachStation w x.station (λ s. ContextAt x.air s.context (λ c. ⊥))
       by_later p n low after w v runs ends =
           let way : take n (take p events) ≡ take n events = take-take n p events low in
           let none = none_ever annex_b annex_b_ciphers setup (take p events) v ends set (first p) n in
-          let here = still_is_run (open_octets annex_b_terms) (written_machine annex_b) (first_world setup) (take n (take p events)) w (ap (written_run setup) way ∙ runs) in
+          let here = still_is_run (open_octets annex_b_terms) (written_machine annex_b) (first_world setup)
+          (take n (take p events)) w (ap (written_run setup) way ∙ runs) in
           let there = still_is_run (open_octets annex_b_terms) (written_machine annex_b) (first_world setup) (take p events) v ends in
-          let apart : NoneThere w v = subst (λ (a : TheWorld). NoneThere w a) (sym there) (subst (λ (a : TheWorld). NoneThere a (run (written_machine annex_b) (first_world setup) (take p events))) (sym here) none) in
+          let apart : NoneThere w v = subst (λ (a : TheWorld). NoneThere w a) (sym there)
+          (subst (λ (a : TheWorld). NoneThere a (run (written_machine annex_b) (first_world setup) (take p events)))
+          (sym here) none) in
           let found : made_at v.made x.station x.air ≡ Some h.made =
           (λ j. made_at v.made (sym h.there.0 j) (sym h.there.1 j)) ∙ made_later h.when h.made h.line h.makes p (omega (arith, after, h.earlier)) v ends in
           of_each (λ y. IsFar v.made y → EachStation w y.station (λ s. ContextAt y.air s.context (λ c. ⊥))) v.took x apart
@@ -109,7 +130,9 @@ module _ (setup : Setup) (events : List Event) where
         where
           by : (b : Bool) → nat_lt h.step n ≡ b → EachStation w x.station (λ s. ContextAt x.air s.context (λ c. ⊥))
           by true e = by_later n n (omega arith) (grind (arith, nat_tests)) w w runs runs
-          by false e = by_later (suc h.step) n (grind (arith, nat_tests)) (omega arith) w h.takes.after runs (step_takes setup events h.step h.takes.world h.takes.event h.takes.after h.told h.takes.step)
+          by false e =
+              by_later (suc h.step) n (grind (arith, nat_tests)) (omega arith) w h.takes.after runs
+              (step_takes setup events h.step h.takes.world h.takes.event h.takes.after h.told h.takes.step)
 
     pub far_never : FarNeverThere setup events
     far_never x h n u runs =

@@ -1,6 +1,8 @@
 -- Agreement, freshness, separation and opening, of a run in octets.
 use Rattle.std.proofs.Common.{◌≡◌, refl, sym, ap, ◌∙◌, subst, ℕ, zero, suc, List, [], ◌∷◌, map, take, Option, Some, None, option_map, inl, inr}
 use Rattle.std.specs.Prelude.{slice_get, ⊤}
+use Rattle.std.specs.List.{AllByRecursion as AllOf}
+use Rattle.lte_events.specs.Ranges.{IsEvent, IsSetup}
 use Rattle.lte_events.specs.declared.events.Event.{Event}
 use Rattle.lte_events.specs.declared.setups.Setup.{Setup}
 use Rattle.key_model.specs.Chain.{ncc_of}
@@ -17,18 +19,17 @@ use Rattle.lte_machine.specs.Ladder.{RowOrigin, OfRoot, Of, row_key, map_row}
 use Rattle.lte_machine.specs.Machines.{Kept, written_machine, written_in_values}
 use Rattle.lte_machine.specs.Opening.{open_octets, open_by_uses}
 use Rattle.lte_machine.specs.PhoneState.{Link, Radio, Idle, Connecting, Connected, map_radio, map_link}
-use Rattle.lte_machine.specs.Ranges.{AllOf, IsEvent, IsSetup}
 use Rattle.lte_machine.specs.Run.{Running, Reported, run, first_world}
 use Rattle.lte_machine.specs.Standing.{RowsStandForTerms}
 use Rattle.lte_machine.specs.StationState.{Station, Context}
 use Rattle.lte_machine.specs.StationState as station
-use Rattle.lte_machine.specs.Wire.{Outgoing}
 use Rattle.lte_machine.specs.World.{World, Line, AtStation, Holding, happens}
 use Rattle.lte_machine.proofs.AnnexB.{annex_b_ciphers}
 use Rattle.lte_machine.proofs.EventByEvent.{step_told, step_happens, each_of_first}
 use Rattle.lte_machine.proofs.LadderRun.{ladder_always, all_reported}
 use Rattle.lte_machine.proofs.StillRun.{still_is_run}
 use Rattle.lte_machine.proofs.WholeRun.{tale_is_value}
+use Rattle.lte_machine.proofs.Worlds.{TheWorld}
 use Rattle.lte_properties.specs.Accounts.{IsRowOf}
 use Rattle.lte_properties.specs.Agreement.{ContextAt, Agree, JoinedBy, JoinedAgree}
 use Rattle.lte_properties.specs.Freshness.{NoUseTwice}
@@ -38,9 +39,6 @@ use Rattle.lte_properties.specs.Separation.{IsStationOf, HeldBy, NoRootHeld}
 use Rattle.lte_properties.proofs.AccountsHold.{rows_are}
 use Rattle.lte_properties.proofs.EveryRun.{agrees, values_differ, packets}
 use Rattle.lte_properties.proofs.KeySeparation.Ever.{separation_holds}
-
-abbrev TheWorld : Type 0
-TheWorld = World Term ℕ (Outgoing Term ℕ)
 
 -- WHERE PHONE AND STATION ARE AT ONE ADDRESS
 
@@ -103,7 +101,9 @@ module _ (setup : Setup) (events : List Event) (w : TheWorld) (runs : written_ru
   stand = ladder_always annex_b_terms written_in_values (open_by_uses same_value annex_b_terms) (open_octets annex_b_terms) setup events w runs
 
   rows : AllOf (IsRowOf (written_machine annex_b)) w.history
-  rows = subst (λ (v : TheWorld). AllOf (IsRowOf (written_machine annex_b)) v.history) (sym here) (rows_are (written_machine annex_b) (first_world setup) events tt)
+  rows =
+      subst (λ (v : TheWorld). AllOf (IsRowOf (written_machine annex_b)) v.history) (sym here)
+      (rows_are (written_machine annex_b) (first_world setup) events tt)
 
   no_root : NoRootHeld w
   no_root = subst (λ (v : TheWorld). NoRootHeld v) (sym here) (separation_holds same_value annex_b_terms written_in_values setup events).no_root
@@ -142,15 +142,22 @@ got_map f [] k x e = absurd cc
 got_map f (y ∷ ys) zero x e = let one : y ≡ x = cc in ap (λ z. Some (f z)) one
 got_map f (y ∷ ys) (suc k) x e = got_map f ys k x e
 
-pub packet_told : (setup : Setup) (events : List Event) → IsSetup setup → AllOf IsEvent events → (k : ℕ) (sent : List ℕ) → BringsPacket setup events k sent → TellsText setup events k sent
+pub packet_told : (setup : Setup) (events : List Event)
+    → IsSetup setup
+    → AllOf IsEvent events
+    → (k : ℕ) (sent : List ℕ)
+    → BringsPacket setup events k sent
+    → TellsText setup events k sent
 packet_told setup events set are k sent h =
     let opens : OpensTo (written_machine annex_b) h.world (Event.Deliver h.number) sent =
-    packets annex_b annex_b_ciphers setup (take k events) h.world h.step.before set (each_of_first k events are) h.number h.packet sent h.record_sent h.is_packet h.ready h.in_window in
+    packets annex_b annex_b_ciphers setup (take k events) h.world h.step.before set (each_of_first k events are)
+    h.number h.packet sent h.record_sent h.is_packet h.ready h.in_window in
     let same : h.line ≡ (happens (written_machine annex_b) h.world (Event.Deliver h.number)).1 =
     ap (λ (d : TheWorld × Line Term). d.1) (step_happens setup events k h.world (Event.Deliver h.number) h.after h.line h.step) in record {
       line = map_line value_of h.line;
       told = ap (λ xs. slice_get xs k) (tale_is_value annex_b annex_b_ciphers setup set events are)
-          ∙ got_map report_value (written_report setup events) k (Reported h.line) (step_told setup events k h.world (Event.Deliver h.number) h.after h.line h.step);
+          ∙ got_map report_value (written_report setup events) k (Reported h.line)
+          (step_told setup events k h.world (Event.Deliver h.number) h.after h.line h.step);
       done = ap (λ (l : Line Term). l.answer) same ∙ opens.0;
       opened = ap (λ (l : Line Term). l.opened) same ∙ opens.1;
     }

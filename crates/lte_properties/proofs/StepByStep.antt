@@ -3,6 +3,8 @@ use Rattle.std.proofs.Common.{◌≡◌, refl, sym, ap, ◌∙◌, subst, ℕ, z
 use Rattle.std.specs.Prelude.{◌⊎◌, slice_get, find}
 use Rattle.std.specs.Option.{option_or}
 use Rattle.std.proofs.lemmas.List.Folds.{find-append}
+use Rattle.std.specs.List.{AllByRecursion as AllOf}
+use Rattle.lte_events.specs.Ranges.{IsEvent, IsSetup}
 use Rattle.lte_events.specs.declared.events.Event.{Event}
 use Rattle.lte_events.specs.declared.lines.Who.{Who}
 use Rattle.lte_events.specs.declared.setups.Setup.{Setup}
@@ -14,15 +16,15 @@ use Rattle.lte_machine.specs.ByEvent.{IsStep}
 use Rattle.lte_machine.specs.Ciphers.{annex_b, octets_of}
 use Rattle.lte_machine.specs.Machines.{sender_of, written_machine, written_in_values}
 use Rattle.lte_machine.specs.Opening.{open_octets, open_by_uses}
-use Rattle.lte_machine.specs.Ranges.{AllOf, IsEvent, IsSetup}
 use Rattle.lte_machine.specs.Reply.{Made, Came, Secured, Commanded, Changed, Took}
 use Rattle.lte_machine.specs.Run.{Running, Stopped, after, turn, run, first_world}
 use Rattle.lte_machine.specs.Step.{StepResult, Continues, Stops, next}
 use Rattle.lte_machine.specs.Wire.{Outgoing}
-use Rattle.lte_machine.specs.World.{World, Line, happens}
+use Rattle.lte_machine.specs.World.{Line, happens}
 use Rattle.lte_machine.proofs.AnnexB.{annex_b_ciphers}
 use Rattle.lte_machine.proofs.EventByEvent.{step_takes, step_happens, prefix_goes_on, replay_snoc, take_more, each_of_first}
 use Rattle.lte_machine.proofs.StillRun.{still_is_run, still_one}
+use Rattle.lte_machine.proofs.Worlds.{TheWorld}
 use Rattle.lte_properties.specs.Agreement.{is_made_at, made_at, ahead, ObeysMade, Obeys, Reported, MadeIsTold, TookIsTold, TellsNote, CompletedLines}
 use Rattle.lte_properties.specs.BySteps.{MakesAt, TakesAt, TellOneKey, Follows}
 use Rattle.lte_properties.proofs.Agreement.Noted.{keys_told, BothTold}
@@ -30,16 +32,15 @@ use Rattle.lte_properties.proofs.Agreement.Told.{made_there}
 use Rattle.lte_properties.proofs.EveryLine.{lines_completed}
 use Rattle.lte_properties.proofs.EveryRun.{agrees}
 
-abbrev TheWorld : Type 0
-TheWorld = World Term ℕ (Outgoing Term ℕ)
-
 module _ (setup : Setup) (events : List Event) where
   abbrev start : TheWorld
   start = first_world setup
 
   -- WHAT A STEP TELLS
 
-  pub step_tells : (k : ℕ) (w : TheWorld) (e : Event) (u : TheWorld) (line : Line Term) → IsStep setup events k w e u line → MadeIsTold w u line × TookIsTold w u line
+  pub step_tells : (k : ℕ) (w : TheWorld) (e : Event) (u : TheWorld) (line : Line Term)
+      → IsStep setup events k w e u line
+      → MadeIsTold w u line × TookIsTold w u line
   step_tells k w e u line is =
       let told = keys_told same_value Root (octets_of annex_b_terms written_in_values) sender_of (open_by_uses same_value annex_b_terms) w (e ∷ []) in
       subst (BothTold w) (sym (step_happens setup events k w e u line is)) (told.0, told.1)
@@ -98,10 +99,12 @@ module _ (setup : Setup) (events : List Event) where
       ∙ sym (replay_snoc (open_octets annex_b_terms) (written_machine annex_b) (Running start) (take i events) e) ∙ more)
     where
       by : (w : TheWorld) → written_run setup (take i events) ≡ Running w → (s : StepResult Term ℕ (Outgoing Term ℕ))
-          → next (open_octets annex_b_terms) (written_machine annex_b) w e ≡ s → after (next (open_octets annex_b_terms) (written_machine annex_b) w e) ≡ Running u → LedBy i e u
+          → next (open_octets annex_b_terms) (written_machine annex_b) w e ≡ s
+          → after (next (open_octets annex_b_terms) (written_machine annex_b) w e) ≡ Running u
+          → LedBy i e u
       by w is (Continues v line) f g =
           let same : v ≡ u = still_one (ap after (sym f) ∙ g) in (w, line, record { event = at; before = is; goes_on = f ∙ ap (λ x. Continues x line) same })
-      by w is (Stops chance) f g = let bad : Stopped chance ≡ Running u = ap after (sym f) ∙ g in absurd cc
+      by w is (Stops coincidence) f g = let bad : Stopped coincidence ≡ Running u = ap after (sym f) ∙ g in absurd cc
 
   no_more : (es : List Event) (i : ℕ) → slice_get es i ≡ None → take (suc i) es ≡ take i es
   no_more [] zero is = refl
@@ -125,12 +128,22 @@ module _ (setup : Setup) (events : List Event) where
       by (Some e) at rest =
           let led = led_by (k + d) e u at here in f (k + d) led.0 e u led.1 led.2 (rest led.0 led.2.before)
 
-  pub was_made : (n : ℕ) (u : TheWorld) → written_run setup (take n events) ≡ Running u → (m : Made Term ℕ) (station air : ℕ) → made_at u.made station air ≡ Some m → WasMade n m
+  pub was_made : (n : ℕ) (u : TheWorld)
+      → written_run setup (take n events) ≡ Running u
+      → (m : Made Term ℕ) (station air : ℕ)
+      → made_at u.made station air ≡ Some m
+      → WasMade n m
   was_made zero u runs m station air found =
       let bad : None ≡ Some m = ap (λ x. made_at x.made station air) (still_one runs) ∙ found in absurd cc
   was_made (suc i) u runs m station air found = by (slice_get events i) refl (λ w is f. was_made i w is m station air f)
     where
-      by : (o : Option Event) → slice_get events i ≡ o → ((w : TheWorld) → written_run setup (take i events) ≡ Running w → made_at w.made station air ≡ Some m → WasMade i m) → WasMade (suc i) m
+      by : (o : Option Event)
+          → slice_get events i ≡ o
+          → ((w : TheWorld)
+          → written_run setup (take i events) ≡ Running w
+          → made_at w.made station air ≡ Some m
+          → WasMade i m)
+          → WasMade (suc i) m
       by None at rest = was_later i m (rest u (ap (written_run setup) (sym (no_more events i at)) ∙ runs) found)
       by (Some e) at rest =
           let led = led_by i e u at runs in
@@ -196,19 +209,24 @@ module _ (setup : Setup) (events : List Event) where
   took_it x m (Changed before root) o low = let same = o.near low in (same.0, same.1)
 
   module _ (set : IsSetup setup) (are : AllOf IsEvent events) where
-    pub step_completed : (k : ℕ) (w : TheWorld) (e : Event) (u : TheWorld) (line : Line Term) → IsStep setup events k w e u line → TellsNote u line.who line.note
+    pub step_completed : (k : ℕ) (w : TheWorld) (e : Event) (u : TheWorld) (line : Line Term)
+        → IsStep setup events k w e u line
+        → TellsNote u line.who line.note
     step_completed k w e u line is =
         let runs = step_takes setup events k w e u line is in
         let lines = lines_completed annex_b annex_b_ciphers setup (take k events ++ e ∷ []) u
         (ap (written_run setup) (sym (take_more events k e is.event)) ∙ runs) set
         (subst (AllOf IsEvent) (take_more events k e is.event) (each_of_first (suc k) events are)) in
-        let here : w ≡ run (written_machine annex_b) start (take k events) = still_is_run (open_octets annex_b_terms) (written_machine annex_b) start (take k events) w is.before in
+        let here : w ≡ run (written_machine annex_b) start (take k events) =
+        still_is_run (open_octets annex_b_terms) (written_machine annex_b) start (take k events) w is.before in
         subst (λ (h : TheWorld × Line Term). TellsNote h.0 h.1.who h.1.note) (sym (step_happens setup events k w e u line is))
-        (subst (λ (v : TheWorld). let h = happens (written_machine annex_b) v e in TellsNote h.0 h.1.who h.1.note) (sym here) (completed_last start (take k events) e lines))
+        (subst (λ (v : TheWorld). let h = happens (written_machine annex_b) v e in TellsNote h.0 h.1.who h.1.note)
+        (sym here) (completed_last start (take k events) e lines))
 
     pub follows : (k : ℕ) (x : Took Term ℕ) (line : Line Term) → TakesAt setup events k x line → Follows setup events k x line
     follows k x line h =
-        let all = agrees annex_b annex_b_ciphers setup (take (suc k) events) h.after (step_takes setup events k h.world h.event h.after line h.step) set (each_of_first (suc k) events are) in
+        let all = agrees annex_b annex_b_ciphers setup (take (suc k) events) h.after
+        (step_takes setup events k h.world h.event h.after line h.step) set (each_of_first (suc k) events are) in
         let obeys = all_last (Obeys h.after.made) h.world.took x (subst (AllOf (Obeys h.after.made)) h.takes all.obeyed) in
         let found : made_at h.world.made x.station x.air ≡ Some obeys.0 = ap (λ ms. made_at ms x.station x.air) (sym (none_made k x line h)) ∙ obeys.1 in
         let was = was_made k h.world h.step.before obeys.0 x.station x.air found in record {

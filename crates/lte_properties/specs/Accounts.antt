@@ -1,7 +1,7 @@
 -- What the lists of a world account for: its uses are those of the records sent, in order, and its holders are those who
 -- derived a key or received it.
 use Rattle.std.specs.Prelude.{◌≡◌, ℕ, List, [], ◌∷◌, ◌++◌, map, Option, Some, None, option_map, Result, ⊤}
-use Rattle.std.specs.List.{flat_map}
+use Rattle.std.specs.List.{flat_map, AllByRecursion as AllOf}
 use Rattle.rec_base.specs.declared.faults.RecFault.{RecFault}
 use Rattle.lte_events.specs.declared.addresses.Address.{Address}
 use Rattle.lte_events.specs.declared.events.Event.{Event}
@@ -9,7 +9,6 @@ use Rattle.lte_events.specs.declared.lines.Who.{Who}
 use Rattle.s1x2_rec.specs.Content.{Content}
 use Rattle.key_model.specs.Term.{Term}
 use Rattle.lte_machine.specs.Ladder.{RowOrigin, OfRoot, Of, row_key}
-use Rattle.lte_machine.specs.Ranges.{AllOf}
 use Rattle.lte_machine.specs.StationStep.{key_read}
 use Rattle.lte_machine.specs.Wire.{Outgoing, uses_of}
 use Rattle.lte_machine.specs.World.{Machine, World, Line, Holder, AtPhone, AtCore, AtStation, Holding, record_at, happens}

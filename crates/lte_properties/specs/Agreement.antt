@@ -85,7 +85,8 @@ abbrev pub ObeysAgreement : {S : Type 0} → World Term ℕ S → Type 0
 ObeysAgreement w = AllOf (Obeys w.made) w.took
 
 -- under one connection number the phone's keys grow: the chain number rises, and the key is a KeNB* of the NH of that number
--- on the chain of the key before, or it stays and the key is a KeNB* of the one before (7.2.8.4.4). A key change begins anew with the KeNB of its KASME and of COUNT 0 (7.2.9.2)
+-- on the chain of the key before, or it stays and the key is a KeNB* of the one before (7.2.8.4.4). A key change begins
+-- anew with the KeNB of its KASME and of COUNT 0 (7.2.9.2)
 abbrev pub KeyGrows : Took Term ℕ → Came Term ℕ → Type 0
 KeyGrows x Secured = ⊤
 KeyGrows x (Commanded before) =

@@ -1,6 +1,7 @@
 -- The chain numbers of all that the core, the stations and the records in flight hold of a connection, beside the core's own
 -- number for it (TS 33.401 7.2.8).
 use Rattle.std.specs.Prelude.{◌≡◌, ℕ, ◌≤◌, ◌<◌, Option, Some, None, ⊤}
+pub use Rattle.std.specs.List.{AllByRecursion as AllOf}
 use Rattle.key_model.specs.Term.{Term}
 use Rattle.key_model.specs.HandoverTable.{NumberedKey}
 use Rattle.s1x2_rec.specs.Fields.{Fields, InitialContext, ContextRelease, PathSwitchRequest, PathSwitchAnswer, HandoverRequired, HandoverRequest, HandoverRequestAck, HandoverCommand, HandoverNotify, HandoverCancel, X2Request, X2Ack, X2Cancel, X2Release, ContextModification}
@@ -9,7 +10,6 @@ use Rattle.lte_machine.specs.Wire.{Outgoing, Between}
 use Rattle.lte_machine.specs.StationState.{Station, Context, Attempt, OverX2, OverS1, Within, Renewing, X2State, X2Open, X2Ready, X2Commanded}
 use Rattle.lte_machine.specs.StationKeys.{spent_in}
 use Rattle.lte_machine.specs.CoreState.{Core, CoreLink}
-pub use Rattle.lte_machine.specs.Ranges.{AllOf}
 
 -- P holds of a pair's number, if there is a pair
 abbrev pub OfPair : (ℕ → Type 0) → Option (NumberedKey Term ℕ) → Type 0

@@ -12,7 +12,7 @@ use Rattle.lte_machine.specs.Machines.{Kept, machine_in_octets}
 use Rattle.lte_machine.specs.Opening.{open_octets}
 use Rattle.lte_machine.specs.Reply.{Took}
 use Rattle.lte_machine.specs.Run.{Running, Stopped, first_world}
-use Rattle.lte_machine.specs.Tuples.{Chance}
+use Rattle.lte_machine.specs.Tuples.{Coincidence}
 use Rattle.lte_machine.specs.Wire.{Outgoing}
 use Rattle.lte_machine.specs.World.{World, Line}
 use Rattle.lte_properties.specs.Accounts.{UsesAreThoseSent}
@@ -36,8 +36,8 @@ pub record Headline (setup : Setup) (events : List Event) : Type 0 where
   pub steps : (k : ℕ) (v : World (List ℕ) ℕ Kept) (e : Event) (u : World (List ℕ) ℕ Kept) (line : Line (List ℕ)) →
       IsOctetStep setup events k v e u line → IsValueOfStep setup events k v e u line
   -- a run that is over has a longest prefix by which it went on, and the coincidence is the next event
-  pub ends : (chance : Chance (List ℕ)) → octet_run setup events ≡ Stopped chance →
-      EndsAt (open_octets annex_b) (machine_in_octets annex_b) (first_world setup) events chance
+  pub ends : (coincidence : Coincidence (List ℕ)) → octet_run setup events ≡ Stopped coincidence →
+      EndsAt (open_octets annex_b) (machine_in_octets annex_b) (first_world setup) events coincidence
   -- each key that a station makes for an air address, and each that the phone takes, is told in the line of its step, and the
   -- phone's lines tell no other
   pub lines : (k : ℕ) (w : World Term ℕ (Outgoing Term ℕ)) (e : Event) (u : World Term ℕ (Outgoing Term ℕ)) (line : Line Term) →

@@ -1,11 +1,12 @@
 // Agreement step by step, as a program tells a line for each step.
 ghost use Rattle.std.specs.Prelude.{◌≡◌, ℕ, List};
+ghost use Rattle.std.specs.List.{AllByRecursion as AllOf};
+ghost use Rattle.lte_events.specs.Ranges.{IsEvent, IsSetup};
 ghost use Rattle.lte_events.specs.declared.events.Event.{Event};
 ghost use Rattle.lte_events.specs.declared.lines.Who.{Who};
 ghost use Rattle.lte_events.specs.declared.setups.Setup.{Setup};
 ghost use Rattle.key_model.specs.Term.{Term};
 ghost use Rattle.lte_machine.specs.ByEvent.{IsStep};
-ghost use Rattle.lte_machine.specs.Ranges.{AllOf, IsEvent, IsSetup};
 ghost use Rattle.lte_machine.specs.Reply.{Made, Took};
 ghost use Rattle.lte_machine.specs.Wire.{Outgoing};
 ghost use Rattle.lte_machine.specs.World.{World, Line};

@@ -1,10 +1,11 @@
 // What holds of a run in octets.
 ghost use Rattle.std.specs.Prelude.{ℕ, List};
+ghost use Rattle.std.specs.List.{AllByRecursion as AllOf};
+ghost use Rattle.lte_events.specs.Ranges.{IsEvent, IsSetup};
 ghost use Rattle.lte_events.specs.declared.events.Event.{Event};
 ghost use Rattle.lte_events.specs.declared.setups.Setup.{Setup};
 ghost use Rattle.lte_machine.specs.ByEvent.{IsValueOfRun};
 ghost use Rattle.lte_machine.specs.Machines.{Kept};
-ghost use Rattle.lte_machine.specs.Ranges.{AllOf, IsEvent, IsSetup};
 ghost use Rattle.lte_machine.specs.World.{World};
 ghost use Rattle.lte_properties.specs.Agreement.{JoinedAgree};
 ghost use Rattle.lte_properties.specs.Freshness.{NoUseTwice};

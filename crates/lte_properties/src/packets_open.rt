@@ -1,11 +1,12 @@
 // Packets that open to what was sent.
 ghost use Rattle.std.specs.Prelude.{ℕ, List};
+ghost use Rattle.std.specs.List.{AllByRecursion as AllOf};
+ghost use Rattle.lte_events.specs.Ranges.{IsEvent, IsSetup};
 ghost use Rattle.lte_events.specs.declared.events.Event.{Event};
 ghost use Rattle.lte_events.specs.declared.setups.Setup.{Setup};
 ghost use Rattle.key_model.specs.Term.{Term};
 ghost use Rattle.lte_machine.specs.Ciphers.{annex_b};
 ghost use Rattle.lte_machine.specs.Machines.{written_machine};
-ghost use Rattle.lte_machine.specs.Ranges.{AllOf, IsEvent, IsSetup};
 ghost use Rattle.lte_machine.specs.Standing.{RunsTo};
 ghost use Rattle.lte_machine.specs.Wire.{Outgoing};
 ghost use Rattle.lte_machine.specs.World.{World};

@@ -1,12 +1,13 @@
 // To whom records go.
 ghost use Rattle.std.specs.Prelude.{ℕ, List, All};
-ghost use Rattle.lte_events.specs.Conditions.{CanStart, CanHappen, SetupFits, EventFits};
+ghost use Rattle.std.specs.List.{AllByRecursion as AllOf};
+ghost use Rattle.lte_events.specs.Ranges.{IsEvent, IsSetup};
+ghost use Rattle.lte_events.specs.Scenario.{CanHappen};
 ghost use Rattle.lte_events.specs.declared.events.Event.{Event};
 ghost use Rattle.lte_events.specs.declared.setups.Setup.{Setup};
 ghost use Rattle.key_model.specs.Term.{Term};
 ghost use Rattle.lte_machine.specs.ByEvent.{IsStep};
 ghost use Rattle.lte_machine.specs.Ciphers.{annex_b};
-ghost use Rattle.lte_machine.specs.Ranges.{AllOf, IsEvent, IsSetup};
 ghost use Rattle.lte_machine.specs.Standing.{RunsTo};
 ghost use Rattle.lte_machine.specs.Wire.{Outgoing};
 ghost use Rattle.lte_machine.specs.World.{World, Line};
@@ -19,8 +20,7 @@ ghost use Rattle.lte_properties.specs.Reach.{AllReach, ReachesActor};
 pub fn every_event_reaches_an_actor_of_the_setup()
     ensures records { (setup : Setup) (events : List Event) (w : World Term ℕ (Outgoing Term ℕ)) →
         IsSetup setup → AllOf IsEvent events → RunsTo annex_b setup events w → AllReach setup w }
-    ensures steps { (setup : Setup) (events : List Event) → SetupFits setup → CanStart setup →
-        All (λ e. EventFits e × CanHappen setup e) events →
+    ensures steps { (setup : Setup) (events : List Event) → IsSetup setup → All (CanHappen setup) events →
         (k : ℕ) (w : World Term ℕ (Outgoing Term ℕ)) (e : Event) (u : World Term ℕ (Outgoing Term ℕ)) (line : Line Term) →
         IsStep setup events k w e u line → ReachesActor line }
 {}

@@ -15,7 +15,8 @@ use Rattle.lte_sec_app.specs.Audit.{HasAudit}
 use Rattle.lte_sec_app.specs.Run.{WhereRun}
 use Rattle.lte_sec_app.specs.Scenario.{status_of}
 
-module _ (octets : List ℕ) (setup : Setup) (events : List Event) (reads : reading_of octets ≡ Ok (setup, events)) (heads : Headline setup events) (alone : EachAlone setup events) where
+module _ (octets : List ℕ) (setup : Setup) (events : List Event) (reads : reading_of octets ≡ Ok (setup, events))
+    (heads : Headline setup events) (alone : EachAlone setup events) where
   -- what is so of the audit that was written
   abbrev pub IsRight : Type 0
   IsRight = AuditIsExact setup events × AuditIsOfRun setup events

@@ -1,5 +1,5 @@
 -- What is so of `drive` at each status.
-use Rattle.std.proofs.Common.{◌≡◌, ◌≢◌, ◌⊎◌, ℕ, ◌<◌, ◌≤◌, inl, inr, Option, Some, None, List, length, Result, Ok, Err, refl, sym, subst, arith}
+use Rattle.std.proofs.Common.{◌≡◌, ◌≢◌, ◌⊎◌, ℕ, ◌<◌, inl, inr, Option, Some, None, List, length, Result, Ok, Err, refl, sym, subst, arith}
 use Rattle.std.specs.Option.{IfSome}
 use Rattle.std.specs.Prelude.{IfErr}
 use Rattle.edge_io.specs.Told.{Told}
@@ -29,7 +29,9 @@ nothing_done : (r : Result (Setup × List Event) ScenarioFault) (out : Told) (pe
 nothing_done (Ok scenario) out peers = inl (refl, refl)
 nothing_done (Err fault) out peers = (none_of out.written (refused_text fault), refl)
 
-memory_goes : (r : Result (Setup × List Event) ScenarioFault) (out out' : Told) (peers : Option PeersTold) (faults faults' : ℕ) → TextGoes r Memory out out' peers faults faults'
+memory_goes : (r : Result (Setup × List Event) ScenarioFault) (out out' : Told) (peers : Option PeersTold)
+    (faults faults' : ℕ)
+    → TextGoes r Memory out out' peers faults faults'
 memory_goes (Ok scenario) out out' peers faults faults' = where_some peers _ (λ told gives goes_on calls writes. inr refl)
 memory_goes (Err fault) out out' peers faults faults' = λ writes. inr refl
 
@@ -52,7 +54,11 @@ unread_complete status input input' out peers faults which at octets left within
 -- THE TEXT WAS REFUSED
 
 module _ (reading : Result (Setup × List Event) ScenarioFault) (status : Status) (out out' : Told) (peers : Option PeersTold) where
-  refused_by : (why : ScenarioFault) → (why ≢ fault.Memory → reading ≡ Err why) → RefusedBy why status out out' → (why ≡ fault.Memory) ⊎ (why ≢ fault.Memory) → TextAt reading status out out' peers peers
+  refused_by : (why : ScenarioFault)
+      → (why ≢ fault.Memory → reading ≡ Err why)
+      → RefusedBy why status out out'
+      → (why ≡ fault.Memory) ⊎ (why ≢ fault.Memory)
+      → TextAt reading status out out' peers peers
   refused_by why read refused (inl memory) =
       let at = refused.0 memory in
       let Nothing : Told → Type 0 = λ o. TextAt reading Memory out o peers peers in
@@ -62,11 +68,17 @@ module _ (reading : Result (Setup × List Event) ScenarioFault) (status : Status
       let At : Result (Setup × List Event) ScenarioFault → Type 0 = λ r. TextAt r status out out' peers peers in
       subst At (sym (read other)) ((refused.1 other).1, refl)
 
-  pub refused_at : {A : Type 0} (read : Result A ScenarioFault) → IfErr read (λ why. why ≢ fault.Memory → reading ≡ Err why) → IsRefused read status out out' → TextAt reading status out out' peers peers
+  pub refused_at : {A : Type 0} (read : Result A ScenarioFault)
+      → IfErr read (λ why. why ≢ fault.Memory → reading ≡ Err why)
+      → IsRefused read status out out'
+      → TextAt reading status out out' peers peers
   refused_at (Ok scenario) reads refused = absurd refused
   refused_at (Err why) reads refused = refused_by why reads refused (is_memory why)
 
-  refusal_goes : (why : ScenarioFault) (ends : Status) → WritesAt (refusal_output why) ends out out' → ¬ (Rose out.write_faults out'.write_faults) → (ends ≡ Refused) ⊎ (ends ≡ Memory)
+  refusal_goes : (why : ScenarioFault) (ends : Status)
+      → WritesAt (refusal_output why) ends out out'
+      → ¬ (Rose out.write_faults out'.write_faults)
+      → (ends ≡ Refused) ⊎ (ends ≡ Memory)
   refusal_goes why Refused at writes = inl refl
   refusal_goes why Memory at writes = inr refl
   refusal_goes why WriteFault at writes = absurd (writes at.0)
@@ -75,7 +87,11 @@ module _ (reading : Result (Setup × List Event) ScenarioFault) (status : Status
   refusal_goes why ends at writes = absurd at
 
   module _ (faults faults' : ℕ) where
-    goes_by : (why : ScenarioFault) → (why ≢ fault.Memory → reading ≡ Err why) → RefusedBy why status out out' → (why ≡ fault.Memory) ⊎ (why ≢ fault.Memory) → TextGoes reading status out out' peers faults faults'
+    goes_by : (why : ScenarioFault)
+        → (why ≢ fault.Memory → reading ≡ Err why)
+        → RefusedBy why status out out'
+        → (why ≡ fault.Memory) ⊎ (why ≢ fault.Memory)
+        → TextGoes reading status out out' peers faults faults'
     goes_by why read refused (inl memory) =
         let Answered : Status → Type 0 = λ s. TextGoes reading s out out' peers faults faults' in
         subst Answered (sym (refused.0 memory).0) (memory_goes reading out out' peers faults faults')
@@ -83,6 +99,9 @@ module _ (reading : Result (Setup × List Event) ScenarioFault) (status : Status
         let At : Result (Setup × List Event) ScenarioFault → Type 0 = λ r. TextGoes r status out out' peers faults faults' in
         subst At (sym (read other)) (refusal_goes why status (refused.1 other).1)
 
-    pub refused_goes : {A : Type 0} (read : Result A ScenarioFault) → IfErr read (λ why. why ≢ fault.Memory → reading ≡ Err why) → IsRefused read status out out' → TextGoes reading status out out' peers faults faults'
+    pub refused_goes : {A : Type 0} (read : Result A ScenarioFault)
+        → IfErr read (λ why. why ≢ fault.Memory → reading ≡ Err why)
+        → IsRefused read status out out'
+        → TextGoes reading status out out' peers faults faults'
     refused_goes (Ok scenario) reads refused = absurd refused
     refused_goes (Err why) reads refused = goes_by why reads refused (is_memory why)

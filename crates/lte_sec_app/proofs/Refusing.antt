@@ -1,8 +1,7 @@
 -- What is so of a text that was not read as a scenario, and that one that was read is not refused.
-use Rattle.std.proofs.Common.{◌≡◌, ◌≢◌, ◌∙◌, ◌⊎◌, inl, inr, ℕ, Bool, true, false, List, Result, Ok, Err, refl, sym, ap, subst}
+use Rattle.std.proofs.Common.{◌≡◌, ◌≢◌, ◌∙◌, ◌⊎◌, inl, inr, Bool, true, false, Result, Ok, Err, refl, sym, ap, subst}
 use Rattle.std.specs.Prelude.{IfErr}
 use Rattle.edge_io.specs.Told.{Told}
-use Rattle.edge_io.specs.Peers.{PeersTold}
 use Rattle.edge_io.proofs.Known.{none_of}
 use Rattle.scenario_file.specs.declared.faults.ScenarioFault.{ScenarioFault}
 use Rattle.scenario_file.specs.declared.faults.ScenarioFault.TheVariants as fault
@@ -22,8 +21,14 @@ is_memory (fault.Wrong step field) = inr (λ is. cc)
 is_memory (fault.Unknown step) = inr (λ is. cc)
 is_memory fault.TooMany = inr (λ is. cc)
 
-module _ {B : Type 0} (output_of : Result B ScenarioFault → Output) (same : (why : ScenarioFault) → output_of (Err why) ≡ refusal_output why) (reading : Result B ScenarioFault) (status : Status) (out out' : Told) where
-  by_fault : (why : ScenarioFault) → (why ≢ fault.Memory → reading ≡ Err why) → RefusedBy why status out out' → (why ≡ fault.Memory) ⊎ (why ≢ fault.Memory) → WritesAt (output_of reading) status out out'
+module _ {B : Type 0} (output_of : Result B ScenarioFault → Output)
+    (same : (why : ScenarioFault) → output_of (Err why) ≡ refusal_output why) (reading : Result B ScenarioFault)
+    (status : Status) (out out' : Told) where
+  by_fault : (why : ScenarioFault)
+      → (why ≢ fault.Memory → reading ≡ Err why)
+      → RefusedBy why status out out'
+      → (why ≡ fault.Memory) ⊎ (why ≢ fault.Memory)
+      → WritesAt (output_of reading) status out out'
   by_fault why read refused (inl memory) =
       let at = refused.0 memory in
       let Nothing : Told → Type 0 = λ o. WritesAt (output_of reading) Memory out o in
@@ -34,7 +39,10 @@ module _ {B : Type 0} (output_of : Result B ScenarioFault → Output) (same : (w
       subst At (sym (ap output_of (read other) ∙ same why)) (refused.1 other).1
 
   -- what is written for a text that was not read as a scenario
-  pub refusal_writes : {A : Type 0} (read : Result A ScenarioFault) → IfErr read (λ why. why ≢ fault.Memory → reading ≡ Err why) → IsRefused read status out out' → WritesAt (output_of reading) status out out'
+  pub refusal_writes : {A : Type 0} (read : Result A ScenarioFault)
+      → IfErr read (λ why. why ≢ fault.Memory → reading ≡ Err why)
+      → IsRefused read status out out'
+      → WritesAt (output_of reading) status out out'
   refusal_writes (Ok scenario) reads refused = absurd refused
   refusal_writes (Err why) reads refused = by_fault why reads refused (is_memory why)
 
@@ -43,7 +51,11 @@ pub never_refused : (coincides : Bool) → ending coincides ≢ Refused
 never_refused true = λ is. cc
 never_refused false = λ is. cc
 
-pub read_never_refused : {B : Type 0} (ends_of : Result B ScenarioFault → Status) (reading : Result B ScenarioFault) (scenario : B) (coincides : Bool) → reading ≡ Ok scenario → ends_of (Ok scenario) ≡ ending coincides → ends_of reading ≢ Refused
+pub read_never_refused : {B : Type 0} (ends_of : Result B ScenarioFault → Status) (reading : Result B ScenarioFault)
+    (scenario : B) (coincides : Bool)
+    → reading ≡ Ok scenario
+    → ends_of (Ok scenario) ≡ ending coincides
+    → ends_of reading ≢ Refused
 read_never_refused ends_of reading scenario coincides reads ends is =
     never_refused coincides (sym ends ∙ ap ends_of (sym reads) ∙ is)
 

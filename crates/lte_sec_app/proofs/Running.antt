@@ -1,5 +1,5 @@
 -- What is so of a command that reads a text, at each status.
-use Rattle.std.proofs.Common.{◌≡◌, ℕ, ◌<◌, ◌≤◌, Option, Some, None, List, length, inl, inr, refl, sym, subst, arith}
+use Rattle.std.proofs.Common.{◌≡◌, ℕ, ◌<◌, Some, List, length, inl, inr, refl, sym, subst, arith}
 use Rattle.std.specs.Option.{IfSome}
 use Rattle.edge_io.specs.Told.{Told}
 use Rattle.edge_io.specs.Octets.{Grows}
@@ -14,12 +14,16 @@ where_run Coincidence holds it = it
 where_run status holds it = tt
 
 -- the answer to known octets
-known : (output : List ℕ → Output) (ends : Status) (octets : List ℕ) (input out out' : Told) → input.left ≡ Some octets → IfSome input.left (λ o. Answers output ends o out out')
+known : (output : List ℕ → Output) (ends : Status) (octets : List ℕ) (input out out' : Told)
+    → input.left ≡ Some octets
+    → IfSome input.left (λ o. Answers output ends o out out')
     → (ends ≡ (output octets).ends) × Grows out.written out'.written (output octets).text
 known output ends octets input out out' left answers =
     let a = subst (λ o. IfSome o (λ o'. Answers output ends o' out out')) left answers in (sym a.status, a.written)
 
-pub complete : (output : List ℕ → Output) (status : Status) (input input' out out' : Told) → CommandAt output status input input' out out' → CommandIsComplete output status input input' out out'
+pub complete : (output : List ℕ → Output) (status : Status) (input input' out out' : Told)
+    → CommandAt output status input input' out out'
+    → CommandIsComplete output status input input' out out'
 complete output Done input input' out out' at octets left within read write = inl (known output Done octets input out out' left at.1)
 complete output Refused input input' out out' at octets left within read write = inl (known output Refused octets input out out' left at.1)
 complete output Coincidence input input' out out' at octets left within read write = inl (known output Coincidence octets input out out' left at.1)

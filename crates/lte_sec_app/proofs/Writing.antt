@@ -1,11 +1,11 @@
 -- What is so of a command that reads nothing, at each status.
-use Rattle.std.proofs.Common.{◌≡◌, ℕ, List, inl, inr, refl, sym, ◌⊎◌}
+use Rattle.std.proofs.Common.{ℕ, inl, inr, refl, sym}
 use Rattle.edge_io.specs.Told.{Told}
-use Rattle.lte_machine.proofs.Fitting.{setup_fits, events_fit}
+use Rattle.lte_events.proofs.InRange.{in_range}
 use Rattle.lte_properties.specs.Headline.{Headline}
 use Rattle.lte_properties.proofs.HeadlineHolds.{headline}
 use Rattle.scenario_file.specs.Draws.{generated_setup, generated}
-use Rattle.scenario_file.proofs.GeneratedFits as fits
+use Rattle.scenario_file.proofs.GeneratedFits.{can_start, can_happen}
 use Rattle.lte_sec_app.specs.declared.status.Status.{Status}
 use Rattle.lte_sec_app.specs.declared.status.Status.TheVariants.{Done, Memory, Refused, WriteFault, Coincidence}
 use Rattle.lte_sec_app.specs.Run.{Output, WritesAt}
@@ -23,5 +23,4 @@ writing_is_complete output status out out' at write = absurd at
 pub generated_headline : (steps seed : ℕ) → Headline generated_setup (generated steps seed)
 generated_headline steps seed =
     let events = generated steps seed in
-    headline generated_setup events (setup_fits generated_setup fits.setup_fits fits.can_start)
-    (events_fit generated_setup events (λ k d low. (fits.events_fit steps seed k d low, fits.can_happen steps seed k d low)))
+    headline generated_setup events can_start (in_range generated_setup events (can_happen steps seed))

@@ -51,7 +51,8 @@ calls_of setup events = calls (plan_of setup events).acts
 
 -- All was done: the report is written, and whether it ends with a coincidence. The peers were started, were sent and gave
 -- what the scenario says.
-pub record AllDriven (setup : Setup) (events : List Event) (answer : Result (Unit {0}) DriveFault) (coincides : Bool) (out out' : Told) (peers peers' : Option PeersTold) : Type 0 where
+pub record AllDriven (setup : Setup) (events : List Event) (answer : Result (Unit {0}) DriveFault) (coincides : Bool)
+    (out out' : Told) (peers peers' : Option PeersTold) : Type 0 where
   pub driven : WasDriven setup events answer out out' peers peers'
   pub report : Grows out.written out'.written (report_of setup events).text
   pub ends : (report_of setup events).coincides ≡ coincides
@@ -93,7 +94,7 @@ Untouched out out' peers peers' = (out' ≡ out) × (peers' ≡ peers)
 -- what is so of a scenario at each status; no other status comes
 abbrev pub ScenarioAt : Setup → List Event → Status → Told → Told → Option PeersTold → Option PeersTold → Type 0
 ScenarioAt setup events Done out out' peers peers' = AllDriven setup events (Ok tt) false out out' peers peers'
-ScenarioAt setup events Coincidence out out' peers peers' = AllDriven setup events (Err fault.Chance) true out out' peers peers'
+ScenarioAt setup events Coincidence out out' peers peers' = AllDriven setup events (Err fault.Coincidence) true out out' peers peers'
 ScenarioAt setup events PeerFault out out' peers peers' = CallFailed setup events out out' peers peers'
 ScenarioAt setup events Differs out out' peers peers' = ReplyDiffers setup events Differs out out' peers peers'
 ScenarioAt setup events Memory out out' peers peers' = Untouched out out' peers peers' ⊎ CutOrDiffers setup events fault.Memory Memory out out' peers peers'

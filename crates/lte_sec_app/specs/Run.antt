@@ -48,7 +48,8 @@ WritesPrefix output input out out' =
 
 -- it is a prefix of that for a text within the limit, and something of it was still to be written
 abbrev pub WritesShort : (List ℕ → Output) → Told → Told → Told → Type 0
-WritesShort output input out out' = IfSome input.left (λ octets. (length octets ≤ most_octets) × GrowsByProperPrefix out.written out'.written (output octets).text)
+WritesShort output input out out' = IfSome input.left
+    (λ octets. (length octets ≤ most_octets) × GrowsByProperPrefix out.written out'.written (output octets).text)
 
 -- What is so of such a command at each status, by the input and the output before and after; no other status comes. A read
 -- fails before the end of the input was met, and a write before all was written.

@@ -66,16 +66,35 @@ pub fn run<R: Source, W: Sink, P: Peers, L: Port>(
     // one was read. `ladder` writes keys, `run` the report of the written machine's run
     // over key terms, printed in values, `fleet` that of each phone, `two` that with two cores, and
     // `audit` who can derive which key of the run.
-    ensures text { (command : TextCommand) → named words.now ≡ Some (Command.Text command) → CommandAt (text_output command) result (R.told input.old) (R.told input.new) (W.told out.old) (W.told out.new) }
-    ensures text_complete { (command : TextCommand) → named words.now ≡ Some (Command.Text command) → CommandIsComplete (text_output command) result (R.told input.old) (R.told input.new) (W.told out.old) (W.told out.new) }
-    ensures no_refusal { (command : TextCommand) → named words.now ≡ Some (Command.Text command) → (octets : List ℕ) → (R.told input.old).left ≡ Some octets → result ≡ Status.Memory → (text_output command octets).ends ≡ Status.Refused → out.new ≡ out.old }
+    ensures text { (command : TextCommand)
+        → named words.now ≡ Some (Command.Text command)
+        → CommandAt (text_output command) result (R.told input.old) (R.told input.new) (W.told out.old)
+        (W.told out.new) }
+    ensures text_complete { (command : TextCommand)
+        → named words.now ≡ Some (Command.Text command)
+        → CommandIsComplete (text_output command) result (R.told input.old) (R.told input.new) (W.told out.old)
+        (W.told out.new) }
+    ensures no_refusal { (command : TextCommand)
+        → named words.now ≡ Some (Command.Text command)
+        → (octets : List ℕ)
+        → (R.told input.old).left ≡ Some octets
+        → result ≡ Status.Memory
+        → (text_output command octets).ends ≡ Status.Refused
+        → out.new ≡ out.old }
     ensures headline { (command : TextCommand) → named words.now ≡ Some (Command.Text command) → HoldsOf command result (R.told input.old) }
 
     // What `drive` writes and what it asks of the peers, at each of its statuses: the report of `run`, and the calls of the
     // plan of the scenario; all peers that were started are stopped; and the headline of the scenario.
     ensures drive { named words.now ≡ Some Command.Drive → DriveAt result (R.told input.old) (R.told input.new) (W.told out.old) (W.told out.new) (P.told peers.old) (P.told peers.new) }
-    ensures drive_complete { named words.now ≡ Some Command.Drive → DriveIsComplete result (R.told input.old) (R.told input.new) (W.told out.old) (W.told out.new) (P.told peers.old) (P.faults peers.old) (P.faults peers.new) }
-    ensures drive_no_refusal { named words.now ≡ Some Command.Drive → (octets : List ℕ) → (R.told input.old).left ≡ Some octets → result ≡ Status.Memory → (text_output TextCommand.Run octets).ends ≡ Status.Refused → out.new ≡ out.old }
+    ensures drive_complete { named words.now ≡ Some Command.Drive
+        → DriveIsComplete result (R.told input.old) (R.told input.new) (W.told out.old) (W.told out.new)
+        (P.told peers.old) (P.faults peers.old) (P.faults peers.new) }
+    ensures drive_no_refusal { named words.now ≡ Some Command.Drive
+        → (octets : List ℕ)
+        → (R.told input.old).left ≡ Some octets
+        → result ≡ Status.Memory
+        → (text_output TextCommand.Run octets).ends ≡ Status.Refused
+        → out.new ≡ out.old }
     ensures drive_headline { named words.now ≡ Some Command.Drive → HoldsOf TextCommand.Run result (R.told input.old) }
     ensures stopped { IfSome (P.told peers.new) AllStopped }
     ensures peer_cause { named words.now ≡ Some Command.Drive → result ≡ Status.PeerFault → Rose (P.faults peers.old) (P.faults peers.new) }

@@ -1,9 +1,9 @@
 ghost use Rattle.growth.specs.Growth.{WasRefused};
-ghost use Rattle.std.specs.Prelude.{◌≡◌, ◌≢◌, ◌≤◌, ◌⊎◌, [], ℕ, List, Some, Ok, Err, length, All, IfOk, IfSome, IsTrue, OnErr};
+ghost use Rattle.std.specs.Prelude.{◌≡◌, ◌≢◌, ◌≤◌, ◌⊎◌, [], ℕ, List, Some, Ok, Err, length, IfOk, IfSome, IsTrue, OnErr};
 ghost use Rattle.std.specs.String.{string_bytes};
 ghost use Rattle.edge_io.specs.Cause.{NoFault, Rose};
 ghost use Rattle.edge_io.specs.Used.{UsedAsSource, UsedAsSink};
-ghost use Rattle.lte_events.specs.Conditions.{CanStart, CanHappen, SetupFits, EventFits};
+ghost use Rattle.lte_events.specs.Scenario.{IsScenario};
 ghost use Rattle.actor_drive.specs.Driven.{AllStopped};
 ghost use Rattle.actor_drive.specs.Outside.{LacksMemory};
 ghost use Rattle.scenario_file.specs.Reading.{reading_of};
@@ -92,12 +92,8 @@ fn drive_scenario<P: Peers, W: Sink>(
 ) -> Status
     requires out_ready { IsTrue (W.told out.old).ready }
     requires none { IfSome (P.told peers.old) (λ t. t.roles ≡ []) }
-    requires can_start { CanStart setup.now }
-    requires setup_fits { SetupFits setup.now }
+    requires is_scenario { IsScenario setup.now events.now.items }
     requires cells { 1 ≤ length setup.now.cells }
-    requires can_happen { All (CanHappen setup.now) events.now.items }
-    requires events_fit { All EventFits events.now.items }
-    requires few { length events.now.items ≤ 200000 }
     ensures at { ScenarioAt setup.now events.now.items result (W.told out.old) (W.told out.new) (P.told peers.old) (P.told peers.new) }
     ensures complete { AllGoes setup.now events.now.items result (W.told out.old) (W.told out.new) (P.told peers.old) (P.faults peers.old) (P.faults peers.new) }
     ensures memory { result ≡ Status.Memory → WasRefused ⊎ LacksMemory P.lacks_memory }
@@ -112,7 +108,7 @@ fn drive_scenario<P: Peers, W: Sink>(
         Ok(()) => Status::Done,
         Err(DriveFault::Memory) => Status::Memory,
         Err(DriveFault::PeerFault) => Status::PeerFault,
-        Err(DriveFault::Chance) => Status::Coincidence,
+        Err(DriveFault::Coincidence) => Status::Coincidence,
         Err(DriveFault::WriteFault) => Status::WriteFault,
         Err(DriveFault::Differs { step, wanted, got }) => write_difference(
             alloc, step, &wanted, &got, out,

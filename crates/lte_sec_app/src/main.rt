@@ -15,8 +15,6 @@ mod scenario;
 mod serve;
 mod status;
 mod telling;
-#[cfg(test)]
-mod tests;
 mod text;
 mod two;
 

@@ -2,6 +2,8 @@
 use Rattle.std.proofs.Common.{◌≡◌, sym, ap, ◌∙◌, ℕ, ◌≤◌, ◌<◌, arith, List, [], ◌∷◌, ◌++◌, length, map, Option, Some, Result, Ok, option_map}
 use Rattle.std.proofs.lemmas.List.{map-append, length-map}
 use Rattle.std.specs.Prelude.{slice_get}
+use Rattle.std.specs.List.{AllByRecursion as AllOf}
+use Rattle.lte_events.specs.Ranges.{IsEvent, IsSetup}
 use Rattle.lte_events.specs.declared.events.Event.{Event}
 use Rattle.lte_events.specs.declared.lines.Line.{Line}
 use Rattle.lte_events.specs.declared.setups.Setup.{Setup}
@@ -14,7 +16,6 @@ use Rattle.lte_machine.specs.Calls.{line_out, note_out}
 use Rattle.lte_machine.specs.Carried.{map_line, report_value}
 use Rattle.lte_machine.specs.Ciphers.{annex_b}
 use Rattle.lte_machine.specs.Opening.{open_octets}
-use Rattle.lte_machine.specs.Ranges.{AllOf, IsEvent, IsSetup}
 use Rattle.lte_machine.specs.Reply.{Note, Made, Came, Secured, Commanded, Changed, Took, map_note}
 use Rattle.lte_machine.specs.Run.{Running, first_world, Reported, event_report}
 use Rattle.lte_machine.specs.Wire.{Outgoing}
@@ -87,7 +88,9 @@ key_answered told note is = ap (λ o. option_map (λ n. n.key) (option_map note_
 
 module _ (v : Whole) (set : IsSetup v.setup) (are : AllOf IsEvent v.journal) where
   -- the line of a step
-  line_at : (k : ℕ) (w : World Term ℕ (Outgoing Term ℕ)) (e : Event) (u : World Term ℕ (Outgoing Term ℕ)) (told : world.Line Term) → IsStep v.setup v.journal k w e u told
+  line_at : (k : ℕ) (w : World Term ℕ (Outgoing Term ℕ)) (e : Event) (u : World Term ℕ (Outgoing Term ℕ))
+      (told : world.Line Term)
+      → IsStep v.setup v.journal k w e u told
       → slice_get (answers_of v) k ≡ Some (Ok (answered told))
   line_at k w e u told step =
       got_map answer_of (octet_report v.setup v.journal) k (Reported (map_line value_of told))
@@ -103,7 +106,9 @@ module _ (v : Whole) (set : IsSetup v.setup) (are : AllOf IsEvent v.journal) whe
     pub packets_open : PacketsOpen v k line
     packets_open sent brings =
         let told : TellsText v.setup v.journal k sent = heads.opening k sent brings in
-        let is : line ≡ line_out told.line = same_ok (same_some (sym there ∙ got_map answer_of (octet_report v.setup v.journal) k (Reported told.line) told.told)) in
+        let is : line ≡ line_out told.line = same_ok
+        (same_some
+        (sym there ∙ got_map answer_of (octet_report v.setup v.journal) k (Reported told.line) told.told)) in
         (ap (λ (l : Line). l.answer) is ∙ told.done, ap (λ (l : Line). l.opened) is ∙ told.opened)
 
     -- COMMANDS
@@ -115,12 +120,17 @@ module _ (v : Whole) (set : IsSetup v.setup) (are : AllOf IsEvent v.journal) whe
         let taken = takes_tell v.setup v.journal k x told takes in
         let made = makes_tell v.setup v.journal target.when target.made target.told target.makes in
         let took_is : key_told line ≡ Some (value_of x.key) = ap key_told is ∙ key_answered told taken.0 taken.2 ∙ ap (λ key. Some (value_of key)) taken.3 in
-        let made_is : key_told (answered target.told) ≡ Some (value_of target.made.key) = key_answered target.told made.0 made.2 ∙ ap (λ key. Some (value_of key)) made.3 in record {
+        let made_is : key_told (answered target.told) ≡ Some (value_of target.made.key) =
+        key_answered target.told made.0 made.2 ∙ ap (λ key. Some (value_of key)) made.3 in
+        record {
           target = target;
           earlier = answered target.told;
           answered = line_at target.when target.makes.world target.makes.event target.makes.after target.told target.makes.step;
           made = made_is;
           took = took_is;
           near = λ low. took_is ∙ ap (λ key. Some (value_of key)) (takes_made x target.made x.came target.obeys low) ∙ sym made_is;
-          far = λ high same. takes_other x target.made x.came target.obeys high (one_term v.setup v.journal k x told takes target.when target.made target.told target.makes target.earlier (same_some (sym took_is ∙ same ∙ made_is)));
+          far = λ high same.
+              takes_other x target.made x.came target.obeys high
+              (one_term v.setup v.journal k x told takes target.when target.made target.told target.makes target.earlier
+              (same_some (sym took_is ∙ same ∙ made_is)));
         }

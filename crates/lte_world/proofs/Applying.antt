@@ -1,6 +1,8 @@
 -- One event of the world is one event of the run.
 use Rattle.std.proofs.Common.{◌≡◌, refl, sym, ap, subst, ◌∙◌, ℕ, ◌+◌, List, [], ◌∷◌, ◌++◌, Option, Some, None, Result, Ok, Err}
-use Rattle.lte_events.specs.Conditions.{CanHappen}
+use Rattle.std.specs.List.{AllByRecursion as AllOf}
+use Rattle.lte_events.specs.Ranges.{IsEvent, IsSetup}
+use Rattle.lte_events.specs.Scenario.{CanHappen}
 use Rattle.lte_events.specs.declared.events.Event.{Event}
 use Rattle.lte_events.specs.declared.lines.Line.{Line}
 use Rattle.lte_events.specs.declared.setups.Setup.{Setup}
@@ -11,21 +13,20 @@ use Rattle.lte_machine.specs.Ciphers.{annex_b}
 use Rattle.lte_machine.specs.Machines.{Kept}
 use Rattle.lte_machine.specs.Ladder.{Clash, ladder_of}
 use Rattle.lte_machine.specs.Opening.{Opening, Outcome, open_octets}
-use Rattle.lte_machine.specs.Ranges.{AllOf, IsEvent, IsSetup}
-use Rattle.lte_machine.specs.Run.{RunState, Running, Stopped, after, turn, replay, reported, event_report, first_world}
-use Rattle.lte_machine.specs.Step.{StepResult, Continues, Stops, by_ladder, by_chance, opening_chance, attempted, next}
-use Rattle.lte_machine.specs.Tuples.{Chance}
+use Rattle.lte_machine.specs.Run.{RunState, Running, Stopped, after, turn, reported, event_report, first_world}
+use Rattle.lte_machine.specs.Step.{StepResult, Continues, Stops, by_ladder, by_coincidence, opening_coincidence, attempted, next}
+use Rattle.lte_machine.specs.Tuples.{Coincidence}
 use Rattle.lte_machine.specs.World as world
 use Rattle.lte_machine.specs.World.{World, happens}
 use Rattle.lte_machine.proofs.AnnexB.{annex_b_ciphers}
-use Rattle.lte_machine.proofs.Fitting.{takes}
+use Rattle.lte_machine.proofs.EventByEvent.{replay_snoc}
 use Rattle.lte_machine.proofs.KnownLists.{all_append}
 use Rattle.lte_machine.proofs.Routing.{happens_each}
 use Rattle.lte_machine.proofs.WholeRun.{run_is_value}
 use Rattle.store_laws.specs.Additions.{CanKeep}
-use Rattle.store_laws.specs.Proofs.{chance_of}
+use Rattle.store_laws.specs.Proofs.{coincidence_of}
 use Rattle.store_laws.proofs.EveryRun.{event_keeps}
-use Rattle.store_laws.proofs.Shown.{chance_back}
+use Rattle.store_laws.proofs.Shown.{coincidence_back}
 use Rattle.lte_world.specs.declared.faults.WorldFault.{WorldFault}
 use Rattle.lte_world.specs.Systems.{octets, Actors, CameOut, Happens, EventCan, MayHappen}
 use Rattle.lte_world.specs.Whole.{answer_of, Goes}
@@ -35,14 +36,13 @@ in_octets = open_octets annex_b
 
 -- RUNS
 
-replay_more : (r : RunState (List ℕ) ℕ Kept) (es : List Event) (e : Event) → replay in_octets octets r (es ++ e ∷ []) ≡ turn in_octets octets (replay in_octets octets r es) e
-replay_more r [] e = refl
-replay_more r (x ∷ es) e = replay_more (turn in_octets octets r x) es e
-
 pub run_more : (setup : Setup) (events : List Event) (e : Event) → octet_run setup (events ++ e ∷ []) ≡ turn in_octets octets (octet_run setup events) e
-run_more setup events e = replay_more (Running (first_world setup)) events e
+run_more setup events e = replay_snoc in_octets octets (Running (first_world setup)) events e
 
-pub run_written : (setup : Setup) (events : List Event) → IsSetup setup → AllOf IsEvent events → octet_run setup events ≡ run_value annex_b (written_run setup events)
+pub run_written : (setup : Setup) (events : List Event)
+    → IsSetup setup
+    → AllOf IsEvent events
+    → octet_run setup events ≡ run_value annex_b (written_run setup events)
 run_written setup events is are = run_is_value annex_b annex_b_ciphers setup is events are
 
 pub events_more : (events : List Event) (e : Event) → AllOf IsEvent events → IsEvent e → AllOf IsEvent (events ++ e ∷ [])
@@ -55,25 +55,30 @@ module _ (w : World (List ℕ) ℕ Kept) where
   One u = u.events ≡ w.events + 1
 
   happens_one : (e : Event) → One (happens octets w e).0
-  happens_one = happens_each octets w (λ done a. One done.0) (λ ksi key caps. refl) (λ input came turn. refl) (λ input came. refl) (λ id input came s there own. refl) (λ answer. refl)
+  happens_one = happens_each octets w (λ done a. One done.0) (λ ksi key caps. refl) (λ input came turn. refl)
+      (λ input came. refl) (λ id input came s there own. refl) (λ answer. refl)
 
-  ladder_goes : (c : Option (Clash (List ℕ))) (h : World (List ℕ) ℕ Kept × world.Line (List ℕ)) (u : World (List ℕ) ℕ Kept) (l : world.Line (List ℕ)) → by_ladder c h ≡ Continues u l → h.0 ≡ u
+  ladder_goes : (c : Option (Clash (List ℕ))) (h : World (List ℕ) ℕ Kept × world.Line (List ℕ))
+      (u : World (List ℕ) ℕ Kept) (l : world.Line (List ℕ))
+      → by_ladder c h ≡ Continues u l
+      → h.0 ≡ u
   ladder_goes None h u l e = cc
   ladder_goes (Some c) h u l e = absurd (stops_not e)
     where
-      stops_not : {chance : Chance (List ℕ)} → ◌≡◌ {A = StepResult (List ℕ) ℕ Kept} (Stops chance) (Continues u l) → ⊥
+      stops_not : {coincidence : Coincidence (List ℕ)} → ◌≡◌ {A = StepResult (List ℕ) ℕ Kept} (Stops coincidence) (Continues u l) → ⊥
       stops_not bad = cc
 
-  chance_goes : (c : Option (Chance (List ℕ))) (h : World (List ℕ) ℕ Kept × world.Line (List ℕ)) (u : World (List ℕ) ℕ Kept) (l : world.Line (List ℕ)) →
-      by_chance octets.reading.same c h ≡ Continues u l → h.0 ≡ u
-  chance_goes None h u l e = ladder_goes (ladder_of octets.reading.same h.0.history).clash h u l e
-  chance_goes (Some c) h u l e = absurd (stops_not e)
+  coincidence_goes : (c : Option (Coincidence (List ℕ))) (h : World (List ℕ) ℕ Kept × world.Line (List ℕ))
+      (u : World (List ℕ) ℕ Kept) (l : world.Line (List ℕ)) →
+      by_coincidence octets.reading.same c h ≡ Continues u l → h.0 ≡ u
+  coincidence_goes None h u l e = ladder_goes (ladder_of octets.reading.same h.0.history).clash h u l e
+  coincidence_goes (Some c) h u l e = absurd (stops_not e)
     where
-      stops_not : {chance : Chance (List ℕ)} → ◌≡◌ {A = StepResult (List ℕ) ℕ Kept} (Stops chance) (Continues u l) → ⊥
+      stops_not : {coincidence : Coincidence (List ℕ)} → ◌≡◌ {A = StepResult (List ℕ) ℕ Kept} (Stops coincidence) (Continues u l) → ⊥
       stops_not bad = cc
 
   next_one : (e : Event) (u : World (List ℕ) ℕ Kept) (l : world.Line (List ℕ)) → next in_octets octets w e ≡ Continues u l → One u
-  next_one e u l is = subst One (chance_goes (opening_chance in_octets octets (attempted octets w e)) (happens octets w e) u l is) (happens_one e)
+  next_one e u l is = subst One (coincidence_goes (opening_coincidence in_octets octets (attempted octets w e)) (happens octets w e) u l is) (happens_one e)
 
 -- ONE EVENT
 
@@ -89,61 +94,84 @@ err_err e = cc
 module _ (a b : Actors) (e : Event) (n : ℕ) where
   -- the run goes on
   module _ (line : Line) (h : Happens a b e n (Ok line)) where
-    pub went_says : (r : RunState (List ℕ) ℕ Kept) → Goes r a n → ((w : World (List ℕ) ℕ Kept) → r ≡ Running w → CanKeep (happens octets w e).0) → ◌≡◌ {A = Result Line WorldFault} (Ok line) (answer_of (event_report in_octets octets r e))
+    pub went_says : (r : RunState (List ℕ) ℕ Kept)
+        → Goes r a n
+        → ((w : World (List ℕ) ℕ Kept) → r ≡ Running w → CanKeep (happens octets w e).0)
+        → ◌≡◌ {A = Result Line WorldFault} (Ok line) (answer_of (event_report in_octets octets r e))
     unfolding Happens
-    went_says (Stopped chance) g k = absurd g
+    went_says (Stopped coincidence) g k = absurd g
     went_says (Running w) g k = by (next in_octets octets w e) (h w g.0 g.1 (k w refl))
       where
         by : (x : StepResult (List ℕ) ℕ Kept) → CameOut x b (Ok line) → ◌≡◌ {A = Result Line WorldFault} (Ok line) (answer_of (reported x))
         by (Continues u l) o = ap Ok (ok_ok o.0)
-        by (Stops chance) o = absurd (ok_err o)
+        by (Stops coincidence) o = absurd (ok_err o)
 
-    pub went_goes : (r : RunState (List ℕ) ℕ Kept) → Goes r a n → ((w : World (List ℕ) ℕ Kept) → r ≡ Running w → CanKeep (happens octets w e).0) → Goes (turn in_octets octets r e) b (n + 1)
+    pub went_goes : (r : RunState (List ℕ) ℕ Kept)
+        → Goes r a n
+        → ((w : World (List ℕ) ℕ Kept) → r ≡ Running w → CanKeep (happens octets w e).0)
+        → Goes (turn in_octets octets r e) b (n + 1)
     unfolding Happens
-    went_goes (Stopped chance) g k = absurd g
+    went_goes (Stopped coincidence) g k = absurd g
     went_goes (Running w) g k = by (next in_octets octets w e) refl (h w g.0 g.1 (k w refl))
       where
         by : (x : StepResult (List ℕ) ℕ Kept) → next in_octets octets w e ≡ x → CameOut x b (Ok line) → Goes (after x) b (n + 1)
         by (Continues u l) is o = (o.1, next_one w e u l is ∙ ap (λ k. k + 1) g.1)
-        by (Stops chance) is o = absurd (ok_err o)
+        by (Stops coincidence) is o = absurd (ok_err o)
 
   -- or ends
   module _ (p : Proof) (h : Happens a b e n (Err p)) where
-    pub ended_says : (r : RunState (List ℕ) ℕ Kept) → Goes r a n → ((w : World (List ℕ) ℕ Kept) → r ≡ Running w → CanKeep (happens octets w e).0) → ◌≡◌ {A = Result Line WorldFault} (Err (WorldFault.Chance p)) (answer_of (event_report in_octets octets r e))
+    pub ended_says : (r : RunState (List ℕ) ℕ Kept)
+        → Goes r a n
+        → ((w : World (List ℕ) ℕ Kept) → r ≡ Running w → CanKeep (happens octets w e).0)
+        → ◌≡◌ {A = Result Line WorldFault} (Err (WorldFault.Coincidence p)) (answer_of (event_report in_octets octets r e))
     unfolding Happens
-    ended_says (Stopped chance) g k = absurd g
+    ended_says (Stopped coincidence) g k = absurd g
     ended_says (Running w) g k = by (next in_octets octets w e) (h w g.0 g.1 (k w refl))
       where
-        by : (x : StepResult (List ℕ) ℕ Kept) → CameOut x b (Err p) → ◌≡◌ {A = Result Line WorldFault} (Err (WorldFault.Chance p)) (answer_of (reported x))
+        by : (x : StepResult (List ℕ) ℕ Kept) → CameOut x b (Err p) → ◌≡◌ {A = Result Line WorldFault} (Err (WorldFault.Coincidence p)) (answer_of (reported x))
         by (Continues u l) o = absurd (ok_err (sym o.0))
-        by (Stops chance) o = ap (λ q. Err (WorldFault.Chance q)) (err_err o)
+        by (Stops coincidence) o = ap (λ q. Err (WorldFault.Coincidence q)) (err_err o)
 
-    pub ended_run : (r : RunState (List ℕ) ℕ Kept) → Goes r a n → ((w : World (List ℕ) ℕ Kept) → r ≡ Running w → CanKeep (happens octets w e).0) → Stopped (chance_of p) ≡ turn in_octets octets r e
+    pub ended_run : (r : RunState (List ℕ) ℕ Kept)
+        → Goes r a n
+        → ((w : World (List ℕ) ℕ Kept) → r ≡ Running w → CanKeep (happens octets w e).0)
+        → Stopped (coincidence_of p) ≡ turn in_octets octets r e
     unfolding Happens
-    ended_run (Stopped chance) g k = absurd g
+    ended_run (Stopped coincidence) g k = absurd g
     ended_run (Running w) g k = by (next in_octets octets w e) (h w g.0 g.1 (k w refl))
       where
-        by : (x : StepResult (List ℕ) ℕ Kept) → CameOut x b (Err p) → Stopped (chance_of p) ≡ after x
+        by : (x : StepResult (List ℕ) ℕ Kept) → CameOut x b (Err p) → Stopped (coincidence_of p) ≡ after x
         by (Continues u l) o = absurd (ok_err (sym o.0))
-        by (Stops chance) o = ap Stopped (ap chance_of (err_err o) ∙ chance_back chance)
+        by (Stops coincidence) o = ap Stopped (ap coincidence_of (err_err o) ∙ coincidence_back coincidence)
 
 -- what an event can be
-pub event_good : (setup : Setup) (events : List Event) (e : Event) → IsSetup setup → AllOf IsEvent events → IsEvent e → (w : World (List ℕ) ℕ Kept) → octet_run setup events ≡ Running w → CanKeep (happens octets w e).0
+pub event_good : (setup : Setup) (events : List Event) (e : Event)
+    → IsSetup setup
+    → AllOf IsEvent events
+    → IsEvent e
+    → (w : World (List ℕ) ℕ Kept)
+    → octet_run setup events ≡ Running w
+    → CanKeep (happens octets w e).0
 event_good setup events e is are good w run = event_keeps setup events w is are run e good
 
-pub event_can : (setup : Setup) (events : List Event) (e : Event) (a : Actors) (n : ℕ) → IsSetup setup → AllOf IsEvent events → IsEvent e → Goes (octet_run setup events) a n → EventCan a e
+pub event_can : (setup : Setup) (events : List Event) (e : Event) (a : Actors) (n : ℕ)
+    → IsSetup setup
+    → AllOf IsEvent events
+    → IsEvent e
+    → Goes (octet_run setup events) a n
+    → EventCan a e
 event_can setup events e a n is are good g = by (octet_run setup events) refl g
   where
     by : (r : RunState (List ℕ) ℕ Kept) → octet_run setup events ≡ r → Goes r a n → EventCan a e
     by (Running w) run h = record { before = w; are = h.0; can = event_good setup events e is are good w run }
-    by (Stopped chance) run h = absurd h
+    by (Stopped coincidence) run h = absurd h
 
 -- CONDITIONS
 
 pub may_happen : (setup : Setup) (e : Event) → CanHappen setup e → MayHappen e
-may_happen setup (Event.Auth ksi key caps) c = c
-may_happen setup (Event.Phone act) c = c
-may_happen setup (Event.Station id act) c = c.1
+may_happen setup (Event.Auth ksi key caps) c = c.0.0
+may_happen setup (Event.Phone act) c = c.1
+may_happen setup (Event.Station id act) c = c.1.1
 may_happen setup (Event.Core act) c = tt
 may_happen setup (Event.Deliver i) c = tt
-may_happen setup (Event.Inject to text) c = takes setup to c
+may_happen setup (Event.Inject to text) c = c.0.0

@@ -12,7 +12,7 @@ use Rattle.key_terms.specs.declared.row.LadderRow.{LadderRow}
 use Rattle.key_terms.specs.declared.row.Origin.{Origin}
 use Rattle.key_terms.specs.declared.row.Row.{Row}
 use Rattle.key_terms.specs.Ladder.{Rows as LadderRows, unheld, row, row_of, origin_at, Coincides}
-use Rattle.lte_machine.specs.Ladder.{RowOrigin, OfRoot, Clash, Ladder, add_row, ladder_of, root_row}
+use Rattle.lte_machine.specs.Ladder.{RowOrigin, OfRoot, Clash, Ladder, add_row, ladder_of, root_row, no_rows, add_next}
 use Rattle.lte_machine.specs.Machines.{Kept}
 use Rattle.lte_machine.specs.World as world
 use Rattle.lte_machine.specs.World.{World}
@@ -20,7 +20,6 @@ use Rattle.store_laws.specs.Joins.{HasRow, Keeps, Roots, RootComesTo}
 use Rattle.store_laws.specs.Proofs.{clash_proof}
 use Rattle.store_laws.proofs.Joining.{roots}
 use Rattle.store_laws.proofs.Keeping.{rows_append}
-use Rattle.lte_machine.specs.Ladder.{no_rows, add_next}
 use Rattle.lte_world.specs.declared.network.Enrolled.{Enrolled}
 use Rattle.lte_world.specs.Enrolling.{with_root, EnrolledBy, EnrolledAs}
 use Rattle.lte_world.specs.Networks.{HoldsOne, Stores, Fits}
@@ -41,8 +40,11 @@ module _ (stores : Stores) (root : List ℕ) (later : List LadderRow) (r : Resul
     ladder_is : ladder_of bytes_eq (with_root w root).history ≡ add_row bytes_eq os (OfRoot root)
     ladder_is = rows_append no_rows w.history (OfRoot root ∷ []) ∙ ap (λ l. add_next bytes_eq l (OfRoot root)) (λ j. record { rows = os; clash = f.calm j })
 
-    comes : RootComesTo (root_row bytes_eq root os) (ladder_of bytes_eq (with_root w root).history).clash (OfRoot root) (ladder_of bytes_eq (with_root w root).history).rows w.held later r
-    comes = subst (λ l. RootComesTo (root_row bytes_eq root os) l.clash (OfRoot root) l.rows w.held later r) (sym ladder_is) (roots os w.held stores.rows f.rows root later r a)
+    comes : RootComesTo (root_row bytes_eq root os) (ladder_of bytes_eq (with_root w root).history).clash (OfRoot root)
+        (ladder_of bytes_eq (with_root w root).history).rows w.held later r
+    comes =
+        subst (λ l. RootComesTo (root_row bytes_eq root os) l.clash (OfRoot root) l.rows w.held later r) (sym ladder_is)
+        (roots os w.held stores.rows f.rows root later r a)
 
   ok_err : {row : Row} {fault : LadderFault} → ◌≡◌ {A = Result Row LadderFault} (Ok row) (Err fault) → ⊥
   ok_err e = cc
@@ -53,28 +55,41 @@ module _ (stores : Stores) (root : List ℕ) (later : List LadderRow) (r : Resul
   repeated_not : {a b : Row} {o : Origin} → ◌≡◌ {A = Result Row LadderFault} (Err (LadderFault.RepeatedRoot a)) (Err (LadderFault.Coincidence b o)) → ⊥
   repeated_not e = cc
 
-  chance_is : {a b : Row} {o p : Origin} → ◌≡◌ {A = Result Row LadderFault} (Err (LadderFault.Coincidence a o)) (Err (LadderFault.Coincidence b p)) → a ≡ b
-  chance_is e = cc
+  coincidence_is : {a b : Row} {o p : Origin} → ◌≡◌ {A = Result Row LadderFault} (Err (LadderFault.Coincidence a o)) (Err (LadderFault.Coincidence b p)) → a ≡ b
+  coincidence_is e = cc
 
   -- it is a root already
-  pub enrolled_before : (n : Row) → r ≡ Err (LadderFault.RepeatedRoot n) → (after : Stores) → after ≡ stores → EnrolledAs stores after root (Enrolled.Repeated n)
+  pub enrolled_before : (n : Row)
+      → r ≡ Err (LadderFault.RepeatedRoot n)
+      → (after : Stores)
+      → after ≡ stores
+      → EnrolledAs stores after root (Enrolled.Repeated n)
   unfolding EnrolledAs
   enrolled_before n e after same w f = by (root_row bytes_eq root (os w f)) (ladder_of bytes_eq (with_root w root).history).clash (comes w f)
     where
-      by : (o : Option ℕ) (c : Option (Clash (List ℕ))) → RootComesTo o c (OfRoot root) (ladder_of bytes_eq (with_root w root).history).rows w.held later r → EnrolledBy o c w root after (Enrolled.Repeated n)
+      by : (o : Option ℕ) (c : Option (Clash (List ℕ)))
+          → RootComesTo o c (OfRoot root) (ladder_of bytes_eq (with_root w root).history).rows w.held later r
+          → EnrolledBy o c w root after (Enrolled.Repeated n)
       by (Some k) c h = (ap Enrolled.Repeated (repeated_is (sym e ∙ h)), subst (Fits w) (sym same) f)
       by None None h = absurd (ok_err (sym h.0.1 ∙ e))
       by None (Some c) h = absurd (repeated_not (sym e ∙ h.0.1))
 
   -- a derived key has its octets
-  pub enrolled_by_chance : (n : Row) (o : Origin) → r ≡ Err (LadderFault.Coincidence n o) → (after : Stores) → EnrolledAs stores after root (Enrolled.Chance (Proof.RootIsRow n root))
+  pub enrolled_by_coincidence : (n : Row) (o : Origin)
+      → r ≡ Err (LadderFault.Coincidence n o)
+      → (after : Stores)
+      → EnrolledAs stores after root (Enrolled.Coincidence (Proof.RootIsRow n root))
   unfolding EnrolledAs
-  enrolled_by_chance n o e after w f = by (root_row bytes_eq root (os w f)) (ladder_of bytes_eq (with_root w root).history).clash (comes w f)
+  enrolled_by_coincidence n o e after w f = by (root_row bytes_eq root (os w f)) (ladder_of bytes_eq (with_root w root).history).clash (comes w f)
     where
-      by : (x : Option ℕ) (c : Option (Clash (List ℕ))) → RootComesTo x c (OfRoot root) (ladder_of bytes_eq (with_root w root).history).rows w.held later r → EnrolledBy x c w root after (Enrolled.Chance (Proof.RootIsRow n root))
+      by : (x : Option ℕ) (c : Option (Clash (List ℕ)))
+          → RootComesTo x c (OfRoot root) (ladder_of bytes_eq (with_root w root).history).rows w.held later r
+          → EnrolledBy x c w root after (Enrolled.Coincidence (Proof.RootIsRow n root))
       by (Some k) c h = absurd (repeated_not (sym h ∙ e))
       by None None h = absurd (ok_err (sym h.0.1 ∙ e))
-      by None (Some c) h = ap (λ m. Enrolled.Chance (Proof.RootIsRow m root)) (chance_is (sym e ∙ h.0.1)) ∙ ap (λ x. Enrolled.Chance (clash_proof c.row x)) (sym h.1)
+      by None (Some c) h =
+          ap (λ m. Enrolled.Coincidence (Proof.RootIsRow m root)) (coincidence_is (sym e ∙ h.0.1))
+          ∙ ap (λ x. Enrolled.Coincidence (clash_proof c.row x)) (sym h.1)
 
   -- it has a row then
   pub root_has_row : (k : Row) → r ≡ Ok k → HasRow later root
@@ -83,13 +98,16 @@ module _ (stores : Stores) (root : List ℕ) (later : List LadderRow) (r : Resul
       by : (o : Option ℕ) → row_of stores.rows root ≡ o → HasRow later root
       by None none =
           let put = (a.new none).1 in
-          subst IsSome (sym (ap (λ rs. row_of rs root) put ∙ position_at_end (λ x. bytes_eq x.octets root) stores.rows (unheld Origin.Root root) none ((bytes_eq-Decides root root).1 refl))) refl
+          subst IsSome (sym (ap (λ rs. row_of rs root) put
+          ∙ position_at_end (λ x. bytes_eq x.octets root) stores.rows (unheld Origin.Root root) none
+          ((bytes_eq-Decides root root).1 refl)))
+          refl
       by (Some n) found = at (origin_at stores.rows n) refl
         where
           other : (o : Option Origin) → origin_at stores.rows n ≡ o → (o ≡ Some Origin.Root → ⊥) → HasRow later root
           other o is differs =
-              let chance = a.coincidence n (record { stands = found; other = λ root_is. differs (sym is ∙ root_is) }) in
-              absurd (ok_err (sym e ∙ chance))
+              let coincidence = a.coincidence n (record { stands = found; other = λ root_is. differs (sym is ∙ root_is) }) in
+              absurd (ok_err (sym e ∙ coincidence))
 
           at : (o : Option Origin) → origin_at stores.rows n ≡ o → HasRow later root
           at None is = other None is (λ bad. none-some Origin.Root bad)
@@ -100,13 +118,18 @@ module _ (stores : Stores) (root : List ℕ) (later : List LadderRow) (r : Resul
               from_root bad = cc
 
   -- phone and core hold it
-  pub enrolled_new : (k : Row) → r ≡ Ok k → (one two : List LadderRow) → HoldsOne Holder.Phone root later one → HoldsOne Holder.Core root one two → (after : Stores) → after.rows ≡ two → after.records ≡ stores.records → after.uses ≡ stores.uses →
+  pub enrolled_new : (k : Row) → r ≡ Ok k → (one two : List LadderRow) → HoldsOne Holder.Phone root later one →
+      HoldsOne Holder.Core root one two → (after : Stores) → after.rows ≡ two → after.records ≡ stores.records →
+      after.uses ≡ stores.uses →
       EnrolledAs stores after root Enrolled.New
   unfolding EnrolledAs
   enrolled_new k e one two phone core after rows records uses w f =
       by (root_row bytes_eq root (os w f)) (ladder_of bytes_eq (with_root w root).history).clash refl (comes w f)
     where
-      by : (x : Option ℕ) (c : Option (Clash (List ℕ))) → (ladder_of bytes_eq (with_root w root).history).clash ≡ c → RootComesTo x c (OfRoot root) (ladder_of bytes_eq (with_root w root).history).rows w.held later r → EnrolledBy x c w root after Enrolled.New
+      by : (x : Option ℕ) (c : Option (Clash (List ℕ)))
+          → (ladder_of bytes_eq (with_root w root).history).clash ≡ c
+          → RootComesTo x c (OfRoot root) (ladder_of bytes_eq (with_root w root).history).rows w.held later r
+          → EnrolledBy x c w root after Enrolled.New
       by (Some n) c is h = absurd (ok_err (sym e ∙ h))
       by None (Some c) is h = absurd (ok_err (sym e ∙ h.0.1))
       by None None is h =
@@ -119,7 +142,10 @@ module _ (stores : Stores) (root : List ℕ) (later : List LadderRow) (r : Resul
               uses = uses ∙ f.uses;
               calm = is;
               rows = subst (λ rs. Keeps l.rows (with_root w root).held rs) (sym rows)
-                  (subst (λ x. Keeps l.rows x two) (append_assoc w.held (record { holder = world.AtPhone; key = root } ∷ []) (record { holder = world.AtCore; key = root } ∷ [])) second);
+                  (subst (λ x. Keeps l.rows x two)
+                  (append_assoc w.held (record { holder = world.AtPhone; key = root } ∷ [])
+                  (record { holder = world.AtCore; key = root } ∷ []))
+                  second);
             },
           )
 

@@ -47,7 +47,13 @@ module _ (ids : List ℕ) (stations : List (Station (List ℕ) ℕ)) (are : map 
       found_there ∙ slice_get_past stations place
       (subst (λ n. n ≤ place) (sym (ap length are) ∙ same_length stations) (past_all place (length ids) e))
 
-  pub kenb_at : (k : ℕ) → position (λ x. x == id) ids ≡ Some k → k < length ids → (s : Station (List ℕ) ℕ) → s ≡ get_or stations k s → (r : Option (List ℕ)) → r ≡ option_map (λ c. c.key.kenb) s.context
+  pub kenb_at : (k : ℕ)
+      → position (λ x. x == id) ids ≡ Some k
+      → k < length ids
+      → (s : Station (List ℕ) ℕ)
+      → s ≡ get_or stations k s
+      → (r : Option (List ℕ))
+      → r ≡ option_map (λ c. c.key.kenb) s.context
       → r ≡ context_kenb (station_of_id id stations)
   kenb_at k e within s there r is =
       is ∙ ap context_kenb (sym (station_at k e ∙ slice_get_read stations (length ids) k s (sym (ap length are) ∙ same_length stations) within there))

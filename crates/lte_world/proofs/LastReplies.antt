@@ -1,14 +1,13 @@
 -- The replies that a world keeps are those of the last event of its journal, and of actors of its setup.
 use Rattle.std.proofs.Common.{◌≡◌, refl, sym, ap, ◌∙◌, subst, ℕ, List, [], ◌∷◌, ◌++◌, length, Option, Some, None, Result, Ok, Err, inl, inr}
 use Rattle.std.specs.Prelude.{◌⊎◌, OnOk, is_some}
-use Rattle.std.specs.List.{position_from}
+use Rattle.std.specs.List.{position_from, AllByRecursion as AllOf}
 use Rattle.alg_choice.specs.declared.caps.Caps.{Caps}
 use Rattle.lte_events.specs.Ranges.{has_station}
 use Rattle.lte_events.specs.declared.addresses.Address.{Address}
 use Rattle.lte_events.specs.declared.events.Event.{Event}
 use Rattle.lte_events.specs.declared.inputs.ActorIn.{ActorIn}
 use Rattle.lte_events.specs.declared.inputs.StationIn.{StationIn}
-use Rattle.lte_events.specs.declared.lines.Line.{Line}
 use Rattle.lte_events.specs.declared.replies.ActorOut.{ActorOut}
 use Rattle.lte_events.specs.declared.setups.Setup.{Setup}
 use Rattle.key_terms.specs.declared.proof.Proof.{Proof}
@@ -16,7 +15,6 @@ use Rattle.lte_machine.specs.BothRuns.{octet_run}
 use Rattle.lte_machine.specs.Ciphers.{annex_b}
 use Rattle.lte_machine.specs.Machines.{Kept}
 use Rattle.lte_machine.specs.Opening.{open_octets}
-use Rattle.lte_machine.specs.Ranges.{AllOf}
 use Rattle.lte_machine.specs.Run.{Running, first_world}
 use Rattle.lte_machine.specs.StationState.{Station}
 use Rattle.lte_events.specs.Class.{class_of}
@@ -55,13 +53,20 @@ ends (x ∷ xs) = with_front x xs (ends xs)
 
 -- THE LAST REPLIES
 
-pub first_replied : (setup : Setup) (journal : List Event) (replies : List (ActorIn × ActorOut)) → journal ≡ [] → replies ≡ [] → RepliedLast setup journal replies
+pub first_replied : (setup : Setup) (journal : List Event) (replies : List (ActorIn × ActorOut))
+    → journal ≡ []
+    → replies ≡ []
+    → RepliedLast setup journal replies
 first_replied setup journal replies empty none = record {
   last = λ before e w is runs. absurd (not_longer before e (sym empty ∙ is));
   none = λ is. none;
 }
 
-pub next_replied : (setup : Setup) (journal : List Event) (over : Option Proof) (a : Actors) → over ≡ None → Stands over (octet_run setup journal) a (length journal) → (e : Event) (told : List (ActorIn × ActorOut)) → Tells a e told
+pub next_replied : (setup : Setup) (journal : List Event) (over : Option Proof) (a : Actors)
+    → over ≡ None
+    → Stands over (octet_run setup journal) a (length journal)
+    → (e : Event) (told : List (ActorIn × ActorOut))
+    → Tells a e told
     → (items : List Event) → items ≡ journal ++ e ∷ [] → RepliedLast setup items told
 next_replied setup journal over a none st e told tells items are = record { last = last; none = λ is. absurd (not_longer journal e (sym is ∙ are)) }
   where
@@ -108,7 +113,10 @@ module _ (setup : Setup) (w : World (List ℕ) ℕ Kept) (stand : (id : ℕ) →
   event_there (Event.Deliver i) = delivered_there (record_at i w.sent)
   event_there (Event.Inject to pdu) = injected_there to pdu (position_from (is_sent octets (class_of to) pdu) 0 w.sent)
 
-pub replies_there : (setup : Setup) (journal : List Event) (replies : List (ActorIn × ActorOut)) (u : World (List ℕ) ℕ Kept) → octet_run setup journal ≡ Running u → RepliedLast setup journal replies
+pub replies_there : (setup : Setup) (journal : List Event) (replies : List (ActorIn × ActorOut))
+    (u : World (List ℕ) ℕ Kept)
+    → octet_run setup journal ≡ Running u
+    → RepliedLast setup journal replies
     → AllOf (λ r. IsOfSetup setup r.0) replies
 replies_there setup journal replies u runs h = by (ends journal)
   where
@@ -116,10 +124,11 @@ replies_there setup journal replies u runs h = by (ends journal)
     by (inl empty) = subst (AllOf (λ r. IsOfSetup setup r.0)) (sym (h.none empty)) tt
     by (inr (before, e, is)) =
         let went = prefix_goes_on (open_octets annex_b) octets (Running (first_world setup)) before (e ∷ []) u (ap (octet_run setup) (sym is) ∙ runs) in
-        subst (AllOf (λ r. IsOfSetup setup r.0)) (sym (h.last before e went.0 is went.1)) (event_there setup went.0 (stations_stand setup before went.0 went.1) e)
+        subst (AllOf (λ r. IsOfSetup setup r.0)) (sym (h.last before e went.0 is went.1))
+        (event_there setup went.0 (stations_stand setup before went.0 went.1) e)
 
 -- A WORLD
 
-pub told_ok : {P : Type 0} {line : Line} (r : Result Line Proof) → r ≡ Ok line → OnOk r P → P
-told_ok (Ok line) e h = h
+pub told_ok : {P : Type 0} (r : Result (Unit {0}) Proof) → r ≡ Ok tt → OnOk r P → P
+told_ok (Ok done) e h = h
 told_ok (Err proof) e h = absurd cc

@@ -36,7 +36,9 @@ last_prep (q ∷ ps) p = inr (last_prep ps p)
 abbrev Holds : Station Term ℕ × Reply Term ℕ → Type 0
 Holds d = MadeIs d.1.made d.0
 
-pub station_holds : (same : Term → Term → Bool) (row : StationRow) (key : Option (NumberedKey Term ℕ)) (s : Station Term ℕ) → Holds (station_does (term_reading_by same) row key s)
+pub station_holds : (same : Term → Term → Bool) (row : StationRow) (key : Option (NumberedKey Term ℕ))
+    (s : Station Term ℕ)
+    → Holds (station_does (term_reading_by same) row key s)
 station_holds same row key s =
     station_case (term_reading_by same) s Holds
     (record {

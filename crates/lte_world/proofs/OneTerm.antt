@@ -1,6 +1,7 @@
 -- Two keys of one value, of which the phone took the one and a station made the other, are one key.
 use Rattle.std.proofs.Common.{◌≡◌, refl, sym, ◌∙◌, subst, ℕ, zero, suc, ◌<◌, ◌≤◌, ◌==◌, Bool, true, false, cond, List, [], ◌∷◌, ◌++◌, take, Option, Some, None, inl, inr, arith}
 use Rattle.std.specs.Prelude.{◌⊎◌}
+use Rattle.std.specs.List.{AllByRecursion as AllOf}
 use Rattle.lte_events.specs.declared.events.Event.{Event}
 use Rattle.lte_events.specs.declared.setups.Setup.{Setup}
 use Rattle.key_model.specs.Term.{Term, Root}
@@ -18,14 +19,13 @@ use Rattle.lte_machine.specs.PhoneChoice.{phone_row}
 use Rattle.lte_machine.specs.PhoneKeys.{phone_does}
 use Rattle.lte_machine.specs.PhoneState.{Radio, Idle, Connecting, Connected, PhoneInput}
 use Rattle.lte_machine.specs.PhoneStep.{plain_phone, front_of, phone_root, phone_opens, phone_pdu_in}
-use Rattle.lte_machine.specs.Ranges.{AllOf}
 use Rattle.lte_machine.specs.Reply.{Made, Took}
 use Rattle.lte_machine.specs.Run.{Running, run, first_world}
 use Rattle.lte_machine.specs.StationKeys.{station_does}
 use Rattle.lte_machine.specs.StationState.{Station, Context, StationInput}
 use Rattle.lte_machine.specs.StationStep.{station_opens, station_pdu_in, station_row_of, station_key}
 use Rattle.lte_machine.specs.Wire.{KeyUse, Outgoing}
-use Rattle.lte_machine.specs.World.{Machine, World, Line, with_one, put_if, put_station, phone_turn, station_of_id, turn_of, happens}
+use Rattle.lte_machine.specs.World.{Machine, Line, with_one, put_if, put_station, phone_turn, station_of_id, turn_of, happens}
 use Rattle.ho_prep.specs.Prep.{Prep}
 use Rattle.lte_machine.proofs.EventByEvent.{step_takes, step_happens}
 use Rattle.lte_machine.proofs.LadderRun.{ladder_always, all_reported}
@@ -35,9 +35,7 @@ use Rattle.lte_properties.specs.BySteps.{MakesAt, TakesAt}
 use Rattle.lte_properties.proofs.AccountsHold.{happens_gains}
 use Rattle.lte_world.proofs.MadeKeys.{InContext, InPreps, HasKey, MadeIs, station_holds}
 use Rattle.lte_machine.proofs.PhoneGives.{IsUnder, TookIs, phone_gives}
-
-abbrev TheWorld : Type 0
-TheWorld = World Term ℕ (Outgoing Term ℕ)
+use Rattle.lte_machine.proofs.Worlds.{TheWorld}
 
 -- WHAT AN EVENT LEAVES
 
@@ -77,7 +75,9 @@ made_by : (made : List (Made Term ℕ)) (o : Option (Made Term ℕ)) (id : ℕ) 
 made_by made None id new h ss s e = inl refl
 made_by made (Some n) id new h ss s e = inr (n, refl, put_in id new n.key h ss s e)
 
-module _ (same : Term → Term → Bool) (root : ℕ → List ℕ → Term) (octets : Outgoing Term ℕ → List ℕ) (sender : Option (Outgoing Term ℕ) → Option (KeyUse Term)) (opener : Opening Term → List ℕ → Option (Outgoing Term ℕ) → Outcome) where
+module _ (same : Term → Term → Bool) (root : ℕ → List ℕ → Term) (octets : Outgoing Term ℕ → List ℕ)
+    (sender : Option (Outgoing Term ℕ) → Option (KeyUse Term))
+    (opener : Opening Term → List ℕ → Option (Outgoing Term ℕ) → Outcome) where
   abbrev m : Machine Term ℕ (Outgoing Term ℕ)
   m = machine_by same root octets sender opener
 
@@ -89,7 +89,9 @@ module _ (same : Term → Term → Bool) (root : ℕ → List ℕ → Term) (oct
         let done = phone_does (term_reading_by same) row (phone_root input) w.phone in
         (inl refl, took_by w.took done.1.took done.0.radio (phone_gives same row (phone_root input) w.phone).2)
 
-    station_stands : (id : ℕ) (input : StationInput Term ℕ) (came : Option (Outgoing Term ℕ)) (s : Station Term ℕ) → station_of_id id w.stations ≡ Some s → Both w (turn_of m w id input came (Some s))
+    station_stands : (id : ℕ) (input : StationInput Term ℕ) (came : Option (Outgoing Term ℕ)) (s : Station Term ℕ)
+        → station_of_id id w.stations ≡ Some s
+        → Both w (turn_of m w id input came (Some s))
     station_stands id input came s there =
         let outcome = opener (station_opens (term_reading_by same) s input) (station_pdu_in input) came in
         let row = station_row_of (term_reading_by same) s input outcome in
@@ -98,7 +100,8 @@ module _ (same : Term → Term → Bool) (root : ℕ → List ℕ → Term) (oct
 
     pub happens_stands : (e : Event) → Both w (happens m w e)
     happens_stands =
-        happens_each m w (λ done a. Both w done) (λ ksi key caps. (inl refl, inl refl)) (λ input came turn. phone_stands input came) (λ input came. (inl refl, inl refl))
+        happens_each m w (λ done a. Both w done) (λ ksi key caps. (inl refl, inl refl))
+        (λ input came turn. phone_stands input came) (λ input came. (inl refl, inl refl))
         (λ id input came s there own. station_stands id input came s there) (λ answer. (inl refl, inl refl))
 
 -- IN A RUN
@@ -168,7 +171,9 @@ module _ (setup : Setup) (events : List Event) where
   here n w runs = still_is_run (open_octets annex_b_terms) machine (first_world setup) (take n events) w runs
 
   reported : (n : ℕ) (w : TheWorld) → written_run setup (take n events) ≡ Running w → AllReported w
-  reported n w runs = all_reported annex_b_terms written_in_values (open_by_uses same_value annex_b_terms) (open_octets annex_b_terms) setup (take n events) w runs
+  reported n w runs =
+      all_reported annex_b_terms written_in_values (open_by_uses same_value annex_b_terms) (open_octets annex_b_terms)
+      setup (take n events) w runs
 
   stands : (k : ℕ) (w : TheWorld) (e : Event) (u : TheWorld) (line : Line Term) → IsStep setup events k w e u line → Both w (u, line)
   stands k w e u line step =
@@ -183,7 +188,9 @@ module _ (setup : Setup) (events : List Event) where
 
       by : TookStands h.world h.after → IsReported h.after x.key
       by (inl same) = absurd (longer h.world.took x (sym h.takes ∙ same))
-      by (inr (y, grows, is)) = subst (λ (z : Took Term ℕ). IsReported h.after z.key) (same_last h.world.took y x (sym grows ∙ h.takes)) (took_known (IsReported h.after) h.after.phone.radio y.key all.phone.2 is)
+      by (inr (y, grows, is)) =
+          subst (λ (z : Took Term ℕ). IsReported h.after z.key) (same_last h.world.took y x (sym grows ∙ h.takes))
+          (took_known (IsReported h.after) h.after.phone.radio y.key all.phone.2 is)
 
   made_reported : (k : ℕ) (n : Made Term ℕ) (line : Line Term) (h : MakesAt setup events k n line) → IsReported h.after n.key
   made_reported k n line h = by (stands k h.world h.event h.after line h.step).0
@@ -193,9 +200,15 @@ module _ (setup : Setup) (events : List Event) where
 
       by : MadeStands h.world h.after → IsReported h.after n.key
       by (inl same) = absurd (longer h.world.made n (sym h.makes ∙ same))
-      by (inr (y, grows, is)) = subst (λ (z : Made Term ℕ). IsReported h.after z.key) (same_last h.world.made y n (sym grows ∙ h.makes)) (made_known (IsReported h.after) h.after.stations y.key all.stations is)
+      by (inr (y, grows, is)) =
+          subst (λ (z : Made Term ℕ). IsReported h.after z.key) (same_last h.world.made y n (sym grows ∙ h.makes))
+          (made_known (IsReported h.after) h.after.stations y.key all.stations is)
 
-  pub one_term : (k : ℕ) (x : Took Term ℕ) (line : Line Term) → TakesAt setup events k x line → (j : ℕ) (n : Made Term ℕ) (told : Line Term) → MakesAt setup events j n told → j < k
+  pub one_term : (k : ℕ) (x : Took Term ℕ) (line : Line Term)
+      → TakesAt setup events k x line
+      → (j : ℕ) (n : Made Term ℕ) (told : Line Term)
+      → MakesAt setup events j n told
+      → j < k
       → value_of x.key ≡ value_of n.key → x.key ≡ n.key
   one_term k x line takes j n told makes before value =
       let after = step_takes setup events k takes.world takes.event takes.after line takes.step in
@@ -203,5 +216,6 @@ module _ (setup : Setup) (events : List Event) where
       let there = subst (λ (w : TheWorld). IsReported w n.key) (here (suc j) makes.after then) (made_reported j n told makes) in
       let now = subst (λ (w : TheWorld). IsReported w n.key) (sym (here (suc k) takes.after after))
       (later machine n.key events (suc j) (suc k) (omega (arith, before)) (first_world setup) there) in
-      (ladder_always annex_b_terms written_in_values (open_by_uses same_value annex_b_terms) (open_octets annex_b_terms) setup (take (suc k) events) takes.after after).one
+      (ladder_always annex_b_terms written_in_values (open_by_uses same_value annex_b_terms) (open_octets annex_b_terms)
+      setup (take (suc k) events) takes.after after).one
       x.key n.key (took_reported k x line takes) now value

@@ -2,8 +2,9 @@
 use Rattle.std.proofs.Common.{◌≡◌, refl, sym, ap, ◌∙◌, subst, ℕ, zero, suc, ◌==◌, Bool, true, false, List, [], ◌∷◌, length, map, cond, option_map, Option, Some, None}
 use Rattle.std.proofs.lemmas.List.{length-map}
 use Rattle.std.specs.Prelude.{slice_get, is_some}
+use Rattle.std.specs.List.{AllByRecursion as AllOf}
 use Rattle.rec_base.specs.declared.uses.Use.{Use}
-use Rattle.lte_events.specs.Ranges.{has_station}
+use Rattle.lte_events.specs.Ranges.{has_station, IsEvent, IsSetup}
 use Rattle.lte_events.specs.declared.events.Event.{Event}
 use Rattle.lte_events.specs.declared.setups.Setup.{Setup}
 use Rattle.key_terms.specs.declared.proof.Proof.{Proof}
@@ -11,7 +12,6 @@ use Rattle.ue_context.specs.Step.{kenb_of}
 use Rattle.lte_machine.specs.BothRuns.{octet_run}
 use Rattle.lte_machine.specs.Calls.{use_out, use_in}
 use Rattle.lte_machine.specs.Machines.{Kept}
-use Rattle.lte_machine.specs.Ranges.{AllOf, IsEvent, IsSetup}
 use Rattle.lte_machine.specs.Run.{RunState, Running, Stopped}
 use Rattle.lte_machine.specs.StationState.{Station, Context}
 use Rattle.lte_machine.specs.Wire.{KeyUse}
@@ -40,7 +40,10 @@ no_two xs h i j u e f = h i j (use_in u) (got_of_map xs i u e) (got_of_map xs j 
 
 -- PHONE AND STATION
 
-all_found : (P : Station (List ℕ) ℕ → Type 0) (id : ℕ) (ss : List (Station (List ℕ) ℕ)) (s : Station (List ℕ) ℕ) → AllOf P ss → station_of_id id ss ≡ Some s → P s
+all_found : (P : Station (List ℕ) ℕ → Type 0) (id : ℕ) (ss : List (Station (List ℕ) ℕ)) (s : Station (List ℕ) ℕ)
+    → AllOf P ss
+    → station_of_id id ss ≡ Some s
+    → P s
 all_found P id [] s h e = absurd cc
 all_found P id (t ∷ ts) s h e = by (t.id == id) e (all_found P id ts s h.1)
   where
@@ -64,7 +67,8 @@ none_if (Some s) e = absurd cc
 
 -- A WORLD
 
-module _ (setup : Setup) (journal : List Event) (over : Option Proof) (ready : Bool) (a : Actors) (stands : Stands over (octet_run setup journal) a (length journal))
+module _ (setup : Setup) (journal : List Event) (over : Option Proof) (ready : Bool) (a : Actors)
+    (stands : Stands over (octet_run setup journal) a (length journal))
     (v : Whole) (view : record { setup = setup; journal = journal; over = over; ready = ready } ≡ v) where
   -- what holds of each world with these actors that the run is in holds in the run
   pub reads : (P : World (List ℕ) ℕ Kept → Type 0) → ((w : World (List ℕ) ℕ Kept) → octet_run setup journal ≡ Running w → Are w a → P w) → InRun P (run_of v)
@@ -72,19 +76,28 @@ module _ (setup : Setup) (journal : List Event) (over : Option Proof) (ready : B
     where
       by_run : (r : RunState (List ℕ) ℕ Kept) → octet_run setup journal ≡ r → Goes r a (length journal) → InRun P r
       by_run (Running w) is goes = holds w is goes.0
-      by_run (Stopped chance) is goes = absurd goes
+      by_run (Stopped coincidence) is goes = absurd goes
 
-      by : (o : Option Proof) → Stands o (octet_run setup journal) a (length journal) → (r : RunState (List ℕ) ℕ Kept) → octet_run setup journal ≡ r → InRun P (unless_over o (octet_run setup journal))
+      by : (o : Option Proof)
+          → Stands o (octet_run setup journal) a (length journal)
+          → (r : RunState (List ℕ) ℕ Kept)
+          → octet_run setup journal ≡ r
+          → InRun P (unless_over o (octet_run setup journal))
       by None st r is = by_run (octet_run setup journal) refl st
       by (Some proof) st r is = tt
 
   -- and where no coincidence ended it there is one
   pub there_is : v.over ≡ None → (w : World (List ℕ) ℕ Kept) × (octet_run setup journal ≡ Running w) × Are w a
-  there_is none = by_run (octet_run setup journal) refl (subst (λ o. Stands o (octet_run setup journal) a (length journal)) (ap (λ x. x.over) view ∙ none) stands)
+  there_is none =
+      by_run (octet_run setup journal) refl
+      (subst (λ o. Stands o (octet_run setup journal) a (length journal)) (ap (λ x. x.over) view ∙ none) stands)
     where
-      by_run : (r : RunState (List ℕ) ℕ Kept) → octet_run setup journal ≡ r → Goes r a (length journal) → (w : World (List ℕ) ℕ Kept) × (octet_run setup journal ≡ Running w) × Are w a
+      by_run : (r : RunState (List ℕ) ℕ Kept)
+          → octet_run setup journal ≡ r
+          → Goes r a (length journal)
+          → (w : World (List ℕ) ℕ Kept) × (octet_run setup journal ≡ Running w) × Are w a
       by_run (Running w) is goes = (w, is, goes.0)
-      by_run (Stopped chance) is goes = absurd goes
+      by_run (Stopped coincidence) is goes = absurd goes
 
   pub rows_read : (P : World (List ℕ) ℕ Kept → Type 0) → ((w : World (List ℕ) ℕ Kept) → a.stores.rows ≡ world_rows w → P w) → InRun P (run_of v)
   rows_read P f = reads P (λ w is are. f w are.stores.rows.are)
@@ -108,7 +121,8 @@ module _ (setup : Setup) (journal : List Event) (over : Option Proof) (ready : B
     pub elsewhere : v.over ≡ None → has_station v.setup.stations id ≡ false → r ≡ None
     elsewhere none apart =
         let h = there_is none in
-        let stand : is_some (station_of_id id h.0.stations) ≡ false = stations_stand setup journal h.0 h.1 id ∙ ap (λ x. has_station x.setup.stations id) view ∙ apart in
+        let stand : is_some (station_of_id id h.0.stations) ≡ false =
+        stations_stand setup journal h.0 h.1 id ∙ ap (λ x. has_station x.setup.stations id) view ∙ apart in
         station_is h.0 h.2 ∙ ap context_kenb (none_if (station_of_id id h.0.stations) stand)
 
   module _ (set : IsSetup setup) (are : AllOf IsEvent journal) where

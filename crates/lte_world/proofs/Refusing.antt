@@ -18,9 +18,9 @@ use Rattle.net_bag.specs.declared.view.BagView.{BagView}
 use Rattle.lte_machine.specs.Calls.{use_out, line_of_reply}
 use Rattle.lte_machine.specs.Ciphers.{annex_b}
 use Rattle.lte_machine.specs.Machines.{Kept}
-use Rattle.lte_machine.specs.Ranges.{TakesInjected}
 use Rattle.lte_machine.specs.Step.{by_ladder, opens_none, delivery_attempts, injection_attempts}
 use Rattle.lte_events.specs.Class.{class_of}
+use Rattle.lte_events.specs.Ranges.{TakesInjected}
 use Rattle.lte_machine.specs.World.{World, by_world, newest_if, record_at, delivery, injected, is_sent}
 use Rattle.store_laws.specs.Additions.{CanKeep}
 use Rattle.store_laws.specs.Records.{view_of}
@@ -28,12 +28,23 @@ use Rattle.store_laws.proofs.Found.{first_is}
 use Rattle.lte_world.specs.Systems.{octets, Actors, Are, CameOut, comes, Happens, EventCan, ReadsAt, Arrives, ArrivalCan}
 
 -- an event that reaches no actor
-pub by_world_out : (w : World (List ℕ) ℕ Kept) (a : Actors) (step : ℕ) (answer : Answer) (line : Line) → Are w a → w.events ≡ step → line ≡ line_of_reply step Who.World None (reply_of answer) →
+pub by_world_out : (w : World (List ℕ) ℕ Kept) (a : Actors) (step : ℕ) (answer : Answer) (line : Line) → Are w a →
+    w.events ≡ step → line ≡ line_of_reply step Who.World None (reply_of answer) →
     CameOut (comes w opens_none (by_world octets w answer)) a (Ok line)
 by_world_out w a step answer line are ev is =
     subst (λ c. CameOut (by_ladder c (by_world octets w answer)) a (Ok line)) (sym are.stores.calm) (
       ap Ok (is ∙ ap (λ n. line_of_reply n Who.World None (reply_of answer)) (sym ev)),
-      record { phone = are.phone; core = are.core; stations = are.stations; stores = record { records = are.stores.records; uses = are.stores.uses; calm = are.stores.calm; rows = are.stores.rows } },
+      record {
+        phone = are.phone;
+        core = are.core;
+        stations = are.stations;
+        stores = record {
+          records = are.stores.records;
+          uses = are.stores.uses;
+          calm = are.stores.calm;
+          rows = are.stores.rows;
+        };
+      },
     )
 
 -- RECORDS
@@ -74,15 +85,21 @@ reads_none (Address.StationX2 station) pdu h = absurd h
 
 module _ (a b : Actors) (step : ℕ) where
   -- none is delivered
-  pub none_delivered : (i : ℤ) (line : Line) → None ≡ record_at i a.stores.records → line ≡ line_of_reply step Who.World None (reply_of NoRecord) → Happens a a (Event.Deliver i) step (Ok line)
+  pub none_delivered : (i : ℤ) (line : Line)
+      → None ≡ record_at i a.stores.records
+      → line ≡ line_of_reply step Who.World None (reply_of NoRecord)
+      → Happens a a (Event.Deliver i) step (Ok line)
   unfolding Happens
   none_delivered i line none is w are ev can =
       let nothing : record_at i w.sent ≡ None = no_view (record_at i w.sent) (sym (none ∙ chosen_in w a are i)) in
-      subst (λ o. CameOut (comes w (delivery_attempts octets w o) (delivery octets w o)) a (Ok line)) (sym nothing) (by_world_out w a step NoRecord line are ev is)
+      subst (λ o. CameOut (comes w (delivery_attempts octets w o) (delivery octets w o)) a (Ok line)) (sym nothing)
+      (by_world_out w a step NoRecord line are ev is)
 
   -- one is
-  by_record : (i : ℤ) (result : Result Line Proof) (view : BagView) → Arrives a b view.to view.octets view.tuple step result → (w : World (List ℕ) ℕ Kept) → Are w a → w.events ≡ step →
-      (o : Option Kept) → Some view ≡ option_map view_of o → CanKeep (delivery octets w o).0 → CameOut (comes w (delivery_attempts octets w o) (delivery octets w o)) b result
+  by_record : (i : ℤ) (result : Result Line Proof) (view : BagView) →
+      Arrives a b view.to view.octets view.tuple step result → (w : World (List ℕ) ℕ Kept) → Are w a → w.events ≡ step →
+      (o : Option Kept) → Some view ≡ option_map view_of o → CanKeep (delivery octets w o).0 →
+      CameOut (comes w (delivery_attempts octets w o) (delivery octets w o)) b result
   unfolding Arrives
   by_record i result view h w are ev None e can = absurd cc
   by_record i result view h w are ev (Some x) e can =
@@ -90,11 +107,19 @@ module _ (a b : Actors) (step : ℕ) where
       let arrives : Arrives a b x.to x.octets (option_map use_out x.tuple) step result = subst (λ v. Arrives a b v.to v.octets v.tuple step result) is h in
       arrives w (Some x) are refl ev (reads_sent x x.to) can
 
-  pub one_delivered : (i : ℤ) (result : Result Line Proof) (view : BagView) → Some view ≡ record_at i a.stores.records → Arrives a b view.to view.octets view.tuple step result → Happens a b (Event.Deliver i) step result
+  pub one_delivered : (i : ℤ) (result : Result Line Proof) (view : BagView)
+      → Some view ≡ record_at i a.stores.records
+      → Arrives a b view.to view.octets view.tuple step result
+      → Happens a b (Event.Deliver i) step result
   unfolding Happens
   one_delivered i result view found h w are ev can = by_record i result view h w are ev (record_at i w.sent) (found ∙ chosen_in w a are i) can
 
-  can_by : (w : World (List ℕ) ℕ Kept) (view : BagView) → Are w a → (o : Option Kept) → Some view ≡ option_map view_of o → CanKeep (delivery octets w o).0 → ArrivalCan a view.to view.octets
+  can_by : (w : World (List ℕ) ℕ Kept) (view : BagView)
+      → Are w a
+      → (o : Option Kept)
+      → Some view ≡ option_map view_of o
+      → CanKeep (delivery octets w o).0
+      → ArrivalCan a view.to view.octets
   can_by w view are None e can = absurd cc
   can_by w view are (Some x) e can =
       let is : view ≡ view_of x = cc in
@@ -105,24 +130,43 @@ module _ (a b : Actors) (step : ℕ) where
 
   -- OCTETS
 
-  pub found_in : (w : World (List ℕ) ℕ Kept) → Are w a → (class : Class) (pdu : List ℕ) → first_sent a.stores.records class pdu ≡ position_from (is_sent octets class pdu) 0 w.sent
+  pub found_in : (w : World (List ℕ) ℕ Kept)
+      → Are w a
+      → (class : Class) (pdu : List ℕ)
+      → first_sent a.stores.records class pdu ≡ position_from (is_sent octets class pdu) 0 w.sent
   found_in w are class pdu = ap (λ rs. first_sent rs class pdu) are.stores.records ∙ first_is annex_b w.sent class pdu
 
-  pub sent_before : (to : Address) (pdu : List ℕ) (number : ℕ) (line : Line) → Some number ≡ first_sent a.stores.records (class_of to) pdu → line ≡ line_of_reply step Who.World None (reply_of (Sent number)) →
+  pub sent_before : (to : Address) (pdu : List ℕ) (number : ℕ) (line : Line) →
+      Some number ≡ first_sent a.stores.records (class_of to) pdu →
+      line ≡ line_of_reply step Who.World None (reply_of (Sent number)) →
       Happens a a (Event.Inject to pdu) step (Ok line)
   unfolding Happens
   sent_before to pdu number line found is w are ev can =
       subst (λ o. CameOut (comes w (injection_attempts octets w to pdu o) (injected octets w to pdu o)) a (Ok line)) (found ∙ found_in w are (class_of to) pdu)
       (by_world_out w a step (Sent number) line are ev is)
 
-  pub octets_injected : (to : Address) (pdu : List ℕ) (result : Result Line Proof) → TakesInjected to → None ≡ first_sent a.stores.records (class_of to) pdu → Arrives a b to pdu None step result → Happens a b (Event.Inject to pdu) step result
+  pub octets_injected : (to : Address) (pdu : List ℕ) (result : Result Line Proof)
+      → TakesInjected to
+      → None ≡ first_sent a.stores.records (class_of to) pdu
+      → Arrives a b to pdu None step result
+      → Happens a b (Event.Inject to pdu) step result
   unfolding Happens Arrives
   octets_injected to pdu result takes none h w are ev can =
       let nothing = none ∙ found_in w are (class_of to) pdu in
       subst (λ o. CameOut (comes w (injection_attempts octets w to pdu o) (injected octets w to pdu o)) b result) nothing
       (h w None are refl ev (reads_none to pdu takes) (subst (λ o. CanKeep (injected octets w to pdu o).0) (sym nothing) can))
 
-  pub injection_can : (to : Address) (pdu : List ℕ) → TakesInjected to → None ≡ first_sent a.stores.records (class_of to) pdu → EventCan a (Event.Inject to pdu) → ArrivalCan a to pdu
+  pub injection_can : (to : Address) (pdu : List ℕ)
+      → TakesInjected to
+      → None ≡ first_sent a.stores.records (class_of to) pdu
+      → EventCan a (Event.Inject to pdu)
+      → ArrivalCan a to pdu
   injection_can to pdu takes none p =
       let nothing = none ∙ found_in p.before p.are (class_of to) pdu in
-      record { before = p.before; came = None; are = p.are; reads = reads_none to pdu takes; can = subst (λ o. CanKeep (injected octets p.before to pdu o).0) (sym nothing) p.can }
+      record {
+        before = p.before;
+        came = None;
+        are = p.are;
+        reads = reads_none to pdu takes;
+        can = subst (λ o. CanKeep (injected octets p.before to pdu o).0) (sym nothing) p.can;
+      }

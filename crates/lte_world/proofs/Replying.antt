@@ -13,7 +13,6 @@ use Rattle.lte_events.specs.declared.inputs.ActorIn.{ActorIn}
 use Rattle.lte_events.specs.declared.inputs.PhoneIn.{PhoneIn}
 use Rattle.lte_events.specs.declared.inputs.StationIn.{StationIn}
 use Rattle.lte_events.specs.declared.inputs.CoreIn.{CoreIn}
-use Rattle.lte_events.specs.declared.lines.Line.{Line}
 use Rattle.lte_events.specs.declared.replies.ActorOut.{ActorOut}
 use Rattle.key_terms.specs.declared.proof.Proof.{Proof}
 use Rattle.key_terms.specs.declared.row.Row.{Row}
@@ -33,13 +32,17 @@ use Rattle.lte_world.specs.Enrolling.{with_root, EnrolledBy, EnrolledAs}
 use Rattle.lte_world.specs.Networks.{Stores, Fits}
 use Rattle.lte_world.specs.Replies.{ToldAt, station_replies, replies_by, input_at, replies_in, auth_replies, delivered_replies, injected_replies, replies_of, Tells}
 use Rattle.lte_world.specs.Systems.{Actors, Are, StepsAt}
-use Rattle.lte_world.proofs.Authenticating.{not_new_repeated, not_new_chance, not_repeated_chance}
+use Rattle.lte_world.proofs.Authenticating.{not_new_repeated, not_new_coincidence, not_repeated_coincidence}
 use Rattle.lte_world.proofs.Getting.{station_at, station_nowhere}
 use Rattle.lte_world.proofs.Refusing.{chosen_in, no_view, found_in}
 use Rattle.lte_world.proofs.Stations.{same_some}
 
 -- a cell that is written behind those that count
-pub put_last : {X : Type 0} (cells : List X) (count : ℕ) (x : X) → length cells ≡ 2 → count ≤ 2 → length (take count cells) < 2 → take (count + 1) (slice_set cells count x) ≡ take count cells ++ x ∷ []
+pub put_last : {X : Type 0} (cells : List X) (count : ℕ) (x : X)
+    → length cells ≡ 2
+    → count ≤ 2
+    → length (take count cells) < 2
+    → take (count + 1) (slice_set cells count x) ≡ take count cells ++ x ∷ []
 put_last cells count x two most room =
     let there : length (take count cells) ≡ count = length-take-le count cells (omega (arith, two, most)) in
     take_more_set cells count x (omega (arith, two, room, there))
@@ -48,30 +51,43 @@ put_last cells count x two most room =
 pub only_told : (told before : List (ActorIn × ActorOut)) (x : ActorIn × ActorOut) → before ≡ [] → told ≡ before ++ x ∷ [] → told ≡ x ∷ []
 only_told told before x none is = is ∙ ap (λ xs. xs ++ x ∷ []) none
 
-pub first_is : (told : List (ActorIn × ActorOut)) (x : ActorIn × ActorOut) (out : ActorOut) → told ≡ x ∷ [] → option_map (λ r. r.1) (slice_get told 0) ≡ Some out → out ≡ x.1
+pub first_is : (told : List (ActorIn × ActorOut)) (x : ActorIn × ActorOut) (out : ActorOut)
+    → told ≡ x ∷ []
+    → option_map (λ r. r.1) (slice_get told 0) ≡ Some out
+    → out ≡ x.1
 first_is told x out is at = sym (same_some (ap (λ xs. option_map (λ r. r.1) (slice_get xs 0)) (sym is) ∙ at))
 
 -- A TURN OF A STATION
 
-module _ (a now : Actors) (view : a ≡ now) (ids : List ℕ) (are : map (λ s. s.id) a.stations ≡ ids) (id : ℕ) (i : StationIn) (told : List (ActorIn × ActorOut)) where
+module _ (a now : Actors) (view : a ≡ now) (ids : List ℕ) (are : map (λ s. s.id) a.stations ≡ ids) (id : ℕ)
+    (i : StationIn) (told : List (ActorIn × ActorOut)) where
   pub told_nowhere : position (λ x. x == id) ids ≡ None → told ≡ [] → told ≡ station_replies id i (station_of_id id now.stations)
-  told_nowhere e none = none ∙ ap (station_replies id i) (sym (station_nowhere ids a.stations are id e)) ∙ ap (λ v. station_replies id i (station_of_id id v.stations)) view
+  told_nowhere e none =
+      none
+      ∙ ap (station_replies id i) (sym (station_nowhere ids a.stations are id e))
+      ∙ ap (λ v. station_replies id i (station_of_id id v.stations)) view
 
-  pub told_there : (k : ℕ) → position (λ x. x == id) ids ≡ Some k → (after : List (Station (List ℕ) ℕ)) (out : ActorOut) → StepsAt a.stations after k i out → told ≡ (ActorIn.Station id i, out) ∷ []
+  pub told_there : (k : ℕ)
+      → position (λ x. x == id) ids ≡ Some k
+      → (after : List (Station (List ℕ) ℕ)) (out : ActorOut)
+      → StepsAt a.stations after k i out
+      → told ≡ (ActorIn.Station id i, out) ∷ []
       → told ≡ station_replies id i (station_of_id id now.stations)
   told_there k e after out steps is =
       is ∙ ap (λ o. (ActorIn.Station id i, o) ∷ []) (ap (λ d. d.1) steps.called)
-      ∙ ap (station_replies id i) (sym (station_at ids a.stations are id k e ∙ steps.stands)) ∙ ap (λ v. station_replies id i (station_of_id id v.stations)) view
+      ∙ ap (station_replies id i) (sym (station_at ids a.stations are id k e ∙ steps.stands))
+      ∙ ap (λ v. station_replies id i (station_of_id id v.stations)) view
 
 -- the first reply is that of the step
-pub first_steps : {before after : List (Station (List ℕ) ℕ)} {place id : ℕ} {i : StationIn} (told : List (ActorIn × ActorOut)) (out : ActorOut) → (t : ToldAt before after place id i told)
+pub first_steps : {before after : List (Station (List ℕ) ℕ)} {place id : ℕ} {i : StationIn}
+    (told : List (ActorIn × ActorOut)) (out : ActorOut) → (t : ToldAt before after place id i told)
     → option_map (λ r. r.1) (slice_get told 0) ≡ Some out → StepsAt before after place i out
 first_steps {before} {after} {place} {id} {i} told out t first = subst (StepsAt before after place i) (sym (first_is told _ out t.is first)) t.steps
 
 -- EVENTS
 
-pub on_ok : {P : Type 0} (r : Result Line Proof) → P → OnOk r P
-on_ok (Ok line) h = h
+pub on_ok : {P : Type 0} (r : Result (Unit {0}) Proof) → P → OnOk r P
+on_ok (Ok done) h = h
 on_ok (Err proof) h = tt
 
 module _ (a now : Actors) (view : a ≡ now) (told : List (ActorIn × ActorOut)) where
@@ -79,17 +95,32 @@ module _ (a now : Actors) (view : a ≡ now) (told : List (ActorIn × ActorOut))
   in_world : (i : ActorIn) → told ≡ replies_by now.phone now.core now.stations i → (w : World (List ℕ) ℕ Kept) → Are w now → told ≡ replies_in w i
   in_world i is w are = is ∙ (λ j. replies_by (are.phone j) (are.core j) (are.stations j) i)
 
-  pub phone_tells : (act put : PhoneAct) → put ≡ act → told ≡ replies_by now.phone now.core now.stations (ActorIn.Phone (PhoneIn.Act put)) → Tells now (Event.Phone act) told
+  pub phone_tells : (act put : PhoneAct)
+      → put ≡ act
+      → told ≡ replies_by now.phone now.core now.stations (ActorIn.Phone (PhoneIn.Act put))
+      → Tells now (Event.Phone act) told
   unfolding replies_of
-  phone_tells act put same is w are = in_world (ActorIn.Phone (PhoneIn.Act act)) (is ∙ ap (λ x. replies_by now.phone now.core now.stations (ActorIn.Phone (PhoneIn.Act x))) same) w are
+  phone_tells act put same is w are =
+      in_world (ActorIn.Phone (PhoneIn.Act act))
+      (is ∙ ap (λ x. replies_by now.phone now.core now.stations (ActorIn.Phone (PhoneIn.Act x))) same) w are
 
-  pub station_tells : (id : ℕ) (act put : StationAct) → put ≡ act → told ≡ replies_by now.phone now.core now.stations (ActorIn.Station id (StationIn.Act put)) → Tells now (Event.Station id act) told
+  pub station_tells : (id : ℕ) (act put : StationAct)
+      → put ≡ act
+      → told ≡ replies_by now.phone now.core now.stations (ActorIn.Station id (StationIn.Act put))
+      → Tells now (Event.Station id act) told
   unfolding replies_of
-  station_tells id act put same is w are = in_world (ActorIn.Station id (StationIn.Act act)) (is ∙ ap (λ x. replies_by now.phone now.core now.stations (ActorIn.Station id (StationIn.Act x))) same) w are
+  station_tells id act put same is w are =
+      in_world (ActorIn.Station id (StationIn.Act act))
+      (is ∙ ap (λ x. replies_by now.phone now.core now.stations (ActorIn.Station id (StationIn.Act x))) same) w are
 
-  pub core_tells : (act put : CoreAct) → put ≡ act → told ≡ replies_by now.phone now.core now.stations (ActorIn.Core (CoreIn.Act put)) → Tells now (Event.Core act) told
+  pub core_tells : (act put : CoreAct)
+      → put ≡ act
+      → told ≡ replies_by now.phone now.core now.stations (ActorIn.Core (CoreIn.Act put))
+      → Tells now (Event.Core act) told
   unfolding replies_of
-  core_tells act put same is w are = in_world (ActorIn.Core (CoreIn.Act act)) (is ∙ ap (λ x. replies_by now.phone now.core now.stations (ActorIn.Core (CoreIn.Act x))) same) w are
+  core_tells act put same is w are =
+      in_world (ActorIn.Core (CoreIn.Act act))
+      (is ∙ ap (λ x. replies_by now.phone now.core now.stations (ActorIn.Core (CoreIn.Act x))) same) w are
 
   -- a record
   pub none_tells : (i : ℤ) → None ≡ record_at i now.stores.records → told ≡ [] → Tells now (Event.Deliver i) told
@@ -97,22 +128,36 @@ module _ (a now : Actors) (view : a ≡ now) (told : List (ActorIn × ActorOut))
   none_tells i none is w are =
       is ∙ ap (delivered_replies w) (sym (no_view (record_at i w.sent) (sym (none ∙ chosen_in w now are i))))
 
-  record_tells : (w : World (List ℕ) ℕ Kept) (sent : BagView) → Are w now → told ≡ replies_by now.phone now.core now.stations (input_at sent.to sent.octets) → (o : Option Kept) → Some sent ≡ option_map view_of o → told ≡ delivered_replies w o
+  record_tells : (w : World (List ℕ) ℕ Kept) (sent : BagView)
+      → Are w now
+      → told ≡ replies_by now.phone now.core now.stations (input_at sent.to sent.octets)
+      → (o : Option Kept)
+      → Some sent ≡ option_map view_of o
+      → told ≡ delivered_replies w o
   record_tells w sent are is None e = absurd cc
   record_tells w sent are is (Some x) e =
       let same : sent ≡ view_of x = cc in
       in_world (input_at x.to x.octets) (is ∙ ap (λ (v : BagView). replies_by now.phone now.core now.stations (input_at v.to v.octets)) same) w are
 
-  pub one_tells : (i : ℤ) (sent : BagView) → Some sent ≡ record_at i now.stores.records → told ≡ replies_by now.phone now.core now.stations (input_at sent.to sent.octets) → Tells now (Event.Deliver i) told
+  pub one_tells : (i : ℤ) (sent : BagView)
+      → Some sent ≡ record_at i now.stores.records
+      → told ≡ replies_by now.phone now.core now.stations (input_at sent.to sent.octets)
+      → Tells now (Event.Deliver i) told
   unfolding replies_of
   one_tells i sent found is w are = record_tells w sent are is (record_at i w.sent) (found ∙ chosen_in w now are i)
 
   -- octets
-  pub sent_tells : (to : Address) (pdu : List ℕ) (number : ℕ) → Some number ≡ first_sent now.stores.records (class_of to) pdu → told ≡ [] → Tells now (Event.Inject to pdu) told
+  pub sent_tells : (to : Address) (pdu : List ℕ) (number : ℕ)
+      → Some number ≡ first_sent now.stores.records (class_of to) pdu
+      → told ≡ []
+      → Tells now (Event.Inject to pdu) told
   unfolding replies_of
   sent_tells to pdu number found is w are = is ∙ ap (injected_replies w to pdu) (found ∙ found_in now now 0 w are (class_of to) pdu)
 
-  pub injected_tells : (to : Address) (pdu : List ℕ) → None ≡ first_sent now.stores.records (class_of to) pdu → told ≡ replies_by now.phone now.core now.stations (input_at to pdu) → Tells now (Event.Inject to pdu) told
+  pub injected_tells : (to : Address) (pdu : List ℕ)
+      → None ≡ first_sent now.stores.records (class_of to) pdu
+      → told ≡ replies_by now.phone now.core now.stations (input_at to pdu)
+      → Tells now (Event.Inject to pdu) told
   unfolding replies_of
   injected_tells to pdu none is w are =
       in_world (input_at to pdu) is w are ∙ ap (injected_replies w to pdu) (none ∙ found_in now now 0 w are (class_of to) pdu)
@@ -122,28 +167,39 @@ module _ (a now : Actors) (view : a ≡ now) (told : List (ActorIn × ActorOut))
     pub repeated_tells : (n : Row) → EnrolledAs a.stores stores root (Enrolled.Repeated n) → told ≡ [] → Tells now (Event.Auth ksi root caps) told
     unfolding EnrolledAs replies_of
     repeated_tells n h is w are =
-        by (root_row bytes_eq root (ladder_of bytes_eq w.history).rows) (ladder_of bytes_eq (with_root w root).history).clash (h w (subst (λ v. Fits w v.stores) (sym view) are.stores))
+        by (root_row bytes_eq root (ladder_of bytes_eq w.history).rows)
+        (ladder_of bytes_eq (with_root w root).history).clash
+        (h w (subst (λ v. Fits w v.stores) (sym view) are.stores))
       where
         by : (o : Option ℕ) (c : Option (Clash (List ℕ))) → EnrolledBy o c w root stores (Enrolled.Repeated n) → told ≡ auth_replies w ksi root caps o
         by (Some k) c e = is
-        by None (Some c) e = absurd (not_repeated_chance a stores ksi root caps 0 e)
+        by None (Some c) e = absurd (not_repeated_coincidence a stores ksi root caps 0 e)
         by None None e = absurd (not_new_repeated a stores ksi root caps 0 (sym e.0))
 
     pub new_tells : EnrolledAs a.stores stores root Enrolled.New
-        → told ≡ (ActorIn.Phone (PhoneIn.Auth ksi root), (phone_call a.phone (PhoneIn.Auth ksi root)).1) ∷ (ActorIn.Core (CoreIn.Auth ksi root caps), (core_call a.core (CoreIn.Auth ksi root caps)).1) ∷ []
+        → told
+        ≡ (ActorIn.Phone (PhoneIn.Auth ksi root), (phone_call a.phone (PhoneIn.Auth ksi root)).1)
+        ∷ (ActorIn.Core (CoreIn.Auth ksi root caps), (core_call a.core (CoreIn.Auth ksi root caps)).1) ∷ []
         → Tells now (Event.Auth ksi root caps) told
     unfolding EnrolledAs replies_of
     new_tells h is w are =
-        by (root_row bytes_eq root (ladder_of bytes_eq w.history).rows) (ladder_of bytes_eq (with_root w root).history).clash (h w (subst (λ v. Fits w v.stores) (sym view) are.stores))
+        by (root_row bytes_eq root (ladder_of bytes_eq w.history).rows)
+        (ladder_of bytes_eq (with_root w root).history).clash
+        (h w (subst (λ v. Fits w v.stores) (sym view) are.stores))
       where
         both : told ≡ auth_replies w ksi root caps None
         both =
-            is ∙ (λ j. (ActorIn.Phone (PhoneIn.Auth ksi root), (phone_call (view j).phone (PhoneIn.Auth ksi root)).1) ∷ (ActorIn.Core (CoreIn.Auth ksi root caps), (core_call (view j).core (CoreIn.Auth ksi root caps)).1) ∷ [])
-            ∙ (λ j. (ActorIn.Phone (PhoneIn.Auth ksi root), (phone_call (are.phone j) (PhoneIn.Auth ksi root)).1) ∷ (ActorIn.Core (CoreIn.Auth ksi root caps), (core_call (are.core j) (CoreIn.Auth ksi root caps)).1) ∷ [])
+            is
+            ∙ (λ j. (ActorIn.Phone (PhoneIn.Auth ksi root), (phone_call (view j).phone (PhoneIn.Auth ksi root)).1)
+            ∷ (ActorIn.Core (CoreIn.Auth ksi root caps), (core_call (view j).core (CoreIn.Auth ksi root caps)).1)
+            ∷ [])
+            ∙ (λ j. (ActorIn.Phone (PhoneIn.Auth ksi root), (phone_call (are.phone j) (PhoneIn.Auth ksi root)).1)
+            ∷ (ActorIn.Core (CoreIn.Auth ksi root caps), (core_call (are.core j) (CoreIn.Auth ksi root caps)).1)
+            ∷ [])
 
         by : (o : Option ℕ) (c : Option (Clash (List ℕ))) → EnrolledBy o c w root stores Enrolled.New → told ≡ auth_replies w ksi root caps o
         by (Some k) c e = absurd (not_new_repeated a stores ksi root caps 0 e.0)
-        by None (Some c) e = absurd (not_new_chance a stores ksi root caps 0 e)
+        by None (Some c) e = absurd (not_new_coincidence a stores ksi root caps 0 e)
         by None None e = both
 
 -- phone and core reply one after the other
@@ -151,7 +207,10 @@ pub two_told : (phone : Phone (List ℕ) ℕ) (core : Core (List ℕ) ℕ) (ksi 
     → (first second third : List (ActorIn × ActorOut)) → first ≡ []
     → second ≡ first ++ (ActorIn.Phone (PhoneIn.Auth ksi made), (phone_call phone (PhoneIn.Auth ksi made)).1) ∷ []
     → third ≡ second ++ (ActorIn.Core (CoreIn.Auth ksi made caps), (core_call core (CoreIn.Auth ksi made caps)).1) ∷ []
-    → third ≡ (ActorIn.Phone (PhoneIn.Auth ksi root), (phone_call phone (PhoneIn.Auth ksi root)).1) ∷ (ActorIn.Core (CoreIn.Auth ksi root caps), (core_call core (CoreIn.Auth ksi root caps)).1) ∷ []
+    → third
+    ≡ (ActorIn.Phone (PhoneIn.Auth ksi root), (phone_call phone (PhoneIn.Auth ksi root)).1)
+    ∷ (ActorIn.Core (CoreIn.Auth ksi root caps), (core_call core (CoreIn.Auth ksi root caps)).1) ∷ []
 two_told phone core ksi root made same caps first second third none one two =
     two ∙ ap (λ xs. xs ++ (ActorIn.Core (CoreIn.Auth ksi made caps), (core_call core (CoreIn.Auth ksi made caps)).1) ∷ []) (only_told second first _ none one)
-    ∙ (λ j. (ActorIn.Phone (PhoneIn.Auth ksi (same j)), (phone_call phone (PhoneIn.Auth ksi (same j))).1) ∷ (ActorIn.Core (CoreIn.Auth ksi (same j) caps), (core_call core (CoreIn.Auth ksi (same j) caps)).1) ∷ [])
+    ∙ (λ j. (ActorIn.Phone (PhoneIn.Auth ksi (same j)), (phone_call phone (PhoneIn.Auth ksi (same j))).1)
+    ∷ (ActorIn.Core (CoreIn.Auth ksi (same j) caps), (core_call core (CoreIn.Auth ksi (same j) caps)).1) ∷ [])

@@ -30,7 +30,10 @@ module _ (a b : Actors) (step : ℕ) (result : Result Line Proof) where
   unfolding CoreTurns Happens
   core_happens act copy is h = subst (λ x. Happens a b (Event.Core x) step result) is (λ w are ev can. h w None are refl ev can)
 
-  pub station_happens : (id : ℕ) (act copy : StationAct) → copy ≡ act → StationTurns a b id (StationIn.Act copy) None step result → Happens a b (Event.Station id act) step result
+  pub station_happens : (id : ℕ) (act copy : StationAct)
+      → copy ≡ act
+      → StationTurns a b id (StationIn.Act copy) None step result
+      → Happens a b (Event.Station id act) step result
   unfolding StationTurns Happens
   station_happens id act copy is h = subst (λ x. Happens a b (Event.Station id x) step result) is (λ w are ev can. h w None are refl ev can)
 
@@ -44,9 +47,15 @@ module _ (a b : Actors) (step : ℕ) (result : Result Line Proof) where
     unfolding PhoneTurns Arrives
     phone_nas_comes to is h = subst (λ x. Come x pdu) (sym is) (subst (Come Address.PhoneNas) same (λ w came are from ev reads can. h w came are from ev can))
 
-    pub phone_air_comes : (station air : ℕ) (bearer : Bearer) (to : Address) → to ≡ Address.Phone station air bearer → PhoneTurns a b (PhoneIn.Air station air bearer copy) sender step result → Come to pdu
+    pub phone_air_comes : (station air : ℕ) (bearer : Bearer) (to : Address)
+        → to ≡ Address.Phone station air bearer
+        → PhoneTurns a b (PhoneIn.Air station air bearer copy) sender step result
+        → Come to pdu
     unfolding PhoneTurns Arrives
-    phone_air_comes station air bearer to is h = subst (λ x. Come x pdu) (sym is) (subst (Come (Address.Phone station air bearer)) same (λ w came are from ev reads can. h w came are from ev can))
+    phone_air_comes station air bearer to is h =
+        subst (λ x. Come x pdu) (sym is)
+        (subst (Come (Address.Phone station air bearer)) same
+        (λ w came are from ev reads can. h w came are from ev can))
 
     pub core_nas_comes : (to : Address) → to ≡ Address.CoreNas → CoreTurns a b (CoreIn.Nas copy) sender step result → Come to pdu
     unfolding CoreTurns Arrives
@@ -58,18 +67,30 @@ module _ (a b : Actors) (step : ℕ) (result : Result Line Proof) where
         subst (λ x. CameOut (comes w (core_attempts octets w (CoreRecord x) came) (core_turn octets w (CoreRecord x) came)) b result) (sym reads)
         (h w came are from ev (subst (λ x. CanKeep (core_turn octets w (CoreRecord x) came).0) reads can))))
 
-    pub station_air_comes : (id air : ℕ) (bearer : Bearer) (to : Address) → to ≡ Address.StationAir id air bearer → StationTurns a b id (StationIn.Air air bearer copy) sender step result → Come to pdu
+    pub station_air_comes : (id air : ℕ) (bearer : Bearer) (to : Address)
+        → to ≡ Address.StationAir id air bearer
+        → StationTurns a b id (StationIn.Air air bearer copy) sender step result
+        → Come to pdu
     unfolding StationTurns Arrives
-    station_air_comes id air bearer to is h = subst (λ x. Come x pdu) (sym is) (subst (Come (Address.StationAir id air bearer)) same (λ w came are from ev reads can. h w came are from ev can))
+    station_air_comes id air bearer to is h =
+        subst (λ x. Come x pdu) (sym is)
+        (subst (Come (Address.StationAir id air bearer)) same
+        (λ w came are from ev reads can. h w came are from ev can))
 
     pub station_s1_comes : (id : ℕ) (to : Address) → to ≡ Address.StationS1 id → StationTurns a b id (StationIn.S1 copy) sender step result → Come to pdu
     unfolding StationTurns Arrives
     station_s1_comes id to is h = subst (λ x. Come x pdu) (sym is) (subst (Come (Address.StationS1 id)) same (λ w came are from ev reads can.
-        subst (λ x. CameOut (comes w (station_attempts octets w id (StationRecord OnS1 x) came) (station_turn octets w id (StationRecord OnS1 x) came)) b result) (sym reads)
+        subst (λ x. CameOut (comes w (station_attempts octets w id (StationRecord OnS1 x) came)
+        (station_turn octets w id (StationRecord OnS1 x) came))
+        b result)
+        (sym reads)
         (h w came are from ev (subst (λ x. CanKeep (station_turn octets w id (StationRecord OnS1 x) came).0) reads can))))
 
     pub station_x2_comes : (id : ℕ) (to : Address) → to ≡ Address.StationX2 id → StationTurns a b id (StationIn.X2 copy) sender step result → Come to pdu
     unfolding StationTurns Arrives
     station_x2_comes id to is h = subst (λ x. Come x pdu) (sym is) (subst (Come (Address.StationX2 id)) same (λ w came are from ev reads can.
-        subst (λ x. CameOut (comes w (station_attempts octets w id (StationRecord OnX2 x) came) (station_turn octets w id (StationRecord OnX2 x) came)) b result) (sym reads)
+        subst (λ x. CameOut (comes w (station_attempts octets w id (StationRecord OnX2 x) came)
+        (station_turn octets w id (StationRecord OnX2 x) came))
+        b result)
+        (sym reads)
         (h w came are from ev (subst (λ x. CanKeep (station_turn octets w id (StationRecord OnX2 x) came).0) reads can))))

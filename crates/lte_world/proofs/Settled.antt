@@ -3,6 +3,7 @@ use Rattle.std.proofs.Common.{◌≡◌, refl, sym, ap, subst, ◌∙◌, ℕ, L
 use Rattle.std.specs.Prelude.{option_map, IsSome}
 use Rattle.std.specs.Str.{bytes_eq}
 use Rattle.std.proofs.lemmas.List.{map-append, length-map}
+use Rattle.std.specs.List.{AllByRecursion as AllOf}
 use Rattle.annex_a_keys.specs.declared.derived.Derived.{Derived}
 use Rattle.rec_base.specs.declared.uses.Use.{Use}
 use Rattle.lte_events.specs.declared.lines.Line.{Line}
@@ -17,9 +18,8 @@ use Rattle.lte_machine.specs.Calls.{use_in, use_out, actor_out, line_out, line_o
 use Rattle.lte_machine.specs.Ciphers.{annex_b}
 use Rattle.lte_machine.specs.Ladder.{RowOrigin, Of, Clash, Ladder, add_next, add_rows, no_rows, ladder_of}
 use Rattle.lte_machine.specs.Machines.{Kept, machine_in_octets}
-use Rattle.lte_machine.specs.Ranges.{AllOf}
 use Rattle.lte_machine.specs.Reply.{Reply}
-use Rattle.lte_machine.specs.Tuples.{Chance, tuple_chance}
+use Rattle.lte_machine.specs.Tuples.{Coincidence, tuple_coincidence}
 use Rattle.lte_machine.specs.Wire.{KeyUse, Outgoing}
 use Rattle.lte_machine.specs.World as world
 use Rattle.lte_machine.specs.World.{World, Holding, holds, uses_in, with_one, line_of, sent_line}
@@ -31,7 +31,7 @@ use Rattle.store_laws.specs.Rows.{numbered}
 use Rattle.store_laws.proofs.Keeping.{rows_append}
 use Rattle.store_laws.proofs.Numbered.{row_noted}
 use Rattle.lte_world.specs.Networks.{HoldsOne, calm, Awaits, AddedBy, Added, AddsAll, HasRows, HasKeys, HoldsAll, holdings, keys_in, Stores, Fits}
-use Rattle.lte_world.specs.Settling.{chance_told, sent_in, number_of, after, Settles, SettledBy, SettledAs}
+use Rattle.lte_world.specs.Settling.{coincidence_told, sent_in, number_of, after, Settles, SettledBy, SettledAs}
 use Rattle.lte_world.proofs.Deriving.{ok_is_no_err}
 use Rattle.lte_world.proofs.Holders.{made_has_row}
 
@@ -56,7 +56,8 @@ module _ (w : World (List ℕ) ℕ Kept) (by : world.Holder) (r : Reply (List �
   can_add = subst (λ l. AllCanAdd l (map Of r.derived)) ladder_is (all_can_split no_rows w.history (map Of r.derived) can.history)
 
   -- what is added
-  pub added : (rows : List LadderRow) (derived : List Derived) (result : Result (Unit {0}) Proof) → derived ≡ map derived_of r.derived → AddsAll stores.rows rows derived result →
+  pub added : (rows : List LadderRow) (derived : List Derived) (result : Result (Unit {0}) Proof) →
+      derived ≡ map derived_of r.derived → AddsAll stores.rows rows derived result →
       Added (ladder_of bytes_eq (after w by r).history) w.held rows result
   added rows derived result are all = subst (λ l. Added l w.held rows result) after_is (all os w.held r.derived f.rows are can_add)
 
@@ -73,17 +74,25 @@ module _ (w : World (List ℕ) ℕ Kept) (by : world.Holder) (r : Reply (List �
       ((ladder_of bytes_eq (after w by r).history).clash ≡ None) × Keeps (ladder_of bytes_eq (after w by r).history).rows w.held rows
   calm_after rows a = added_calm rows (ladder_of bytes_eq (after w by r).history) a
 
-  has_row : (rows : List LadderRow) → Added (ladder_of bytes_eq (after w by r).history) w.held rows (Ok tt) → (key : List ℕ) → IsMadeIn (after w by r).history key → HasRow rows key
+  has_row : (rows : List LadderRow)
+      → Added (ladder_of bytes_eq (after w by r).history) w.held rows (Ok tt)
+      → (key : List ℕ)
+      → IsMadeIn (after w by r).history key
+      → HasRow rows key
   has_row rows a key made =
       let c = calm_after rows a in
       subst IsSome (sym (ap (λ rs. row_of rs key) c.1.are ∙ row_noted (numbered (ladder_of bytes_eq (after w by r).history).rows) w.held key))
       (made_has_row (after w by r).history key c.0 made)
 
-  held_right : (xs ys : List (Holding (List ℕ))) → AllOf (λ h. IsMadeIn (after w by r).history h.key) (xs ++ ys) → AllOf (λ h. IsMadeIn (after w by r).history h.key) ys
+  held_right : (xs ys : List (Holding (List ℕ)))
+      → AllOf (λ h. IsMadeIn (after w by r).history h.key) (xs ++ ys)
+      → AllOf (λ h. IsMadeIn (after w by r).history h.key) ys
   held_right [] ys h = h
   held_right (x ∷ xs) ys h = held_right xs ys h.1
 
-  outs_made : (ds : List (Derivation (List ℕ))) → AllOf (λ h. IsMadeIn (after w by r).history h.key) (holds by None ds) → AllOf (λ d. IsMadeIn (after w by r).history d.out) (map derived_of ds)
+  outs_made : (ds : List (Derivation (List ℕ)))
+      → AllOf (λ h. IsMadeIn (after w by r).history h.key) (holds by None ds)
+      → AllOf (λ d. IsMadeIn (after w by r).history d.out) (map derived_of ds)
   outs_made [] h = tt
   outs_made (d ∷ ds) h = (h.0, outs_made ds h.1)
 
@@ -92,7 +101,9 @@ module _ (w : World (List ℕ) ℕ Kept) (by : world.Holder) (r : Reply (List �
   keys_made None h = (tt, outs_made r.derived h)
   keys_made (Some key) h = ((h.0, tt), outs_made r.derived h.1)
 
-  pub keys_stand : (rows : List LadderRow) → Added (ladder_of bytes_eq (after w by r).history) w.held rows (Ok tt) → HasKeys rows (keys_in r.received) × HasRows rows (map derived_of r.derived)
+  pub keys_stand : (rows : List LadderRow)
+      → Added (ladder_of bytes_eq (after w by r).history) w.held rows (Ok tt)
+      → HasKeys rows (keys_in r.received) × HasRows rows (map derived_of r.derived)
   keys_stand rows a =
       let made = keys_made r.received (held_right w.held (holds by r.received r.derived) can.held) in (
         all_more (λ key. IsMadeIn (after w by r).history key) (λ key. HasRow rows key) (has_row rows a) (keys_in r.received) made.0,
@@ -118,36 +129,48 @@ uses_back : (o : Option (KeyUse (List ℕ))) → option_map use_in (option_map u
 uses_back None = refl
 uses_back (Some u) = refl
 
-sent_kept : (w : World (List ℕ) ℕ Kept) (r : Reply (List ℕ) ℕ) → map view_of (with_one ((machine_in_octets annex_b).keep r.sent) w.sent) ≡ map view_of w.sent ++ sent_in (actor_out r).tuple (actor_out r).sent
+sent_kept : (w : World (List ℕ) ℕ Kept) (r : Reply (List ℕ) ℕ)
+    → map view_of (with_one ((machine_in_octets annex_b).keep r.sent) w.sent)
+    ≡ map view_of w.sent ++ sent_in (actor_out r).tuple (actor_out r).sent
 sent_kept w r = by r.sent
   where
-    by : (o : Option (Outgoing (List ℕ) ℕ)) → map view_of (with_one ((machine_in_octets annex_b).keep o) w.sent) ≡ map view_of w.sent ++ sent_in (tuple_out o) (option_map record_out o)
+    by : (o : Option (Outgoing (List ℕ) ℕ))
+        → map view_of (with_one ((machine_in_octets annex_b).keep o) w.sent)
+        ≡ map view_of w.sent ++ sent_in (tuple_out o) (option_map record_out o)
     by None = sym (append-nil (map view_of w.sent))
     by (Some x) = map-append view_of w.sent _
 
-sent_told : (w : World (List ℕ) ℕ Kept) (r : Reply (List ℕ) ℕ) → sent_line (machine_in_octets annex_b) w ((machine_in_octets annex_b).keep r.sent) ≡ number_of (length w.sent) (actor_out r).sent
+sent_told : (w : World (List ℕ) ℕ Kept) (r : Reply (List ℕ) ℕ)
+    → sent_line (machine_in_octets annex_b) w ((machine_in_octets annex_b).keep r.sent)
+    ≡ number_of (length w.sent) (actor_out r).sent
 sent_told w r = by r.sent
   where
-    by : (o : Option (Outgoing (List ℕ) ℕ)) → sent_line (machine_in_octets annex_b) w ((machine_in_octets annex_b).keep o) ≡ number_of (length w.sent) (option_map record_out o)
+    by : (o : Option (Outgoing (List ℕ) ℕ))
+        → sent_line (machine_in_octets annex_b) w ((machine_in_octets annex_b).keep o)
+        ≡ number_of (length w.sent) (option_map record_out o)
     by None = refl
     by (Some x) = refl
 
 -- A STEP
 
-no_chance : (o : Option (Chance (List ℕ))) → Ok tt ≡ chance_told o → o ≡ None
-no_chance None e = refl
-no_chance (Some c) e = absurd (ok_is_no_err e)
+no_coincidence : (o : Option (Coincidence (List ℕ))) → Ok tt ≡ coincidence_told o → o ≡ None
+no_coincidence None e = refl
+no_coincidence (Some c) e = absurd (ok_is_no_err e)
 
 module _ (stores : Stores) (out : ActorOut) (sender : Option Use) (holder : Holder) (who : Who) (step : ℕ) where
   -- the use under which the record was accepted, as the machine has it
-  abbrev chance : Reply (List ℕ) ℕ → Option (Chance (List ℕ))
-  chance r = tuple_chance bytes_eq (option_map use_in sender) r.accepted
+  abbrev coincidence : Reply (List ℕ) ℕ → Option (Coincidence (List ℕ))
+  coincidence r = tuple_coincidence bytes_eq (option_map use_in sender) r.accepted
 
   accepted_is : (r : Reply (List ℕ) ℕ) → out ≡ actor_out r → option_map use_in out.accepted ≡ r.accepted
   accepted_is r is = ap (λ x. option_map use_in x.accepted) is ∙ uses_back r.accepted
 
-  none : (r : Reply (List ℕ) ℕ) → out ≡ actor_out r → Ok tt ≡ chance_told (tuple_chance bytes_eq (option_map use_in sender) (option_map use_in out.accepted)) → chance r ≡ None
-  none r is e = no_chance (chance r) (e ∙ ap (λ a. chance_told (tuple_chance bytes_eq (option_map use_in sender) a)) (accepted_is r is))
+  none : (r : Reply (List ℕ) ℕ)
+      → out ≡ actor_out r
+      → Ok tt
+      ≡ coincidence_told (tuple_coincidence bytes_eq (option_map use_in sender) (option_map use_in out.accepted))
+      → coincidence r ≡ None
+  none r is e = no_coincidence (coincidence r) (e ∙ ap (λ a. coincidence_told (tuple_coincidence bytes_eq (option_map use_in sender) a)) (accepted_is r is))
 
   -- what the ladder can take
   pub settles_awaits : Settles stores out → Awaits stores.rows out.derived
@@ -161,27 +184,37 @@ module _ (stores : Stores) (out : ActorOut) (sender : Option Use) (holder : Hold
   }
 
   -- and what has a row then
-  pub settles_stand : (rows : List LadderRow) → Settles stores out → AddsAll stores.rows rows out.derived (Ok tt) → HasKeys rows (keys_in out.received) × HasRows rows out.derived
+  pub settles_stand : (rows : List LadderRow)
+      → Settles stores out
+      → AddsAll stores.rows rows out.derived (Ok tt)
+      → HasKeys rows (keys_in out.received) × HasRows rows out.derived
   settles_stand rows s all =
       let a = added s.before s.by s.reply stores s.fits s.can rows out.derived (Ok tt) (ap (λ x. x.derived) s.is) all in
       let h = keys_stand s.before s.by s.reply stores s.fits s.can rows a in
       (subst (λ x. HasKeys rows (keys_in x.received)) (sym s.is) h.0, subst (λ x. HasRows rows x.derived) (sym s.is) h.1)
 
-  module _ (tuples : Ok tt ≡ chance_told (tuple_chance bytes_eq (option_map use_in sender) (option_map use_in out.accepted))) where
+  module _ (tuples : Ok tt ≡ coincidence_told (tuple_coincidence bytes_eq (option_map use_in sender) (option_map use_in out.accepted))) where
     -- a coincidence of a derivation
-    pub settled_by_rows : (p : Proof) (rows : List LadderRow) (later : Stores) → AddsAll stores.rows rows out.derived (Err p) → SettledAs stores later out sender holder who step (Err p)
+    pub settled_by_rows : (p : Proof) (rows : List LadderRow) (later : Stores)
+        → AddsAll stores.rows rows out.derived (Err p)
+        → SettledAs stores later out sender holder who step (Err p)
     settled_by_rows p rows later all w by r f is h ev can =
         subst (λ o. SettledBy o (ladder_of bytes_eq (after w by r).history).clash w by r who later (Err p)) (sym (none r is tuples))
         (at (ladder_of bytes_eq (after w by r).history).clash (added w by r stores f can rows out.derived (Err p) (ap (λ x. x.derived) is) all))
       where
-        at : (c : Option (Clash (List ℕ))) → AddedBy c (ladder_of bytes_eq (after w by r).history).rows w.held rows (Err p) → SettledBy None c w by r who later (Err p)
+        at : (c : Option (Clash (List ℕ)))
+            → AddedBy c (ladder_of bytes_eq (after w by r).history).rows w.held rows (Err p)
+            → SettledBy None c w by r who later (Err p)
         at None h = absurd (ok_is_no_err (sym h.0))
         at (Some c) h = cc
 
     -- none
-    pub settled : (rows one two : List LadderRow) (later : Stores) → AddsAll stores.rows rows out.derived (Ok tt) → HoldsAll holder (keys_in out.received) rows one →
-        HoldsAll holder (map (λ d. d.out) out.derived) one two → later.rows ≡ two → later.records ≡ stores.records ++ sent_in out.tuple out.sent → later.uses ≡ stores.uses ++ out.used →
-        (line : Line) → line ≡ line_of_reply step who (number_of (length stores.records) out.sent) out → SettledAs stores later out sender holder who step (Ok line)
+    pub settled : (rows one two : List LadderRow) (later : Stores) → AddsAll stores.rows rows out.derived (Ok tt) →
+        HoldsAll holder (keys_in out.received) rows one →
+        HoldsAll holder (map (λ d. d.out) out.derived) one two → later.rows ≡ two →
+        later.records ≡ stores.records ++ sent_in out.tuple out.sent → later.uses ≡ stores.uses ++ out.used →
+        (line : Line) → line ≡ line_of_reply step who (number_of (length stores.records) out.sent) out →
+        SettledAs stores later out sender holder who step (Ok line)
     settled rows one two later all received derived at_two records uses line told w by r f is h ev can =
         let a = added w by r stores f can rows out.derived (Ok tt) (ap (λ x. x.derived) is) all in
         let c = calm_after w by r stores f can rows a in
@@ -191,13 +224,19 @@ module _ (stores : Stores) (out : ActorOut) (sender : Option Use) (holder : Hold
         let held : (w.held ++ holdings by (keys_in out.received)) ++ holdings by (map (λ d. d.out) out.derived) ≡ (after w by r).held =
         ap (λ x. (w.held ++ holdings by (keys_in x.received)) ++ holdings by (map (λ d. d.out) x.derived)) is ∙ all_held by w.held r.received r.derived in
         let fits : Fits (after w by r) later = record {
-          records = records ∙ ap (λ x. x ++ sent_in out.tuple out.sent) f.records ∙ ap (λ x. world_records w ++ sent_in x.tuple x.sent) is ∙ sym (sent_kept w r);
+          records =
+              records
+              ∙ ap (λ x. x ++ sent_in out.tuple out.sent) f.records
+              ∙ ap (λ x. world_records w ++ sent_in x.tuple x.sent) is
+              ∙ sym (sent_kept w r);
           uses = uses ∙ ap (λ x. x ++ out.used) f.uses ∙ ap (λ x. world_uses w ++ x.used) is ∙ sym (map-append use_out w.uses (uses_in r.sent));
           calm = c.0;
           rows = subst (λ rs. Keeps l.rows (after w by r).held rs) (sym at_two) (subst (λ x. Keeps l.rows x two) held second);
         } in
         let number : number_of (length stores.records) out.sent ≡ sent_line (machine_in_octets annex_b) w ((machine_in_octets annex_b).keep r.sent) =
-        ap (λ n. number_of n out.sent) (ap length f.records ∙ length-map w.sent view_of) ∙ ap (λ x. number_of (length w.sent) x.sent) is ∙ sym (sent_told w r) in
+        ap (λ n. number_of n out.sent) (ap length f.records ∙ length-map w.sent view_of)
+        ∙ ap (λ x. number_of (length w.sent) x.sent) is
+        ∙ sym (sent_told w r) in
         let line_is : line ≡ line_out (line_of (machine_in_octets annex_b) w who r) =
         told ∙ (λ j. line_of_reply (sym ev j) who (number j) (is j)) in
         subst (λ o. SettledBy o l.clash w by r who later (Ok line)) (sym (none r is tuples))
@@ -205,11 +244,20 @@ module _ (stores : Stores) (out : ActorOut) (sender : Option Use) (holder : Hold
 
 -- THE KEY THAT WAS RECEIVED
 
-pub received_held : (who : Holder) (key : List ℕ) (o : Option (List ℕ)) (before later : List LadderRow) → o ≡ Some key → HoldsOne who key before later → HoldsAll who (keys_in o) before later
+pub received_held : (who : Holder) (key : List ℕ) (o : Option (List ℕ)) (before later : List LadderRow)
+    → o ≡ Some key
+    → HoldsOne who key before later
+    → HoldsAll who (keys_in o) before later
 received_held who key o before later e h = subst (λ x. HoldsAll who (keys_in x) before later) (sym e) h
 
-pub rows_stand : (before later : List LadderRow) (derived : List Derived) → ((key : List ℕ) → HasRow before key → HasRow later key) → HasRows before derived → HasRows later derived
+pub rows_stand : (before later : List LadderRow) (derived : List Derived)
+    → ((key : List ℕ) → HasRow before key → HasRow later key)
+    → HasRows before derived
+    → HasRows later derived
 rows_stand before later derived f h = all_more (λ d. HasRow before d.out) (λ d. HasRow later d.out) (λ d r. f d.out r) derived h
 
-pub held_as : (who : Holder) (before later : List LadderRow) (read derived : List Derived) → read ≡ derived → HoldsAll who (map (λ d. d.out) read) before later → HoldsAll who (map (λ d. d.out) derived) before later
+pub held_as : (who : Holder) (before later : List LadderRow) (read derived : List Derived)
+    → read ≡ derived
+    → HoldsAll who (map (λ d. d.out) read) before later
+    → HoldsAll who (map (λ d. d.out) derived) before later
 held_as who before later read derived e h = subst (λ x. HoldsAll who (map (λ d. d.out) x) before later) e h

@@ -2,6 +2,8 @@
 use Rattle.std.proofs.Common.{◌≡◌, sym, ap, subst, ◌∙◌, ℕ, ◌+◌, Bool, false, List, [], ◌∷◌, ◌++◌, length, Option, None, Result, Ok, Err, arith, length-append}
 use Rattle.std.specs.Prelude.{IsTrue, ◌<◌}
 use Rattle.std.proofs.lemmas.Bool.{false≢true}
+use Rattle.std.specs.List.{AllByRecursion as AllOf}
+use Rattle.lte_events.specs.Ranges.{IsEvent, IsSetup}
 use Rattle.lte_events.specs.declared.events.Event.{Event}
 use Rattle.lte_events.specs.declared.lines.Line.{Line}
 use Rattle.lte_events.specs.declared.setups.Setup.{Setup}
@@ -9,66 +11,85 @@ use Rattle.key_terms.specs.declared.proof.Proof.{Proof}
 use Rattle.lte_machine.specs.BothRuns.{octet_run, written_run}
 use Rattle.lte_machine.specs.Carried.{run_value}
 use Rattle.lte_machine.specs.Ciphers.{annex_b}
-use Rattle.lte_machine.specs.Ranges.{AllOf, IsEvent, IsSetup}
-use Rattle.lte_machine.specs.Run.{Stopped}
-use Rattle.store_laws.specs.Proofs.{chance_of}
+use Rattle.lte_machine.specs.Machines.{Kept}
+use Rattle.lte_machine.specs.Run.{Running, Stopped}
+use Rattle.lte_machine.specs.World.{World, happens}
+use Rattle.store_laws.specs.Additions.{CanKeep}
+use Rattle.store_laws.specs.Proofs.{coincidence_of}
 use Rattle.lte_world.specs.declared.faults.WorldFault.{WorldFault}
-use Rattle.lte_world.specs.Systems.{Actors, Happens, EventCan, HasRoom}
+use Rattle.lte_world.specs.Systems.{octets, Actors, Happens, EventCan, HasRoom}
 use Rattle.lte_world.specs.Whole.{Whole, unless_over, told_of, turned, CanApply, Goes, Stands}
-use Rattle.lte_machine.proofs.Fitting.{event_fits as in_range}
 use Rattle.lte_world.proofs.Applying.{event_can, event_good, went_says, went_goes, ended_says, ended_run, run_more, run_written, events_more}
 
-module _ (setup : Setup) (journal : List Event) (over : Option Proof) (ready : Bool) (a : Actors) (none : over ≡ None) (is : IsSetup setup) (are : AllOf IsEvent journal)
-    (st : Stands over (octet_run setup journal) a (length journal)) (v : Whole) (view : record { setup = setup; journal = journal; over = over; ready = ready } ≡ v) (e : Event) (can : CanApply v e) where
+-- a world that stands, as its caller sees it, and an event that it can take
+pub record AtEvent (setup : Setup) (journal : List Event) (over : Option Proof) (ready : Bool) (a : Actors) (v : Whole) (e : Event) : Type 0 where
+  pub none : over ≡ None
+  pub set : IsSetup setup
+  pub are : AllOf IsEvent journal
+  pub stands : Stands over (octet_run setup journal) a (length journal)
+  pub view : record { setup = setup; journal = journal; over = over; ready = ready } ≡ v
+  pub can : CanApply v e
+
+-- what happened at the event, a line or a coincidence
+pub record Gave (journal : List Event) (a b : Actors) (e : Event) (told : Result Line Proof) : Type 0 where
+  pub step : ℕ
+  pub step_is : step ≡ length journal
+  pub happens : Happens a b e step told
+
+module _ {setup : Setup} {journal : List Event} {over : Option Proof} {ready : Bool} {a : Actors} {v : Whole} {e : Event}
+    (t : AtEvent setup journal over ready a v e) where
   at : record { setup = setup; journal = journal; over = None; ready = ready } ≡ v
-  at = (λ j. record { setup = setup; journal = journal; over = sym none j; ready = ready }) ∙ view
+  at = (λ j. record { setup = setup; journal = journal; over = sym t.none j; ready = ready }) ∙ t.view
 
   good : IsEvent e
-  good = in_range v.setup e can.fits can.can
+  good = t.can.can.0
 
   goes : Goes (octet_run setup journal) a (length journal)
-  goes = subst (λ o. Stands o (octet_run setup journal) a (length journal)) none st
+  goes = subst (λ o. Stands o (octet_run setup journal) a (length journal)) t.none t.stands
 
   pub event_fits : EventCan a e
-  event_fits = event_can setup journal e a (length journal) is are good goes
+  event_fits = event_can setup journal e a (length journal) t.set t.are good goes
 
-  module _ (b : Actors) (step : ℕ) (same : step ≡ length journal) where
-    -- with a line
-    module _ (line : Line) (h : Happens a b e step (Ok line)) (items : List Event) (journal_is : items ≡ journal ++ e ∷ []) where
-      happened : Happens a b e (length journal) (Ok line)
-      happened = subst (λ n. Happens a b e n (Ok line)) same h
+  kept : (w : World (List ℕ) ℕ Kept) → octet_run setup journal ≡ Running w → CanKeep (happens octets w e).0
+  kept = event_good setup journal e t.set t.are good
 
-      pub says_line : ◌≡◌ {A = Result Line WorldFault} (Ok line) (told_of v e)
-      says_line = went_says a b e (length journal) line happened (octet_run setup journal) goes (event_good setup journal e is are good) ∙ ap (λ x. told_of x e) at
+  module _ {b : Actors} {told : Result Line Proof} (g : Gave journal a b e told) where
+    happened : Happens a b e (length journal) told
+    happened = subst (λ n. Happens a b e n told) g.step_is g.happens
 
+  -- with a line
+  module _ {b : Actors} {line : Line} (g : Gave journal a b e (Ok line)) where
+    pub says_line : ◌≡◌ {A = Result Line WorldFault} (Ok line) (told_of v e)
+    says_line = went_says a b e (length journal) line (happened g) (octet_run setup journal) goes kept ∙ ap (λ x. told_of x e) at
+
+    module _ {items : List Event} (longer : items ≡ journal ++ e ∷ []) where
       pub run_line : unless_over over (octet_run setup items) ≡ turned v e
       run_line =
-          ap (λ o. unless_over o (octet_run setup items)) none ∙ ap (octet_run setup) journal_is ∙ run_more setup journal e ∙ ap (λ x. turned x e) at
+          ap (λ o. unless_over o (octet_run setup items)) t.none ∙ ap (octet_run setup) longer ∙ run_more setup journal e ∙ ap (λ x. turned x e) at
 
       events_are : AllOf IsEvent items
-      events_are = subst (AllOf IsEvent) (sym journal_is) (events_more journal e are good)
+      events_are = subst (AllOf IsEvent) (sym longer) (events_more journal e t.are good)
 
       pub written_line : unless_over over (octet_run setup items) ≡ run_value annex_b (written_run setup items)
-      written_line = ap (λ o. unless_over o (octet_run setup items)) none ∙ run_written setup items is events_are
+      written_line = ap (λ o. unless_over o (octet_run setup items)) t.none ∙ run_written setup items t.set events_are
 
       stands_line : Stands over (octet_run setup items) b (length items)
       stands_line =
-          let longer : length journal + 1 ≡ length (journal ++ e ∷ []) = omega (arith, length-append journal (e ∷ [])) in
-          let next = went_goes a b e (length journal) line happened (octet_run setup journal) goes (event_good setup journal e is are good) in
-          subst (λ o. Stands o (octet_run setup items) b (length items)) (sym none)
-          (subst (λ l. Goes (octet_run setup l) b (length l)) (sym journal_is)
-          (subst (λ n. Goes (octet_run setup (journal ++ e ∷ [])) b n) longer (subst (λ r. Goes r b (length journal + 1)) (sym (run_more setup journal e)) next)))
+          let one_more : length journal + 1 ≡ length (journal ++ e ∷ []) = omega (arith, length-append journal (e ∷ [])) in
+          let next = went_goes a b e (length journal) line (happened g) (octet_run setup journal) goes kept in
+          subst (λ o. Stands o (octet_run setup items) b (length items)) (sym t.none)
+          (subst (λ l. Goes (octet_run setup l) b (length l)) (sym longer)
+          (subst (λ n. Goes (octet_run setup (journal ++ e ∷ [])) b n) one_more
+          (subst (λ r. Goes r b (length journal + 1)) (sym (run_more setup journal e)) next)))
 
-      pub line_keeps : (spare : ℕ) → IsSetup setup × AllOf IsEvent items × (IsTrue false → HasRoom b.stores × (0 < spare)) × Stands over (octet_run setup items) b (length items)
-      line_keeps spare = (is, events_are, λ t. absurd (false≢true t), stands_line)
+      pub line_keeps : (spare : ℕ)
+          → IsSetup setup × AllOf IsEvent items × (IsTrue false → HasRoom b.stores × (0 < spare)) × Stands over (octet_run setup items) b (length items)
+      line_keeps spare = (t.set, events_are, λ no. absurd (false≢true no), stands_line)
 
-    -- with a coincidence
-    module _ (p : Proof) (h : Happens a b e step (Err p)) where
-      ended : Happens a b e (length journal) (Err p)
-      ended = subst (λ n. Happens a b e n (Err p)) same h
+  -- with a coincidence
+  module _ {b : Actors} {p : Proof} (g : Gave journal a b e (Err p)) where
+    pub says_coincidence : ◌≡◌ {A = Result Line WorldFault} (Err (WorldFault.Coincidence p)) (told_of v e)
+    says_coincidence = ended_says a b e (length journal) p (happened g) (octet_run setup journal) goes kept ∙ ap (λ x. told_of x e) at
 
-      pub says_chance : ◌≡◌ {A = Result Line WorldFault} (Err (WorldFault.Chance p)) (told_of v e)
-      says_chance = ended_says a b e (length journal) p ended (octet_run setup journal) goes (event_good setup journal e is are good) ∙ ap (λ x. told_of x e) at
-
-      pub run_chance : Stopped (chance_of p) ≡ turned v e
-      run_chance = ended_run a b e (length journal) p ended (octet_run setup journal) goes (event_good setup journal e is are good) ∙ ap (λ x. turned x e) at
+    pub run_coincidence : Stopped (coincidence_of p) ≡ turned v e
+    run_coincidence = ended_run a b e (length journal) p (happened g) (octet_run setup journal) goes kept ∙ ap (λ x. turned x e) at

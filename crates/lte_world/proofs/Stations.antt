@@ -1,10 +1,9 @@
 -- The station of a number, by its place.
 use Rattle.std.proofs.Common.{◌≡◌, refl, sym, ap, subst, ◌∙◌, ℕ, ◌<◌, ◌≤◌, ◌==◌, zero, suc, Bool, true, false, List, [], ◌∷◌, map, find, position, Option, Some, None, slice_get, slice_set, arith}
-use Rattle.std.specs.List.{IsDistinct, AllByRecursion}
+use Rattle.std.specs.List.{IsDistinct, AllByRecursion as AllOf}
 use Rattle.std.proofs.lemmas.Bool.{eq-eqb, eqb-true, eqb-false}
 use Rattle.std.proofs.lemmas.Map.Keys.{IsDistinct-head, IsDistinct-tail}
 use Rattle.std.proofs.lemmas.Option.{none-some}
-use Rattle.lte_machine.specs.Ranges.{AllOf}
 use Rattle.lte_machine.specs.StationState.{Station}
 use Rattle.lte_machine.specs.World.{put_if, put_station, station_of_id}
 use Rattle.key_terms.proofs.Places.{position_hit, position_before, position_no, position_map}
@@ -22,7 +21,11 @@ same_some e = cc
 -- FOUND
 
 -- what stands at the first place is what is found
-find_first : {X : Type 0} (p : X → Bool) (xs : List X) (k : ℕ) (x : X) → slice_get xs k ≡ Some x → p x ≡ true → ((j : ℕ) (y : X) → j < k → slice_get xs j ≡ Some y → p y ≡ false) → find p xs ≡ Some x
+find_first : {X : Type 0} (p : X → Bool) (xs : List X) (k : ℕ) (x : X)
+    → slice_get xs k ≡ Some x
+    → p x ≡ true
+    → ((j : ℕ) (y : X) → j < k → slice_get xs j ≡ Some y → p y ≡ false)
+    → find p xs ≡ Some x
 find_first p [] k x at passes before = absurd (none-some x at)
 find_first p (y ∷ xs) zero x at passes before =
     let is : y ≡ x = same_some at in
@@ -45,25 +48,34 @@ module _ {K C : Type 0} where
   abbrev ids_of : List (Station K C) → List ℕ
   ids_of ss = map (λ s. s.id) ss
 
-  put_nowhere : (new : Station K C) (id : ℕ) (ss : List (Station K C)) → AllByRecursion (λ y. (id == y) ≡ false) (ids_of ss) → put_station id new ss ≡ ss
+  put_nowhere : (new : Station K C) (id : ℕ) (ss : List (Station K C)) → AllOf (λ y. (id == y) ≡ false) (ids_of ss) → put_station id new ss ≡ ss
   put_nowhere new id [] h = refl
   put_nowhere new id (s ∷ ss) h =
       let other : (s.id == id) ≡ false = eqb_other id s.id h.0 in
       let rest : put_station id new ss ≡ ss = put_nowhere new id ss h.1 in
       λ j. put_if (other j) new s ∷ rest j
 
-  differs_at : (id : ℕ) (ss : List (Station K C)) (k : ℕ) (s : Station K C) → AllByRecursion (λ y. (id == y) ≡ false) (ids_of ss) → slice_get ss k ≡ Some s → (id == s.id) ≡ false
+  differs_at : (id : ℕ) (ss : List (Station K C)) (k : ℕ) (s : Station K C)
+      → AllOf (λ y. (id == y) ≡ false) (ids_of ss)
+      → slice_get ss k ≡ Some s
+      → (id == s.id) ≡ false
   differs_at id [] k s h at = absurd (none-some s at)
   differs_at id (x ∷ ss) zero s h at = ap (λ y. id == y.id) (sym (same_some at)) ∙ h.0
   differs_at id (x ∷ ss) (suc k) s h at = differs_at id ss k s h.1 at
 
   -- where the numbers are distinct, it is put at its place alone
-  pub put_at : (ss : List (Station K C)) (new s : Station K C) (k id : ℕ) → IsDistinct (λ a b. a == b) (ids_of ss) → slice_get ss k ≡ Some s → s.id ≡ id → put_station id new ss ≡ slice_set ss k new
+  pub put_at : (ss : List (Station K C)) (new s : Station K C) (k id : ℕ)
+      → IsDistinct (λ a b. a == b) (ids_of ss)
+      → slice_get ss k ≡ Some s
+      → s.id ≡ id
+      → put_station id new ss ≡ slice_set ss k new
   put_at [] new s k id d at is = absurd (none-some s at)
   put_at (x ∷ ss) new s zero id d at is =
       let own : x.id ≡ id = ap (λ y. y.id) (same_some at) ∙ is in
       let here : (x.id == id) ≡ true = eq-eqb x.id id own in
-      let rest : put_station id new ss ≡ ss = put_nowhere new id ss (subst (λ n. AllByRecursion (λ y. (n == y) ≡ false) (ids_of ss)) own (IsDistinct-head (λ a b. a == b) x.id (ids_of ss) d)) in
+      let rest : put_station id new ss ≡ ss = put_nowhere new id ss
+      (subst (λ n. AllOf (λ y. (n == y) ≡ false) (ids_of ss)) own
+      (IsDistinct-head (λ a b. a == b) x.id (ids_of ss) d)) in
       λ j. put_if (here j) new x ∷ rest j
   put_at (x ∷ ss) new s (suc k) id d at is =
       let other : (x.id == id) ≡ false = subst (λ n. (x.id == n) ≡ false) is (differs_at x.id ss k s (IsDistinct-head (λ a b. a == b) x.id (ids_of ss) d) at) in
@@ -91,7 +103,8 @@ module _ {K C : Type 0} where
         let place = sym by_station ∙ found in
         let hit = position_hit (λ s. s.id == id) ss k place in
         let own : hit.0 ≡ s = same_some (sym hit.1 ∙ at) in
-        find_first (λ s. s.id == id) ss k s at (ap (λ y. y.id == id) (sym own) ∙ hit.2) (λ j y lt stands. position_before (λ s. s.id == id) ss k j y place lt stands)
+        find_first (λ s. s.id == id) ss k s at (ap (λ y. y.id == id) (sym own) ∙ hit.2)
+        (λ j y lt stands. position_before (λ s. s.id == id) ss k j y place lt stands)
 
     pub no_station : position (λ x. x == id) ids ≡ None → station_of_id id ss ≡ None
     no_station none = find_nowhere (λ s. s.id == id) ss (λ j y stands. position_no (λ s. s.id == id) ss j y (sym by_station ∙ none) stands)

@@ -1,6 +1,8 @@
 -- A line that a world answers: its step, its place among the answers, and what the headline says of it.
-use Rattle.std.proofs.Common.{◌≡◌, refl, sym, ap, subst, ◌∙◌, ℕ, Bool, List, [], ◌∷◌, ◌++◌, length, map, Option, Some, None, Result, Ok}
+use Rattle.std.proofs.Common.{◌≡◌, refl, sym, ap, subst, ◌∙◌, ℕ, Bool, List, [], ◌∷◌, ◌++◌, length, map, Option, Some, Result, Ok}
 use Rattle.std.specs.Prelude.{slice_get}
+use Rattle.std.specs.List.{AllByRecursion as AllOf}
+use Rattle.lte_events.specs.Ranges.{IsEvent, IsSetup}
 use Rattle.lte_events.specs.declared.events.Event.{Event}
 use Rattle.lte_events.specs.declared.lines.Line.{Line}
 use Rattle.lte_events.specs.declared.setups.Setup.{Setup}
@@ -9,7 +11,6 @@ use Rattle.lte_machine.specs.Calls.{line_out}
 use Rattle.lte_machine.specs.Ciphers.{annex_b}
 use Rattle.lte_machine.specs.Machines.{Kept}
 use Rattle.lte_machine.specs.Opening.{open_octets}
-use Rattle.lte_machine.specs.Ranges.{AllOf, IsEvent, IsSetup}
 use Rattle.lte_machine.specs.Run.{RunState, Running, Stopped, event_report, reported}
 use Rattle.lte_machine.specs.Step.{StepResult, Continues, Stops, next}
 use Rattle.lte_machine.specs.World as world
@@ -22,10 +23,10 @@ use Rattle.lte_world.specs.declared.faults.WorldFault.{WorldFault}
 use Rattle.lte_world.specs.InOctets.{answers_of, CommandsShare, PacketsOpen}
 use Rattle.lte_world.specs.Systems.{octets, Actors}
 use Rattle.key_terms.specs.declared.proof.Proof.{Proof}
-use Rattle.lte_world.specs.Whole.{Whole, unless_over, answer_of, told_of, CanApply, Goes, Stands}
+use Rattle.lte_world.specs.Whole.{Whole, unless_over, answer_of, told_of, Goes, Stands}
 use Rattle.lte_world.proofs.Answered.{answers_more, last_answer, commands_share, packets_open}
-use Rattle.lte_machine.proofs.Fitting.{event_fits}
 use Rattle.lte_world.proofs.Applying.{events_more}
+use Rattle.lte_world.proofs.Standing.{AtEvent}
 
 -- the step of a line is the number of events before it
 module _ (w : World (List ℕ) ℕ Kept) where
@@ -33,21 +34,29 @@ module _ (w : World (List ℕ) ℕ Kept) where
   AtStep h = h.1.step ≡ w.events
 
   happens_at : (e : Event) → AtStep (happens octets w e)
-  happens_at = happens_each octets w (λ done a. AtStep done) (λ ksi key caps. refl) (λ input came turn. refl) (λ input came. refl) (λ id input came s there own. refl) (λ answer. refl)
+  happens_at = happens_each octets w (λ done a. AtStep done) (λ ksi key caps. refl) (λ input came turn. refl)
+      (λ input came. refl) (λ id input came s there own. refl) (λ answer. refl)
 
   next_at : (e : Event) (u : World (List ℕ) ℕ Kept) (l : world.Line (List ℕ)) → next (open_octets annex_b) octets w e ≡ Continues u l → l.step ≡ w.events
   next_at e u l is = ap (λ (x : world.Line (List ℕ)). x.step) (step_is (open_octets annex_b) octets w e u l is).1 ∙ happens_at e
 
-step_of : (r : RunState (List ℕ) ℕ Kept) (a : Actors) (n : ℕ) (e : Event) (line : Line) → Goes r a n → ◌≡◌ {A = Result Line WorldFault} (Ok line) (answer_of (event_report (open_octets annex_b) octets r e)) → line.step ≡ n
-step_of (Stopped chance) a n e line g says = absurd g
+step_of : (r : RunState (List ℕ) ℕ Kept) (a : Actors) (n : ℕ) (e : Event) (line : Line)
+    → Goes r a n
+    → ◌≡◌ {A = Result Line WorldFault} (Ok line) (answer_of (event_report (open_octets annex_b) octets r e))
+    → line.step ≡ n
+step_of (Stopped coincidence) a n e line g says = absurd g
 step_of (Running w) a n e line g says = by (next (open_octets annex_b) octets w e) refl says
   where
-    by : (x : StepResult (List ℕ) ℕ Kept) → next (open_octets annex_b) octets w e ≡ x → ◌≡◌ {A = Result Line WorldFault} (Ok line) (answer_of (reported x)) → line.step ≡ n
+    by : (x : StepResult (List ℕ) ℕ Kept)
+        → next (open_octets annex_b) octets w e ≡ x
+        → ◌≡◌ {A = Result Line WorldFault} (Ok line) (answer_of (reported x))
+        → line.step ≡ n
     by (Continues u l) is told =
         let same : line ≡ line_out l = cc in ap (λ (x : Line). x.step) same ∙ next_at w e u l is ∙ g.1
-    by (Stops chance) is told = absurd cc
+    by (Stops coincidence) is told = absurd cc
 
-module _ (setup : Setup) (journal : List Event) (a : Actors) (set : IsSetup setup) (are : AllOf IsEvent journal) (goes : Goes (octet_run setup journal) a (length journal)) (e : Event) (good : IsEvent e)
+module _ (setup : Setup) (journal : List Event) (a : Actors) (set : IsSetup setup) (are : AllOf IsEvent journal)
+    (goes : Goes (octet_run setup journal) a (length journal)) (e : Event) (good : IsEvent e)
     (line : Line) (says : ◌≡◌ {A = Result Line WorldFault} (Ok line) (answer_of (event_report (open_octets annex_b) octets (octet_run setup journal) e))) where
   pub step_line : line.step ≡ length journal
   step_line = step_of (octet_run setup journal) a (length journal) e line goes says
@@ -56,7 +65,8 @@ module _ (setup : Setup) (journal : List Event) (a : Actors) (set : IsSetup setu
   answers s es = map answer_of (octet_report s es)
 
   -- the world before the event and after it
-  module _ (before after : Whole) (was : before.setup ≡ setup) (had : before.journal ≡ journal) (is : after.setup ≡ setup) (has : after.journal ≡ journal ++ e ∷ []) where
+  module _ (before after : Whole) (was : before.setup ≡ setup) (had : before.journal ≡ journal)
+      (is : after.setup ≡ setup) (has : after.journal ≡ journal ++ e ∷ []) where
     pub answers_line : answers_of after ≡ answers_of before ++ Ok line ∷ []
     answers_line =
         (λ j. answers (is j) (has j)) ∙ answers_more setup journal e
@@ -79,39 +89,48 @@ module _ (setup : Setup) (journal : List Event) (a : Actors) (set : IsSetup setu
 
 -- ONE EVENT OF A WORLD
 
-module _ (setup : Setup) (journal : List Event) (over : Option Proof) (ready : Bool) (a : Actors) (none : over ≡ None) (set : IsSetup setup) (are : AllOf IsEvent journal)
-    (st : Stands over (octet_run setup journal) a (length journal)) (v : Whole) (view : record { setup = setup; journal = journal; over = over; ready = ready } ≡ v) (e : Event) (can : CanApply v e)
-    (line : Line) (says : ◌≡◌ {A = Result Line WorldFault} (Ok line) (told_of v e)) where
+module _ {setup : Setup} {journal : List Event} {over : Option Proof} {ready : Bool} {a : Actors} {v : Whole} {e : Event}
+    (t : AtEvent setup journal over ready a v e) {line : Line} (says : ◌≡◌ {A = Result Line WorldFault} (Ok line) (told_of v e)) where
   goes : Goes (octet_run v.setup v.journal) a (length v.journal)
-  goes = subst (λ (x : Whole). Goes (octet_run x.setup x.journal) a (length x.journal)) view (subst (λ o. Stands o (octet_run setup journal) a (length journal)) none st)
+  goes =
+      subst (λ (x : Whole). Goes (octet_run x.setup x.journal) a (length x.journal)) t.view
+      (subst (λ o. Stands o (octet_run setup journal) a (length journal)) t.none t.stands)
 
   says_so : ◌≡◌ {A = Result Line WorldFault} (Ok line) (answer_of (event_report (open_octets annex_b) octets (octet_run v.setup v.journal) e))
-  says_so = says ∙ ap (λ o. answer_of (event_report (open_octets annex_b) octets (unless_over o (octet_run v.setup v.journal)) e)) (sym (ap (λ x. x.over) view) ∙ none)
+  says_so =
+      says
+      ∙ ap (λ o. answer_of (event_report (open_octets annex_b) octets (unless_over o (octet_run v.setup v.journal)) e)) (sym (ap (λ x. x.over) t.view) ∙ t.none)
 
   set_so : IsSetup v.setup
-  set_so = subst (λ (x : Whole). IsSetup x.setup) view set
+  set_so = subst (λ (x : Whole). IsSetup x.setup) t.view t.set
 
   are_so : AllOf IsEvent v.journal
-  are_so = subst (λ (x : Whole). AllOf IsEvent x.journal) view are
+  are_so = subst (λ (x : Whole). AllOf IsEvent x.journal) t.view t.are
+
+  good : IsEvent e
+  good = t.can.can.0
 
   pub line_step : line.step ≡ length v.journal
-  line_step = step_line v.setup v.journal a set_so are_so goes e (event_fits v.setup e can.fits can.can) line says_so
+  line_step = step_line v.setup v.journal a set_so are_so goes e good line says_so
 
-  module _ (items : List Event) (items_are : items ≡ journal ++ e ∷ []) (later : Bool) where
+  module _ {items : List Event} (longer : items ≡ journal ++ e ∷ []) (later : Bool) where
     abbrev after : Whole
     after = record { setup = setup; journal = items; over = over; ready = later }
 
+    is : setup ≡ v.setup
+    is = ap (λ x. x.setup) t.view
+
     grown : items ≡ v.journal ++ e ∷ []
-    grown = items_are ∙ (λ j. (view j).journal ++ e ∷ [])
+    grown = longer ∙ (λ j. (t.view j).journal ++ e ∷ [])
 
     pub line_answers : answers_of after ≡ answers_of v ++ Ok line ∷ []
-    line_answers = answers_line v.setup v.journal a set_so are_so goes e (event_fits v.setup e can.fits can.can) line says_so v after refl refl (ap (λ x. x.setup) view) grown
+    line_answers = answers_line v.setup v.journal a set_so are_so goes e good line says_so v after refl refl is grown
 
     pub line_commands : CommandsShare after (length v.journal) line
-    line_commands = commands_line v.setup v.journal a set_so are_so goes e (event_fits v.setup e can.fits can.can) line says_so v after refl refl (ap (λ x. x.setup) view) grown
+    line_commands = commands_line v.setup v.journal a set_so are_so goes e good line says_so v after refl refl is grown
 
     pub line_packets : PacketsOpen after (length v.journal) line
-    line_packets = packets_line v.setup v.journal a set_so are_so goes e (event_fits v.setup e can.fits can.can) line says_so v after refl refl (ap (λ x. x.setup) view) grown
+    line_packets = packets_line v.setup v.journal a set_so are_so goes e good line says_so v after refl refl is grown
 
     pub line_never : FarNeverThere after.setup after.journal
-    line_never = never_line v.setup v.journal a set_so are_so goes e (event_fits v.setup e can.fits can.can) line says_so v after refl refl (ap (λ x. x.setup) view) grown
+    line_never = never_line v.setup v.journal a set_so are_so goes e good line says_so v after refl refl is grown

@@ -27,8 +27,8 @@ use Rattle.lte_machine.specs.PhoneStep.{phone_step, phone_opens, phone_pdu_in}
 use Rattle.lte_machine.specs.Reply.{Reply}
 use Rattle.lte_machine.specs.StationState.{Station}
 use Rattle.lte_machine.specs.StationStep.{station_step, station_opens, station_pdu_in}
-use Rattle.lte_machine.specs.Step.{by_ladder, by_chance, attempts_at}
-use Rattle.lte_machine.specs.Tuples.{Chance, tuple_chance}
+use Rattle.lte_machine.specs.Step.{by_ladder, by_coincidence, attempts_at}
+use Rattle.lte_machine.specs.Tuples.{Coincidence, tuple_coincidence}
 use Rattle.lte_machine.specs.Wire.{KeyUse}
 use Rattle.lte_machine.specs.World as world
 use Rattle.lte_machine.specs.World.{World, line_of, phone_after, core_after, station_after, station_turn, turn_of, put_station, station_of_id}
@@ -41,17 +41,19 @@ use Rattle.lte_machine.proofs.StationIds.{station_step_id}
 use Rattle.lte_world.proofs.Stations.{same_some, put_at, ids_kept, stands_at, station_is, no_station}
 
 -- what was settled, with the actor as it is then
-came_by : (w : World (List ℕ) ℕ Kept) (by : world.Holder) (r : Reply (List ℕ) ℕ) (who : Who) (stores : Stores) (result : Result Line Proof) (after_it : World (List ℕ) ℕ Kept) (actors : Actors) →
+came_by : (w : World (List ℕ) ℕ Kept) (by : world.Holder) (r : Reply (List ℕ) ℕ) (who : Who) (stores : Stores)
+    (result : Result Line Proof) (after_it : World (List ℕ) ℕ Kept) (actors : Actors) →
     (Fits (after w by r) stores → Are after_it actors) → (c : Option (Clash (List ℕ))) → SettledBy None c w by r who stores result →
     CameOut (by_ladder c (after_it, line_of octets w who r)) actors result
 came_by w by r who stores result after_it actors f None h = (h.0, f h.1)
 came_by w by r who stores result after_it actors f (Some c) h = h
 
-came_out : (w : World (List ℕ) ℕ Kept) (by : world.Holder) (r : Reply (List ℕ) ℕ) (who : Who) (stores : Stores) (result : Result Line Proof) (after_it : World (List ℕ) ℕ Kept) (actors : Actors) →
-    (Fits (after w by r) stores → Are after_it actors) → after_it.history ≡ (after w by r).history → (c : Option (Chance (List ℕ))) →
+came_out : (w : World (List ℕ) ℕ Kept) (by : world.Holder) (r : Reply (List ℕ) ℕ) (who : Who) (stores : Stores)
+    (result : Result Line Proof) (after_it : World (List ℕ) ℕ Kept) (actors : Actors) →
+    (Fits (after w by r) stores → Are after_it actors) → after_it.history ≡ (after w by r).history → (c : Option (Coincidence (List ℕ))) →
     SettledBy c (ladder_of bytes_eq (after w by r).history).clash w by r who stores result →
-    CameOut (by_chance bytes_eq c (after_it, line_of octets w who r)) actors result
-came_out w by r who stores result after_it actors f same (Some chance) h = h
+    CameOut (by_coincidence bytes_eq c (after_it, line_of octets w who r)) actors result
+came_out w by r who stores result after_it actors f same (Some coincidence) h = h
 came_out w by r who stores result after_it actors f same None h =
     came_by w by r who stores result after_it actors f (ladder_of bytes_eq after_it.history).clash
     (subst (λ x. SettledBy None (ladder_of bytes_eq x).clash w by r who stores result) (sym same) h)
@@ -60,7 +62,8 @@ use_back : (o : Option (KeyUse (List ℕ))) → option_map use_in (option_map us
 use_back None = refl
 use_back (Some u) = refl
 
-module _ (a : Actors) (sender : Option Use) (step : ℕ) (result : Result Line Proof) (out : ActorOut) (stores : Stores) (w : World (List ℕ) ℕ Kept) (came : Option Kept)
+module _ (a : Actors) (sender : Option Use) (step : ℕ) (result : Result Line Proof) (out : ActorOut) (stores : Stores)
+    (w : World (List ℕ) ℕ Kept) (came : Option Kept)
     (are : Are w a) (from : sender ≡ option_map use_out (tuple_of came)) (ev : w.events ≡ step) where
   same_sender : option_map use_in sender ≡ tuple_of came
   same_sender = ap (option_map use_in) from ∙ use_back (tuple_of came)
@@ -68,33 +71,62 @@ module _ (a : Actors) (sender : Option Use) (step : ℕ) (result : Result Line P
   -- the phone, whatever its step is
   phone_done : (d : Phone (List ℕ) ℕ × Reply (List ℕ) ℕ) (phone : Phone (List ℕ) ℕ) → phone ≡ d.0 → out ≡ actor_out d.1 → CanKeep (phone_after octets w d).0 →
       SettledAs a.stores stores out sender Holder.Phone Who.Phone step result →
-      CameOut (by_chance bytes_eq (tuple_chance bytes_eq (tuple_of came) d.1.accepted) (phone_after octets w d)) (record a { phone = phone; stores = stores }) result
+      CameOut
+      (by_coincidence bytes_eq (tuple_coincidence bytes_eq (tuple_of came) d.1.accepted) (phone_after octets w d))
+      (record a { phone = phone; stores = stores }) result
   phone_done d phone is told can settled =
       let h = settled w world.AtPhone d.1 are.stores told refl ev (record { history = can.history; held = can.held }) in
       came_out w world.AtPhone d.1 Who.Phone stores result (phone_after octets w d).0 (record a { phone = phone; stores = stores })
-      (λ f. record { phone = is; core = are.core; stations = are.stations; stores = record { records = f.records; uses = f.uses; calm = f.calm; rows = f.rows } })
-      refl (tuple_chance bytes_eq (tuple_of came) d.1.accepted)
-      (subst (λ t. SettledBy (tuple_chance bytes_eq t d.1.accepted) (ladder_of bytes_eq (after w world.AtPhone d.1).history).clash w world.AtPhone d.1 Who.Phone stores result) same_sender h)
+      (λ f. record {
+        phone = is;
+        core = are.core;
+        stations = are.stations;
+        stores = record { records = f.records; uses = f.uses; calm = f.calm; rows = f.rows };
+      })
+      refl (tuple_coincidence bytes_eq (tuple_of came) d.1.accepted)
+      (subst (λ t. SettledBy (tuple_coincidence bytes_eq t d.1.accepted)
+      (ladder_of bytes_eq (after w world.AtPhone d.1).history).clash w world.AtPhone d.1 Who.Phone stores result)
+      same_sender h)
 
   core_done : (d : Core (List ℕ) ℕ × Reply (List ℕ) ℕ) (core : Core (List ℕ) ℕ) → core ≡ d.0 → out ≡ actor_out d.1 → CanKeep (core_after octets w d).0 →
       SettledAs a.stores stores out sender Holder.Core Who.Core step result →
-      CameOut (by_chance bytes_eq (tuple_chance bytes_eq (tuple_of came) d.1.accepted) (core_after octets w d)) (record a { core = core; stores = stores }) result
+      CameOut
+      (by_coincidence bytes_eq (tuple_coincidence bytes_eq (tuple_of came) d.1.accepted) (core_after octets w d))
+      (record a { core = core; stores = stores }) result
   core_done d core is told can settled =
       let h = settled w world.AtCore d.1 are.stores told refl ev (record { history = can.history; held = can.held }) in
       came_out w world.AtCore d.1 Who.Core stores result (core_after octets w d).0 (record a { core = core; stores = stores })
-      (λ f. record { phone = are.phone; core = is; stations = are.stations; stores = record { records = f.records; uses = f.uses; calm = f.calm; rows = f.rows } })
-      refl (tuple_chance bytes_eq (tuple_of came) d.1.accepted)
-      (subst (λ t. SettledBy (tuple_chance bytes_eq t d.1.accepted) (ladder_of bytes_eq (after w world.AtCore d.1).history).clash w world.AtCore d.1 Who.Core stores result) same_sender h)
+      (λ f. record {
+        phone = are.phone;
+        core = is;
+        stations = are.stations;
+        stores = record { records = f.records; uses = f.uses; calm = f.calm; rows = f.rows };
+      })
+      refl (tuple_coincidence bytes_eq (tuple_of came) d.1.accepted)
+      (subst (λ t. SettledBy (tuple_coincidence bytes_eq t d.1.accepted)
+      (ladder_of bytes_eq (after w world.AtCore d.1).history).clash w world.AtCore d.1 Who.Core stores result)
+      same_sender h)
 
-  station_done : (id : ℕ) (d : Station (List ℕ) ℕ × Reply (List ℕ) ℕ) (stations : List (Station (List ℕ) ℕ)) → stations ≡ put_station id d.0 a.stations → out ≡ actor_out d.1 → CanKeep (station_after octets w id d).0 →
+  station_done : (id : ℕ) (d : Station (List ℕ) ℕ × Reply (List ℕ) ℕ) (stations : List (Station (List ℕ) ℕ)) →
+      stations ≡ put_station id d.0 a.stations → out ≡ actor_out d.1 → CanKeep (station_after octets w id d).0 →
       SettledAs a.stores stores out sender (Holder.Station id) (Who.Station id) step result →
-      CameOut (by_chance bytes_eq (tuple_chance bytes_eq (tuple_of came) d.1.accepted) (station_after octets w id d)) (record a { stations = stations; stores = stores }) result
+      CameOut (by_coincidence bytes_eq (tuple_coincidence bytes_eq (tuple_of came) d.1.accepted)
+      (station_after octets w id d))
+      (record a { stations = stations; stores = stores }) result
   station_done id d stations is told can settled =
       let h = settled w (world.AtStation id) d.1 are.stores told refl ev (record { history = can.history; held = can.held }) in
       came_out w (world.AtStation id) d.1 (Who.Station id) stores result (station_after octets w id d).0 (record a { stations = stations; stores = stores })
-      (λ f. record { phone = are.phone; core = are.core; stations = is ∙ ap (put_station id d.0) are.stations; stores = record { records = f.records; uses = f.uses; calm = f.calm; rows = f.rows } })
-      refl (tuple_chance bytes_eq (tuple_of came) d.1.accepted)
-      (subst (λ t. SettledBy (tuple_chance bytes_eq t d.1.accepted) (ladder_of bytes_eq (after w (world.AtStation id) d.1).history).clash w (world.AtStation id) d.1 (Who.Station id) stores result) same_sender h)
+      (λ f. record {
+        phone = are.phone;
+        core = are.core;
+        stations = is ∙ ap (put_station id d.0) are.stations;
+        stores = record { records = f.records; uses = f.uses; calm = f.calm; rows = f.rows };
+      })
+      refl (tuple_coincidence bytes_eq (tuple_of came) d.1.accepted)
+      (subst (λ t. SettledBy (tuple_coincidence bytes_eq t d.1.accepted)
+      (ladder_of bytes_eq (after w (world.AtStation id) d.1).history).clash w (world.AtStation id) d.1
+      (Who.Station id) stores result)
+      same_sender h)
 
 -- THE PHONE
 
@@ -118,7 +150,8 @@ module _ (a : Actors) (i : PhoneIn) (phone : Phone (List ℕ) ℕ) (out : ActorO
     can = record { history = p.can.history; held = p.can.held };
   }
 
-  pub phone_turns : (sender : Option Use) (step : ℕ) (result : Result Line Proof) (stores : Stores) → SettledAs a.stores stores out sender Holder.Phone Who.Phone step result →
+  pub phone_turns : (sender : Option Use) (step : ℕ) (result : Result Line Proof) (stores : Stores) →
+      SettledAs a.stores stores out sender Holder.Phone Who.Phone step result →
       PhoneTurns a (record a { phone = phone; stores = stores }) i sender step result
   unfolding PhoneTurns
   phone_turns sender step result stores settled w came are from ev can =
@@ -147,27 +180,43 @@ module _ (a : Actors) (i : CoreIn) (core : Core (List ℕ) ℕ) (out : ActorOut)
     can = record { history = p.can.history; held = p.can.held };
   }
 
-  pub core_turns : (sender : Option Use) (step : ℕ) (result : Result Line Proof) (stores : Stores) → SettledAs a.stores stores out sender Holder.Core Who.Core step result →
+  pub core_turns : (sender : Option Use) (step : ℕ) (result : Result Line Proof) (stores : Stores) →
+      SettledAs a.stores stores out sender Holder.Core Who.Core step result →
       CoreTurns a (record a { core = core; stores = stores }) i sender step result
   unfolding CoreTurns
   core_turns sender step result stores settled w came are from ev can =
       let is = core_is w are in
       core_done a sender step result out stores w came are from ev (stepped_core w.core i) core is.0 is.1 can settled
 
-pub phone_turns_from : (a now : Actors) → a ≡ now → (i : PhoneIn) (phone : Phone (List ℕ) ℕ) (out : ActorOut) → (phone, out) ≡ phone_call a.phone i → (sender : Option Use) (step : ℕ) (result : Result Line Proof) (stores : Stores) →
+pub phone_turns_from : (a now : Actors) → a ≡ now → (i : PhoneIn) (phone : Phone (List ℕ) ℕ) (out : ActorOut) →
+    (phone, out) ≡ phone_call a.phone i →
+    (sender : Option Use) (step : ℕ) (result : Result Line Proof) (stores : Stores) →
     SettledAs a.stores stores out sender Holder.Phone Who.Phone step result → PhoneTurns now (record a { phone = phone; stores = stores }) i sender step result
 phone_turns_from a now view i phone out called sender step result stores settled =
-    subst (λ x. PhoneTurns x (record a { phone = phone; stores = stores }) i sender step result) view (phone_turns a i phone out called sender step result stores settled)
+    subst (λ x. PhoneTurns x (record a { phone = phone; stores = stores }) i sender step result) view
+    (phone_turns a i phone out called sender step result stores settled)
 
-pub phone_settles_from : (a now : Actors) → a ≡ now → (i : PhoneIn) (phone : Phone (List ℕ) ℕ) (out : ActorOut) → (phone, out) ≡ phone_call a.phone i → PhoneCan now i → Settles a.stores out
+pub phone_settles_from : (a now : Actors)
+    → a ≡ now
+    → (i : PhoneIn) (phone : Phone (List ℕ) ℕ) (out : ActorOut)
+    → (phone, out) ≡ phone_call a.phone i
+    → PhoneCan now i
+    → Settles a.stores out
 phone_settles_from a now view i phone out called can = phone_settles a i phone out called (subst (λ x. PhoneCan x i) (sym view) can)
 
-pub core_turns_from : (a now : Actors) → a ≡ now → (i : CoreIn) (core : Core (List ℕ) ℕ) (out : ActorOut) → (core, out) ≡ core_call a.core i → (sender : Option Use) (step : ℕ) (result : Result Line Proof) (stores : Stores) →
+pub core_turns_from : (a now : Actors) → a ≡ now → (i : CoreIn) (core : Core (List ℕ) ℕ) (out : ActorOut) →
+    (core, out) ≡ core_call a.core i → (sender : Option Use) (step : ℕ) (result : Result Line Proof) (stores : Stores) →
     SettledAs a.stores stores out sender Holder.Core Who.Core step result → CoreTurns now (record a { core = core; stores = stores }) i sender step result
 core_turns_from a now view i core out called sender step result stores settled =
-    subst (λ x. CoreTurns x (record a { core = core; stores = stores }) i sender step result) view (core_turns a i core out called sender step result stores settled)
+    subst (λ x. CoreTurns x (record a { core = core; stores = stores }) i sender step result) view
+    (core_turns a i core out called sender step result stores settled)
 
-pub core_settles_from : (a now : Actors) → a ≡ now → (i : CoreIn) (core : Core (List ℕ) ℕ) (out : ActorOut) → (core, out) ≡ core_call a.core i → CoreCan now i → Settles a.stores out
+pub core_settles_from : (a now : Actors)
+    → a ≡ now
+    → (i : CoreIn) (core : Core (List ℕ) ℕ) (out : ActorOut)
+    → (core, out) ≡ core_call a.core i
+    → CoreCan now i
+    → Settles a.stores out
 core_settles_from a now view i core out called can = core_settles a i core out called (subst (λ x. CoreCan x i) (sym view) can)
 
 -- A STATION
@@ -177,10 +226,16 @@ stepped_station s i =
     station_step octet_reading s (station_input i) (open_octets annex_b (station_opens octet_reading s (station_input i)) (station_pdu_in (station_input i)))
 
 -- and it keeps its number
-pub ids_after : (before after : List (Station (List ℕ) ℕ)) (place : ℕ) (i : StationIn) (out : ActorOut) → StepsAt before after place i out → map (λ s. s.id) after ≡ map (λ s. s.id) before
+pub ids_after : (before after : List (Station (List ℕ) ℕ)) (place : ℕ) (i : StationIn) (out : ActorOut)
+    → StepsAt before after place i out
+    → map (λ s. s.id) after ≡ map (λ s. s.id) before
 ids_after before after place i out steps =
     let kept : steps.new.id ≡ steps.old.id =
-    ap (λ x. x.0.id) steps.called ∙ station_step_id octet_reading steps.old (station_input i) (open_octets annex_b (station_opens octet_reading steps.old (station_input i)) (station_pdu_in (station_input i))) in
+    ap (λ x. x.0.id) steps.called
+    ∙ station_step_id octet_reading steps.old (station_input i)
+    (open_octets annex_b (station_opens octet_reading steps.old (station_input i))
+    (station_pdu_in (station_input i)))
+    in
     ap (map (λ s. s.id)) steps.put ∙ ids_kept before steps.new steps.old place steps.stands kept
 
 module _ (a : Actors) (id : ℕ) (ids : List ℕ) (same : map (λ s. s.id) a.stations ≡ ids) (i : StationIn) where
@@ -189,14 +244,18 @@ module _ (a : Actors) (id : ℕ) (ids : List ℕ) (same : map (λ s. s.id) a.sta
   Out w came o b result = CameOut (comes w (attempts_at octets (station_input i) came o) (turn_of octets w id (station_input i) came o)) b result
 
   -- there is none
-  pub no_turn : position (λ x. x == id) ids ≡ None → (sender : Option Use) (step : ℕ) (line : Line) → line ≡ line_of_reply step Who.World None (reply_of NoUe) → StationTurns a a id i sender step (Ok line)
+  pub no_turn : position (λ x. x == id) ids ≡ None
+      → (sender : Option Use) (step : ℕ) (line : Line)
+      → line ≡ line_of_reply step Who.World None (reply_of NoUe)
+      → StationTurns a a id i sender step (Ok line)
   unfolding StationTurns
   no_turn none sender step line told w came are from ev can =
       let nobody : station_of_id id w.stations ≡ None = ap (station_of_id id) (sym are.stations) ∙ no_station a.stations ids same id none in
       subst (λ o. Out w came o a (Ok line)) (sym nobody) (by_world_out w a step NoUe line are ev told)
 
   -- it stands at this place
-  module _ (place : ℕ) (found : position (λ x. x == id) ids ≡ Some place) (stations : List (Station (List ℕ) ℕ)) (out : ActorOut) (steps : StepsAt a.stations stations place i out) where
+  module _ (place : ℕ) (found : position (λ x. x == id) ids ≡ Some place) (stations : List (Station (List ℕ) ℕ))
+      (out : ActorOut) (steps : StepsAt a.stations stations place i out) where
     new_is : steps.new ≡ (stepped_station steps.old i).0
     new_is = ap (λ x. x.0) steps.called
 
@@ -206,7 +265,10 @@ module _ (a : Actors) (id : ℕ) (ids : List ℕ) (same : map (λ s. s.id) a.sta
     in_world : (w : World (List ℕ) ℕ Kept) → Are w a → station_of_id id w.stations ≡ Some steps.old
     in_world w are = ap (station_of_id id) (sym are.stations) ∙ station_is a.stations ids same id place steps.old found steps.stands
 
-    can_keep : (w : World (List ℕ) ℕ Kept) (came : Option Kept) → Are w a → CanKeep (station_turn octets w id (station_input i) came).0 → CanKeep (station_after octets w id (stepped_station steps.old i)).0
+    can_keep : (w : World (List ℕ) ℕ Kept) (came : Option Kept)
+        → Are w a
+        → CanKeep (station_turn octets w id (station_input i) came).0
+        → CanKeep (station_after octets w id (stepped_station steps.old i)).0
     can_keep w came are can = subst (λ o. CanKeep (turn_of octets w id (station_input i) came o).0) (in_world w are) can
 
     own : steps.old.id ≡ id
@@ -229,22 +291,32 @@ module _ (a : Actors) (id : ℕ) (ids : List ℕ) (same : map (λ s. s.id) a.sta
           can = record { history = can.history; held = can.held };
         }
 
-    pub station_turns : IsDistinct (λ x y. x == y) ids → (sender : Option Use) (step : ℕ) (result : Result Line Proof) (stores : Stores) → SettledAs a.stores stores out sender (Holder.Station id) (Who.Station id) step result →
+    pub station_turns : IsDistinct (λ x y. x == y) ids →
+        (sender : Option Use) (step : ℕ) (result : Result Line Proof) (stores : Stores) →
+        SettledAs a.stores stores out sender (Holder.Station id) (Who.Station id) step result →
         StationTurns a (record a { stations = stations; stores = stores }) id i sender step result
     unfolding StationTurns
     station_turns distinct sender step result stores settled w came are from ev can =
         subst (λ o. Out w came o (record a { stations = stations; stores = stores }) result) (sym (in_world w are))
-        (station_done a sender step result out stores w came are from ev id (stepped_station steps.old i) stations (put_is distinct) out_is (can_keep w came are can) settled)
+        (station_done a sender step result out stores w came are from ev id (stepped_station steps.old i) stations
+        (put_is distinct) out_is (can_keep w came are can) settled)
 
 module _ (a now : Actors) (view : a ≡ now) (id : ℕ) (ids : List ℕ) (same : map (λ s. s.id) a.stations ≡ ids) (i : StationIn) where
-  pub no_turn_from : position (λ x. x == id) ids ≡ None → (sender : Option Use) (step : ℕ) (line : Line) → line ≡ line_of_reply step Who.World None (reply_of NoUe) → StationTurns now now id i sender step (Ok line)
+  pub no_turn_from : position (λ x. x == id) ids ≡ None
+      → (sender : Option Use) (step : ℕ) (line : Line)
+      → line ≡ line_of_reply step Who.World None (reply_of NoUe)
+      → StationTurns now now id i sender step (Ok line)
   no_turn_from none sender step line told = subst (λ x. StationTurns x x id i sender step (Ok line)) view (no_turn a id ids same i none sender step line told)
 
-  module _ (place : ℕ) (found : position (λ x. x == id) ids ≡ Some place) (stations : List (Station (List ℕ) ℕ)) (out : ActorOut) (steps : StepsAt a.stations stations place i out) where
+  module _ (place : ℕ) (found : position (λ x. x == id) ids ≡ Some place) (stations : List (Station (List ℕ) ℕ))
+      (out : ActorOut) (steps : StepsAt a.stations stations place i out) where
     pub station_settles_from : StationCan now id i → Settles a.stores out
     station_settles_from can = station_settles a id ids same i place found stations out steps (subst (λ x. StationCan x id i) (sym view) can)
 
-    pub station_turns_from : IsDistinct (λ x y. x == y) ids → (sender : Option Use) (step : ℕ) (result : Result Line Proof) (stores : Stores) → SettledAs a.stores stores out sender (Holder.Station id) (Who.Station id) step result →
+    pub station_turns_from : IsDistinct (λ x y. x == y) ids →
+        (sender : Option Use) (step : ℕ) (result : Result Line Proof) (stores : Stores) →
+        SettledAs a.stores stores out sender (Holder.Station id) (Who.Station id) step result →
         StationTurns now (record a { stations = stations; stores = stores }) id i sender step result
     station_turns_from distinct sender step result stores settled =
-        subst (λ x. StationTurns x (record a { stations = stations; stores = stores }) id i sender step result) view (station_turns a id ids same i place found stations out steps distinct sender step result stores settled)
+        subst (λ x. StationTurns x (record a { stations = stations; stores = stores }) id i sender step result) view
+        (station_turns a id ids same i place found stations out steps distinct sender step result stores settled)

@@ -19,7 +19,7 @@ with_root w root = record w {
 
 abbrev pub EnrolledBy : Option ℕ → Option (Clash (List ℕ)) → World (List ℕ) ℕ Kept → List ℕ → Stores → Enrolled → Type 0
 EnrolledBy (Some k) clash w root stores result = (result ≡ Enrolled.Repeated (row k)) × Fits w stores
-EnrolledBy None (Some clash) w root stores result = result ≡ Enrolled.Chance (proof_of (Rows clash))
+EnrolledBy None (Some clash) w root stores result = result ≡ Enrolled.Coincidence (proof_of (Rows clash))
 EnrolledBy None None w root stores result = (result ≡ Enrolled.New) × Fits (with_root w root) stores
 
 -- by the row of the ladder that is this root, and by the coincidence with one that is not

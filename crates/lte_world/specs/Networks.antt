@@ -2,6 +2,7 @@
 use Rattle.hmac_kdf.specs.declared.input.KdfInput.{KdfInput}
 use Rattle.std.specs.Prelude.{◌≡◌, ℕ, ◌+◌, ◌-◌, ◌*◌, ◌<◌, ◌≤◌, ◌^◌, [], ◌∷◌, ◌++◌, List, length, map, Option, Some, None, Result, Ok, Err}
 use Rattle.std.specs.Str.{bytes_eq}
+use Rattle.std.specs.List.{AllByRecursion as AllOf}
 use Rattle.annex_a_keys.specs.declared.derived.Derived.{Derived}
 use Rattle.rec_base.specs.declared.uses.Use.{Use}
 use Rattle.key_model.specs.Derivation.{Derivation, derived_of}
@@ -14,7 +15,6 @@ use Rattle.lte_machine.specs.Ladder.{RowOrigin, Of, Clash, Ladder, add_rows, lad
 use Rattle.lte_machine.specs.Machines.{Kept}
 use Rattle.lte_machine.specs.Tuples.{Rows}
 use Rattle.key_terms.specs.declared.row.Holder.{Holder}
-use Rattle.lte_machine.specs.Ranges.{AllOf}
 use Rattle.lte_machine.specs.World as world
 use Rattle.lte_machine.specs.World.{World, Holding}
 use Rattle.store_laws.specs.Rows.{holder_of}

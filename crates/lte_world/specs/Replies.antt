@@ -87,7 +87,10 @@ Tells before e told = (w : World (List ℕ) ℕ Kept) → Are w before → told 
 
 -- the replies to the last event of a journal, if there is one
 pub record RepliedLast (setup : Setup) (journal : List Event) (replies : List (ActorIn × ActorOut)) : Type 0 where
-  pub last : (before : List Event) (e : Event) (w : World (List ℕ) ℕ Kept) → journal ≡ before ++ e ∷ [] → octet_run setup before ≡ Running w → replies ≡ replies_of w e
+  pub last : (before : List Event) (e : Event) (w : World (List ℕ) ℕ Kept)
+      → journal ≡ before ++ e ∷ []
+      → octet_run setup before ≡ Running w
+      → replies ≡ replies_of w e
   pub none : journal ≡ [] → replies ≡ []
 
 -- where no coincidence ended the run

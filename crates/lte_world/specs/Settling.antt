@@ -16,7 +16,7 @@ use Rattle.lte_machine.specs.Ciphers.{annex_b}
 use Rattle.lte_machine.specs.Ladder.{Clash, ladder_of}
 use Rattle.lte_machine.specs.Machines.{Kept, machine_in_octets}
 use Rattle.lte_machine.specs.Reply.{Reply}
-use Rattle.lte_machine.specs.Tuples.{Chance, Rows, tuple_chance}
+use Rattle.lte_machine.specs.Tuples.{Coincidence, Rows, tuple_coincidence}
 use Rattle.lte_machine.specs.World as world
 use Rattle.lte_machine.specs.World.{World, world_with, line_of}
 use Rattle.store_laws.specs.Additions.{CanKeep}
@@ -25,9 +25,14 @@ use Rattle.store_laws.specs.Rows.{holder_of}
 use Rattle.lte_world.specs.Networks.{Stores, Fits}
 
 -- a coincidence as an error
-abbrev pub chance_told : Option (Chance (List ℕ)) → Result (Unit {0}) Proof
-chance_told None = Ok tt
-chance_told (Some chance) = Err (proof_of chance)
+abbrev pub coincidence_told : Option (Coincidence (List ℕ)) → Result (Unit {0}) Proof
+coincidence_told None = Ok tt
+coincidence_told (Some coincidence) = Err (proof_of coincidence)
+
+-- what is told of an event: the line that was written, or a coincidence
+abbrev pub told_in : Result (Unit {0}) Proof → Line → Result Line Proof
+told_in (Ok done) line = Ok line
+told_in (Err proof) line = Err proof
 
 -- the record that was sent, if one was, as it is kept
 abbrev pub sent_in : Option Use → Option Record → List BagView
@@ -53,8 +58,16 @@ pub record Settles (stores : Stores) (out : ActorOut) : Type 0 where
   pub can : CanKeep (after before by reply)
 
 -- by the coincidence of the record that was accepted, and by that of a derivation
-abbrev pub SettledBy : Option (Chance (List ℕ)) → Option (Clash (List ℕ)) → World (List ℕ) ℕ Kept → world.Holder → Reply (List ℕ) ℕ → Who → Stores → Result Line Proof → Type 0
-SettledBy (Some chance) clash w holder r who stores result = result ≡ Err (proof_of chance)
+abbrev pub SettledBy : Option (Coincidence (List ℕ))
+    → Option (Clash (List ℕ))
+    → World (List ℕ) ℕ Kept
+    → world.Holder
+    → Reply (List ℕ) ℕ
+    → Who
+    → Stores
+    → Result Line Proof
+    → Type 0
+SettledBy (Some coincidence) clash w holder r who stores result = result ≡ Err (proof_of coincidence)
 SettledBy None (Some clash) w holder r who stores result = result ≡ Err (proof_of (Rows clash))
 SettledBy None None w holder r who stores result =
     (result ≡ Ok (line_out (line_of (machine_in_octets annex_b) w who r))) × Fits (after w holder r) stores
@@ -64,7 +77,7 @@ abbrev pub SettledAs : Stores → Stores → ActorOut → Option Use → Holder 
 SettledAs before stores out sender holder who step result =
     (w : World (List ℕ) ℕ Kept) (by : world.Holder) (r : Reply (List ℕ) ℕ)
     → Fits w before → out ≡ actor_out r → holder ≡ holder_of by → w.events ≡ step → CanKeep (after w by r)
-    → SettledBy (tuple_chance bytes_eq (option_map use_in sender) r.accepted) (ladder_of bytes_eq (after w by r).history).clash w by r who stores result
+    → SettledBy (tuple_coincidence bytes_eq (option_map use_in sender) r.accepted) (ladder_of bytes_eq (after w by r).history).clash w by r who stores result
 
 -- the record at a place, if it is one
 abbrev pub at_place : List BagView → Option ℕ → Option BagView

@@ -17,7 +17,7 @@ use Rattle.lte_machine.specs.Machines.{Kept, machine_in_octets, tuple_of}
 use Rattle.lte_machine.specs.Opening.{open_octets}
 use Rattle.lte_machine.specs.PhoneState.{Phone}
 use Rattle.lte_machine.specs.StationState.{Station}
-use Rattle.lte_machine.specs.Step.{StepResult, Continues, Stops, Attempted, phone_attempts, core_attempts, station_attempts, arrival_attempts, opening_chance, by_chance, next}
+use Rattle.lte_machine.specs.Step.{StepResult, Continues, Stops, Attempted, phone_attempts, core_attempts, station_attempts, arrival_attempts, opening_coincidence, by_coincidence, next}
 use Rattle.lte_machine.specs.World.{Machine, World, phone_turn, core_turn, station_turn, arrives, happens}
 use Rattle.lte_machine.specs.World as world
 use Rattle.s1x2_rec.specs.Reading.{read_core}
@@ -53,11 +53,11 @@ pub record HasRoom (s : Stores) : Type 0 where
 -- an event came out so
 abbrev pub CameOut : StepResult (List ℕ) ℕ Kept → Actors → Result Line Proof → Type 0
 CameOut (Continues w line) actors result = (result ≡ Ok (line_out line)) × Are w actors
-CameOut (Stops chance) actors result = result ≡ Err (proof_of chance)
+CameOut (Stops coincidence) actors result = result ≡ Err (proof_of coincidence)
 
 -- what comes of a step of an actor, with what it opened
 abbrev pub comes : World (List ℕ) ℕ Kept → Attempted (List ℕ) Kept → World (List ℕ) ℕ Kept × world.Line (List ℕ) → StepResult (List ℕ) ℕ Kept
-comes w attempt turn = by_chance bytes_eq (opening_chance (open_octets annex_b) octets attempt) turn
+comes w attempt turn = by_coincidence bytes_eq (opening_coincidence (open_octets annex_b) octets attempt) turn
 
 -- TURNS, each for every world that has these actors, and for every record that came with this use of its sender
 

@@ -2,7 +2,7 @@
 -- there is room for one event more. The run in octets says all else.
 use Rattle.std.specs.Prelude.{◌≡◌, ℕ, ◌+◌, ◌*◌, ◌<◌, ◌≤◌, Bool, false, IsTrue, List, [], ◌∷◌, ◌++◌, length, Option, Some, None, Result, Ok, Err}
 use Rattle.std.specs.Option.{option_map}
-use Rattle.lte_events.specs.Conditions.{CanStart, SetupFits, CanHappen, EventFits}
+use Rattle.lte_events.specs.Scenario.{most_events, CanHappen}
 use Rattle.lte_events.specs.declared.events.Event.{Event}
 use Rattle.lte_events.specs.declared.lines.Line.{Line}
 use Rattle.lte_events.specs.declared.setups.Setup.{Setup}
@@ -16,7 +16,7 @@ use Rattle.lte_machine.specs.Run.{RunState, Running, Stopped, turn, EventReport,
 use Rattle.lte_machine.specs.StationState.{Station}
 use Rattle.lte_machine.specs.World.{World, station_of_id}
 use Rattle.ue_context.specs.Step.{kenb_of}
-use Rattle.store_laws.specs.Proofs.{proof_of, chance_of}
+use Rattle.store_laws.specs.Proofs.{proof_of, coincidence_of}
 use Rattle.store_laws.specs.Rows.{world_rows}
 use Rattle.lte_world.specs.declared.faults.WorldFault.{WorldFault}
 use Rattle.lte_world.specs.Systems.{octets, Actors, Are}
@@ -28,15 +28,11 @@ pub record Whole : Type 0 where
   pub over : Option Proof
   pub ready : Bool
 
--- how many events there can be
-abbrev pub most_events : ℕ
-most_events = 200000
-
 -- THE RUN
 
 abbrev pub unless_over : Option Proof → RunState (List ℕ) ℕ Kept → RunState (List ℕ) ℕ Kept
 unless_over None run = run
-unless_over (Some proof) run = Stopped (chance_of proof)
+unless_over (Some proof) run = Stopped (coincidence_of proof)
 
 -- the run in octets of the setup and the journal, or the coincidence that ended it
 abbrev pub run_of : Whole → RunState (List ℕ) ℕ Kept
@@ -45,7 +41,7 @@ run_of v = unless_over v.over (octet_run v.setup v.journal)
 -- what is told of one event more, a line or the coincidence
 abbrev pub answer_of : EventReport (List ℕ) → Result Line WorldFault
 answer_of (Reported line) = Ok (line_out line)
-answer_of (Coincided chance) = Err (WorldFault.Chance (proof_of chance))
+answer_of (Coincided coincidence) = Err (WorldFault.Coincidence (proof_of coincidence))
 
 abbrev pub told_of : Whole → Event → Result Line WorldFault
 told_of v e = answer_of (event_report (open_octets annex_b) octets (run_of v) e)
@@ -61,19 +57,13 @@ journal_after (Err fault) journal e = journal
 
 -- WHAT A CALLER GIVES
 
--- a setup that a system can start with
-pub record CanBegin (setup : Setup) : Type 0 where
-  pub can : CanStart setup
-  pub fits : SetupFits setup
-
--- what a caller sees of it then
+-- what a caller sees of it when it begins with a setup
 abbrev pub begun : Setup → Whole
 begun setup = record { setup = setup; journal = []; over = None; ready = false }
 
 -- an event that can happen to it
 pub record CanApply (v : Whole) (e : Event) : Type 0 where
   pub can : CanHappen v.setup e
-  pub fits : EventFits e
   pub few : length v.journal < most_events
   pub ready : IsTrue v.ready
 
@@ -82,12 +72,12 @@ pub record CanApply (v : Whole) (e : Event) : Type 0 where
 -- of a world that the run goes on in
 abbrev pub InRun : (World (List ℕ) ℕ Kept → Type 0) → RunState (List ℕ) ℕ Kept → Type 0
 InRun P (Running w) = P w
-InRun P (Stopped chance) = Unit {0}
+InRun P (Stopped coincidence) = Unit {0}
 
 -- the actors are those of the run, and the number of events is that of the journal, where no coincidence ended it
 abbrev pub Goes : RunState (List ℕ) ℕ Kept → Actors → ℕ → Type 0
 Goes (Running w) actors steps = Are w actors × (w.events ≡ steps)
-Goes (Stopped chance) actors steps = ⊥
+Goes (Stopped coincidence) actors steps = ⊥
 
 abbrev pub Stands : Option Proof → RunState (List ℕ) ℕ Kept → Actors → ℕ → Type 0
 Stands None run actors steps = Goes run actors steps

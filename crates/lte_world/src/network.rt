@@ -1,9 +1,9 @@
 // What is kept beside the actors: the records sent, the ladder and the uses.
 ghost use Rattle.growth.specs.Growth.{WasRefused};
-ghost use Rattle.std.specs.Prelude.{◌≡◌, ◌+◌, ◌<◌, ◌≤◌, ◌^◌, [], ◌++◌, length, option_map, IsOkUnless, OnOk, OnErr};
+ghost use Rattle.std.specs.Prelude.{◌≡◌, ◌+◌, ◌<◌, ◌≤◌, ◌^◌, [], ◌++◌, length, option_map, Some, None, IsOkUnless, OnOk, OnErr};
 ghost use Rattle.key_terms.specs.Ladder.{IsHolder};
 ghost use Rattle.lte_machine.specs.Calls.{use_in, line_of_reply};
-ghost use Rattle.lte_machine.specs.Tuples.{tuple_chance};
+ghost use Rattle.lte_machine.specs.Tuples.{tuple_coincidence};
 ghost use Rattle.std.specs.Str.{bytes_eq};
 ghost use Rattle.lte_machine.specs.Tuples as tuples;
 ghost use Rattle.lte_world.specs.Networks.{AddsFew, HasPlace};
@@ -11,7 +11,7 @@ ghost use Rattle.lte_world.specs.Systems.{HasRoom};
 ghost use Rattle.net_bag.specs.Bag.{first_sent};
 ghost use Rattle.lte_machine.specs.World.{record_at};
 ghost use Rattle.lte_world.specs.Enrolling.{EnrolledAs};
-ghost use Rattle.lte_world.specs.Settling.{Settles, SettledAs, chance_told, sent_in, number_of, at_place};
+ghost use Rattle.lte_world.specs.Settling.{Settles, SettledAs, coincidence_told, told_in, sent_in, number_of, at_place};
 ghost use Rattle.std.specs.Prelude.{List};
 ghost use Rattle.net_bag.specs.declared.view.BagView.{BagView};
 
@@ -21,7 +21,7 @@ use crate::shelf::Shelf;
 use key_terms::{Holder, Ladder, LadderFault, Proof, Row};
 use lte_events::{ActorOut, Class, Line, Who};
 use net_bag::{Bag, BagView};
-use rec_base::Use;
+use rec_base::{Use, UserText};
 use std::alloc::Global;
 use std::marker::Model;
 
@@ -40,7 +40,7 @@ pub(crate) enum Enrolled {
     // It has one already, as a root.
     Repeated(Row),
     // A derived key has its octets.
-    Chance(Proof),
+    Coincidence(Proof),
 }
 
 impl Model for Network {
@@ -108,10 +108,9 @@ impl Network {
         match self.ladder.root(root) {
             Ok(_) => {}
             Err(LadderFault::RepeatedRoot(row)) => return Enrolled::Repeated(row),
-            Err(LadderFault::Coincidence(row, _)) => return Enrolled::Chance(Proof::RootIsRow(
+            Err(LadderFault::Coincidence(row, _)) => return Enrolled::Coincidence(Proof::RootIsRow(
                 row, root,
             )),
-            Err(LadderFault::Memory) => return Enrolled::New,
         }
         hold_one(&mut self.ladder, Holder::Phone, &root);
         hold_one(&mut self.ladder, Holder::Core, &root);
@@ -133,8 +132,8 @@ impl Network {
         self.bag.find(class, octets)
     }
 
-    // Keeps what an actor gave out: the record that it sent, its uses, its derivations and who holds them.
-    // Ends with a coincidence, of the record that it accepted before one of a derivation.
+    // Keeps what an actor gave out: the record that it sent, its uses, its derivations and who holds them. The line is written in
+    // place, as a line is large. Ends with a coincidence, of the record that it accepted before one of a derivation.
     pub fn settle(
         &mut self,
         out: &ActorOut,
@@ -142,13 +141,14 @@ impl Network {
         holder: Holder,
         who: Who,
         step: u32,
-    ) -> Result<Line, Proof>
+        line: &mut Line,
+    ) -> Result<(), Proof>
         requires records { 0 < self.old.record_room }
         requires rows { 12 ≤ self.old.row_room }
         requires uses { 2 ≤ self.old.use_room }
         requires holder { IsHolder holder }
         requires awaits { Settles self.old out.now }
-        ensures settled { SettledAs self.old self.new out.now sender holder who step result }
+        ensures settled { SettledAs self.old self.new out.now sender holder who step (told_in result line.new) }
         ensures grows { AddsFew self.old self.new }
     {
         match accepted_so(out.accepted, sender) {
@@ -163,7 +163,8 @@ impl Network {
         hold_all(&mut self.ladder, holder, out.derived.as_slice());
         let sent = keep(&mut self.bag, out);
         take_uses(&mut self.uses, out.used.as_slice());
-        Ok(line(out, sent, who, step))
+        tell(out, sent, who, step, line);
+        Ok(())
     }
 }
 
@@ -206,7 +207,7 @@ fn take_uses(uses: &mut Shelf<Use>, used: &[Use])
 
 // The coincidence of a record that was accepted under another use than its sender's, if it is one.
 fn accepted_so(accepted: Option<Use>, sender: Option<Use>) -> Result<(), Proof>
-    ensures { result ≡ chance_told (tuple_chance bytes_eq (option_map use_in sender) (option_map use_in accepted)) }
+    ensures { result ≡ coincidence_told (tuple_coincidence bytes_eq (option_map use_in sender) (option_map use_in accepted)) }
 {
     let Some(receiver) = accepted else {
         return Ok(());
@@ -229,17 +230,46 @@ fn same_sender(sender: &Option<Use>, receiver: &Use) -> bool
 }
 
 // What a report says of a reply.
-pub(crate) fn line(out: &ActorOut, sent: Option<(u32, Class)>, who: Who, step: u32) -> Line
-    ensures { result ≡ line_of_reply step who sent out.now }
+pub(crate) fn tell(out: &ActorOut, sent: Option<(u32, Class)>, who: Who, step: u32, line: &mut Line)
+    ensures { line.new ≡ line_of_reply step who sent out.now }
 {
-    let opened: Result<_, _> = out.opened.clone();
-    Line {
-        step,
-        who,
-        answer: out.answer,
-        sent,
-        opened: opened.unwrap(),
-        note: out.note,
-        alarm: out.alarm,
+    line.step = step;
+    line.who = who;
+    line.answer = out.answer;
+    line.sent = sent;
+    put_text(&out.opened, &mut line.opened);
+    line.note = out.note;
+    line.alarm = out.alarm;
+}
+
+// The same text, or none. What is not there is not written, and what no call may need is not filled.
+fn put_text(text: &Option<UserText>, place: &mut Option<UserText>)
+    ensures { place.new ≡ text.now }
+{
+    match text {
+        Some(text) => put_some(text, place),
+        None => {
+            if place.is_some() {
+                clear(place);
+            }
+        }
     }
+}
+
+fn put_some(text: &UserText, place: &mut Option<UserText>)
+    ensures { place.new ≡ Some text.now }
+{
+    *place = Some(copied_text(text));
+}
+
+fn clear(place: &mut Option<UserText>)
+    ensures { place.new ≡ None }
+{
+    *place = None;
+}
+
+fn copied_text(text: &UserText) -> UserText
+    ensures { result ≡ text.now }
+{
+    text.clone().unwrap()
 }

@@ -1,7 +1,7 @@
 // The system before its first event.
 ghost use Rattle.growth.specs.Growth.{WasRefused};
 ghost use Rattle.std.specs.Prelude.{◌≡◌, ◌<◌, ◌≤◌, All, IfOk, IsOkUnless, List, map, OnErr};
-ghost use Rattle.lte_events.specs.Conditions.{CanStart, IsStation};
+ghost use Rattle.lte_events.specs.Ranges.{IsSetup, IsStation};
 ghost use Rattle.lte_machine.specs.Run.{first_world, stations_of as first_stations};
 ghost use Rattle.lte_world.specs.Systems.{Are};
 
@@ -17,7 +17,7 @@ use ue_context::Phone;
 impl System {
     // The phone, the core and the stations of a setup, to which nothing has happened. It makes the list of the stations.
     pub fn new(alloc: Global, setup: &Setup) -> Result<System, WorldFault>
-        requires { CanStart setup.now }
+        requires { IsSetup setup.now }
         ensures memory { IsOkUnless result WorldFault.Memory }
         ensures refused { OnErr result WasRefused }
         ensures begins { IfOk result (λ s. Are (first_world setup.now) s) }

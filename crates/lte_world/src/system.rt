@@ -10,9 +10,10 @@ ghost use Rattle.lte_world.specs.Networks.{AddsFew, HasPlace};
 ghost use Rattle.lte_world.specs.Systems.{ArrivalCan, Arrives, EventCan, Happens, HasRoom, MayHappen, PhoneTurns, PhoneCan, CoreTurns, CoreCan, StationTurns, StationCan, with_room};
 ghost use Rattle.lte_events.specs.declared.inputs.ActorIn.{ActorIn};
 ghost use Rattle.lte_world.specs.Replies.{input_at, replies_by, Tells};
+ghost use Rattle.lte_world.specs.Settling.{told_in};
 
 use crate::WorldFault;
-use crate::network::{Enrolled, Network, line};
+use crate::network::{Enrolled, Network, tell};
 use crate::replies::Replies;
 use alg_choice::Caps;
 use annex_a_keys::Kasme;
@@ -39,8 +40,7 @@ pub(crate) struct System {
 
 impl Model for System {
     ghost use Rattle.std.specs.Prelude.{◌≡◌, ◌==◌, ◌≤◌, map};
-    ghost use Rattle.std.specs.List.{IsDistinct};
-    ghost use Rattle.lte_machine.specs.Ranges.{AllOf};
+    ghost use Rattle.std.specs.List.{IsDistinct, AllByRecursion as AllOf};
     ghost use Rattle.lte_world.specs.Systems.{Actors};
 
     ghost Value = { Actors };
@@ -64,18 +64,18 @@ impl System {
         sender: Option<Use>,
         step: u32,
         told: &mut Replies,
-    ) -> Result<Line, Proof>
+        line: &mut Line,
+    ) -> Result<(), Proof>
         requires room { HasRoom self.old.stores }
         requires input { PhoneTakes input }
         requires can { PhoneCan self.old input }
         requires none { told.old ≡ [] }
-        ensures turns { PhoneTurns self.old self.new input sender step result }
+        ensures turns { PhoneTurns self.old self.new input sender step (told_in result line.new) }
         ensures grows { AddsFew self.old.stores self.new.stores }
         ensures told { told.new ≡ replies_by self.old.phone self.old.core self.old.stations (ActorIn.Phone input) }
     {
         told.phone(&mut self.phone, input);
-        self.network
-            .settle(told.first(), sender, Holder::Phone, Who::Phone, step)
+        self.network.settle(told.first(), sender, Holder::Phone, Who::Phone, step, line)
     }
 
     // A step of the core.
@@ -85,37 +85,44 @@ impl System {
         sender: Option<Use>,
         step: u32,
         told: &mut Replies,
-    ) -> Result<Line, Proof>
+        line: &mut Line,
+    ) -> Result<(), Proof>
         requires room { HasRoom self.old.stores }
         requires input { CoreTakes input }
         requires can { CoreCan self.old input }
         requires none { told.old ≡ [] }
-        ensures turns { CoreTurns self.old self.new input sender step result }
+        ensures turns { CoreTurns self.old self.new input sender step (told_in result line.new) }
         ensures grows { AddsFew self.old.stores self.new.stores }
         ensures told { told.new ≡ replies_by self.old.phone self.old.core self.old.stations (ActorIn.Core input) }
     {
         told.core(&mut self.core, input);
         self.network
-            .settle(told.first(), sender, Holder::Core, Who::Core, step)
+            .settle(told.first(), sender, Holder::Core, Who::Core, step, line)
     }
 
     // One event.
-    pub fn happen(&mut self, event: &Event, step: u32, told: &mut Replies) -> Result<Line, Proof>
+    pub fn happen(
+        &mut self,
+        event: &Event,
+        step: u32,
+        told: &mut Replies,
+        line: &mut Line,
+    ) -> Result<(), Proof>
         requires room { HasRoom self.old.stores }
         requires may { MayHappen event.now }
         requires can { EventCan self.old event.now }
         requires none { told.old ≡ [] }
-        ensures happens { Happens self.old self.new event.now step result }
+        ensures happens { Happens self.old self.new event.now step (told_in result line.new) }
         ensures grows { AddsFew self.old.stores self.new.stores }
         ensures told { OnOk result (Tells self.old event.now told.new) }
     {
         match event {
-            Event::Auth(ksi, root, caps) => self.authenticate(*ksi, *root, *caps, step, told),
-            Event::Phone(act) => self.phone_act(act, step, told),
-            Event::Station(id, act) => self.station_act(*id, act, step, told),
-            Event::Core(act) => self.core_act(act, step, told),
-            Event::Deliver(i) => self.deliver(i, step, told),
-            Event::Inject(to, octets) => self.inject(to, octets, step, told),
+            Event::Auth(ksi, root, caps) => self.authenticate(*ksi, *root, *caps, step, told, line),
+            Event::Phone(act) => self.phone_act(act, step, told, line),
+            Event::Station(id, act) => self.station_act(*id, act, step, told, line),
+            Event::Core(act) => self.core_act(act, step, told, line),
+            Event::Deliver(i) => self.deliver(i, step, told, line),
+            Event::Inject(to, octets) => self.inject(to, octets, step, told, line),
         }
     }
 
@@ -127,38 +134,49 @@ impl System {
         caps: Caps,
         step: u32,
         told: &mut Replies,
-    ) -> Result<Line, Proof>
+        line: &mut Line,
+    ) -> Result<(), Proof>
         requires room { HasRoom self.old.stores }
         requires may { ksi ≤ 6 }
         requires can { EventCan self.old (Auth ksi root caps) }
         requires none { told.old ≡ [] }
-        ensures happens { Happens self.old self.new (Auth ksi root caps) step result }
+        ensures happens { Happens self.old self.new (Auth ksi root caps) step (told_in result line.new) }
         ensures grows { AddsFew self.old.stores self.new.stores }
         ensures told { OnOk result (Tells self.old (Auth ksi root caps) told.new) }
     {
         match self.network.enroll(root) {
             Enrolled::New => {}
-            Enrolled::Repeated(row) => return Ok(refused(Answer::RepeatedRoot(row.0), step)),
-            Enrolled::Chance(proof) => return Err(proof),
+            Enrolled::Repeated(row) => {
+                refused(Answer::RepeatedRoot(row.0), step, line);
+                return Ok(());
+            }
+            Enrolled::Coincidence(proof) => return Err(proof),
         }
         let root = Kasme::of_octets(root);
         told.phone(&mut self.phone, PhoneIn::Auth(ksi, root));
         told.core(&mut self.core, CoreIn::Auth(ksi, root, caps));
-        Ok(line(&ActorOut::of(Answer::Done), None, Who::Both, step))
+        tell(&ActorOut::of(Answer::Done), None, Who::Both, step, line);
+        Ok(())
     }
 
     // An act of the phone.
-    fn phone_act(&mut self, act: &PhoneAct, step: u32, told: &mut Replies) -> Result<Line, Proof>
+    fn phone_act(
+        &mut self,
+        act: &PhoneAct,
+        step: u32,
+        told: &mut Replies,
+        line: &mut Line,
+    ) -> Result<(), Proof>
         requires room { HasRoom self.old.stores }
         requires may { PhoneDoes act.now }
         requires can { EventCan self.old (Event.Phone act.now) }
         requires none { told.old ≡ [] }
-        ensures happens { Happens self.old self.new (Event.Phone act.now) step result }
+        ensures happens { Happens self.old self.new (Event.Phone act.now) step (told_in result line.new) }
         ensures grows { AddsFew self.old.stores self.new.stores }
         ensures told { OnOk result (Tells self.old (Event.Phone act.now) told.new) }
     {
         let input = PhoneIn::Act(copied_phone_act(act));
-        self.phone_turn(input, None, step, told)
+        self.phone_turn(input, None, step, told, line)
     }
 
     // An act of a station.
@@ -168,45 +186,59 @@ impl System {
         act: &StationAct,
         step: u32,
         told: &mut Replies,
-    ) -> Result<Line, Proof>
+        line: &mut Line,
+    ) -> Result<(), Proof>
         requires room { HasRoom self.old.stores }
         requires may { StationDoes act.now }
         requires can { EventCan self.old (Event.Station id act.now) }
         requires none { told.old ≡ [] }
-        ensures happens { Happens self.old self.new (Event.Station id act.now) step result }
+        ensures happens { Happens self.old self.new (Event.Station id act.now) step (told_in result line.new) }
         ensures grows { AddsFew self.old.stores self.new.stores }
         ensures told { OnOk result (Tells self.old (Event.Station id act.now) told.new) }
     {
         let input = StationIn::Act(copied_station_act(act));
-        self.station_turn(id, input, None, step, told)
+        self.station_turn(id, input, None, step, told, line)
     }
 
     // An act of the core.
-    fn core_act(&mut self, act: &CoreAct, step: u32, told: &mut Replies) -> Result<Line, Proof>
+    fn core_act(
+        &mut self,
+        act: &CoreAct,
+        step: u32,
+        told: &mut Replies,
+        line: &mut Line,
+    ) -> Result<(), Proof>
         requires room { HasRoom self.old.stores }
         requires can { EventCan self.old (Event.Core act.now) }
         requires none { told.old ≡ [] }
-        ensures happens { Happens self.old self.new (Event.Core act.now) step result }
+        ensures happens { Happens self.old self.new (Event.Core act.now) step (told_in result line.new) }
         ensures grows { AddsFew self.old.stores self.new.stores }
         ensures told { OnOk result (Tells self.old (Event.Core act.now) told.new) }
     {
         let input = CoreIn::Act(copied_core_act(act));
-        self.core_turn(input, None, step, told)
+        self.core_turn(input, None, step, told, line)
     }
 
     // A record that was sent comes to its address.
-    fn deliver(&mut self, i: &i64, step: u32, told: &mut Replies) -> Result<Line, Proof>
+    fn deliver(
+        &mut self,
+        i: &i64,
+        step: u32,
+        told: &mut Replies,
+        line: &mut Line,
+    ) -> Result<(), Proof>
         requires room { HasRoom self.old.stores }
         requires can { EventCan self.old (Deliver i.now) }
         requires none { told.old ≡ [] }
-        ensures happens { Happens self.old self.new (Deliver i.now) step result }
+        ensures happens { Happens self.old self.new (Deliver i.now) step (told_in result line.new) }
         ensures grows { AddsFew self.old.stores self.new.stores }
         ensures told { OnOk result (Tells self.old (Deliver i.now) told.new) }
     {
         let Some(sent) = self.network.record_at(i) else {
-            return Ok(refused(Answer::NoRecord, step));
+            refused(Answer::NoRecord, step, line);
+            return Ok(());
         };
-        self.arrive(sent.to, sent.octets, sent.tuple, step, told)
+        self.arrive(sent.to, sent.octets, sent.tuple, step, told, line)
     }
 
     // Octets come that nobody sent, unless somebody did.
@@ -216,19 +248,21 @@ impl System {
         octets: &Octets,
         step: u32,
         told: &mut Replies,
-    ) -> Result<Line, Proof>
+        line: &mut Line,
+    ) -> Result<(), Proof>
         requires room { HasRoom self.old.stores }
         requires may { TakesInjected to.now }
         requires can { EventCan self.old (Inject to.now octets.now) }
         requires none { told.old ≡ [] }
-        ensures happens { Happens self.old self.new (Inject to.now octets.now) step result }
+        ensures happens { Happens self.old self.new (Inject to.now octets.now) step (told_in result line.new) }
         ensures grows { AddsFew self.old.stores self.new.stores }
         ensures told { OnOk result (Tells self.old (Inject to.now octets.now) told.new) }
     {
         if let Some(number) = self.network.found(to.class(), octets.as_slice()) {
-            return Ok(refused(Answer::Sent(number), step));
+            refused(Answer::Sent(number), step, line);
+            return Ok(());
         }
-        self.arrive(*to, copied(octets), None, step, told)
+        self.arrive(*to, copied(octets), None, step, told, line)
     }
 
     // Octets come to an address.
@@ -239,30 +273,33 @@ impl System {
         sender: Option<Use>,
         step: u32,
         told: &mut Replies,
-    ) -> Result<Line, Proof>
+        line: &mut Line,
+    ) -> Result<(), Proof>
         requires room { HasRoom self.old.stores }
         requires can { ArrivalCan self.old to octets }
         requires none { told.old ≡ [] }
-        ensures arrives { Arrives self.old self.new to octets sender step result }
+        ensures arrives { Arrives self.old self.new to octets sender step (told_in result line.new) }
         ensures grows { AddsFew self.old.stores self.new.stores }
         ensures told { told.new ≡ replies_by self.old.phone self.old.core self.old.stations (input_at to octets) }
     {
         match to {
-            Address::PhoneNas => self.phone_turn(PhoneIn::Nas(octets), sender, step, told),
+            Address::PhoneNas => self.phone_turn(PhoneIn::Nas(octets), sender, step, told, line),
             Address::Phone(id, air, bearer) => self.phone_turn(
                 PhoneIn::Air(id, air, bearer, octets),
                 sender,
                 step,
                 told,
+                line,
             ),
-            Address::CoreNas => self.core_turn(CoreIn::Nas(octets), sender, step, told),
-            Address::CoreS1 => self.core_turn(CoreIn::S1(octets), sender, step, told),
+            Address::CoreNas => self.core_turn(CoreIn::Nas(octets), sender, step, told, line),
+            Address::CoreS1 => self.core_turn(CoreIn::S1(octets), sender, step, told, line),
             Address::StationAir(id, air, bearer) => self.station_turn(
                 id,
                 StationIn::Air(air, bearer, octets),
                 sender,
                 step,
                 told,
+                line,
             ),
             Address::StationS1(id) => self.station_turn(
                 id,
@@ -270,6 +307,7 @@ impl System {
                 sender,
                 step,
                 told,
+                line,
             ),
             Address::StationX2(id) => self.station_turn(
                 id,
@@ -277,6 +315,7 @@ impl System {
                 sender,
                 step,
                 told,
+                line,
             ),
         }
     }
@@ -289,17 +328,19 @@ impl System {
         sender: Option<Use>,
         step: u32,
         told: &mut Replies,
-    ) -> Result<Line, Proof>
+        line: &mut Line,
+    ) -> Result<(), Proof>
         requires room { HasRoom self.old.stores }
         requires input { StationTakes input }
         requires can { StationCan self.old id input }
         requires none { told.old ≡ [] }
-        ensures turns { StationTurns self.old self.new id input sender step result }
+        ensures turns { StationTurns self.old self.new id input sender step (told_in result line.new) }
         ensures grows { AddsFew self.old.stores self.new.stores }
         ensures told { told.new ≡ replies_by self.old.phone self.old.core self.old.stations (ActorIn.Station id input) }
     {
         let Some(place) = place_of(self.ids.as_slice(), id) else {
-            return Ok(refused(Answer::NoUe, step));
+            refused(Answer::NoUe, step, line);
+            return Ok(());
         };
         told.station(&mut self.stations, place, id, input);
         self.network.settle(
@@ -308,6 +349,7 @@ impl System {
             Holder::Station(id),
             Who::Station(id),
             step,
+            line,
         )
     }
 
@@ -334,10 +376,10 @@ pub(crate) fn place_of(ids: &[u8], id: u8) -> Option<usize>
 }
 
 // The line of an event that reaches no actor.
-fn refused(answer: Answer, step: u32) -> Line
-    ensures { result ≡ line_of_reply step World None (reply_of answer) }
+fn refused(answer: Answer, step: u32, line: &mut Line)
+    ensures { line.new ≡ line_of_reply step World None (reply_of answer) }
 {
-    line(&ActorOut::of(answer), None, Who::World, step)
+    tell(&ActorOut::of(answer), None, Who::World, step, line);
 }
 
 // The same act.

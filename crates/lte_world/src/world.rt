@@ -1,6 +1,8 @@
 ghost use Rattle.growth.specs.Growth.{WasRefused};
 ghost use Rattle.std.specs.Prelude.{◌≡◌, ◌≢◌, ◌<◌, ◌≤◌, [], ◌∷◌, ◌++◌, true, false, length, Some, None, IsTrue, IsOkUnless, OnOk, OnErr, IfOk};
-ghost use Rattle.lte_events.specs.Ranges.{has_station};
+ghost use Rattle.std.specs.List.{AllByRecursion as AllOf};
+ghost use Rattle.lte_events.specs.Ranges.{has_station, IsEvent, IsSetup};
+ghost use Rattle.lte_events.specs.Scenario.{most_events};
 ghost use Rattle.lte_events.specs.declared.events.Event.{Event as AnEvent};
 ghost use Rattle.lte_machine.specs.BothRuns.{written_run};
 ghost use Rattle.lte_machine.specs.Carried.{run_value};
@@ -10,15 +12,14 @@ ghost use Rattle.store_laws.specs.Records.{world_uses};
 ghost use Rattle.store_laws.specs.Rows.{world_rows};
 ghost use Rattle.lte_properties.specs.InOctets.{FarNeverThere};
 ghost use Rattle.lte_world.specs.InOctets.{answers_of, NoTwoEqual, IsJoined, CommandsShare, PacketsOpen};
-ghost use Rattle.lte_machine.specs.Ranges.{AllOf, IsEvent, IsSetup};
 ghost use Rattle.lte_world.specs.Replies.{RepliedLast, IsOfSetup};
-ghost use Rattle.lte_world.specs.Whole.{begun, run_of, told_of, turned, journal_after, AreFew, CanBegin, CanApply, InRun, most_events, phone_kenb_in, station_kenb_in};
+ghost use Rattle.lte_world.specs.Whole.{begun, run_of, told_of, turned, journal_after, AreFew, CanApply, InRun, phone_kenb_in, station_kenb_in};
 
 use crate::WorldFault;
 use crate::replies::Replies;
 use crate::system::System;
 use key_terms::{Ladder, Proof};
-use lte_events::{ActorIn, ActorOut, Event, Events, Line, Setup};
+use lte_events::{ActorIn, ActorOut, Answer, Event, Events, Line, Setup, Who};
 use rec_base::Use;
 use std::alloc::Global;
 use std::marker::Model;
@@ -41,8 +42,9 @@ pub struct World {
 
 impl Model for World {
     ghost use Rattle.std.specs.Prelude.{◌<◌, ◌≤◌, length, IsTrue, None};
+    ghost use Rattle.std.specs.List.{AllByRecursion as AllOf};
     ghost use Rattle.lte_machine.specs.BothRuns.{octet_run};
-    ghost use Rattle.lte_machine.specs.Ranges.{AllOf, IsEvent, IsSetup};
+    ghost use Rattle.lte_events.specs.Ranges.{IsEvent, IsSetup};
     ghost use Rattle.lte_world.specs.Systems.{HasRoom};
     ghost use Rattle.lte_world.specs.Replies.{RepliedLast, UnlessOver};
     ghost use Rattle.lte_world.specs.Networks.{Within};
@@ -63,7 +65,7 @@ impl World {
     /// A system that begins with this setup, in which nothing has happened. It makes the list of the stations.
     /// `Memory` where std refuses that.
     pub fn new(alloc: Global, setup: &Setup) -> Result<World, WorldFault>
-        requires { CanBegin setup.now }
+        requires { IsSetup setup.now }
         ensures memory { IsOkUnless result WorldFault.Memory }
         ensures refused { OnErr result WasRefused }
         ensures begins { IfOk result (λ w. w ≡ begun setup.now) }
@@ -84,7 +86,7 @@ impl World {
     /// no memory. The event can happen to the system, there are fewer than 200,000 before it, and room was made
     /// for it.
     ///
-    /// At a coincidence the answer is `Chance` with its two values, the event does not enter the journal, and every
+    /// At a coincidence the answer is `Coincidence` with its two values, the event does not enter the journal, and every
     /// later event is answered with the same. `Memory` is never answered.
     pub fn apply(&mut self, event: &Event) -> Result<Line, WorldFault>
         requires { CanApply self.old event.now }
@@ -111,18 +113,30 @@ impl World {
     {
         self.ready = false;
         if let Some(proof) = self.over {
-            return Err(WorldFault::Chance(proof));
+            return Err(WorldFault::Coincidence(proof));
         }
         let step = self.journal.len() as u32;
         self.replies.clear();
-        match self.system.happen(event, step, &mut self.replies) {
-            Ok(line) => {
+        let mut line = Line {
+            step,
+            who: Who::World,
+            answer: Answer::Done,
+            sent: None,
+            opened: None,
+            note: None,
+            alarm: false,
+        };
+        match self
+            .system
+            .happen(event, step, &mut self.replies, &mut line)
+        {
+            Ok(()) => {
                 self.journal.put(event);
                 Ok(line)
             }
             Err(proof) => {
                 self.over = Some(proof);
-                Err(WorldFault::Chance(proof))
+                Err(WorldFault::Coincidence(proof))
             }
         }
     }

@@ -5,8 +5,9 @@ ghost use Rattle.lte_machine.specs.CoreKeys.{chain_from, nh_kept};
 ghost use Rattle.nh_chain.specs.Chain.{present_pair, stepped};
 
 use annex_a_keys::{Derived, Kasme, Kenb};
-use lte_events::{Few, FirstNcc};
+use lte_events::FirstNcc;
 use nh_chain::{CoreChain, NhPair};
+use rec_base::Few;
 use std::marker::Model;
 
 // A connection: its number, its chain of NH and NCC, and the station where the phone is.

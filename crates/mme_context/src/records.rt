@@ -1,18 +1,18 @@
 // Records on S1 (TS 36.413).
-ghost use Rattle.std.specs.Prelude.{◌≡◌, ◌≤◌, None, Ok, Some};
+ghost use Rattle.std.specs.Prelude.{◌≡◌, ◌≤◌, None, Ok, Some, option_map};
 ghost use Rattle.lte_events.specs.Reply.{reply_of};
 ghost use Rattle.lte_events.specs.declared.answers.Answer.TheVariants.{WrongKind};
 ghost use Rattle.lte_machine.specs.CoreState.{CoreRecord as OnS1};
-ghost use Rattle.lte_machine.specs.Kinds.{same_caps};
+ghost use Rattle.lte_machine.specs.PhoneChoice.{same_caps};
 ghost use Rattle.rec_base.specs.declared.ways.Way.TheVariants.{Chained};
 ghost use Rattle.s1x2_rec.specs.Content.{content_of};
-ghost use Rattle.s1x2_rec.specs.Fields.{PathSwitchRequest as Switching, HandoverRequired as Required, HandoverRequestAck as Acknowledged, HandoverNotify as Notified, HandoverCancel as Cancelled};
+ghost use Rattle.s1x2_rec.specs.Fields.{PathSwitchRequest as Switching, HandoverRequired as Required, HandoverRequestAck as Acknowledged, HandoverNotify as Notified, HandoverCancel as Cancelled, kind_of};
 ghost use Rattle.s1x2_rec.specs.Reading.{read_core};
 ghost use Rattle.s1x2_rec.specs.Spelling.{InRange};
 ghost use Rattle.mme_context.specs.Step.{answered, caps_of, on_s1};
 
 use crate::Core;
-use crate::sends::{heard, sends, sends_key};
+use crate::sends::{sends, sends_key};
 use alg_choice::{Algs, Caps};
 use annex_a_keys::Cell;
 use lte_events::{ActorOut, Answer, KeyNote};
@@ -70,32 +70,7 @@ impl Core {
                 attempt,
                 cell,
             } => self.handover_cancel(conn, source, attempt, cell, out),
-            CoreRecord::InitialContext { kenb, .. } => {
-                heard(Answer::WrongKind(0x20), kenb.octets(), out)
-            }
-            CoreRecord::ContextRelease { .. } => wrong(0x21, out),
-            CoreRecord::PathSwitchAnswer { nh, .. } => heard(
-                Answer::WrongKind(0x23),
-                nh.octets(),
-                out,
-            ),
-            CoreRecord::HandoverRequest { nh, .. } => heard(
-                Answer::WrongKind(0x25),
-                nh.octets(),
-                out,
-            ),
-            CoreRecord::HandoverCommand { .. } => wrong(0x27, out),
-            CoreRecord::X2Request { star, .. } => heard(
-                Answer::WrongKind(0x30),
-                star.octets(),
-                out,
-            ),
-            CoreRecord::X2Ack { .. } => wrong(0x31, out),
-            CoreRecord::X2Cancel { .. } => wrong(0x32, out),
-            CoreRecord::X2Release { .. } => wrong(0x33, out),
-            CoreRecord::ContextModification { kenb, .. } => {
-                heard(Answer::WrongKind(0x34), kenb.octets(), out)
-            }
+            _ => wrong(message, out),
         }
     }
 
@@ -297,8 +272,10 @@ fn same(caps: &Caps, latest: &Caps) -> bool
 }
 
 // A kind that is not taken there.
-fn wrong(kind: u8, out: &mut ActorOut)
-    ensures { out.new ≡ reply_of (WrongKind kind) }
+fn wrong(message: &CoreRecord, out: &mut ActorOut)
+    ensures { out.new ≡ record (reply_of (WrongKind (kind_of (content_of message.now).fields)))
+        { received = option_map (λ k. k.key) (content_of message.now).key } }
 {
-    out.only(Answer::WrongKind(kind))
+    out.only(Answer::WrongKind(message.kind()));
+    out.received = message.key();
 }

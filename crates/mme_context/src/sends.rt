@@ -1,5 +1,4 @@
 ghost use Rattle.std.specs.Prelude.{◌≡◌, ◌∷◌, [], Some, option_map};
-ghost use Rattle.lte_events.specs.Reply.{reply_of};
 ghost use Rattle.lte_events.specs.declared.addresses.Address.TheVariants.{StationS1};
 ghost use Rattle.lte_machine.specs.Wire.{Between};
 ghost use Rattle.lte_machine.specs.Calls.{sending};
@@ -14,14 +13,6 @@ use nas_guard::NasPdu;
 use nas_smc::NasOut;
 use rec_base::{Octets, ShortText, Use, UserText};
 use s1x2_rec::CoreRecord;
-
-// An answer to a record that held this key.
-pub(crate) fn heard(answer: Answer, key: [u8; 32], out: &mut ActorOut)
-    ensures { out.new ≡ record (reply_of answer) { received = Some key } }
-{
-    out.only(answer);
-    out.received = Some(key);
-}
 
 // What sends a record on S1 to a station.
 pub(crate) fn sends(station: u8, message: &CoreRecord, out: &mut ActorOut)

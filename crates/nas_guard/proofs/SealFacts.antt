@@ -42,7 +42,11 @@ unfolding sent_text
 sent_text-sent_text keys header count dir text = by_type (is_ciphered header)
   where
     by_type : (b : Bool)
-        → (if b then ciphered keys.algs.eea keys.enc count nas_bearer dir (if b then ciphered keys.algs.eea keys.enc count nas_bearer dir text else text) else (if b then ciphered keys.algs.eea keys.enc count nas_bearer dir text else text)) ≡ text
+        → (if b then
+        ciphered keys.algs.eea keys.enc count nas_bearer dir
+        (if b then ciphered keys.algs.eea keys.enc count nas_bearer dir text else text)
+        else (if b then ciphered keys.algs.eea keys.enc count nas_bearer dir text else text))
+        ≡ text
     by_type true = ciphered-ciphered keys.algs.eea keys.enc count nas_bearer dir text
     by_type false = refl
 
@@ -106,7 +110,9 @@ pub opened-sealed : (keys : Keys (List ℕ)) (header count next : ℕ) (dir : Di
 unfolding sealed
 opened-sealed keys header count next dir text low high below is_least =
     let sent = sent_text keys header count dir text in
-    opened-octets keys header count next dir (mac_of keys.int count nas_bearer dir (count % 256 ∷ sent)) (count % 256) sent (length-mac_of _ _ _ _ _) (is_protected-first_octet header low high) (estimate_of-is next (count % 256) count is_least below) refl
+    opened-octets keys header count next dir (mac_of keys.int count nas_bearer dir (count % 256 ∷ sent)) (count % 256)
+    sent (length-mac_of _ _ _ _ _) (is_protected-first_octet header low high)
+    (estimate_of-is next (count % 256) count is_least below) refl
     ∙ rw (sent_text-sent_text keys header count dir text) refl
 
 -- a COUNT fewer than 256 above the next one is the least with its sequence number
@@ -168,10 +174,20 @@ opened_at-Opens keys next dir pdu o count long protected is_least below found = 
     by_mac true e h =
         let same : opened_to keys dir pdu count ≡ o = cc in
         let mac : mac_at keys dir pdu count ≡ mac_in pdu = (bytes_eq-Decides (mac_at keys dir pdu count) (mac_in pdu)).0 e in
-        subst (Opens keys next dir pdu) same (record { long = long; protected = protected; header = refl; count = is_least; below = below; mac = mac; text = refl })
+        subst (Opens keys next dir pdu) same (record {
+          long = long;
+          protected = protected;
+          header = refl;
+          count = is_least;
+          below = below;
+          mac = mac;
+          text = refl;
+        })
     by_mac false e h = absurd (cc)
 
-opened_by-Opens : (keys : Keys (List ℕ)) (next : ℕ) (dir : Dir) (pdu : List ℕ) (o : Opened) (r : Result ℕ CountSpent) → 6 ≤ length pdu → IsProtected (first_in pdu)
+opened_by-Opens : (keys : Keys (List ℕ)) (next : ℕ) (dir : Dir) (pdu : List ℕ) (o : Opened) (r : Result ℕ CountSpent)
+    → 6 ≤ length pdu
+    → IsProtected (first_in pdu)
     → estimate_of next (sn_in pdu) ≡ r → opened_by keys dir pdu r ≡ Ok o → Opens keys next dir pdu o
 opened_by-Opens keys next dir pdu o (Ok count) long protected e found =
     let is = estimated next (sn_in pdu) count e in
@@ -183,12 +199,20 @@ pub opened-Opens : (keys : Keys (List ℕ)) (next : ℕ) (dir : Dir) (pdu : List
 unfolding opened
 opened-Opens keys next dir pdu o found = by_length (nat_lt (length pdu) 6) refl found
   where
-    by_first : (b : Bool) → 6 ≤ length pdu → is_protected (first_in pdu) ≡ b → (if b then opened_by keys dir pdu (estimate_of next (sn_in pdu)) else Err (BadHeader (first_in pdu))) ≡ Ok o → Opens keys next dir pdu o
+    by_first : (b : Bool)
+        → 6 ≤ length pdu
+        → is_protected (first_in pdu) ≡ b
+        → (if b then opened_by keys dir pdu (estimate_of next (sn_in pdu)) else Err (BadHeader (first_in pdu))) ≡ Ok o
+        → Opens keys next dir pdu o
     by_first true long e h = opened_by-Opens keys next dir pdu o (estimate_of next (sn_in pdu)) long (is_protected-true (first_in pdu) e) refl h
     by_first false long e h = absurd (cc)
 
     by_length : (b : Bool) → nat_lt (length pdu) 6 ≡ b
-        → (if b then Err Short else (if is_protected (first_in pdu) then opened_by keys dir pdu (estimate_of next (sn_in pdu)) else Err (BadHeader (first_in pdu)))) ≡ Ok o → Opens keys next dir pdu o
+        → (if b then Err Short
+        else (if is_protected (first_in pdu) then opened_by keys dir pdu (estimate_of next (sn_in pdu))
+        else Err (BadHeader (first_in pdu))))
+        ≡ Ok o
+        → Opens keys next dir pdu o
     by_length true e h = absurd (cc)
     by_length false e h =
         let long : 6 ≤ length pdu = grind (arith, nat_tests) in

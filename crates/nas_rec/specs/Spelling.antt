@@ -1,17 +1,26 @@
 -- The NAS texts, each with its one spelling.
 use Rattle.std.specs.Prelude.{ℕ, ◌≤◌, List, length}
-use Rattle.rec_fields.specs.Record.{spelled}
+use Rattle.rec_fields.specs.Layout.{Values}
+use Rattle.rec_fields.specs.Record.{Form, spelled}
 use Rattle.nas_rec.specs.declared.records.NasRecord.{NasRecord}
 use Rattle.nas_rec.specs.declared.records.NasRecord.TheVariants.{SecurityModeCommand, SecurityModeComplete, SecurityModeReject, ServiceRequest, NasData}
 use Rattle.nas_rec.specs.Forms.{command, complete, reject, service_request, any_text}
 
+-- what is made of the form of a record and the values of its fields
+abbrev pub by_form : {B : Type 0} → ((form : Form NasRecord) → Values form.layout → B) → NasRecord → B
+by_form make (SecurityModeCommand ksi algs caps) = make command (ksi, (algs, caps))
+by_form make SecurityModeComplete = make complete tt
+by_form make (SecurityModeReject cause) = make reject cause
+by_form make ServiceRequest = make service_request tt
+by_form make (NasData text) = make any_text text
+
+-- the kind
+abbrev pub kind_of : NasRecord → ℕ
+kind_of r = by_form (λ form values. form.kind) r
+
 -- the kind, and then the fields in order
 unfoldable pub spelling_of : NasRecord → List ℕ
-spelling_of (SecurityModeCommand ksi algs caps) = spelled command (ksi, (algs, caps))
-spelling_of SecurityModeComplete = spelled complete tt
-spelling_of (SecurityModeReject cause) = spelled reject cause
-spelling_of ServiceRequest = spelled service_request tt
-spelling_of (NasData text) = spelled any_text text
+spelling_of r = by_form spelled r
 
 -- each field is in its range: KSI 0 to 6 (TS 24.301 9.9.3.21), cause 23 or 24 (9.9.3.9)
 abbrev pub InRange : NasRecord → Type 0

@@ -33,7 +33,7 @@ pub enum NasRecord {
 
 impl NasRecord {
     ghost use Rattle.nas_rec.specs.declared.records.NasRecord.{NasRecord};
-    ghost use Rattle.nas_rec.specs.Spelling.{spelling_of, InRange};
+    ghost use Rattle.nas_rec.specs.Spelling.{kind_of, spelling_of, InRange};
     ghost use Rattle.nas_rec.specs.Reading.{read_nas};
 
     /// The record that the octets spell, all of them. Otherwise the first fault: no octet is `Short`;
@@ -50,6 +50,19 @@ impl NasRecord {
         record_of(octets)
     }
 
+    /// The first octet of the spelling, which tells the kind.
+    pub fn kind(&self) -> u8
+        ensures { result ≡ kind_of self.now }
+    {
+        match self {
+            NasRecord::SecurityModeCommand { .. } => 0x01,
+            NasRecord::SecurityModeComplete => 0x02,
+            NasRecord::SecurityModeReject { .. } => 0x03,
+            NasRecord::ServiceRequest => 0x04,
+            NasRecord::NasData(_) => 0x05,
+        }
+    }
+
     /// The one spelling of a record whose fields are in their ranges: at most 201 octets.
     #[tactic(auto, unfolding(crate::specs::Spelling::spelling_of))]
     pub fn write(&self) -> Bounded<256>
@@ -57,18 +70,15 @@ impl NasRecord {
         ensures spelled { result ≡ spelling_of self.now }
         ensures within { length result ≤ 201 }
     {
+        let mut out = list_of(&[self.kind()]);
         match self {
             NasRecord::SecurityModeCommand { ksi, algs, caps } => {
-                list_of(&[0x01, *ksi, algs_octet(algs), caps.eea, caps.eia])
+                out.append(&[*ksi, algs_octet(algs), caps.eea, caps.eia])
             }
-            NasRecord::SecurityModeComplete => list_of(&[0x02]),
-            NasRecord::SecurityModeReject { cause } => list_of(&[0x03, *cause]),
-            NasRecord::ServiceRequest => list_of(&[0x04]),
-            NasRecord::NasData(text) => {
-                let mut out = list_of(&[0x05]);
-                out.append(text.as_slice());
-                out
-            }
+            NasRecord::SecurityModeReject { cause } => out.append(&[*cause]),
+            NasRecord::NasData(text) => out.append(text.as_slice()),
+            NasRecord::SecurityModeComplete | NasRecord::ServiceRequest => {}
         }
+        out
     }
 }

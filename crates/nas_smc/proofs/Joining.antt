@@ -27,5 +27,7 @@ module _ (s : NasPart) (pdu : List ℕ) (header : Result ℕ Answer) (same : hea
   pub row_by : (row : NasRow) → row_at s radio (front_of s pdu header) pdu ≡ row → row_at s radio (front_of s pdu (header_for_phone pdu)) pdu ≡ row
   row_by row h = ap (λ x. row_at s radio (front_of s pdu x) pdu) same ∙ h
 
-  pub accepted_by : (accepted : Option Use) → accepted ≡ accepted_at s radio (front_of s pdu header) pdu → accepted ≡ accepted_at s radio (front_of s pdu (header_for_phone pdu)) pdu
+  pub accepted_by : (accepted : Option Use)
+      → accepted ≡ accepted_at s radio (front_of s pdu header) pdu
+      → accepted ≡ accepted_at s radio (front_of s pdu (header_for_phone pdu)) pdu
   accepted_by accepted h = h ∙ ap (λ x. accepted_at s radio (front_of s pdu x) pdu) (sym same)

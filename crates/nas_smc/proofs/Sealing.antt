@@ -24,7 +24,9 @@ sent_text_is keys header count dir text = by_test (is_ciphered header) keys coun
 
 -- a message
 pub sealed_is : (keys : Keys (List ℕ)) (header count : ℕ) (dir : Dir) (text : List ℕ)
-    → sealed keys header count dir text ≡ nas_octets annex_b header (nas_use dir keys.int count) (ciphering_if (is_ciphered header) (nas_ciphering dir keys count)) text
+    → sealed keys header count dir text
+    ≡ nas_octets annex_b header (nas_use dir keys.int count)
+    (ciphering_if (is_ciphered header) (nas_ciphering dir keys count)) text
 unfolding sealed nas_octets
 sealed_is keys header count dir text = rw (sent_text_is keys header count dir text) refl
 
@@ -44,7 +46,8 @@ module _ (keys : Keys (List ℕ)) (header count : ℕ) (dir : Dir) (pdu : List �
   opens_so text mac is =
       let wanted = mac_of keys.int count nas_bearer dir (covered_in pdu) in
       let plain = ciphered_by annex_b (ciphering_if (is_ciphered header) (nas_ciphering dir keys count)) (sent_in pdu) in
-      ap (λ b. by_macs b wanted (mac_in pdu) plain) ((bytes_eq-Decides wanted (mac_in pdu)).1 mac) ∙ ap Opened (sym (is ∙ sent_text_is keys header count dir (sent_in pdu)))
+      ap (λ b. by_macs b wanted (mac_in pdu) plain) ((bytes_eq-Decides wanted (mac_in pdu)).1 mac)
+      ∙ ap Opened (sym (is ∙ sent_text_is keys header count dir (sent_in pdu)))
 
   -- and one whose MAC is wrong
   pub fails_so : (wanted got : List ℕ) → wanted ≡ mac_of keys.int count nas_bearer dir (covered_in pdu) → got ≡ mac_in pdu → wanted ≢ got

@@ -99,10 +99,7 @@ impl CoreNas {
         }
         match NasRecord::read(&pdu[1..]) {
             Ok(NasRecord::SecurityModeReject { .. }) => judged(CoreVerdict::Closed, None),
-            Ok(NasRecord::SecurityModeCommand { .. }) => refused(Answer::WrongKind(1)),
-            Ok(NasRecord::SecurityModeComplete) => refused(Answer::WrongKind(2)),
-            Ok(NasRecord::ServiceRequest) => refused(Answer::WrongKind(4)),
-            Ok(NasRecord::NasData(_)) => refused(Answer::WrongKind(5)),
+            Ok(other) => refused(Answer::WrongKind(other.kind())),
             Err(fault) => refused(Answer::BadRecord(fault)),
         }
     }
@@ -133,12 +130,7 @@ impl CoreNas {
         };
         let verdict = match NasRecord::read(text.as_slice()) {
             Ok(NasRecord::SecurityModeComplete) => CoreVerdict::Completed(count),
-            Ok(NasRecord::SecurityModeCommand { .. }) => {
-                CoreVerdict::Refused(Answer::WrongKind(1))
-            }
-            Ok(NasRecord::SecurityModeReject { .. }) => CoreVerdict::Refused(Answer::WrongKind(3)),
-            Ok(NasRecord::ServiceRequest) => CoreVerdict::Refused(Answer::WrongKind(4)),
-            Ok(NasRecord::NasData(_)) => CoreVerdict::Refused(Answer::WrongKind(5)),
+            Ok(other) => CoreVerdict::Refused(Answer::WrongKind(other.kind())),
             Err(fault) => CoreVerdict::Refused(Answer::BadRecord(fault)),
         };
         judged(verdict, Some(integrity_use(&keys, Dir::Up, count)))
@@ -194,8 +186,7 @@ impl CoreNas {
             Ok(NasRecord::ServiceRequest) => CoreVerdict::Asked(count),
             Ok(NasRecord::NasData(text)) => CoreVerdict::Opened(count, text),
             Ok(NasRecord::SecurityModeReject { .. }) => self.rejected(count),
-            Ok(NasRecord::SecurityModeCommand { .. }) => CoreVerdict::Refused(Answer::WrongKind(1)),
-            Ok(NasRecord::SecurityModeComplete) => CoreVerdict::Refused(Answer::WrongKind(2)),
+            Ok(other) => CoreVerdict::Refused(Answer::WrongKind(other.kind())),
             Err(fault) => CoreVerdict::Refused(Answer::BadRecord(fault)),
         }
     }

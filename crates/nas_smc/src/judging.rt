@@ -4,8 +4,7 @@ ghost use Rattle.rec_base.specs.Lengths.{longest_record};
 ghost use Rattle.key_model.specs.Reading.{octet_reading};
 ghost use Rattle.key_model.specs.Derivation.{derived_of};
 ghost use Rattle.nas_guard.specs.Open.{IsProtected, first_in, header_in};
-ghost use Rattle.lte_machine.specs.Kinds.{same_caps};
-ghost use Rattle.lte_machine.specs.PhoneChoice.{header_for_phone};
+ghost use Rattle.lte_machine.specs.PhoneChoice.{header_for_phone, same_caps};
 ghost use Rattle.lte_machine.specs.PhoneState.{Radio, nas_keys_of, nas_derivations};
 ghost use Rattle.nas_smc.specs.declared.judging.Verdict.TheVariants.{Refused, Rejected};
 ghost use Rattle.nas_smc.specs.Judging.{CountFits, front_of, row_at, accepted_at, plain_context, plain_radio, row_of};
@@ -14,10 +13,10 @@ use crate::PhoneNas;
 use crate::opening::{integrity_use, opened};
 use alg_choice::{Algs, Caps, supports};
 use annex_a_keys::{AlgType, Derived, Kasme};
-use lte_events::{Answer, Few};
+use lte_events::Answer;
 use nas_guard::{NasKeys, RxCount};
 use nas_rec::NasRecord;
-use rec_base::{Dir, ShortText, Use};
+use rec_base::{Dir, Few, ShortText, Use};
 
 // What a NAS message comes to.
 #[derive(Debug, Drop)]
@@ -73,10 +72,7 @@ impl PhoneNas {
         };
         let (ksi, algs, caps) = match NasRecord::read(&pdu[6..]) {
             Ok(NasRecord::SecurityModeCommand { ksi, algs, caps }) => (ksi, algs, caps),
-            Ok(NasRecord::SecurityModeComplete) => return refused(Answer::WrongKind(2)),
-            Ok(NasRecord::SecurityModeReject { .. }) => return refused(Answer::WrongKind(3)),
-            Ok(NasRecord::ServiceRequest) => return refused(Answer::WrongKind(4)),
-            Ok(NasRecord::NasData(_)) => return refused(Answer::WrongKind(5)),
+            Ok(other) => return refused(Answer::WrongKind(other.kind())),
             Err(fault) => return refused(Answer::BadRecord(fault)),
         };
         if ksi != partial.ksi {
@@ -135,10 +131,7 @@ impl PhoneNas {
         };
         let verdict = match NasRecord::read(text.as_slice()) {
             Ok(NasRecord::NasData(text)) => Verdict::Opened(count, text),
-            Ok(NasRecord::SecurityModeCommand { .. }) => Verdict::Refused(Answer::WrongKind(1)),
-            Ok(NasRecord::SecurityModeComplete) => Verdict::Refused(Answer::WrongKind(2)),
-            Ok(NasRecord::SecurityModeReject { .. }) => Verdict::Refused(Answer::WrongKind(3)),
-            Ok(NasRecord::ServiceRequest) => Verdict::Refused(Answer::WrongKind(4)),
+            Ok(other) => Verdict::Refused(Answer::WrongKind(other.kind())),
             Err(fault) => Verdict::Refused(Answer::BadRecord(fault)),
         };
         Judged {

@@ -10,10 +10,10 @@ ghost use Rattle.nas_smc.specs.NasOut.{sending};
 
 use crate::NasOut;
 use annex_a_keys::AlgType;
-use lte_events::{Answer, Few};
+use lte_events::Answer;
 use nas_guard::{NasKeys, TxCount, seal};
 use nas_rec::NasRecord;
-use rec_base::{Dir, Use};
+use rec_base::{Dir, Few, Use};
 
 // Sends a message under the next COUNT, which it takes, and answers with that COUNT too, or sends nothing
 // where none is left (TS 24.301 4.4.3.3 and 4.4.3.4).

@@ -2,9 +2,9 @@ ghost use Rattle.std.specs.Prelude.{◌≡◌};
 ghost use Rattle.nas_smc.specs.NasOut.{alone};
 
 use annex_a_keys::Derived;
-use lte_events::{Answer, Few};
+use lte_events::Answer;
 use nas_guard::NasPdu;
-use rec_base::{ShortText, Use};
+use rec_base::{Few, ShortText, Use};
 
 /// What a NAS part answers to a call.
 #[derive(Clone, PartialEq, Eq, Debug, Drop)]

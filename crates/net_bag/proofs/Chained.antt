@@ -1,7 +1,6 @@
 -- One more link keeps the chains.
 use Rattle.std.proofs.Common.{◌≡◌, ◌≢◌, ℕ, zero, suc, ◌<◌, ◌≤◌, ◌+◌, ◌⊎◌, inl, inr, Bool, true, false, cond, Option, Some, None, List, [], ◌∷◌, ◌++◌, length, map, set, get_or, slice_get, sym, refl, ap, subst, ◌∙◌, arith, true≢false, length-append, length-set}
-use Rattle.std.specs.Option.{option_map}
-use Rattle.std.specs.Option.{IfSome}
+use Rattle.std.specs.Option.{option_map, IfSome}
 use Rattle.std.specs.HashMap.{HashMap, get}
 use Rattle.std.specs.Map.{lookup}
 use Rattle.std.specs.Str.{bytes_eq}
@@ -15,7 +14,10 @@ use Rattle.net_bag.specs.declared.chains.Chain.{Chain}
 use Rattle.net_bag.specs.declared.chains.Link.{Link}
 use Rattle.net_bag.specs.Chains.{digests_of, IsFirstFrom, IsLast, IsChained, linked, chain_with}
 
-first_grows : (ds : List (List ℕ)) (d new : List ℕ) (from : ℕ) (o : Option ℕ) → IsFirstFrom ds d from o → (o ≡ None → d ≢ new) → IsFirstFrom (ds ++ new ∷ []) d from o
+first_grows : (ds : List (List ℕ)) (d new : List ℕ) (from : ℕ) (o : Option ℕ)
+    → IsFirstFrom ds d from o
+    → (o ≡ None → d ≢ new)
+    → IsFirstFrom (ds ++ new ∷ []) d from o
 first_grows ds d new from None first other =
     λ j le at. elim (slice_get_push ds new j d at) [ inl h ↦ first j le h | inr h ↦ other refl h.1 ]
 first_grows ds d new from (Some k) first other = (
@@ -27,7 +29,10 @@ first_grows ds d new from (Some k) first other = (
   ],
 )
 
-first_here : (ds : List (List ℕ)) (d : List ℕ) (from : ℕ) → from ≤ length ds → ((j : ℕ) → from ≤ j → slice_get ds j ≡ Some d → ⊥) → IsFirstFrom (ds ++ d ∷ []) d from (Some (length ds))
+first_here : (ds : List (List ℕ)) (d : List ℕ) (from : ℕ)
+    → from ≤ length ds
+    → ((j : ℕ) → from ≤ j → slice_get ds j ≡ Some d → ⊥)
+    → IsFirstFrom (ds ++ d ∷ []) d from (Some (length ds))
 first_here ds d from le none = (
   le,
   slice_get_at_end ds d,
@@ -76,13 +81,20 @@ module _ (chain_of : List ℕ → Option Chain) (links : List Link) (chained : I
       let m : Link = record { digest = new; next = Some (length links) } in
       let l = mapped_at (λ l'. l'.digest) links c.last new (chained.lasts new c e).0 in
       let same : new ≡ (get_or links c.last l.0).digest = sym (ap (λ l'. l'.digest) (get_or_from_slice_get links c.last l.0 l.0 l.1) ∙ l.2) in
-      map-append (λ l'. l'.digest) (set links c.last m) (record { digest = new; next = None } ∷ []) ∙ ap (λ ds. ds ++ new ∷ []) (map-set_same (λ l'. l'.digest) links c.last m l.0 same)
+      map-append (λ l'. l'.digest) (set links c.last m) (record { digest = new; next = None } ∷ [])
+      ∙ ap (λ ds. ds ++ new ∷ []) (map-set_same (λ l'. l'.digest) links c.last m l.0 same)
 
   pub digests_linked : digests_of (linked links (chain_of new) new) ≡ digests_of links ++ new ∷ []
   digests_linked = digests_by (chain_of new) refl
 
   -- a link of the new value that leads nowhere is the last one of its chain
-  stuck : (o : Option Chain) (k : ℕ) (l : Link) → chain_of new ≡ o → slice_get links k ≡ Some l → l.next ≡ None → l.digest ≡ new → ((c : Chain) → o ≡ Some c → k ≢ c.last) → ⊥
+  stuck : (o : Option Chain) (k : ℕ) (l : Link)
+      → chain_of new ≡ o
+      → slice_get links k ≡ Some l
+      → l.next ≡ None
+      → l.digest ≡ new
+      → ((c : Chain) → o ≡ Some c → k ≢ c.last)
+      → ⊥
   stuck None k l e at none same other =
       let first = subst (λ c. IsFirstFrom (digests_of links) new 0 (option_map (λ c'. c'.first) c)) e (chained.firsts new) in
       first k (omega arith) (digest_at links k l at ∙ ap Some same)
@@ -98,18 +110,29 @@ module _ (chain_of : List ℕ → Option Chain) (links : List Link) (chained : I
       ]
 
   -- an old link, with one more value
-  old_next : (o : Option Chain) (k : ℕ) (l : Link) → chain_of new ≡ o → slice_get links k ≡ Some l → ((c : Chain) → o ≡ Some c → k ≢ c.last) → IsFirstFrom (digests_of links ++ new ∷ []) l.digest (k + 1) l.next
+  old_next : (o : Option Chain) (k : ℕ) (l : Link)
+      → chain_of new ≡ o
+      → slice_get links k ≡ Some l
+      → ((c : Chain) → o ≡ Some c → k ≢ c.last)
+      → IsFirstFrom (digests_of links ++ new ∷ []) l.digest (k + 1) l.next
   old_next o k l e at other =
       first_grows (digests_of links) l.digest new (k + 1) l.next (chained.nexts k l at) (λ none same. stuck o k l e at none same other)
 
   -- the link at the end leads nowhere
-  end_next : (k : ℕ) (l : Link) → k ≡ length links → l ≡ record { digest = new; next = None } → IsFirstFrom (digests_of links ++ new ∷ []) l.digest (k + 1) l.next
+  end_next : (k : ℕ) (l : Link)
+      → k ≡ length links
+      → l ≡ record { digest = new; next = None }
+      → IsFirstFrom (digests_of links ++ new ∷ []) l.digest (k + 1) l.next
   end_next k l here e =
       let len = length-map links (λ l'. l'.digest) in
       let End : Link → Type 0 = λ l'. IsFirstFrom (digests_of links ++ new ∷ []) l'.digest (k + 1) l'.next in
       subst End (sym e) (λ j le at. none_past (digests_of links) new new j (omega (arith, len, here, le)) at)
 
-  nexts_by : (o : Option Chain) → chain_of new ≡ o → (k : ℕ) (l : Link) → slice_get (linked links o new) k ≡ Some l → IsFirstFrom (digests_of links ++ new ∷ []) l.digest (k + 1) l.next
+  nexts_by : (o : Option Chain)
+      → chain_of new ≡ o
+      → (k : ℕ) (l : Link)
+      → slice_get (linked links o new) k ≡ Some l
+      → IsFirstFrom (digests_of links ++ new ∷ []) l.digest (k + 1) l.next
   nexts_by None e k l at =
       elim (slice_get_push links (record { digest = new; next = None }) k l at) [
         | inl h ↦ old_next None k l e h (λ c same. absurd (none-some c same))
@@ -146,32 +169,43 @@ module _ (chain_of : List ℕ → Option Chain) (links : List Link) (chained : I
   last_by None = last_end
     where
       last_end : IsLast (digests_of links ++ new ∷ []) new (length links)
-      last_end = subst (IsLast (digests_of links ++ new ∷ []) new) (length-map links (λ l. l.digest)) (slice_get_at_end (digests_of links) new, none_past (digests_of links) new new)
+      last_end =
+          subst (IsLast (digests_of links ++ new ∷ []) new) (length-map links (λ l. l.digest))
+          (slice_get_at_end (digests_of links) new, none_past (digests_of links) new new)
   last_by (Some c) =
-      subst (IsLast (digests_of links ++ new ∷ []) new) (length-map links (λ l. l.digest)) (slice_get_at_end (digests_of links) new, none_past (digests_of links) new new)
+      subst (IsLast (digests_of links ++ new ∷ []) new) (length-map links (λ l. l.digest))
+      (slice_get_at_end (digests_of links) new, none_past (digests_of links) new new)
 
-  module _ (after : List ℕ → Option Chain) (updated : (d : List ℕ) → after d ≡ cond (bytes_eq new d) (Some (chain_with (chain_of new) (length links))) (chain_of d)) where
+  module _ (after : List ℕ → Option Chain)
+      (updated : (d : List ℕ)
+      → after d ≡ cond (bytes_eq new d) (Some (chain_with (chain_of new) (length links))) (chain_of d)) where
     firsts_of : (d : List ℕ) (b : Bool) → bytes_eq new d ≡ b → IsFirstFrom (digests_of links ++ new ∷ []) d 0 (option_map (λ c. c.first) (after d))
     firsts_of d true e =
         let same : new ≡ d = (bytes_eq-Decides new d).0 e in
-        let chain : after d ≡ Some (chain_with (chain_of new) (length links)) = updated d ∙ ap (λ b. cond b (Some (chain_with (chain_of new) (length links))) (chain_of d)) e in
-        let first = subst (λ d'. IsFirstFrom (digests_of links ++ new ∷ []) d' 0 (Some (chain_with (chain_of new) (length links)).first)) same (first_by (chain_of new) refl) in
+        let chain : after d ≡ Some (chain_with (chain_of new) (length links)) =
+        updated d ∙ ap (λ b. cond b (Some (chain_with (chain_of new) (length links))) (chain_of d)) e in
+        let first = subst (λ d'.
+        IsFirstFrom (digests_of links ++ new ∷ []) d' 0 (Some (chain_with (chain_of new) (length links)).first))
+        same (first_by (chain_of new) refl) in
         subst (λ c. IsFirstFrom (digests_of links ++ new ∷ []) d 0 (option_map (λ c'. c'.first) c)) (sym chain) first
     firsts_of d false e =
         let chain : after d ≡ chain_of d = updated d ∙ ap (λ b. cond b (Some (chain_with (chain_of new) (length links))) (chain_of d)) e in
-        let first = first_grows (digests_of links) d new 0 (option_map (λ c. c.first) (chain_of d)) (chained.firsts d) (λ none same. absurd (true≢false (sym ((bytes_eq-Decides new d).1 (sym same)) ∙ e))) in
+        let first = first_grows (digests_of links) d new 0 (option_map (λ c. c.first) (chain_of d)) (chained.firsts d)
+        (λ none same. absurd (true≢false (sym ((bytes_eq-Decides new d).1 (sym same)) ∙ e))) in
         subst (λ c. IsFirstFrom (digests_of links ++ new ∷ []) d 0 (option_map (λ c'. c'.first) c)) (sym chain) first
 
     lasts_of : (d : List ℕ) (c : Chain) (b : Bool) → bytes_eq new d ≡ b → after d ≡ Some c → IsLast (digests_of links ++ new ∷ []) d c.last
     lasts_of d c true e found =
         let same : new ≡ d = (bytes_eq-Decides new d).0 e in
-        let chain : after d ≡ Some (chain_with (chain_of new) (length links)) = updated d ∙ ap (λ b. cond b (Some (chain_with (chain_of new) (length links))) (chain_of d)) e in
+        let chain : after d ≡ Some (chain_with (chain_of new) (length links)) =
+        updated d ∙ ap (λ b. cond b (Some (chain_with (chain_of new) (length links))) (chain_of d)) e in
         let it : chain_with (chain_of new) (length links) ≡ c = cc in
         let last = subst (λ d'. IsLast (digests_of links ++ new ∷ []) d' (chain_with (chain_of new) (length links)).last) same (last_by (chain_of new)) in
         subst (λ c'. IsLast (digests_of links ++ new ∷ []) d c'.last) it last
     lasts_of d c false e found =
         let chain : after d ≡ chain_of d = updated d ∙ ap (λ b. cond b (Some (chain_with (chain_of new) (length links))) (chain_of d)) e in
-        last_grows (digests_of links) d new c.last (chained.lasts d c (sym chain ∙ found)) (λ same. absurd (true≢false (sym ((bytes_eq-Decides new d).1 (sym same)) ∙ e)))
+        last_grows (digests_of links) d new c.last (chained.lasts d c (sym chain ∙ found))
+        (λ same. absurd (true≢false (sym ((bytes_eq-Decides new d).1 (sym same)) ∙ e)))
 
     pub chained_push : IsChained after (linked links (chain_of new) new)
     chained_push = record {
@@ -181,13 +215,20 @@ module _ (chain_of : List ℕ → Option Chain) (links : List Link) (chained : I
     }
 
 -- a map with the same entries has the same chains
-pub chained_same : {S : Type 0} (m n : HashMap (List ℕ) Chain S) (links after : List Link) → n.entries ≡ m.entries → after ≡ links → IsChained (get bytes_eq m) links → IsChained (get bytes_eq n) after
+pub chained_same : {S : Type 0} (m n : HashMap (List ℕ) Chain S) (links after : List Link)
+    → n.entries ≡ m.entries
+    → after ≡ links
+    → IsChained (get bytes_eq m) links
+    → IsChained (get bytes_eq n) after
 chained_same m n links after entries same chained =
     let lookups : get bytes_eq m ≡ get bytes_eq n = λ i d. lookup (bytes_eq d) (sym entries i) in
     subst (λ ls. IsChained (get bytes_eq n) ls) (sym same) (subst (λ f. IsChained f links) lookups chained)
 
 -- the last of the new value's chain is a link
-pub last_stands : (chain_of : List ℕ → Option Chain) (links : List Link) (new : List ℕ) (o : Option Chain) → IsChained chain_of links → o ≡ chain_of new → IfSome o (λ c. c.last < length links)
+pub last_stands : (chain_of : List ℕ → Option Chain) (links : List Link) (new : List ℕ) (o : Option Chain)
+    → IsChained chain_of links
+    → o ≡ chain_of new
+    → IfSome o (λ c. c.last < length links)
 last_stands chain_of links new None chained e = tt
 last_stands chain_of links new (Some c) chained e =
     let within = slice_get_within (digests_of links) c.last new (chained.lasts new c (sym e)).0 in
@@ -195,7 +236,14 @@ last_stands chain_of links new (Some c) chained e =
     omega (arith, within, len)
 
 -- one more link, as the code makes it
-pub chained_put : (chain_of after : List ℕ → Option Chain) (links reserved put : List Link) (new : List ℕ) (o : Option Chain) (n : ℕ) (v : Chain) → IsChained chain_of links → reserved ≡ links → o ≡ chain_of new → n ≡ length reserved → v ≡ chain_with o n → put ≡ linked reserved o new
+pub chained_put : (chain_of after : List ℕ → Option Chain) (links reserved put : List Link) (new : List ℕ)
+    (o : Option Chain) (n : ℕ) (v : Chain)
+    → IsChained chain_of links
+    → reserved ≡ links
+    → o ≡ chain_of new
+    → n ≡ length reserved
+    → v ≡ chain_with o n
+    → put ≡ linked reserved o new
     → ((d : List ℕ) → after d ≡ cond (bytes_eq new d) (Some v) (chain_of d)) → IsChained after put × (digests_of put ≡ digests_of links ++ new ∷ [])
 chained_put chain_of after links reserved put new o n v chained same chain number value items updated =
     let whole : put ≡ linked links (chain_of new) new = items ∙ (λ i. linked (same i) (chain i) new) in

@@ -58,13 +58,17 @@ module _ {K C L D : Type 0} (r : Reading K C) (q : Reading L D) (f : K → L) (g
   base_after-map phone zero = refl
   base_after-map phone (suc steps) = nh_after-map r q f g c phone.root phone.sync (suc steps)
 
-  handover_made-map : (phone : PhoneKeys K C) (steps : ℕ) (cell : Place) → map (map_derivation f) (handover_made r phone steps cell) ≡ handover_made q (map_phone f g phone) steps cell
+  handover_made-map : (phone : PhoneKeys K C) (steps : ℕ) (cell : Place)
+      → map (map_derivation f) (handover_made r phone steps cell) ≡ handover_made q (map_phone f g phone) steps cell
   handover_made-map phone steps cell =
-      let star = star_made-map (base_after r phone steps) cell.pci cell.earfcn ∙ ap (λ base. star_made q base cell.pci cell.earfcn) (base_after-map phone steps) in
+      let star = star_made-map (base_after r phone steps) cell.pci cell.earfcn
+      ∙ ap (λ base. star_made q base cell.pci cell.earfcn) (base_after-map phone steps) in
       map-append (map_derivation f) (nhs_made r phone.root phone.sync steps) (star_made r (base_after r phone steps) cell.pci cell.earfcn ∷ [])
       ∙ (λ k. nhs_made-map phone.root phone.sync steps k ++ star k ∷ [])
 
-  pub reached_after-map : (chain : ChainState K C) (active : K) (steps : ℕ) (cell : Place) → map_reached f g (reached_after r chain active steps cell) ≡ reached_after q (map_chain f g chain) (f active) steps cell
+  pub reached_after-map : (chain : ChainState K C) (active : K) (steps : ℕ) (cell : Place)
+      → map_reached f g (reached_after r chain active steps cell)
+      ≡ reached_after q (map_chain f g chain) (f active) steps cell
   reached_after-map chain active steps cell = λ k. record {
     chain = climbed-map chain steps k;
     star = key_after-map r q f g c (phone_of chain active) steps cell.pci cell.earfcn k;

@@ -28,7 +28,8 @@ number_step own (suc steps) =
     mod-add-mod (own + suc steps) 8 1 ∙ ap (λ n. n % 8) sum
 
 -- one more step is a step of the chain
-pub climbed_step : (chain : ChainState (List ℕ) ℕ) (steps : ℕ) → stepped octet_reading (climbed octet_reading chain steps) ≡ climbed octet_reading chain (suc steps)
+pub climbed_step : (chain : ChainState (List ℕ) ℕ) (steps : ℕ)
+    → stepped octet_reading (climbed octet_reading chain steps) ≡ climbed octet_reading chain (suc steps)
 climbed_step chain steps = λ k. record {
   root = chain.root;
   sync = nh_after octet_reading chain.root chain.sync (suc steps);
@@ -36,8 +37,13 @@ climbed_step chain steps = λ k. record {
 }
 
 -- the derivations of one more step
-pub made_step : (root sync : List ℕ) (steps : ℕ) → map derived_of (nhs_made octet_reading root sync (suc steps)) ≡ map derived_of (nhs_made octet_reading root sync steps) ++ derived_of (nh_made octet_reading root (nh_after octet_reading root sync steps)) ∷ []
-made_step root sync steps = map-append derived_of (nhs_made octet_reading root sync steps) (nh_made octet_reading root (nh_after octet_reading root sync steps) ∷ [])
+pub made_step : (root sync : List ℕ) (steps : ℕ)
+    → map derived_of (nhs_made octet_reading root sync (suc steps))
+    ≡ map derived_of (nhs_made octet_reading root sync steps)
+    ++ derived_of (nh_made octet_reading root (nh_after octet_reading root sync steps)) ∷ []
+made_step root sync steps =
+    map-append derived_of (nhs_made octet_reading root sync steps)
+    (nh_made octet_reading root (nh_after octet_reading root sync steps) ∷ [])
 
 -- after the steps to an NCC the chain has it
 pub climbed_number : (own ncc : ℕ) → own ≤ 7 → ncc ≤ 7 → number_after octet_reading own (steps_to own ncc) ≡ ncc

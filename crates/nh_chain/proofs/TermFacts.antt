@@ -34,13 +34,17 @@ climbed_in_octets r n p steps = λ k. record {
 }
 
 -- on the NCC of number i it comes to the number of the phone's line
-pub climbed_to_line : (r : Term) (n p i : ℕ) → climbed octet_reading (chain_in_octets (chain_at r n p)) (steps_to (ncc_of p) (ncc_of i)) ≡ chain_in_octets (chain_at r n (phone_number p (ncc_of i)))
+pub climbed_to_line : (r : Term) (n p i : ℕ)
+    → climbed octet_reading (chain_in_octets (chain_at r n p)) (steps_to (ncc_of p) (ncc_of i))
+    ≡ chain_in_octets (chain_at r n (phone_number p (ncc_of i)))
 climbed_to_line r n p i =
     climbed_in_octets r n p (steps_to (ncc_of p) (ncc_of i))
     ∙ ap (λ j. chain_in_octets (chain_at r n j)) (sym (least_from_remainder p (ncc_of i)))
 
 -- the phone's line in octets is its line in terms
-pub line_in_octets : (r t : Term) (n p i pci earfcn : ℕ) → phone_line octet_reading (phone_of (chain_in_octets (chain_at r n p)) (value_of t)) (ncc_of i) pci earfcn ≡ in_octets (key_at_phone r n t p i pci earfcn)
+pub line_in_octets : (r t : Term) (n p i pci earfcn : ℕ)
+    → phone_line octet_reading (phone_of (chain_in_octets (chain_at r n p)) (value_of t)) (ncc_of i) pci earfcn
+    ≡ in_octets (key_at_phone r n t p i pci earfcn)
 line_in_octets r t n p i pci earfcn =
     sym (phone_line-map term_reading octet_reading value_of ncc_of values_carry (phone_keys r n t p) (ncc_of i) pci earfcn)
     ∙ ap in_octets (phone_line-terms same_value r n t p i pci earfcn)

@@ -35,7 +35,10 @@ pub in_32_bits-Ok : (count n : ℕ) → in_32_bits count ≡ Ok n → (n ≡ cou
 unfolding in_32_bits
 in_32_bits-Ok count n found = by_test (nat_lt count count_limit) refl found
   where
-    by_test : (b : Bool) → nat_lt count count_limit ≡ b → (let spent : Result ℕ PdcpFault = Err CountSpent in if b then Ok count else spent) ≡ Ok n → (n ≡ count) × (n < count_limit)
+    by_test : (b : Bool)
+        → nat_lt count count_limit ≡ b
+        → (let spent : Result ℕ PdcpFault = Err CountSpent in if b then Ok count else spent) ≡ Ok n
+        → (n ≡ count) × (n < count_limit)
     by_test true test e = let is : n ≡ count = cc in (is, grind (arith, nat_tests))
     by_test false test e = absurd (cc)
 

@@ -94,7 +94,10 @@ unfolding srb_sealed
 srb_opened_at-srb_sealed keys cipher bearer count dir text =
     let covered = srb_header count ∷ text in
     let mac = srb_mac keys bearer count dir covered in
-    opened_at-plain keys cipher bearer count dir (srb_header count) (srb_ciphered keys cipher bearer count dir (text ++ mac)) text mac (srb_ciphered-srb_ciphered keys cipher bearer count dir (text ++ mac)) (length-sent keys cipher bearer count dir text covered) refl
+    opened_at-plain keys cipher bearer count dir (srb_header count)
+    (srb_ciphered keys cipher bearer count dir (text ++ mac)) text mac
+    (srb_ciphered-srb_ciphered keys cipher bearer count dir (text ++ mac))
+    (length-sent keys cipher bearer count dir text covered) refl
 
 -- and its COUNT is found where it is the one expected
 srb_count-srb_sealed : (keys : AsKeys (List ℕ)) (cipher : Bool) (bearer : Bearer) (count next : ℕ) (dir : Dir) (text : List ℕ)
@@ -148,7 +151,8 @@ srb_sealed-opened keys cipher bearer next dir pdu o h =
     ∙ rw h.text refl
 
 -- what is so of an answer at a COUNT
-pub record Answered (keys : AsKeys (List ℕ)) (cipher : Bool) (bearer : Bearer) (next : ℕ) (dir : Dir) (pdu : List ℕ) (r : Result PdcpOpened PdcpFault) : Type 0 where
+pub record Answered (keys : AsKeys (List ℕ)) (cipher : Bool) (bearer : Bearer) (next : ℕ) (dir : Dir) (pdu : List ℕ)
+    (r : Result PdcpOpened PdcpFault) : Type 0 where
   pub opens : IfOk r (SrbOpens keys cipher bearer next dir pdu)
   pub refused : IfErr r (SrbRefuses keys cipher bearer next dir pdu)
   pub was_sealed : IfOk r (λ o. pdu ≡ srb_sealed keys cipher bearer o.count dir o.text)

@@ -61,13 +61,17 @@ fn steps_to(own: u8, ncc: u8) -> u8
     (ncc + 8 - own) % 8
 }
 
-// The NH so many steps on.
+// The NH so many steps on. What HMAC computes from KASME alone is computed once, and not at all where there is no step.
 fn climb(root: &Kasme, sync: Nh, steps: u8) -> Nh
     ensures { result ≡ nh_after octet_reading root.now sync steps }
 {
+    if steps == 0 {
+        return sync;
+    }
+    let kasme = root.keyed();
     let mut nh = sync;
     for _ in 0..steps {
-        nh = root.nh_next(&nh).0;
+        nh = kasme.nh_next(&nh).0;
     }
     nh
 }

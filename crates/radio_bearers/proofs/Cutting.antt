@@ -9,4 +9,7 @@ cut_is n xs = by_test (nat_le n (length xs)) refl
   where
     by_test : (b : Bool) → nat_le n (length xs) ≡ b → take (min (length xs) n) xs ≡ take n xs
     by_test true e = let le : n ≤ length xs = grind (arith, nat_tests) in let m : min (length xs) n ≡ n = omega arith in rw m refl
-    by_test false e = let lt : length xs < n = grind (arith, nat_tests) in let m : min (length xs) n ≡ length xs = omega arith in let le : length xs ≤ n = omega arith in rw m grind (arith, common_steps)
+    by_test false e =
+        let lt : length xs < n = grind (arith, nat_tests) in
+        let m : min (length xs) n ≡ length xs = omega arith in
+        let le : length xs ≤ n = omega arith in rw m grind (arith, common_steps)

@@ -18,7 +18,9 @@ use Rattle.radio_bearers.specs.Bearers.{srb_of, drb_of}
 
 -- a PDU of an SRB, ciphered or not
 pub srb_sealed_is : (keys : AsKeys (List ℕ)) (cipher : Bool) (bearer : Bearer) (count : ℕ) (dir : Dir) (text : List ℕ) → IsSrb bearer
-    → srb_sealed keys cipher bearer count dir text ≡ srb_octets annex_b (srb_use dir keys.rrc_int (srb_of bearer) count) (ciphering_if cipher (srb_ciphering dir keys (srb_of bearer) count)) text
+    → srb_sealed keys cipher bearer count dir text
+    ≡ srb_octets annex_b (srb_use dir keys.rrc_int (srb_of bearer) count)
+    (ciphering_if cipher (srb_ciphering dir keys (srb_of bearer) count)) text
 unfolding srb_sealed srb_ciphered srb_octets
 srb_sealed_is keys true Srb1 count dir text h = refl
 srb_sealed_is keys false Srb1 count dir text h = refl
@@ -50,13 +52,18 @@ outcome_of (Ok o) = Opened o.text
 outcome_of (Err (MacFails count wanted got)) = Differs wanted got
 outcome_of (Err other) = Opened []
 
-by_test : (b : Bool) (count : ℕ) (wanted got text : List ℕ) → by_macs b wanted got text ≡ outcome_of (cond b (Ok (record { count = count; text = text })) (Err (MacFails count wanted got)))
+by_test : (b : Bool) (count : ℕ) (wanted got text : List ℕ)
+    → by_macs b wanted got text
+    ≡ outcome_of (cond b (Ok (record { count = count; text = text })) (Err (MacFails count wanted got)))
 by_test true count wanted got text = refl
 by_test false count wanted got text = refl
 
 -- what a PDU of an SRB opens to
 pub srb_opened_is : (keys : AsKeys (List ℕ)) (cipher : Bool) (bearer : Bearer) (count : ℕ) (dir : Dir) (pdu : List ℕ) → IsSrb bearer → 1 ≤ length pdu
-    → open_octets annex_b (OpensSrb (srb_use dir keys.rrc_int (srb_of bearer) count) (ciphering_if cipher (srb_ciphering dir keys (srb_of bearer) count))) pdu ≡ outcome_of (srb_opened_at keys cipher bearer count dir pdu)
+    → open_octets annex_b (OpensSrb (srb_use dir keys.rrc_int (srb_of bearer) count)
+    (ciphering_if cipher (srb_ciphering dir keys (srb_of bearer) count)))
+    pdu
+    ≡ outcome_of (srb_opened_at keys cipher bearer count dir pdu)
 unfolding open_octets srb_opened_at srb_ciphered
 srb_opened_is keys true Srb1 count dir pdu h long = rw (first_taken pdu long) (by_test _ count _ _ _)
 srb_opened_is keys false Srb1 count dir pdu h long = rw (first_taken pdu long) (by_test _ count _ _ _)

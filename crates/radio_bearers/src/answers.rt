@@ -5,7 +5,6 @@ ghost use Rattle.rec_base.specs.Bearer.{IsSrb};
 ghost use Rattle.rec_base.specs.Lengths.{longest_record};
 ghost use Rattle.lte_machine.specs.Wire.{srb_use};
 ghost use Rattle.lte_machine.specs.Calls.{use_out};
-ghost use Rattle.lte_machine.specs.Kinds.{rrc_kind};
 ghost use Rattle.lte_machine.specs.Refusals.{of_pdcp};
 ghost use Rattle.radio_bearers.specs.Bearers.{srb_of};
 
@@ -13,7 +12,6 @@ use annex_a_keys::AlgType;
 use lte_events::Answer;
 use pdcp_guard::{AsKeys, PdcpFault};
 use rec_base::{Bearer, Dir, Use, UserText};
-use rrc_rec::RrcRecord;
 
 /// The answer of an actor where a PDU was refused.
 pub fn answer_of(fault: PdcpFault) -> Answer
@@ -24,20 +22,6 @@ pub fn answer_of(fault: PdcpFault) -> Answer
         PdcpFault::BadHeader(octet) => Answer::BadHeader(octet),
         PdcpFault::CountSpent => Answer::CountSpent,
         PdcpFault::MacFails { count, wanted, got } => Answer::MacFails(count, wanted, got),
-    }
-}
-
-/// The first octet of the spelling of an RRC text, which tells its kind.
-pub fn kind_of(text: &RrcRecord) -> u8
-    ensures { result ≡ rrc_kind text.now }
-{
-    match text {
-        RrcRecord::SecurityModeCommand { .. } => 0x01,
-        RrcRecord::SecurityModeComplete => 0x02,
-        RrcRecord::Reconfiguration { .. } => 0x03,
-        RrcRecord::ReconfigurationComplete => 0x04,
-        RrcRecord::RrcData(_) => 0x05,
-        RrcRecord::KeyChange { .. } => 0x06,
     }
 }
 

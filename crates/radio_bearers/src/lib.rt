@@ -5,5 +5,5 @@
 mod answers;
 mod bearers;
 
-pub use answers::{answer_of, kind_of, packet_text, verified_use};
+pub use answers::{answer_of, packet_text, verified_use};
 pub use bearers::{Bearers, is_srb, is_srb1};

@@ -105,4 +105,5 @@ number_of-octets_of width n h =
 -- what is written of the number that octets read as is those octets
 pub octets_of-number_of : (octets : List ℕ) → AreOctets octets → octets_of (length octets) (number_of octets) ≡ octets
 octets_of-number_of octets fit =
-    same_from_number_of _ octets (length-octets_of (length octets) (number_of octets)) (octets_of-lt _ _) fit (number_of-octets_of _ _ (number_of-lt octets fit))
+    same_from_number_of _ octets (length-octets_of (length octets) (number_of octets)) (octets_of-lt _ _) fit
+    (number_of-octets_of _ _ (number_of-lt octets fit))

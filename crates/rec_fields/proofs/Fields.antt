@@ -156,7 +156,9 @@ algs_from : (octets : List ℕ) (place octet : ℕ) → number_at octets place 1
 unfolding algs_at
 algs_from octets place octet e = ap (λ n. algs_choice n place) e
 
-algs_read_eea : (octets : List ℕ) (place : ℕ) (eea : Eea) → number_at octets place 1 ≡ 16 * identity_of eea + eia2_identity → algs_at octets place ≡ Ok (record { eea = eea })
+algs_read_eea : (octets : List ℕ) (place : ℕ) (eea : Eea)
+    → number_at octets place 1 ≡ 16 * identity_of eea + eia2_identity
+    → algs_at octets place ≡ Ok (record { eea = eea })
 algs_read_eea octets place Eea0 e = algs_from octets place 0x02 e
 algs_read_eea octets place Eea2 e = algs_from octets place 0x22 e
 
@@ -183,7 +185,10 @@ pub cell_takes : (octets : List ℕ) (place : ℕ) (cell : Place) → AreOctets 
     → (drop place octets ≡ cell_octets cell ++ drop (place + 6) octets) × IsCell cell
 unfolding cell_at
 cell_takes octets place cell fit h e =
-    let a = bind_ok (number_in 0 greatest_pci octets place 2) (λ pci. number_in 0 greatest_earfcn octets (place + 2) 4 >>= λ earfcn. Ok (record { pci = pci; earfcn = earfcn })) cell e in
+    let a = bind_ok (number_in 0 greatest_pci octets place 2)
+    (λ pci.
+    number_in 0 greatest_earfcn octets (place + 2) 4 >>= λ earfcn. Ok (record { pci = pci; earfcn = earfcn }))
+    cell e in
     let b = bind_ok (number_in 0 greatest_earfcn octets (place + 2) 4) (λ earfcn. Ok (record { pci = a.0; earfcn = earfcn })) cell a.2 in
     let p = number_in_takes 0 greatest_pci octets place 2 a.0 fit (omega arith) a.1 in
     let q = number_in_takes 0 greatest_earfcn octets (place + 2) 4 b.0 fit (omega arith) b.1 in

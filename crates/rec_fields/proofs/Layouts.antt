@@ -69,7 +69,10 @@ abbrev pub Found : {F B : Type 0} (l : Layout F) → List ℕ → (Values l → 
 Found l rest k y = (vs : Values l) × (k vs ≡ Ok y) × (rest ≡ spelled_by l vs) × FitBy l vs
 
 pub found : {F B : Type 0} {Enough Whole : List ℕ → ℕ → Type 0} {e : Ending F} → IsEnding Enough Whole e → (l : Layout F) → AreFields Enough l
-    → (octets : List ℕ) (place : ℕ) (k : Values l → Result B F) (y : B) → AreOctets octets → Whole octets (place + width_of l) → read_by e l octets place k ≡ Ok y
+    → (octets : List ℕ) (place : ℕ) (k : Values l → Result B F) (y : B)
+    → AreOctets octets
+    → Whole octets (place + width_of l)
+    → read_by e l octets place k ≡ Ok y
     → Found l (drop place octets) k y
 found {Whole} {e} is Empty law octets place k y fit whole read =
     let here : place + 0 ≡ place = omega arith in
@@ -95,7 +98,10 @@ found {Whole} {e} is (Then f l) law octets place k y fit whole read =
     ((a.0, r.0), r.1, t.0 ∙ ap (λ r. f.spell a.0 ++ r) r.2, (t.1, r.3))
 
 pub again : {F B : Type 0} {Enough Whole : List ℕ → ℕ → Type 0} {e : Ending F} → IsEnding Enough Whole e → (l : Layout F) → AreFields Enough l
-    → (octets : List ℕ) (place : ℕ) (k : Values l → Result B F) (vs : Values l) → FitBy l vs → drop place octets ≡ spelled_by l vs → read_by e l octets place k ≡ k vs
+    → (octets : List ℕ) (place : ℕ) (k : Values l → Result B F) (vs : Values l)
+    → FitBy l vs
+    → drop place octets ≡ spelled_by l vs
+    → read_by e l octets place k ≡ k vs
 again is Empty law octets place k vs fit spelled = ap (λ r. r >>= k) (is.none_again octets place spelled)
 again {e} is (Last f) law octets place k x fit spelled =
     let end = place + f.width in
@@ -142,7 +148,10 @@ by_test P true u v x f g e = f refl e
 by_test P false u v x f g e = g e
 
 -- what is read by a table is spelled so
-pub kinds_take : {F A : Type 0} (unknown : F) (spell : A → List ℕ) (Fits : A → Type 0) (rows : Readers F A) (octets : List ℕ) (kind : ℕ) (x : A) → AreRows spell Fits rows → AreOctets octets
+pub kinds_take : {F A : Type 0} (unknown : F) (spell : A → List ℕ) (Fits : A → Type 0) (rows : Readers F A)
+    (octets : List ℕ) (kind : ℕ) (x : A)
+    → AreRows spell Fits rows
+    → AreOctets octets
     → octets ≡ kind ∷ drop 1 octets → by_kind unknown rows kind octets ≡ Ok x → Spelled spell Fits octets x
 kinds_take unknown spell Fits [] octets kind x are fit front e = absurd cc
 kinds_take unknown spell Fits (row ∷ rows) octets kind x are fit front e =
@@ -151,7 +160,10 @@ kinds_take unknown spell Fits (row ∷ rows) octets kind x are fit front e =
     (λ k. kinds_take unknown spell Fits rows octets kind x are.1 fit front k) e
 
 -- the same of octets that begin with their kind
-pub rows_take : {F A : Type 0} (none unknown : F) (spell : A → List ℕ) (Fits : A → Type 0) (rows : Readers F A) (octets : List ℕ) (x : A) → AreRows spell Fits rows → AreOctets octets
+pub rows_take : {F A : Type 0} (none unknown : F) (spell : A → List ℕ) (Fits : A → Type 0) (rows : Readers F A)
+    (octets : List ℕ) (x : A)
+    → AreRows spell Fits rows
+    → AreOctets octets
     → read_rows none unknown rows octets ≡ Ok x → Spelled spell Fits octets x
 rows_take none unknown spell Fits rows octets x are fit e =
     let some = passes (eqb (length octets) 0) none (by_kind unknown rows (number_at octets 0 1) octets) x e in
@@ -159,7 +171,8 @@ rows_take none unknown spell Fits rows octets x are fit e =
     kinds_take unknown spell Fits rows octets (number_at octets 0 1) x are fit (kind_takes octets (number_at octets 0 1) (omega arith) refl) some.1
 
 -- reading goes on by the kind
-pub rows_on : {F A : Type 0} (none unknown : F) (rows : Readers F A) (kind : ℕ) (rest : List ℕ) → read_rows none unknown rows (kind ∷ rest) ≡ by_kind unknown rows kind (kind ∷ rest)
+pub rows_on : {F A : Type 0} (none unknown : F) (rows : Readers F A) (kind : ℕ) (rest : List ℕ)
+    → read_rows none unknown rows (kind ∷ rest) ≡ by_kind unknown rows kind (kind ∷ rest)
 rows_on none unknown rows kind rest =
     let octets : List ℕ = kind ∷ rest in
     let differs : eqb (length octets) 0 ≡ false = ne_eqb _ _ (omega arith) in

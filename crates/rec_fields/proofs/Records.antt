@@ -40,7 +40,8 @@ cell_again octets rest place x fit e =
     let wide : x.earfcn < 256 ^ 4 = omega (arith, fit.1) in
     let split : drop place octets ≡ octets_of 2 x.pci ++ (octets_of 4 x.earfcn ++ rest) = e ∙ append_assoc (octets_of 2 x.pci) (octets_of 4 x.earfcn) rest in
     let next = behind octets (octets_of 2 x.pci) (octets_of 4 x.earfcn ++ rest) place 2 (length-octets_of 2 x.pci) split in
-    cell_read octets place x (number_is octets (octets_of 4 x.earfcn ++ rest) place 2 x.pci small split) (number_is octets rest (place + 2) 4 x.earfcn wide next) fit
+    cell_read octets place x (number_is octets (octets_of 4 x.earfcn ++ rest) place 2 x.pci small split)
+    (number_is octets rest (place + 2) 4 x.earfcn wide next) fit
 
 pub cell_is_field : IsField Reach cell
 cell_is_field = record {

@@ -4,10 +4,10 @@ use crate::values::same;
 use alg_choice::{Algs, Caps, Eea, Priority};
 use annex_a_keys::Cell;
 use lte_events::{
-    ActorOut, Address, Answer, Cells, CellsFault, CoreAct, Event, Events, Few, HoKind, PhoneAct,
+    ActorOut, Address, Answer, Cells, CellsFault, CoreAct, Event, Events, HoKind, PhoneAct,
     StationAct, StationSetup,
 };
-use rec_base::{Bearer, Octets, RecFault, ShortText, UserText};
+use rec_base::{Bearer, Few, Octets, RecFault, ShortText, UserText};
 use std::process::Abort;
 
 #[test]

@@ -1,6 +1,6 @@
 pub mod Details
 pub mod Line
 pub mod Ladder
-pub mod Chance
+pub mod Coincidence
 pub mod Summary
 pub mod End

@@ -2,7 +2,7 @@
 //! same for ever, so that two reports can be compared line by line.
 #![tactic(auto)]
 
-mod chances;
+mod coincidences;
 mod details;
 mod ends;
 mod ladders;
@@ -10,7 +10,7 @@ mod lines;
 mod memory;
 mod summaries;
 
-pub use chances::chance;
+pub use coincidences::coincidence;
 pub use ends::end;
 pub use ladders::{form, ladder_text, row_line};
 pub use lines::line;

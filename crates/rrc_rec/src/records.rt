@@ -54,7 +54,7 @@ pub enum RrcRecord {
 
 impl RrcRecord {
     ghost use Rattle.rrc_rec.specs.declared.records.RrcRecord.{RrcRecord};
-    ghost use Rattle.rrc_rec.specs.Spelling.{spelling_of, InRange};
+    ghost use Rattle.rrc_rec.specs.Spelling.{kind_of, spelling_of, InRange};
     ghost use Rattle.rrc_rec.specs.Reading.{read_rrc};
 
     /// The record that the octets spell, all of them. Otherwise the first fault: no octet is `Short`;
@@ -71,6 +71,20 @@ impl RrcRecord {
         record_of(octets)
     }
 
+    /// The first octet of the spelling, which tells the kind.
+    pub fn kind(&self) -> u8
+        ensures { result ≡ kind_of self.now }
+    {
+        match self {
+            RrcRecord::SecurityModeCommand { .. } => 0x01,
+            RrcRecord::SecurityModeComplete => 0x02,
+            RrcRecord::Reconfiguration { .. } => 0x03,
+            RrcRecord::ReconfigurationComplete => 0x04,
+            RrcRecord::RrcData(_) => 0x05,
+            RrcRecord::KeyChange { .. } => 0x06,
+        }
+    }
+
     /// The one spelling of a record whose fields are in their ranges: at most 201 octets.
     #[tactic(auto, unfolding(crate::specs::Spelling::spelling_of))]
     pub fn write(&self) -> Octets
@@ -78,13 +92,12 @@ impl RrcRecord {
         ensures value { result ≡ spelling_of self.now }
         ensures length { length result ≤ 201 }
     {
+        let mut out = list_of(&[self.kind()]);
         match self {
             RrcRecord::SecurityModeCommand { algs, station, air } => {
-                let mut out = list_of(&[0x01, algs_octet(algs), *station]);
+                out.append(&[algs_octet(algs), *station]);
                 put_u32(&mut out, *air);
-                out
             }
-            RrcRecord::SecurityModeComplete => list_of(&[0x02]),
             RrcRecord::Reconfiguration {
                 cell,
                 ncc,
@@ -92,30 +105,24 @@ impl RrcRecord {
                 station,
                 air,
             } => {
-                let mut out = list_of(&[0x03]);
                 put_cell(&mut out, cell);
                 out.append(&[*ncc, algs_octet(algs), *station]);
                 put_u32(&mut out, *air);
-                out
             }
-            RrcRecord::ReconfigurationComplete => list_of(&[0x04]),
-            RrcRecord::RrcData(text) => {
-                let mut out = list_of(&[0x05]);
-                out.append(text.as_slice());
-                out
-            }
+            RrcRecord::RrcData(text) => out.append(text.as_slice()),
             RrcRecord::KeyChange {
                 cell,
                 algs,
                 station,
                 air,
             } => {
-                let mut out = list_of(&[0x06]);
                 put_cell(&mut out, cell);
-                out.append(&[algs_octet(algs), *station]);
+                out.append(&[algs_octet(algs)]);
+                out.append(&[*station]);
                 put_u32(&mut out, *air);
-                out
             }
+            RrcRecord::SecurityModeComplete | RrcRecord::ReconfigurationComplete => {}
         }
+        out
     }
 }

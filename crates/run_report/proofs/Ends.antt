@@ -9,7 +9,7 @@ use Rattle.key_terms.specs.declared.row.LadderRow.{LadderRow}
 use Rattle.lte_events.specs.declared.lines.Line.{Line}
 use Rattle.lte_events.specs.Answer.{name_of}
 use Rattle.report_text.specs.declared.summaries.Figure.{Figure}
-use Rattle.report_text.specs.Chance.{proof_text, chance_text}
+use Rattle.report_text.specs.Coincidence.{proof_text, coincidence_text}
 use Rattle.report_text.specs.Details.{details_text}
 use Rattle.report_text.specs.End.{end_text}
 use Rattle.report_text.specs.Ladder.{row_head, without_comma, each_holder, row_text, rows_from, ladder_text}
@@ -24,9 +24,9 @@ line_ends line =
     (on (details_text line.answer) _ (on (sent_text line.sent) _ (on (opened_text line.opened) _ (on (note_text line.note) _
     (on (alarm_text line.alarm) _ feed)))))))))
 
-pub chance_ends : (step : ℕ) (proof : Proof) → EndsLine (chance_text step proof)
-unfolding chance_text
-chance_ends step proof = on (decimal step) _ (on (codes " coincidence ") _ (on (proof_text proof) _ feed))
+pub coincidence_ends : (step : ℕ) (proof : Proof) → EndsLine (coincidence_text step proof)
+unfolding coincidence_text
+coincidence_ends step proof = on (decimal step) _ (on (codes " coincidence ") _ (on (proof_text proof) _ feed))
 
 pub end_ends : (events records rows : ℕ) → EndsLine (end_text events records rows)
 unfolding end_text

@@ -12,7 +12,9 @@ abbrev pub figures_from : Tallied → ℕ → ℕ → List ℕ
 figures_from tally rows i = flat_map (figure_text tally rows) (drop i figures)
 
 figure_is : (fs : List Figure) (i : ℕ) (d : Figure) → fs ≡ figures → i < 6 → get_or figures i (get_or fs i d) ≡ get_or fs i d
-figure_is fs i d same within = subst (λ xs. get_or figures i (get_or xs i d) ≡ get_or xs i d) (sym same) (sym (get_or_default figures i d (get_or figures i d) within))
+figure_is fs i d same within =
+    subst (λ xs. get_or figures i (get_or xs i d) ≡ get_or xs i d) (sym same)
+    (sym (get_or_default figures i d (get_or figures i d) within))
 
 -- they begin with its line
 pub figure_more : (tally : Tallied) (rows i : ℕ) (fs : List Figure) (d : Figure) → fs ≡ figures → i < 6

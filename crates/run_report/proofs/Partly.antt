@@ -72,7 +72,11 @@ none_written whole first ready = record {
 }
 
 -- a piece more
-pub more_written : {A : Type 0} {done : A} {whole rest piece left : List ℕ} {first mid now : Told} → Partly whole rest first mid → Begins rest piece left → WritesText piece (Ok done) mid now → Partly whole left first now
+pub more_written : {A : Type 0} {done : A} {whole rest piece left : List ℕ} {first mid now : Told}
+    → Partly whole rest first mid
+    → Begins rest piece left
+    → WritesText piece (Ok done) mid now
+    → Partly whole left first now
 more_written {piece} {left} {first} {mid} {now} s begins w = record {
   front = s.front ++ piece;
   grown = grows_twice first.written mid.written now.written s.front piece s.grown w.written;
@@ -82,7 +86,10 @@ more_written {piece} {left} {first} {mid} {now} s begins w = record {
 }
 
 -- all of it
-pub all_written : {A : Type 0} {done : A} {whole rest : List ℕ} {first now : Told} → Partly whole rest first now → rest ≡ [] → WritesText whole (Ok done) first now
+pub all_written : {A : Type 0} {done : A} {whole rest : List ℕ} {first now : Told}
+    → Partly whole rest first now
+    → rest ≡ []
+    → WritesText whole (Ok done) first now
 all_written {whole} {first} {now} s none = record {
   written = subst (Grows first.written now.written) (sym (s.parts ∙ ap (λ r. s.front ++ r) none ∙ append-nil s.front)) s.grown;
   no_fault = λ differs. s.no_fault;
@@ -91,7 +98,10 @@ all_written {whole} {first} {now} s none = record {
 }
 
 -- a piece that was cut
-pub cut_written : {A B : Type 0} {fault : Unwritten} {whole rest piece left : List ℕ} {first mid now : Told} → Partly whole rest first mid → Begins rest piece left → WritesText {A = A} piece (Err fault) mid now
+pub cut_written : {A B : Type 0} {fault : Unwritten} {whole rest piece left : List ℕ} {first mid now : Told}
+    → Partly whole rest first mid
+    → Begins rest piece left
+    → WritesText {A = A} piece (Err fault) mid now
     → WritesText {A = B} whole (Err fault) first now
 cut_written {A} {B} {fault} {whole} {rest} {piece} {left} {first} {mid} {now} s begins w = record {
   written = by fault w.written;
@@ -104,10 +114,13 @@ cut_written {A} {B} {fault} {whole} {rest} {piece} {left} {first} {mid} {now} s 
     parts = s.parts ∙ ap (λ r. s.front ++ r) begins.is ∙ sym (append_assoc s.front piece left)
 
     by : (f : Unwritten) → Written {A = A} piece (Err f) mid now → Written {A = B} whole (Err f) first now
-    by Memory cut = subst (λ t. GrowsByPrefix first.written now.written t) (sym parts) (prefix_on first.written mid.written now.written s.front piece left s.grown cut)
+    by Memory cut =
+        subst (λ t. GrowsByPrefix first.written now.written t) (sym parts)
+        (prefix_on first.written mid.written now.written s.front piece left s.grown cut)
     by WriteFault cut = (
       omega (arith, s.used.counts.writes, cut.0),
-      subst (λ t. GrowsByProperPrefix first.written now.written t) (sym parts) (proper_prefix_on first.written mid.written now.written s.front piece left s.grown cut.1),
+      subst (λ t. GrowsByProperPrefix first.written now.written t) (sym parts)
+          (proper_prefix_on first.written mid.written now.written s.front piece left s.grown cut.1),
     )
 
     clear : (f : Unwritten) → ◌≢◌ {A = Result B Unwritten} (Err f) (Err WriteFault) → ◌≢◌ {A = Result A Unwritten} (Err f) (Err WriteFault)
@@ -119,23 +132,41 @@ cut_written {A} {B} {fault} {whole} {rest} {piece} {left} {first} {mid} {now} s 
     same WriteFault e = cc
 
 -- the last piece
-pub last_written : {A B : Type 0} {done : A} {more : B} {whole rest : List ℕ} {first mid now : Told} → Partly whole rest first mid → WritesText rest (Ok done) mid now → WritesText whole (Ok more) first now
+pub last_written : {A B : Type 0} {done : A} {more : B} {whole rest : List ℕ} {first mid now : Told}
+    → Partly whole rest first mid
+    → WritesText rest (Ok done) mid now
+    → WritesText whole (Ok more) first now
 last_written {rest} s w = all_written (more_written s (one_left rest) w) refl
 
-pub last_cut : {A B : Type 0} {fault : Unwritten} {whole rest : List ℕ} {first mid now : Told} → Partly whole rest first mid → WritesText {A = A} rest (Err fault) mid now → WritesText {A = B} whole (Err fault) first now
+pub last_cut : {A B : Type 0} {fault : Unwritten} {whole rest : List ℕ} {first mid now : Told}
+    → Partly whole rest first mid
+    → WritesText {A = A} rest (Err fault) mid now
+    → WritesText {A = B} whole (Err fault) first now
 last_cut {rest} s w = cut_written s (one_left rest) w
 
 -- two pieces
-pub both_written : {A B : Type 0} {done : A} {first mid now : Told} (result : Result B Unwritten) (one two : List ℕ) → IsTrue first.ready → WritesText one (Ok done) first mid → WritesText two result mid now → WritesText (one ++ two) result first now
+pub both_written : {A B : Type 0} {done : A} {first mid now : Told} (result : Result B Unwritten) (one two : List ℕ)
+    → IsTrue first.ready
+    → WritesText one (Ok done) first mid
+    → WritesText two result mid now
+    → WritesText (one ++ two) result first now
 both_written {first} (Ok more) one two ready a b = last_written (more_written (none_written (one ++ two) first ready) (two_left one two) a) b
 both_written {first} (Err fault) one two ready a b = last_cut (more_written (none_written (one ++ two) first ready) (two_left one two) a) b
 
-pub first_cut : {A B : Type 0} {fault : Unwritten} {first now : Told} (one two : List ℕ) → IsTrue first.ready → WritesText {A = A} one (Err fault) first now → WritesText {A = B} (one ++ two) (Err fault) first now
+pub first_cut : {A B : Type 0} {fault : Unwritten} {first now : Told} (one two : List ℕ)
+    → IsTrue first.ready
+    → WritesText {A = A} one (Err fault) first now
+    → WritesText {A = B} (one ++ two) (Err fault) first now
 first_cut {first} one two ready cut = cut_written (none_written (one ++ two) first ready) (two_left one two) cut
 
 -- nothing, for want of memory
 pub unwritten : {A : Type 0} (text : List ℕ) (now : Told) → WasRefused → IsTrue now.ready → WritesText {A = A} text (Err Memory) now now
-unwritten text now refused ready = record { written = none_of now.written text; no_fault = λ differs. record { reads = refl; writes = refl; opens = refl }; refused = λ e. refused; used = unused now ready }
+unwritten text now refused ready = record {
+  written = none_of now.written text;
+  no_fault = λ differs. record { reads = refl; writes = refl; opens = refl };
+  refused = λ e. refused;
+  used = unused now ready;
+}
 
 -- A REPORT
 
@@ -156,10 +187,16 @@ pub record ReportPartly (whole rest : Report) (first now : Told) : Type 0 where
   pub coincidence : whole.coincides ≡ rest.coincides
 
 pub none_reported : {whole rest : Report} (first : Told) → IsTrue first.ready → whole ≡ rest → ReportPartly whole rest first first
-none_reported {whole} first ready is = subst (λ r. ReportPartly whole r first first) is (record { text = none_written whole.text first ready; coincidence = refl })
+none_reported {whole} first ready is = subst (λ r. ReportPartly whole r first first) is
+    (record { text = none_written whole.text first ready; coincidence = refl })
 
 -- a piece more, which is no coincidence
-pub more_reported : {b : Bool} {whole rest piece left : Report} {first mid now : Told} → ReportPartly whole rest first mid → Follows rest piece left → b ≡ false → WritesReport piece (Ok b) mid now → ReportPartly whole left first now
+pub more_reported : {b : Bool} {whole rest piece left : Report} {first mid now : Told}
+    → ReportPartly whole rest first mid
+    → Follows rest piece left
+    → b ≡ false
+    → WritesReport piece (Ok b) mid now
+    → ReportPartly whole left first now
 more_reported {rest} {piece} {left} s follows plain w =
     let goes : piece.coincides ≡ false = sym w.coincidence ∙ plain in
     let more = follows.is ∙ ap (λ b. followed_if b piece left) goes in
@@ -167,7 +204,12 @@ more_reported {rest} {piece} {left} s follows plain w =
     record { text = more_written s.text begins w.text; coincidence = s.coincidence ∙ ap (λ r. r.coincides) more }
 
 -- the coincidence that ends it
-pub coincidence_reported : {b : Bool} {whole rest piece left : Report} {first mid now : Told} → ReportPartly whole rest first mid → Follows rest piece left → b ≡ true → WritesReport piece (Ok b) mid now → WritesReport whole (Ok true) first now
+pub coincidence_reported : {b : Bool} {whole rest piece left : Report} {first mid now : Told}
+    → ReportPartly whole rest first mid
+    → Follows rest piece left
+    → b ≡ true
+    → WritesReport piece (Ok b) mid now
+    → WritesReport whole (Ok true) first now
 coincidence_reported {rest} {piece} {left} s follows ends w =
     let coincides : piece.coincides ≡ true = sym w.coincidence ∙ ends in
     let last = follows.is ∙ ap (λ b. followed_if b piece left) coincides in
@@ -179,7 +221,11 @@ begins_with : (piece left : Report) (b : Bool) → (more : List ℕ) × ((follow
 begins_with piece left true = ([], sym (append-nil piece.text))
 begins_with piece left false = (left.text, refl)
 
-pub cut_reported : {fault : Unwritten} {whole rest piece left : Report} {first mid now : Told} → ReportPartly whole rest first mid → Follows rest piece left → WritesReport piece (Err fault) mid now → WritesReport whole (Err fault) first now
+pub cut_reported : {fault : Unwritten} {whole rest piece left : Report} {first mid now : Told}
+    → ReportPartly whole rest first mid
+    → Follows rest piece left
+    → WritesReport piece (Err fault) mid now
+    → WritesReport whole (Err fault) first now
 cut_reported {rest} {piece} {left} s follows w =
     let more = begins_with piece left piece.coincides in
     let begins : Begins rest.text piece.text more.0 = record { is = ap (λ r. r.text) follows.is ∙ more.1 } in
@@ -190,20 +236,42 @@ pub unreported : (report : Report) (now : Told) → WasRefused → IsTrue now.re
 unreported report now refused ready = record { text = unwritten report.text now refused ready; coincidence = tt }
 
 -- its end
-pub end_reported : {A : Type 0} {done : A} {whole rest : Report} {text : List ℕ} {first mid now : Told} → ReportPartly whole rest first mid → rest ≡ record { text = text; coincides = false } → WritesText text (Ok done) mid now
+pub end_reported : {A : Type 0} {done : A} {whole rest : Report} {text : List ℕ} {first mid now : Told}
+    → ReportPartly whole rest first mid
+    → rest ≡ record { text = text; coincides = false }
+    → WritesText text (Ok done) mid now
     → WritesReport whole (Ok false) first now
 end_reported {whole} {first} {mid} s is w =
     record { text = last_written (subst (λ r. Partly whole.text r.text first mid) is s.text) w; coincidence = sym (s.coincidence ∙ ap (λ r. r.coincides) is) }
 
-pub end_cut : {A : Type 0} {fault : Unwritten} {whole rest : Report} {text : List ℕ} {first mid now : Told} → ReportPartly whole rest first mid → rest ≡ record { text = text; coincides = false } → WritesText {A = A} text (Err fault) mid now
+pub end_cut : {A : Type 0} {fault : Unwritten} {whole rest : Report} {text : List ℕ} {first mid now : Told}
+    → ReportPartly whole rest first mid
+    → rest ≡ record { text = text; coincides = false }
+    → WritesText {A = A} text (Err fault) mid now
     → WritesReport whole (Err fault) first now
 end_cut {whole} {first} {mid} s is w = record { text = last_cut (subst (λ r. Partly whole.text r.text first mid) is s.text) w; coincidence = tt }
 
 -- a report of one piece
-pub one_piece : {A : Type 0} {done : A} {b : Bool} {report : Report} {text : List ℕ} {first now : Told} → report ≡ record { text = text; coincides = b } → WritesText text (Ok done) first now → WritesReport report (Ok b) first now
+pub one_piece : {A : Type 0} {done : A} {b : Bool} {report : Report} {text : List ℕ} {first now : Told}
+    → report ≡ record { text = text; coincides = b }
+    → WritesText text (Ok done) first now
+    → WritesReport report (Ok b) first now
 one_piece {b} {first} {now} is w =
-    subst (λ r. WritesReport r (Ok b) first now) (sym is) (record { text = record { written = w.written; no_fault = λ differs. w.no_fault (λ e. cc); refused = λ e. cc; used = w.used }; coincidence = refl })
+    subst (λ r. WritesReport r (Ok b) first now) (sym is) (record {
+      text = record {
+        written = w.written;
+        no_fault = λ differs. w.no_fault (λ e. cc);
+        refused = λ e. cc;
+        used = w.used;
+      };
+      coincidence = refl;
+    })
 
-pub one_cut : {A : Type 0} {fault : Unwritten} {b : Bool} {report : Report} {text : List ℕ} {first now : Told} → report ≡ record { text = text; coincides = b } → IsTrue first.ready → WritesText {A = A} text (Err fault) first now
+pub one_cut : {A : Type 0} {fault : Unwritten} {b : Bool} {report : Report} {text : List ℕ} {first now : Told}
+    → report ≡ record { text = text; coincides = b }
+    → IsTrue first.ready
+    → WritesText {A = A} text (Err fault) first now
     → WritesReport report (Err fault) first now
-one_cut {fault} {text} {first} {now} is ready w = subst (λ r. WritesReport r (Err fault) first now) (sym is) (record { text = last_cut (none_written text first ready) w; coincidence = tt })
+one_cut {fault} {text} {first} {now} is ready w =
+    subst (λ r. WritesReport r (Err fault) first now) (sym is)
+    (record { text = last_cut (none_written text first ready) w; coincidence = tt })

@@ -1,6 +1,7 @@
 -- A coincidence of a run is shown by what has a string S.
 use Rattle.std.proofs.Common.{◌≡◌, refl, sym, subst, ap, ℕ, Bool, true, false, Option, Some, None, Err, List, [], ◌∷◌}
 use Rattle.std.specs.Str.{bytes_eq}
+use Rattle.std.specs.List.{AllByRecursion as AllOf}
 use Rattle.hmac_kdf.specs.declared.input.KdfInput.{KdfInput}
 use Rattle.hmac_kdf.specs.Kdf.{IsKdfInput}
 use Rattle.key_model.specs.Derivation.{derived_of}
@@ -12,20 +13,18 @@ use Rattle.lte_machine.specs.Ciphers.{annex_b}
 use Rattle.lte_machine.specs.Ladder.{RowOrigin, OfRoot, Of, Clash, Ladder, add_next, added_unless, added_at, stands_or_not, add_row, add_rows, no_rows, Hit, hit, row_key, same_origin, ladder_of}
 use Rattle.lte_machine.specs.Machines.{Kept, machine_in_octets}
 use Rattle.lte_machine.specs.Opening.{open_octets, accepted_of}
-use Rattle.lte_machine.specs.Ranges.{AllOf, IsEvent, IsSetup}
 use Rattle.lte_machine.specs.Run.{RunState, Running, Stopped, EventReport, Reported, Coincided, reported, event_report, GoesOn}
-use Rattle.lte_machine.specs.Step.{StepResult, Continues, Stops, next, attempted, opening_chance, by_chance, by_ladder}
-use Rattle.lte_machine.specs.Tuples.{Chance, Tuples, Rows, tuple_chance, tuples_unless, same_sender}
+use Rattle.lte_machine.specs.Step.{StepResult, Continues, Stops, next, attempted, opening_coincidence, by_coincidence, by_ladder}
+use Rattle.lte_machine.specs.Tuples.{Coincidence, Tuples, Rows, tuple_coincidence, tuples_unless, same_sender}
 use Rattle.lte_machine.specs.World.{World, Line, happens}
-use Rattle.lte_events.specs.Conditions.{CanHappen, EventFits}
-use Rattle.lte_machine.proofs.Fitting.{event_fits}
+use Rattle.lte_events.specs.Ranges.{IsEvent, IsSetup}
 use Rattle.lte_world.specs.declared.faults.WorldFault.TheVariants as fault
 use Rattle.lte_world.specs.Whole.{Whole, run_of, unless_over, answer_of}
 use Rattle.lte_world.specs.Whole as whole
 use Rattle.store_laws.specs.Additions.{IsInput, CanAddTo, AllCanAdd}
 use Rattle.store_laws.specs.Proofs.{proof_of, clash_proof}
 use Rattle.store_laws.proofs.EveryRun.{event_keeps}
-use Rattle.report_text.specs.Chance.{HasString}
+use Rattle.report_text.specs.Coincidence.{HasString}
 use Rattle.run_report.specs.Events.{HasCount, HasCounts, told_of}
 
 input_fits : (input : KdfInput) → HasCount input → IsInput input → IsKdfInput input
@@ -39,15 +38,17 @@ abbrev OriginIs : RowOrigin (List ℕ) → Type 0
 OriginIs (OfRoot key) = Unit {0}
 OriginIs (Of d) = IsInput (derived_of d).input
 
-abbrev ChanceIs : Chance (List ℕ) → Type 0
-ChanceIs (Tuples sender receiver) = Unit {0}
-ChanceIs (Rows clash) = OriginIs clash.origin
+abbrev CoincidenceIs : Coincidence (List ℕ) → Type 0
+CoincidenceIs (Tuples sender receiver) = Unit {0}
+CoincidenceIs (Rows clash) = OriginIs clash.origin
 
 can_be : (rows : _) (o : RowOrigin (List ℕ)) → CanAddTo rows o → OriginIs o
 can_be rows (OfRoot key) can = tt
 can_be rows (Of d) can = can.input
 
-clash_is : (rows : List (RowOrigin (List ℕ))) (o : RowOrigin (List ℕ)) (h : Option (Hit (List ℕ))) (c : Clash (List ℕ)) → (added_at bytes_eq rows o h).clash ≡ Some c → c.origin ≡ o
+clash_is : (rows : List (RowOrigin (List ℕ))) (o : RowOrigin (List ℕ)) (h : Option (Hit (List ℕ))) (c : Clash (List ℕ))
+    → (added_at bytes_eq rows o h).clash ≡ Some c
+    → c.origin ≡ o
 clash_is rows o None c e = cc
 clash_is rows o (Some h) c e = stands (same_origin bytes_eq h.found o) e
   where
@@ -60,11 +61,19 @@ abbrev SoFar : Option (Clash (List ℕ)) → Type 0
 SoFar None = Unit {0}
 SoFar (Some c) = OriginIs c.origin
 
-added_far : (rows : List (RowOrigin (List ℕ))) (o : RowOrigin (List ℕ)) → OriginIs o → (r : Option (Clash (List ℕ))) → (add_row bytes_eq rows o).clash ≡ r → SoFar r
+added_far : (rows : List (RowOrigin (List ℕ))) (o : RowOrigin (List ℕ))
+    → OriginIs o
+    → (r : Option (Clash (List ℕ)))
+    → (add_row bytes_eq rows o).clash ≡ r
+    → SoFar r
 added_far rows o is None e = tt
 added_far rows o is (Some c) e = subst OriginIs (sym (clash_is rows o (hit bytes_eq (row_key o) rows) c e)) is
 
-next_far : (l : Ladder (List ℕ)) (o : RowOrigin (List ℕ)) (r : Option (Clash (List ℕ))) → l.clash ≡ r → SoFar r → (l.clash ≡ None → CanAddTo l.rows o) → SoFar (added_unless r bytes_eq l.rows o).clash
+next_far : (l : Ladder (List ℕ)) (o : RowOrigin (List ℕ)) (r : Option (Clash (List ℕ)))
+    → l.clash ≡ r
+    → SoFar r
+    → (l.clash ≡ None → CanAddTo l.rows o)
+    → SoFar (added_unless r bytes_eq l.rows o).clash
 next_far l o None is far can = added_far l.rows o (can_be l.rows o (can is)) (add_row bytes_eq l.rows o).clash refl
 next_far l o (Some c) is far can = far
 
@@ -73,65 +82,107 @@ clashes [] l far can = far
 clashes (o ∷ os) l far can = clashes os (add_next bytes_eq l o) (next_far l o l.clash refl far can.0) can.1
 
 -- of what an event comes to
-tuples_is : (b : Bool) (sender : _) (receiver : _) (chance : Chance (List ℕ)) → tuples_unless b sender receiver ≡ Some chance → ChanceIs chance
-tuples_is true sender receiver chance e = cc
+tuples_is : (b : Bool) (sender : _) (receiver : _) (coincidence : Coincidence (List ℕ))
+    → tuples_unless b sender receiver ≡ Some coincidence
+    → CoincidenceIs coincidence
+tuples_is true sender receiver coincidence e = cc
 tuples_is false sender receiver (Tuples s r) e = tt
 tuples_is false sender receiver (Rows c) e = cc
 
-accepted_is : (sender : _) (receiver : _) (chance : Chance (List ℕ)) → tuple_chance bytes_eq sender receiver ≡ Some chance → ChanceIs chance
-accepted_is sender None chance e = cc
-accepted_is sender (Some receiver) chance e = tuples_is (same_sender bytes_eq sender receiver) sender receiver chance e
+accepted_is : (sender : _) (receiver : _) (coincidence : Coincidence (List ℕ))
+    → tuple_coincidence bytes_eq sender receiver ≡ Some coincidence
+    → CoincidenceIs coincidence
+accepted_is sender None coincidence e = cc
+accepted_is sender (Some receiver) coincidence e = tuples_is (same_sender bytes_eq sender receiver) sender receiver coincidence e
 
-ladder_is : (clash : Option (Clash (List ℕ))) (h : World (List ℕ) ℕ Kept × Line (List ℕ)) (chance : Chance (List ℕ)) → SoFar clash → by_ladder clash h ≡ Stops chance → ChanceIs chance
-ladder_is None h chance far e = cc
-ladder_is (Some c) h chance far e = let one : Rows c ≡ chance = cc in subst ChanceIs one far
+ladder_is : (clash : Option (Clash (List ℕ))) (h : World (List ℕ) ℕ Kept × Line (List ℕ))
+    (coincidence : Coincidence (List ℕ))
+    → SoFar clash
+    → by_ladder clash h ≡ Stops coincidence
+    → CoincidenceIs coincidence
+ladder_is None h coincidence far e = cc
+ladder_is (Some c) h coincidence far e = let one : Rows c ≡ coincidence = cc in subst CoincidenceIs one far
 
-step_is : (p : Option (Chance (List ℕ))) (h : World (List ℕ) ℕ Kept × Line (List ℕ)) (chance : Chance (List ℕ)) → ((q : Chance (List ℕ)) → p ≡ Some q → ChanceIs q) → SoFar (ladder_of bytes_eq h.0.history).clash → by_chance bytes_eq p h ≡ Stops chance → ChanceIs chance
-step_is None h chance tuples far e = ladder_is (ladder_of bytes_eq h.0.history).clash h chance far e
-step_is (Some p) h chance tuples far e = let one : p ≡ chance = cc in subst ChanceIs one (tuples p refl)
+step_is : (p : Option (Coincidence (List ℕ))) (h : World (List ℕ) ℕ Kept × Line (List ℕ))
+    (coincidence : Coincidence (List ℕ))
+    → ((q : Coincidence (List ℕ)) → p ≡ Some q → CoincidenceIs q)
+    → SoFar (ladder_of bytes_eq h.0.history).clash
+    → by_coincidence bytes_eq p h ≡ Stops coincidence
+    → CoincidenceIs coincidence
+step_is None h coincidence tuples far e = ladder_is (ladder_of bytes_eq h.0.history).clash h coincidence far e
+step_is (Some p) h coincidence tuples far e = let one : p ≡ coincidence = cc in subst CoincidenceIs one (tuples p refl)
 
-next_is : (setup : Setup) (events : List Event) (w : World (List ℕ) ℕ Kept) (e : Event) (chance : Chance (List ℕ)) → IsSetup setup → AllOf IsEvent events → octet_run setup events ≡ Running w → IsEvent e
-    → next (open_octets annex_b) (machine_in_octets annex_b) w e ≡ Stops chance → ChanceIs chance
-next_is setup events w e chance is are runs good stops =
+next_is : (setup : Setup) (events : List Event) (w : World (List ℕ) ℕ Kept) (e : Event)
+    (coincidence : Coincidence (List ℕ))
+    → IsSetup setup
+    → AllOf IsEvent events
+    → octet_run setup events ≡ Running w
+    → IsEvent e
+    → next (open_octets annex_b) (machine_in_octets annex_b) w e ≡ Stops coincidence → CoincidenceIs coincidence
+next_is setup events w e coincidence is are runs good stops =
     let m = machine_in_octets annex_b in
     let h = happens m w e in
     let keeps = event_keeps setup events w is are runs e good in
-    step_is (opening_chance (open_octets annex_b) m (attempted m w e)) h chance
-    (λ q came. accepted_is (m.sender (attempted m w e).came) (accepted_of (attempted m w e).opening (open_octets annex_b (attempted m w e).opening (attempted m w e).octets)) q came)
+    step_is (opening_coincidence (open_octets annex_b) m (attempted m w e)) h coincidence
+    (λ q came. accepted_is (m.sender (attempted m w e).came)
+    (accepted_of (attempted m w e).opening (open_octets annex_b (attempted m w e).opening (attempted m w e).octets))
+    q came)
     (clashes h.0.history no_rows tt keeps.history) stops
 
 origin_string : (n : ℕ) (o : RowOrigin (List ℕ)) → OriginIs o → HasCounts (clash_proof n o) → HasString (clash_proof n o)
 origin_string n (OfRoot key) is count = tt
 origin_string n (Of d) is count = input_fits (derived_of d).input count is
 
-chance_string : (chance : Chance (List ℕ)) → ChanceIs chance → HasCounts (proof_of chance) → HasString (proof_of chance)
-chance_string (Tuples sender receiver) is count = tt
-chance_string (Rows c) is count = origin_string c.row c.origin is count
+coincidence_string : (coincidence : Coincidence (List ℕ)) → CoincidenceIs coincidence → HasCounts (proof_of coincidence) → HasString (proof_of coincidence)
+coincidence_string (Tuples sender receiver) is count = tt
+coincidence_string (Rows c) is count = origin_string c.row c.origin is count
 
-reported_is : (s : StepResult (List ℕ) ℕ Kept) (chance : Chance (List ℕ)) → reported s ≡ Coincided chance → s ≡ Stops chance
-reported_is (Continues w line) chance e = cc
-reported_is (Stops c) chance e = let one : c ≡ chance = cc in ap Stops one
+reported_is : (s : StepResult (List ℕ) ℕ Kept) (coincidence : Coincidence (List ℕ)) → reported s ≡ Coincided coincidence → s ≡ Stops coincidence
+reported_is (Continues w line) coincidence e = cc
+reported_is (Stops c) coincidence e = let one : c ≡ coincidence = cc in ap Stops one
 
 -- a coincidence that a run tells of its next event
-pub shown : (setup : Setup) (events : List Event) (w : World (List ℕ) ℕ Kept) (e : Event) (chance : Chance (List ℕ)) → IsSetup setup → AllOf IsEvent events → octet_run setup events ≡ Running w → IsEvent e
-    → event_report (open_octets annex_b) (machine_in_octets annex_b) (Running w) e ≡ Coincided chance → HasCounts (proof_of chance) → HasString (proof_of chance)
-shown setup events w e chance is are runs good told counts =
-    chance_string chance (next_is setup events w e chance is are runs good (reported_is (next (open_octets annex_b) (machine_in_octets annex_b) w e) chance told)) counts
+pub shown : (setup : Setup) (events : List Event) (w : World (List ℕ) ℕ Kept) (e : Event)
+    (coincidence : Coincidence (List ℕ))
+    → IsSetup setup
+    → AllOf IsEvent events
+    → octet_run setup events ≡ Running w
+    → IsEvent e
+    → event_report (open_octets annex_b) (machine_in_octets annex_b) (Running w) e ≡ Coincided coincidence
+    → HasCounts (proof_of coincidence)
+    → HasString (proof_of coincidence)
+shown setup events w e coincidence is are runs good told counts =
+    coincidence_string coincidence
+    (next_is setup events w e coincidence is are runs good
+    (reported_is (next (open_octets annex_b) (machine_in_octets annex_b) w e) coincidence told))
+    counts
 
 -- of a world as a caller knows it
-of_run : (run : RunState (List ℕ) ℕ Kept) (setup : Setup) (events : List Event) (e : Event) (told : EventReport (List ℕ)) (proof : Proof) → IsSetup setup → AllOf IsEvent events → run ≡ octet_run setup events → IsEvent e
-    → GoesOn run → told_of run e ≡ told → Err (fault.Chance proof) ≡ answer_of told → HasCounts proof → HasString proof
+of_run : (run : RunState (List ℕ) ℕ Kept) (setup : Setup) (events : List Event) (e : Event)
+    (told : EventReport (List ℕ)) (proof : Proof)
+    → IsSetup setup
+    → AllOf IsEvent events
+    → run ≡ octet_run setup events
+    → IsEvent e
+    → GoesOn run → told_of run e ≡ told → Err (fault.Coincidence proof) ≡ answer_of told → HasCounts proof → HasString proof
 of_run (Stopped c) setup events e told proof is are runs good goes tells answer counts = absurd goes
 of_run (Running w) setup events e (Reported line) proof is are runs good goes tells answer counts = cc
-of_run (Running w) setup events e (Coincided chance) proof is are runs good goes tells answer counts =
-    let one : proof ≡ proof_of chance = cc in
-    subst HasString (sym one) (shown setup events w e chance is are (sym runs) good tells (subst HasCounts one counts))
+of_run (Running w) setup events e (Coincided coincidence) proof is are runs good goes tells answer counts =
+    let one : proof ≡ proof_of coincidence = cc in
+    subst HasString (sym one) (shown setup events w e coincidence is are (sym runs) good tells (subst HasCounts one counts))
 
 -- the run of a world that goes on is that of its setup and its journal
 of_over : (over : Option Proof) (run : RunState (List ℕ) ℕ Kept) → GoesOn (unless_over over run) → unless_over over run ≡ run
 of_over None run goes = refl
 of_over (Some proof) run goes = absurd goes
 
-pub shown_in : (v : Whole) (e : Event) (proof : Proof) → IsSetup v.setup → AllOf IsEvent v.journal → GoesOn (run_of v) → CanHappen v.setup e → EventFits e → Err (fault.Chance proof) ≡ whole.told_of v e → HasCounts proof → HasString proof
-shown_in v e proof is are goes can fits answer counts =
-    of_run (run_of v) v.setup v.journal e (told_of (run_of v) e) proof is are (of_over v.over (octet_run v.setup v.journal) goes) (event_fits v.setup e fits can) goes refl answer counts
+pub shown_in : (v : Whole) (e : Event) (proof : Proof)
+    → IsSetup v.setup
+    → AllOf IsEvent v.journal
+    → GoesOn (run_of v)
+    → IsEvent e
+    → Err (fault.Coincidence proof) ≡ whole.told_of v e
+    → HasCounts proof
+    → HasString proof
+shown_in v e proof is are goes good answer counts =
+    of_run (run_of v) v.setup v.journal e (told_of (run_of v) e) proof is are (of_over v.over (octet_run v.setup v.journal) goes) good goes refl answer counts

@@ -3,27 +3,26 @@ use Rattle.std.proofs.Common.{◌≡◌, refl, sym, ap, ◌∙◌, arith, ℕ, s
 use Rattle.lte_events.specs.declared.events.Event.{Event}
 use Rattle.lte_events.specs.declared.lines.Line.{Line}
 use Rattle.lte_events.specs.declared.setups.Setup.{Setup}
+use Rattle.lte_events.proofs.InRange.{in_range}
 use Rattle.key_terms.specs.declared.proof.Proof.{Proof}
 use Rattle.lte_machine.specs.BothRuns.{octet_run, octet_report, written_run, written_report}
 use Rattle.lte_machine.specs.Carried.{run_value, report_value}
 use Rattle.lte_machine.specs.Ciphers.{annex_b}
 use Rattle.lte_machine.specs.Machines.{Kept, machine_in_octets}
 use Rattle.lte_machine.specs.Opening.{open_octets}
-use Rattle.lte_machine.specs.Ranges.{AllOf, IsEvent, IsSetup}
 use Rattle.lte_machine.specs.Run.{RunState, Running, Stopped, turn, replay, EventReport, Reported, Coincided, report, reported, after, first_world, GoesOn}
 use Rattle.lte_machine.specs.Step.{StepResult, Continues, Stops, next}
 use Rattle.lte_machine.proofs.AnnexB.{annex_b_ciphers}
-use Rattle.lte_machine.proofs.Fitting.{setup_fits, events_fit}
 use Rattle.lte_machine.proofs.WholeRun.{tale_is_value, run_is_value}
 use Rattle.lte_world.specs.declared.faults.WorldFault.{WorldFault}
 use Rattle.lte_world.specs.declared.faults.WorldFault.TheVariants as fault
 use Rattle.lte_world.specs.Whole.{answer_of}
 use Rattle.store_laws.specs.Proofs.{proof_of}
 use Rattle.report_text.specs.Line.{line_text}
-use Rattle.report_text.specs.Chance.{chance_text}
+use Rattle.report_text.specs.Coincidence.{coincidence_text}
 use Rattle.run_report.specs.Counted.{Tells}
 use Rattle.run_report.specs.Events.{told_of, told_report, is_coincidence, CanShow}
-use Rattle.run_report.specs.Ready.{Ready}
+use Rattle.lte_events.specs.Scenario.{IsScenario}
 use Rattle.run_report.specs.Report.{Report, told_from, end_of, report_of}
 use Rattle.run_report.proofs.Partly.{followed, Follows}
 
@@ -43,40 +42,40 @@ report_from count step run events = told_from step (reports run events) (end_of 
 
 -- WHAT A CALLER GIVES
 
-pub is_setup : {setup : Setup} {events : List Event} → Ready setup events → IsSetup setup
-is_setup {setup} ready = setup_fits setup ready.begins.fits ready.begins.can
-
-pub are_events : {setup : Setup} {events : List Event} → Ready setup events → AllOf IsEvent events
-are_events {setup} {events} ready = events_fit setup events (λ k d low. (ready.fit k d low, ready.can k d low))
-
 -- the run of the written machine in values, and what it tells, are those of the run in octets
-pub in_octets : {A : Type 0} {setup : Setup} {events : List Event} (f : RunState (List ℕ) ℕ Kept → List (EventReport (List ℕ)) → A) → Ready setup events
+pub in_octets : {A : Type 0} {setup : Setup} {events : List Event} (f : RunState (List ℕ) ℕ Kept → List (EventReport (List ℕ)) → A) → IsScenario setup events
     → f (run_value annex_b (written_run setup events)) (map report_value (written_report setup events)) ≡ f (octet_run setup events) (octet_report setup events)
-in_octets {setup} {events} f ready =
-    let is = is_setup ready in
-    let are = are_events ready in
+in_octets {setup} {events} f scenario =
+    let is = scenario.can_start in
+    let are = in_range setup events scenario.can_happen in
     λ j. f (sym (run_is_value annex_b annex_b_ciphers setup is events are) j) (sym (tale_is_value annex_b annex_b_ciphers setup is events are) j)
 
-pub report_is : {setup : Setup} {events : List Event} → Ready setup events → report_of setup events ≡ report_from (length events) 0 (Running (first_world setup)) events
+pub report_is : {setup : Setup} {events : List Event}
+    → IsScenario setup events
+    → report_of setup events ≡ report_from (length events) 0 (Running (first_world setup)) events
 unfolding report_of
-report_is {events} ready = in_octets (λ run told. told_from 0 told (end_of (length events) run)) ready
+report_is {events} scenario = in_octets (λ run told. told_from 0 told (end_of (length events) run)) scenario
 
 -- ONE EVENT MORE
 
 -- an event that is told with a line is one by which the run goes on
 goes_by : (s : StepResult (List ℕ) ℕ Kept) → is_coincidence (reported s) ≡ false → GoesOn (after s)
 goes_by (Continues w line) e = tt
-goes_by (Stops chance) e = cc
+goes_by (Stops coincidence) e = cc
 
 pub still_goes : (run : RunState (List ℕ) ℕ Kept) (e : Event) → is_coincidence (told_of run e) ≡ false → GoesOn (turned run e)
 still_goes (Running w) e is = goes_by (next (open_octets annex_b) (machine_in_octets annex_b) w e) is
-still_goes (Stopped chance) e is = cc
+still_goes (Stopped coincidence) e is = cc
 
-one_more : (step : ℕ) (told : EventReport (List ℕ)) (rest : List (EventReport (List ℕ))) (end : List ℕ) → told_from step (told ∷ rest) end ≡ followed (told_report step told) (told_from (suc step) rest end)
+one_more : (step : ℕ) (told : EventReport (List ℕ)) (rest : List (EventReport (List ℕ))) (end : List ℕ)
+    → told_from step (told ∷ rest) end ≡ followed (told_report step told) (told_from (suc step) rest end)
 one_more step (Reported line) rest end = refl
-one_more step (Coincided chance) rest end = refl
+one_more step (Coincided coincidence) rest end = refl
 
-pub report_more : (count i n : ℕ) (run run' : RunState (List ℕ) ℕ Kept) (events : List Event) (e : Event) → drop i events ≡ e ∷ drop (suc i) events → n ≡ i → run' ≡ turned run e
+pub report_more : (count i n : ℕ) (run run' : RunState (List ℕ) ℕ Kept) (events : List Event) (e : Event)
+    → drop i events ≡ e ∷ drop (suc i) events
+    → n ≡ i
+    → run' ≡ turned run e
     → Follows (report_from count i run (drop i events)) (told_report n (told_of run e)) (report_from count (i + 1) run' (drop (i + 1) events))
 report_more count i n run run' events e left number turns =
     let next : suc i ≡ i + 1 = omega arith in record {
@@ -85,32 +84,43 @@ report_more count i n run run' events e left number turns =
           ∙ (λ j. followed (told_report (sym number j) (told_of run e)) (report_from count (next j) (sym turns j) (drop (next j) events)));
     }
 
-pub report_ends : (i n : ℕ) (run : RunState (List ℕ) ℕ Kept) (events : List Event) → n ≡ i → i ≤ length events → length events ≤ i → report_from (length events) i run (drop i events) ≡ record { text = end_of n run; coincides = false }
+pub report_ends : (i n : ℕ) (run : RunState (List ℕ) ℕ Kept) (events : List Event)
+    → n ≡ i
+    → i ≤ length events
+    → length events ≤ i
+    → report_from (length events) i run (drop i events) ≡ record { text = end_of n run; coincides = false }
 report_ends i n run events number low past =
     let all : length events ≡ n = omega (arith, number, low, past) in
     ap (report_from (length events) i run) (drop_of_length-le events past) ∙ ap (λ k. record { text = end_of k run; coincides = false }) all
 
 -- WHAT A CALLER IS ANSWERED
 
-pub tells : (told : EventReport (List ℕ)) (answer : Result Line WorldFault) → answer ≡ answer_of told → ((proof : Proof) → answer ≡ Err (fault.Chance proof) → CanShow proof) → Tells told answer
+pub tells : (told : EventReport (List ℕ)) (answer : Result Line WorldFault)
+    → answer ≡ answer_of told
+    → ((proof : Proof) → answer ≡ Err (fault.Coincidence proof) → CanShow proof)
+    → Tells told answer
 tells told (Err fault.Memory) is shows = tt
 tells (Reported told) (Ok line) is shows = cc
-tells (Coincided chance) (Err (fault.Chance proof)) is shows = let one : proof ≡ proof_of chance = cc in (one, shows proof refl)
-tells (Reported told) (Err (fault.Chance proof)) is shows = cc
-tells (Coincided chance) (Ok line) is shows = cc
+tells (Coincided coincidence) (Err (fault.Coincidence proof)) is shows = let one : proof ≡ proof_of coincidence = cc in (one, shows proof refl)
+tells (Reported told) (Err (fault.Coincidence proof)) is shows = cc
+tells (Coincided coincidence) (Ok line) is shows = cc
 
-pub a_line : (told : EventReport (List ℕ)) (line : Line) (step : ℕ) → Tells told (Ok line) → told_report step told ≡ record { text = line_text line; coincides = false }
+pub a_line : (told : EventReport (List ℕ)) (line : Line) (step : ℕ)
+    → Tells told (Ok line)
+    → told_report step told ≡ record { text = line_text line; coincides = false }
 a_line (Reported told) line step is = ap (λ l. record { text = line_text l; coincides = false }) (sym is)
-a_line (Coincided chance) line step is = absurd is
+a_line (Coincided coincidence) line step is = absurd is
 
-pub a_chance : (told : EventReport (List ℕ)) (proof : Proof) (step : ℕ) → Tells told (Err (fault.Chance proof)) → told_report step told ≡ record { text = chance_text step proof; coincides = true }
-a_chance (Reported told) proof step is = absurd is
-a_chance (Coincided chance) proof step is = ap (λ p. record { text = chance_text step p; coincides = true }) (sym is.0)
+pub a_coincidence : (told : EventReport (List ℕ)) (proof : Proof) (step : ℕ)
+    → Tells told (Err (fault.Coincidence proof))
+    → told_report step told ≡ record { text = coincidence_text step proof; coincides = true }
+a_coincidence (Reported told) proof step is = absurd is
+a_coincidence (Coincided coincidence) proof step is = ap (λ p. record { text = coincidence_text step p; coincides = true }) (sym is.0)
 
-pub can_show : (told : EventReport (List ℕ)) (proof : Proof) → Tells told (Err (fault.Chance proof)) → CanShow proof
+pub can_show : (told : EventReport (List ℕ)) (proof : Proof) → Tells told (Err (fault.Coincidence proof)) → CanShow proof
 can_show (Reported told) proof is = absurd is
-can_show (Coincided chance) proof is = is.1
+can_show (Coincided coincidence) proof is = is.1
 
 pub is_plain : (told : EventReport (List ℕ)) (line : Line) → Tells told (Ok line) → is_coincidence told ≡ false
 is_plain (Reported told) line is = refl
-is_plain (Coincided chance) line is = absurd is
+is_plain (Coincided coincidence) line is = absurd is

@@ -20,9 +20,9 @@ use Rattle.run_report.specs.Summary.{AllLines, Coincides, outcome_from}
 abbrev pub Tells : EventReport (List ℕ) → Result Line WorldFault → Type 0
 Tells told (Err fault.Memory) = Unit {0}
 Tells (Reported told) (Ok line) = line ≡ line_out told
-Tells (Coincided chance) (Err (fault.Chance proof)) = (proof ≡ proof_of chance) × CanShow proof
-Tells (Reported told) (Err (fault.Chance proof)) = ⊥
-Tells (Coincided chance) (Ok line) = ⊥
+Tells (Coincided coincidence) (Err (fault.Coincidence proof)) = (proof ≡ proof_of coincidence) × CanShow proof
+Tells (Reported told) (Err (fault.Coincidence proof)) = ⊥
+Tells (Coincided coincidence) (Ok line) = ⊥
 
 -- all events happened, and their lines are counted
 pub record Ended (setup : Setup) (events : List Event) (tally : Tallied) (run : RunState (List ℕ) ℕ Kept) : Type 0 where
@@ -35,4 +35,4 @@ pub record Ended (setup : Setup) (events : List Event) (tally : Tallied) (run : 
 -- how a run comes out
 abbrev pub ComesOut : Setup → List Event → Tallied → RunState (List ℕ) ℕ Kept → Course → Type 0
 ComesOut setup events tally run course.Ended = Ended setup events tally run
-ComesOut setup events tally run (course.Chance step proof) = (outcome_from [] (octet_report setup events) ≡ Coincides step proof) × CanShow proof
+ComesOut setup events tally run (course.Coincidence step proof) = (outcome_from [] (octet_report setup events) ≡ Coincides step proof) × CanShow proof

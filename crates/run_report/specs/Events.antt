@@ -11,7 +11,7 @@ use Rattle.lte_machine.specs.Machines.{Kept, machine_in_octets}
 use Rattle.lte_machine.specs.Opening.{open_octets}
 use Rattle.lte_machine.specs.Run.{RunState, EventReport, Reported, Coincided, event_report}
 use Rattle.report_text.specs.Line.{line_text}
-use Rattle.report_text.specs.Chance.{HasString, chance_text}
+use Rattle.report_text.specs.Coincidence.{HasString, coincidence_text}
 use Rattle.store_laws.specs.Proofs.{proof_of}
 use Rattle.run_report.specs.Report.{Report}
 
@@ -22,11 +22,11 @@ told_of run e = event_report (open_octets annex_b) (machine_in_octets annex_b) r
 -- its text at this step, and whether it is a coincidence
 abbrev pub event_text : ℕ → EventReport (List ℕ) → List ℕ
 event_text step (Reported line) = line_text (line_out line)
-event_text step (Coincided chance) = chance_text step (proof_of chance)
+event_text step (Coincided coincidence) = coincidence_text step (proof_of coincidence)
 
 abbrev pub is_coincidence : EventReport (List ℕ) → Bool
 is_coincidence (Reported line) = false
-is_coincidence (Coincided chance) = true
+is_coincidence (Coincided coincidence) = true
 
 -- and both
 abbrev pub told_report : ℕ → EventReport (List ℕ) → Report

@@ -1,6 +1,6 @@
 pub mod Report
 pub mod Written
 pub mod Events
-pub mod Ready
+pub mod Takes
 pub mod Summary
 pub mod Counted

@@ -11,7 +11,7 @@ use Rattle.lte_machine.specs.Machines.{Kept}
 use Rattle.lte_machine.specs.Run.{RunState, Running, Stopped, EventReport, Reported, Coincided}
 use Rattle.lte_machine.specs.World.{World}
 use Rattle.report_text.specs.Line.{line_text}
-use Rattle.report_text.specs.Chance.{chance_text}
+use Rattle.report_text.specs.Coincidence.{coincidence_text}
 use Rattle.report_text.specs.End.{end_text}
 use Rattle.report_text.specs.Ladder.{ladder_text}
 use Rattle.store_laws.specs.Proofs.{proof_of}
@@ -28,7 +28,7 @@ end_of_world events w = end_text events (length w.sent) (length (world_rows w)) 
 
 abbrev pub end_of : ℕ → RunState (List ℕ) ℕ Kept → List ℕ
 end_of events (Running w) = end_of_world events w
-end_of events (Stopped chance) = []
+end_of events (Stopped coincidence) = []
 
 -- a text before a report
 abbrev pub before : List ℕ → Report → Report
@@ -38,7 +38,7 @@ before text report = record { text = text ++ report.text; coincides = report.coi
 abbrev pub told_from : ℕ → List (EventReport (List ℕ)) → List ℕ → Report
 told_from step [] end = record { text = end; coincides = false }
 told_from step (Reported line ∷ rest) end = before (line_text (line_out line)) (told_from (suc step) rest end)
-told_from step (Coincided chance ∷ rest) end = record { text = chance_text step (proof_of chance); coincides = true }
+told_from step (Coincided coincidence ∷ rest) end = record { text = coincidence_text step (proof_of coincidence); coincides = true }
 
 -- the report of the written machine's run over key terms, printed in values
 unfoldable pub report_of : Setup → List Event → Report

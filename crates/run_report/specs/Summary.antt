@@ -10,7 +10,7 @@ use Rattle.lte_machine.specs.Carried.{run_value, report_value}
 use Rattle.lte_machine.specs.Ciphers.{annex_b}
 use Rattle.lte_machine.specs.Machines.{Kept}
 use Rattle.lte_machine.specs.Run.{RunState, Running, Stopped, EventReport, Reported, Coincided}
-use Rattle.report_text.specs.Chance.{chance_text}
+use Rattle.report_text.specs.Coincidence.{coincidence_text}
 use Rattle.report_text.specs.Summary.{summary_text}
 use Rattle.store_laws.specs.Proofs.{proof_of}
 use Rattle.store_laws.specs.Rows.{world_rows}
@@ -25,16 +25,16 @@ pub data Outcome : Type 0 where
 abbrev pub outcome_from : List Line → List (EventReport (List ℕ)) → Outcome
 outcome_from lines [] = AllLines lines
 outcome_from lines (Reported line ∷ rest) = outcome_from (lines ++ line_out line ∷ []) rest
-outcome_from lines (Coincided chance ∷ rest) = Coincides (length lines) (proof_of chance)
+outcome_from lines (Coincided coincidence ∷ rest) = Coincides (length lines) (proof_of coincidence)
 
 -- how many rows the ladder has then
 abbrev pub rows_in : RunState (List ℕ) ℕ Kept → ℕ
 rows_in (Running w) = length (world_rows w)
-rows_in (Stopped chance) = 0
+rows_in (Stopped coincidence) = 0
 
 abbrev pub summary_with : ℕ → Outcome → Report
 summary_with rows (AllLines lines) = record { text = summary_text lines rows; coincides = false }
-summary_with rows (Coincides step proof) = record { text = chance_text step proof; coincides = true }
+summary_with rows (Coincides step proof) = record { text = coincidence_text step proof; coincides = true }
 
 -- the summary of the written machine's run over key terms, printed in values
 unfoldable pub summary_of : Setup → List Event → Report

@@ -5,7 +5,8 @@ ghost use Rattle.lte_world.specs.Whole.{begun, run_of};
 ghost use Rattle.report_text.specs.Summary.{tally_of};
 ghost use Rattle.run_report.specs.Counted.{ComesOut, Tells};
 ghost use Rattle.run_report.specs.Events.{told_of};
-ghost use Rattle.run_report.specs.Ready.{CanTake, Ready, Takes};
+ghost use Rattle.lte_events.specs.Scenario.{IsScenario};
+ghost use Rattle.run_report.specs.Takes.{CanTake, Takes};
 
 use key_terms::Proof;
 use lte_events::{Event, Events, Line};
@@ -18,7 +19,7 @@ pub enum Course {
     /// All events happened.
     Ended,
     /// A coincidence ended it, at this step.
-    Chance(u32, Proof),
+    Coincidence(u32, Proof),
 }
 
 /// Lets these events happen to a system that has just begun, one after the other, to the first coincidence, and
@@ -29,7 +30,7 @@ pub fn run_through(
     tally: &mut Tally,
 ) -> Result<Course, WorldFault>
     requires begun { world.old ≡ begun world.old.setup }
-    requires ready { Ready world.old.setup events.now.items }
+    requires is_scenario { IsScenario world.old.setup events.now.items }
     requires none { tally.old ≡ tally_of [] }
     ensures comes_out { IfOk result (ComesOut world.old.setup events.now.items tally.new (run_of world.new)) }
     ensures refused { OnErr result WasRefused }
@@ -38,9 +39,9 @@ pub fn run_through(
         let event = events.at(number);
         match happen(world, &event) {
             Ok(line) => tally.count(&line),
-            Err(WorldFault::Chance(proof)) => {
+            Err(WorldFault::Coincidence(proof)) => {
                 let step = world.journal().len() as u32;
-                return Ok(Course::Chance(step, proof));
+                return Ok(Course::Coincidence(step, proof));
             }
             Err(WorldFault::Memory) => return Err(WorldFault::Memory),
         }

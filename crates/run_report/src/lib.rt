@@ -9,7 +9,7 @@ mod unwritten;
 
 pub use courses::{Course, run_through};
 pub use reports::{
-    has_counts, write_chance, write_end, write_event, write_lines, write_run, write_text,
+    has_counts, write_coincidence, write_end, write_event, write_lines, write_run, write_text,
 };
 pub use summaries::write_summary;
 pub use unwritten::Unwritten;

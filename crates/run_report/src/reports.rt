@@ -1,12 +1,13 @@
 ghost use Rattle.growth.specs.Growth.{WasRefused};
 ghost use Rattle.std.specs.Prelude.{◌≡◌, ◌≤◌, ℕ, List, true, false, Ok, length, IfOk, OnErr, IsTrue};
 ghost use Rattle.edge_io.specs.Lines.{are_lines};
-ghost use Rattle.lte_world.specs.Whole.{most_events, run_of};
-ghost use Rattle.report_text.specs.Chance.{chance_text};
+ghost use Rattle.lte_world.specs.Whole.{run_of};
+ghost use Rattle.report_text.specs.Coincidence.{coincidence_text};
 ghost use Rattle.lte_machine.specs.Run.{GoesOn};
 ghost use Rattle.run_report.specs.Report.{report_of, end_of};
 ghost use Rattle.run_report.specs.Events.{told_of, told_report, CanShow, HasCounts};
-ghost use Rattle.run_report.specs.Ready.{CanTake, Ready, Takes};
+ghost use Rattle.lte_events.specs.Scenario.{IsScenario, most_events};
+ghost use Rattle.run_report.specs.Takes.{CanTake, Takes};
 ghost use Rattle.run_report.specs.Written.{WritesReport, WritesText};
 
 use crate::Unwritten;
@@ -16,7 +17,7 @@ use hmac_kdf::KdfInput;
 use key_terms::Proof;
 use lte_events::{Event, Events, Setup};
 use lte_world::{World, WorldFault};
-use report_text::{chance, end, ladder_text, line};
+use report_text::{coincidence, end, ladder_text, line};
 use std::alloc::Global;
 
 /// Lets these events happen to a system, and writes the report of them: a line for each event by one
@@ -30,7 +31,7 @@ pub fn write_run<W: Sink>(
     out: &mut W,
 ) -> Result<bool, Unwritten>
     requires out_ready { IsTrue (W.told out.old).ready }
-    requires ready { Ready setup.now events.now.items }
+    requires is_scenario { IsScenario setup.now events.now.items }
     ensures { WritesReport (report_of setup.now events.now.items) result (W.told out.old) (W.told out.new) }
 {
     let mut world = match World::new(alloc, setup) {
@@ -70,7 +71,7 @@ pub fn write_event<W: Sink>(
             Ok(()) => Ok(false),
             Err(fault) => Err(fault),
         },
-        Err(WorldFault::Chance(proof)) => match write_chance(alloc, step, proof, out) {
+        Err(WorldFault::Coincidence(proof)) => match write_coincidence(alloc, step, proof, out) {
             Ok(()) => Ok(true),
             Err(fault) => Err(fault),
         },
@@ -79,7 +80,7 @@ pub fn write_event<W: Sink>(
 }
 
 /// Writes what shows a coincidence at this step. Its errors are those of `write_run`.
-pub fn write_chance<W: Sink>(
+pub fn write_coincidence<W: Sink>(
     alloc: Global,
     step: u32,
     proof: Proof,
@@ -87,10 +88,10 @@ pub fn write_chance<W: Sink>(
 ) -> Result<(), Unwritten>
     requires out_ready { IsTrue (W.told out.old).ready }
     requires string { CanShow proof }
-    ensures { WritesText (chance_text step proof) result (W.told out.old) (W.told out.new) }
+    ensures { WritesText (coincidence_text step proof) result (W.told out.old) (W.told out.new) }
 {
     has_counts(proof);
-    write_text(chance(alloc, step, &proof), out)
+    write_text(coincidence(alloc, step, &proof), out)
 }
 
 /// The COUNT of a derivation in what shows a coincidence has 32 bits.

@@ -1,13 +1,13 @@
 ghost use Rattle.std.specs.Prelude.{◌≡◌, IsTrue};
 ghost use Rattle.lte_world.specs.Whole.{begun};
 ghost use Rattle.report_text.specs.Summary.{figures_text};
-ghost use Rattle.run_report.specs.Ready.{Ready};
+ghost use Rattle.lte_events.specs.Scenario.{IsScenario};
 ghost use Rattle.run_report.specs.Summary.{summary_of};
 ghost use Rattle.run_report.specs.Written.{WritesReport, WritesText};
 
 use crate::Unwritten;
 use crate::courses::{Course, run_through};
-use crate::reports::{write_chance, write_text};
+use crate::reports::{write_coincidence, write_text};
 use edge_io::Sink;
 use lte_events::{Events, Setup};
 use lte_world::World;
@@ -24,7 +24,7 @@ pub fn write_summary<W: Sink>(
     out: &mut W,
 ) -> Result<bool, Unwritten>
     requires out_ready { IsTrue (W.told out.old).ready }
-    requires ready { Ready setup.now events.now.items }
+    requires is_scenario { IsScenario setup.now events.now.items }
     ensures { WritesReport (summary_of setup.now events.now.items) result (W.told out.old) (W.told out.new) }
 {
     let mut world = match World::new(alloc, setup) {
@@ -43,7 +43,7 @@ fn summarise<W: Sink>(
 ) -> Result<bool, Unwritten>
     requires out_ready { IsTrue (W.told out.old).ready }
     requires begun { world.old ≡ begun world.old.setup }
-    requires ready { Ready world.old.setup events.now.items }
+    requires is_scenario { IsScenario world.old.setup events.now.items }
     ensures { WritesReport (summary_of world.old.setup events.now.items) result (W.told out.old) (W.told out.new) }
 {
     let mut tally = Tally::new();
@@ -55,7 +55,7 @@ fn summarise<W: Sink>(
                 Err(fault) => Err(fault),
             }
         }
-        Ok(Course::Chance(step, proof)) => match write_chance(alloc, step, proof, out) {
+        Ok(Course::Coincidence(step, proof)) => match write_coincidence(alloc, step, proof, out) {
             Ok(()) => Ok(true),
             Err(fault) => Err(fault),
         },

@@ -1,15 +1,15 @@
 ghost use Rattle.std.specs.Prelude.{◌≡◌, ◌≤◌};
 ghost use Rattle.x2_handover.specs.InRange.{InRange};
 
-use crate::Order1;
 use annex_a_keys::Cell;
 use std::marker::Model;
+use x2_handover::Order;
 
 /// An attempt that has commanded the phone. The command may be sent again.
 #[derive(Debug, Drop)]
 pub struct S1Commanded {
     number: u32,
-    order: Order1,
+    order: Order,
 }
 
 impl Model for S1Commanded {
@@ -32,7 +32,7 @@ impl Model for S1Commanded {
 
 impl S1Commanded {
     // The attempt of this number with the order that it gave.
-    pub(crate) fn new(number: u32, order: &Order1) -> S1Commanded
+    pub(crate) fn new(number: u32, order: &Order) -> S1Commanded
         requires number { 1 ≤ number }
         requires order { InRange order.now }
         ensures { result ≡ record {
@@ -49,7 +49,7 @@ impl S1Commanded {
     }
 
     /// The same order again.
-    pub fn again(&self) -> Order1
+    pub fn again(&self) -> Order
         ensures order { result ≡ self.now.order }
         ensures in_range { InRange result }
     {

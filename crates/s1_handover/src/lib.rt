@@ -9,4 +9,3 @@ mod ready;
 pub use commanded::S1Commanded;
 pub use opened::S1Open;
 pub use ready::S1Ready;
-pub use x2_handover::Order as Order1;

@@ -2,10 +2,11 @@ ghost use Rattle.std.specs.Prelude.{◌≡◌, ◌≤◌};
 ghost use Rattle.x2_handover.specs.InRange.{InRange};
 ghost use Rattle.s1_handover.specs.Attempt.{s1_order, s1_sent};
 
-use crate::{Order1, S1Commanded, S1Open};
+use crate::{S1Commanded, S1Open};
 use alg_choice::Algs;
 use annex_a_keys::Cell;
 use std::marker::Model;
+use x2_handover::Order;
 
 /// An attempt that the target has acknowledged. It may be cancelled, or command the phone.
 #[derive(Debug, Drop)]
@@ -46,12 +47,12 @@ impl S1Ready {
     pub fn cancel(self) {}
 
     /// The phone's order, and the attempt that has commanded it. From here on it cannot be cancelled.
-    pub fn command(self) -> (S1Commanded, Order1)
+    pub fn command(self) -> (S1Commanded, Order)
         ensures commanded { result.0 ≡ s1_sent self }
         ensures order { result.1 ≡ s1_order self }
         ensures in_range { InRange result.1 }
     {
-        let order = Order1 {
+        let order = Order {
             cell: self.start.cell(),
             ncc: self.ncc,
             algs: self.algs,

@@ -27,7 +27,8 @@ fields_octets (PathSwitchRequest conn station number cell caps) key = spelled_by
 fields_octets (PathSwitchAnswer conn number) key = spelled_by path_switch_answer.layout (conn, (number, numbered key))
 fields_octets (HandoverRequired conn station attempt cell) key = spelled_by handover_required.layout (conn, (station, (attempt, cell)))
 fields_octets (HandoverRequest conn source attempt cell caps) key = spelled_by handover_request.layout (conn, (source, (attempt, (cell, (caps, numbered key)))))
-fields_octets (HandoverRequestAck conn source attempt cell ncc algs air) key = spelled_by handover_request_ack.layout (conn, (source, (attempt, (cell, (ncc, (algs, air))))))
+fields_octets (HandoverRequestAck conn source attempt cell ncc algs air) key =
+    spelled_by handover_request_ack.layout (conn, (source, (attempt, (cell, (ncc, (algs, air))))))
 fields_octets (HandoverCommand conn attempt cell ncc algs air) key = spelled_by handover_command.layout (conn, (attempt, (cell, (ncc, (algs, air)))))
 fields_octets (HandoverNotify conn station cell) key = spelled_by handover_notify.layout (conn, (station, cell))
 fields_octets (HandoverCancel conn source attempt cell) key = spelled_by handover_cancel.layout (conn, (source, (attempt, cell)))

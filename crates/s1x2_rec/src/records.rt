@@ -1,4 +1,4 @@
-ghost use Rattle.std.specs.Prelude.{◌≡◌, IfOk};
+ghost use Rattle.std.specs.Prelude.{◌≡◌, IfOk, option_map};
 
 use crate::reading::record_of;
 use crate::writing::write_record;
@@ -192,6 +192,7 @@ pub enum CoreRecord {
 
 impl CoreRecord {
     ghost use Rattle.s1x2_rec.specs.declared.records.CoreRecord.{CoreRecord};
+    ghost use Rattle.s1x2_rec.specs.Fields.{kind_of};
     ghost use Rattle.s1x2_rec.specs.Content.{content_of};
     ghost use Rattle.s1x2_rec.specs.Spelling.{spelling_of, InRange};
     ghost use Rattle.s1x2_rec.specs.Reading.{read_record, read_core, content_read};
@@ -210,6 +211,43 @@ impl CoreRecord {
         ensures content { content_read result ≡ read_core octets.now }
     {
         record_of(octets)
+    }
+
+    /// The first octet of the spelling, which tells the kind.
+    pub fn kind(&self) -> u8
+        ensures { result ≡ kind_of (content_of self.now).fields }
+    {
+        match self {
+            CoreRecord::InitialContext { .. } => 0x20,
+            CoreRecord::ContextRelease { .. } => 0x21,
+            CoreRecord::PathSwitchRequest { .. } => 0x22,
+            CoreRecord::PathSwitchAnswer { .. } => 0x23,
+            CoreRecord::HandoverRequired { .. } => 0x24,
+            CoreRecord::HandoverRequest { .. } => 0x25,
+            CoreRecord::HandoverRequestAck { .. } => 0x26,
+            CoreRecord::HandoverCommand { .. } => 0x27,
+            CoreRecord::HandoverNotify { .. } => 0x28,
+            CoreRecord::HandoverCancel { .. } => 0x29,
+            CoreRecord::X2Request { .. } => 0x30,
+            CoreRecord::X2Ack { .. } => 0x31,
+            CoreRecord::X2Cancel { .. } => 0x32,
+            CoreRecord::X2Release { .. } => 0x33,
+            CoreRecord::ContextModification { .. } => 0x34,
+        }
+    }
+
+    /// The key that the record holds.
+    pub fn key(&self) -> Option<[u8; 32]>
+        ensures { result ≡ option_map (λ k. k.key) (content_of self.now).key }
+    {
+        match self {
+            CoreRecord::InitialContext { kenb, .. } => Some(kenb.octets()),
+            CoreRecord::PathSwitchAnswer { nh, .. } => Some(nh.octets()),
+            CoreRecord::HandoverRequest { nh, .. } => Some(nh.octets()),
+            CoreRecord::X2Request { star, .. } => Some(star.octets()),
+            CoreRecord::ContextModification { kenb, .. } => Some(kenb.octets()),
+            _ => None,
+        }
     }
 
     /// The one spelling of a record whose fields are in their ranges: at most 51 octets.

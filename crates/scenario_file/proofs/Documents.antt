@@ -1,8 +1,7 @@
 -- The document that a text is.
-use Rattle.std.proofs.Common.{◌≡◌, refl, true, false, List, ℕ, Some, None}
+use Rattle.std.proofs.Common.{◌≡◌, refl, true, false, List, ℕ, Some, None, ⊎_elim}
 use Rattle.std.specs.Str.{IsUtf8, is_utf8}
 use Rattle.std.proofs.lemmas.Bool.{cases_Bool}
-use Rattle.std.proofs.Common.{⊎_elim}
 use Rattle.std.proofs.lemmas.Str.{is_utf8-from_IsUtf8, IsUtf8-from_is_utf8}
 use Rattle.toml.specs.Data.{Members}
 use Rattle.toml.specs.Parse.{parse_document}

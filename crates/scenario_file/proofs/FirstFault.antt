@@ -15,7 +15,10 @@ pub then_ok : {A B E : Type 0} (P : Type 0) (r : Result A E) (f : A → Result B
 then_ok P (Ok a) f b next read = next a refl read
 then_ok P (Err fault) f b next read = absurd cc
 
-pub then_some : {A B : Type 0} (P : Type 0) (o : Option A) (f : A → Option B) (b : B) → ((a : A) → o ≡ Some a → f a ≡ Some b → P) → option_and_then f o ≡ Some b → P
+pub then_some : {A B : Type 0} (P : Type 0) (o : Option A) (f : A → Option B) (b : B)
+    → ((a : A) → o ≡ Some a → f a ≡ Some b → P)
+    → option_and_then f o ≡ Some b
+    → P
 then_some P (Some a) f b next found = next a refl found
 then_some P None f b next found = absurd cc
 

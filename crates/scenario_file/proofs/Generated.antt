@@ -20,7 +20,12 @@ two_at_least (Within s) = omega arith
 
 pub many : (seed k : ℕ) → k + 8 ≤ length (steps_up_to seed k)
 many seed zero = omega (arith, opening_length)
-many seed (suc k) = omega (arith, many seed k, two_at_least (turn_of (journey_at seed k)), length-append (steps_up_to seed k) (steps_of (turn_of (journey_at seed k))))
+many seed (suc k) = omega (
+  arith,
+  many seed k,
+  two_at_least (turn_of (journey_at seed k)),
+  length-append (steps_up_to seed k) (steps_of (turn_of (journey_at seed k))),
+)
 
 -- one turn more
 pub next_steps : (seed k : ℕ) → steps_up_to seed (k + 1) ≡ steps_up_to seed k ++ steps_of (turn_of (journey_at seed k))
@@ -30,7 +35,10 @@ pub next_journey : (seed k : ℕ) → journey_at seed (k + 1) ≡ after (journey
 next_journey seed k = rw (add-one k) refl
 
 -- turns behind the first n steps change nothing of them
-settled : (n seed k j : ℕ) → k ≤ j → n ≤ length (steps_up_to seed k) → (n ≤ length (steps_up_to seed j)) × (take n (steps_up_to seed j) ≡ take n (steps_up_to seed k))
+settled : (n seed k j : ℕ)
+    → k ≤ j
+    → n ≤ length (steps_up_to seed k)
+    → (n ≤ length (steps_up_to seed j)) × (take n (steps_up_to seed j) ≡ take n (steps_up_to seed k))
 settled n seed zero zero before enough = (enough, refl)
 settled n seed (suc k) zero before enough = absurd (omega (arith, before))
 settled n seed k (suc j) before enough = elim (cases_lt j k) [

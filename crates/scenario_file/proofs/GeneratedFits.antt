@@ -1,16 +1,15 @@
 -- A generated scenario is one that a system can start with, and each of its steps can happen.
-use Rattle.std.proofs.Common.{ℕ, zero, suc, ◌==◌, ◌^◌, ◌<◌, Bool, true, false, List, [], ◌∷◌, ◌++◌, map, negsuc, All, refl, arith}
+use Rattle.std.proofs.Common.{ℕ, zero, suc, ◌==◌, ◌<◌, ◌≤◌, Bool, true, false, List, [], ◌∷◌, ◌++◌, map, negsuc, All, refl, arith}
 use Rattle.std.specs.Prelude.{IsTrue, if◌then◌else◌}
 use Rattle.std.specs.List.{range_with_len, IsDistinct}
 use Rattle.std.proofs.lemmas.List.FromFn.{get_or-range_with_len}
 use Rattle.std.proofs.lemmas.List.Elements.{All-append, All-cons, All-nil, All-replicate, All-take}
-use Rattle.annex_a_keys.specs.Cell.{IsCell}
 use Rattle.rec_base.specs.Lengths.{longest_packet}
 use Rattle.rec_base.specs.declared.bearers.Bearer.TheVariants.{Drb1}
 use Rattle.rec_base.proofs.Numbers.{length-octets_of, octets_of-lt}
-use Rattle.lte_events.specs.Ranges.{has_station}
+use Rattle.lte_events.specs.Ranges.{has_station, IsStation, IsSiteOf, IsSetup}
+use Rattle.lte_events.specs.Scenario.{CanHappen, IsScenario}
 use Rattle.rec_base.specs.Ranges.{IsText}
-use Rattle.lte_events.specs.Conditions.{CanStart, CanHappen, SetupFits, EventFits, IsStation}
 use Rattle.lte_events.specs.declared.acts.HoKind.{HoKind}
 use Rattle.lte_events.specs.declared.acts.CoreAct.TheVariants as core
 use Rattle.lte_events.specs.declared.acts.PhoneAct.TheVariants as phone
@@ -21,6 +20,7 @@ use Rattle.scenario_file.specs.declared.journey.Journey.{Journey}
 use Rattle.scenario_file.specs.declared.turns.Turn.{Turn}
 use Rattle.scenario_file.specs.declared.turns.Turn.TheVariants.{Uplink, Downlink, OverX2, OverS1, Within}
 use Rattle.scenario_file.specs.Draws.{cell_of, generated_caps, station_setup, site_of, generated_setup, next, drawn, draws_on, text_of, target_of, turn_for, moved, turn_of, after, arrivals, handover, steps_of, opening, journey_at, steps_up_to, generated}
+use Rattle.scenario_file.proofs.Generated.{generated_length}
 use Rattle.scenario_file.proofs.Ranges.{bytes_are_octets}
 
 -- THE SETUP
@@ -38,28 +38,20 @@ stands (suc (suc zero)) below = refl
 stands (suc (suc (suc zero))) below = refl
 stands (suc (suc (suc (suc s)))) below = absurd (omega (arith, below))
 
-pub can_start : CanStart generated_setup
+pub can_start : IsSetup generated_setup
 unfolding generated_setup IsDistinct
 can_start = record {
-  core_first = omega arith;
-  stations = four IsStation station_setup (λ s below. (omega (arith, below), omega arith));
-  ids_differ = ((refl, (refl, (refl, tt))), ((refl, (refl, tt)), ((refl, tt), (tt, tt))));
-  cells_have_stations = four (λ site. IsTrue (has_station generated_setup.stations site.station)) site_of stands;
-}
-
-pub setup_fits : SetupFits generated_setup
-unfolding generated_setup
-setup_fits = record {
   caps = (omega arith, omega arith);
-  core_first = omega arith;
-  stations = four (λ s. s.first < 2 ^ 32) station_setup (λ s below. omega arith);
-  cells = four (λ site. IsCell site.cell) site_of (λ s below. (omega (arith, below), omega (arith, below)));
+  core_first = (omega arith, omega arith);
+  stations = four IsStation station_setup (λ s below. (omega (arith, below), (omega arith, omega arith)));
+  ids_differ = ((refl, (refl, (refl, tt))), ((refl, (refl, tt)), ((refl, tt), (tt, tt))));
+  sites = four (IsSiteOf generated_setup.stations) site_of (λ s below. ((omega (arith, below), omega (arith, below)), stands s below));
 }
 
 -- THE TURNS: stations 0 to 3, and texts of eight octets
 
 IsGood : Event → Type 0
-IsGood e = CanHappen generated_setup e × EventFits e
+IsGood e = CanHappen generated_setup e
 
 IsPacket : List ℕ → Type 0
 IsPacket text = IsText longest_packet text
@@ -116,15 +108,15 @@ good_arrivals n = All-replicate IsGood n (event.Deliver (negsuc 0)) (tt, tt)
 good_handover : (kind : HoKind) (from to before behind : ℕ) → from < 4 → to < 4 → All IsGood (handover kind from to before behind)
 unfolding IsGood
 good_handover kind from to before behind source target =
-    All-cons IsGood _ _ ((stands from source, tt), (omega (arith, target), omega (arith, target)))
+    All-cons IsGood _ _ ((omega (arith, target), omega (arith, target)), (stands from source, tt))
     (All-append IsGood (arrivals before) _ (good_arrivals before)
-    (All-cons IsGood _ _ ((stands from source, tt), tt) (good_arrivals behind)))
+    (All-cons IsGood _ _ (tt, (stands from source, tt)) (good_arrivals behind)))
 
 good_steps : (turn : Turn) → GoodTurn turn → All IsGood (steps_of turn)
 unfolding IsGood IsPacket
-good_steps (Uplink text) good = All-cons IsGood (event.Phone (phone.SendUser Drb1 text)) (arrivals 1) (tt, good) (good_arrivals 1)
+good_steps (Uplink text) good = All-cons IsGood (event.Phone (phone.SendUser Drb1 text)) (arrivals 1) (good, tt) (good_arrivals 1)
 good_steps (Downlink s text) good =
-    All-cons IsGood (event.Station s (station.SendUser Drb1 text)) (arrivals 1) ((stands s good.0, tt), good.1) (good_arrivals 1)
+    All-cons IsGood (event.Station s (station.SendUser Drb1 text)) (arrivals 1) (good.1, (stands s good.0, tt)) (good_arrivals 1)
 good_steps (OverX2 from to answered) good = good_handover _ from to 2 (if answered then 5 else 3) good.0 good.1
 good_steps (OverS1 from to) good = good_handover _ from to 4 3 good.0 good.1
 good_steps (Within s) good = good_handover _ s s 0 2 good good
@@ -138,23 +130,18 @@ good_opening =
     let authenticates = event.Auth 0 (range_with_len 0 32) generated_caps in
     let commands = event.Core core.StartSmc in
     let connects = event.Core (core.Connect (cell_of 0)) in
-    All-cons IsGood authenticates (commands ∷ (arrivals 2 ++ (connects ∷ arrivals 3))) (omega arith, ((kasme_octets, refl), (omega arith, omega arith)))
+    All-cons IsGood authenticates (commands ∷ (arrivals 2 ++ (connects ∷ arrivals 3))) ((omega arith, (kasme_octets, refl), (omega arith, omega arith)), tt)
     (All-cons IsGood commands (arrivals 2 ++ (connects ∷ arrivals 3)) (tt, tt) (All-append IsGood (arrivals 2) (connects ∷ arrivals 3) (good_arrivals 2)
-    (All-cons IsGood connects (arrivals 3) (tt, (omega arith, omega arith)) (good_arrivals 3))))
+    (All-cons IsGood connects (arrivals 3) ((omega arith, omega arith), tt) (good_arrivals 3))))
 
 all_good : (seed k : ℕ) → All IsGood (steps_up_to seed k)
 all_good seed zero = good_opening
 all_good seed (suc k) =
     All-append IsGood (steps_up_to seed k) _ (all_good seed k) (good_steps (turn_of (journey_at seed k)) (good_turn (journey_at seed k) (served seed k)))
 
-good_generated : (n seed : ℕ) → All IsGood (generated n seed)
-unfolding generated
-good_generated n seed = All-take IsGood n (steps_up_to seed n) (all_good seed n)
-
 pub can_happen : (n seed : ℕ) → All (CanHappen generated_setup) (generated n seed)
-unfolding IsGood
-can_happen n seed k d below = (good_generated n seed k d below).0
+unfolding IsGood generated
+can_happen n seed = All-take IsGood n (steps_up_to seed n) (all_good seed n)
 
-pub events_fit : (n seed : ℕ) → All EventFits (generated n seed)
-unfolding IsGood
-events_fit n seed k d below = (good_generated n seed k d below).1
+pub is_scenario : (n seed : ℕ) → n ≤ 100000 → IsScenario generated_setup (generated n seed)
+is_scenario n seed few = record { can_start = can_start; can_happen = can_happen n seed; few = omega (arith, generated_length n seed, few) }

@@ -16,9 +16,9 @@ use Rattle.annex_a_keys.specs.Cell.{Place, IsCell}
 use Rattle.lte_events.specs.Site.{Site, is_site}
 use Rattle.lte_events.specs.declared.setups.FirstNcc.TheVariants.{One}
 use Rattle.lte_events.specs.declared.setups.StationSetup.{StationSetup}
-use Rattle.lte_events.specs.Ranges.{has_station}
+use Rattle.lte_events.specs.Ranges.{has_station, IsStation, IsSiteOf, IsSetup}
+use Rattle.rec_base.specs.Ranges.{IsNumber}
 use Rattle.alg_choice.specs.Caps.{IsCaps}
-use Rattle.lte_events.specs.Conditions.{IsStation, CanStart, SetupFits}
 use Rattle.scenario_file.specs.declared.fields.Field.TheVariants.{Caps as CapsField, Phone, Core, Station, Step, First, FirstNcc, Priority, Id, Cells, Fleet, Phones}
 use Rattle.scenario_file.specs.declared.faults.Refusal.{Refusal}
 use Rattle.scenario_file.specs.declared.faults.Refusal.TheVariants.{Missing, Wrong}
@@ -35,35 +35,33 @@ use Rattle.scenario_file.specs.Setup.{usual_priority, phones_in, phones_of, phon
 use Rattle.scenario_file.proofs.FirstFault.{then_ok, then_some, ok_or_ok, ok_same, not_read, default_ok, number_in_range}
 use Rattle.scenario_file.proofs.Ranges.{caps_fit, cell_of_place}
 
--- the core and a station draw from 1 on, and no further than 32 bits go
-abbrev IsFirst : ℕ → Type 0
-IsFirst n = (1 ≤ n) × (n < 2 ^ 32)
-
-first_good : (table : Members) (n : ℕ) → first_in First table ≡ Ok n → IsFirst n
+first_good : (table : Members) (n : ℕ) → first_in First table ≡ Ok n → IsNumber n
 first_good table n given =
     let range = number_in_range 1 (2 ^ 32 - 1) First table n given in
     (range.0, omega (arith, range.1))
 
-numbers_good : (table : Members) (numbers : Numbers) → shared_in table ≡ Ok numbers → IsFirst numbers.first
+numbers_good : (table : Members) (numbers : Numbers) → shared_in table ≡ Ok numbers → IsNumber numbers.first
 unfolding shared_in
 numbers_good table numbers =
-    then_ok (IsFirst numbers.first) (or_default usual_priority priority_in Priority table) _ numbers (λ priority e more.
-    then_ok (IsFirst numbers.first) (or_default 1 first_in First table) _ numbers (λ first read whole.
-    let least : IsFirst first = default_ok IsFirst 1 first_in First table first (omega arith, omega arith) (λ n given. first_good table n given) read in
-    subst (λ (n : Numbers). IsFirst n.first) (ok_same _ _ numbers refl whole) least) more)
+    then_ok (IsNumber numbers.first) (or_default usual_priority priority_in Priority table) _ numbers (λ priority e more.
+    then_ok (IsNumber numbers.first) (or_default 1 first_in First table) _ numbers (λ first read whole.
+    let least : IsNumber first = default_ok IsNumber 1 first_in First table first (omega arith, omega arith) (λ n given. first_good table n given) read in
+    subst (λ (n : Numbers). IsNumber n.first) (ok_same _ _ numbers refl whole) least) more)
 
-core_in_good : (document : Members) (core : CoreStart) → core_in Core document ≡ Ok core → IsFirst core.numbers.first
+core_in_good : (document : Members) (core : CoreStart) → core_in Core document ≡ Ok core → IsNumber core.numbers.first
 unfolding core_in
 core_in_good document core =
-    then_ok (IsFirst core.numbers.first) (table_in Core document) _ core (λ table e1.
-    then_ok (IsFirst core.numbers.first) (only_in (Priority ∷ First ∷ FirstNcc ∷ []) table) _ core (λ known e2.
-    then_ok (IsFirst core.numbers.first) (shared_in table) _ core (λ numbers read_numbers.
-    then_ok (IsFirst core.numbers.first) (or_default One first_ncc_in FirstNcc table) _ core (λ first_ncc e3 whole.
-    subst (λ (c : CoreStart). IsFirst c.numbers.first) (ok_same _ _ core refl whole) (numbers_good table numbers read_numbers)))))
+    then_ok (IsNumber core.numbers.first) (table_in Core document) _ core (λ table e1.
+    then_ok (IsNumber core.numbers.first) (only_in (Priority ∷ First ∷ FirstNcc ∷ []) table) _ core (λ known e2.
+    then_ok (IsNumber core.numbers.first) (shared_in table) _ core (λ numbers read_numbers.
+    then_ok (IsNumber core.numbers.first) (or_default One first_ncc_in FirstNcc table) _ core (λ first_ncc e3 whole.
+    subst (λ (c : CoreStart). IsNumber c.numbers.first) (ok_same _ _ core refl whole) (numbers_good table numbers read_numbers)))))
 
-core_good : (document : Members) (core : CoreStart) → core_of document ≡ Ok core → IsFirst core.numbers.first
+core_good : (document : Members) (core : CoreStart) → core_of document ≡ Ok core → IsNumber core.numbers.first
 unfolding core_of
-core_good document core = default_ok (λ (c : CoreStart). IsFirst c.numbers.first) _ core_in Core document core (omega arith, omega arith) (core_in_good document)
+core_good document core =
+    default_ok (λ (c : CoreStart). IsNumber c.numbers.first) _ core_in Core document core (omega arith, omega arith)
+    (core_in_good document)
 
 -- the core of each of eight stations, 0 or 1
 abbrev AreCores : List ℕ → Type 0
@@ -76,9 +74,7 @@ core_good_at cores id core good fits = (All-set (λ n. n ≤ 1) cores id core fi
 record GoodNetwork (network : Network) : Type 0 where
   stations : All IsStation network.stations
   ids_differ : IsDistinct (λ s t. s.id == t.id) network.stations
-  cells_have_stations : All (λ site. IsTrue (has_station network.stations site.station)) network.cells
-  firsts_fit : All (λ s. s.first < 2 ^ 32) network.stations
-  cells_fit : All (λ site. IsCell site.cell) network.cells
+  sites : All (IsSiteOf network.stations) network.cells
   cores_fit : AreCores network.core_of
 
 same_id : IsEquivalence {K = StationSetup} (λ s t. s.id == t.id)
@@ -99,7 +95,8 @@ stands_itself stations s = rw list_any-append (grind (arith, nat_tests))
 with_site_good : (P : Site → Type 0) (sites : List Site) (id : ℕ) (cell : Place) (more : List Site)
     → All P sites → P (record { station = id; cell = cell }) → with_site sites id cell ≡ Some more → All P more
 with_site_good P sites id cell more old new = ⊎_elim
-    (λ (yes : list_any (is_site cell) sites ≡ true). λ (found : with_site sites id cell ≡ Some more). let lost : None ≡ Some more = rw yes at found in absurd cc)
+    (λ (yes : list_any (is_site cell) sites ≡ true). λ (found : with_site sites id cell ≡ Some more).
+    let lost : None ≡ Some more = rw yes at found in absurd cc)
     (λ (no : list_any (is_site cell) sites ≡ false). λ (found : with_site sites id cell ≡ Some more).
     let kept : Some (sites ++ record { station = id; cell = cell } ∷ []) ≡ Some more = rw no at found in
     let same : sites ++ record { station = id; cell = cell } ∷ [] ≡ more = cc in
@@ -118,8 +115,16 @@ few_good : (P : Site → Type 0) (sites : List Site) (id : ℕ) (values : Items)
     → All P sites → ((cell : Place) → IsCell cell → P (record { station = id; cell = cell }))
     → (if nat_le 1 (count_of values) && nat_le (count_of values) 4 then sites_from sites id values else None) ≡ Some more → All P more
 few_good P sites id values more old new = ⊎_elim
-    (λ (yes : (nat_le 1 (count_of values) && nat_le (count_of values) 4) ≡ true). λ (found : (if nat_le 1 (count_of values) && nat_le (count_of values) 4 then sites_from sites id values else None) ≡ Some more). sites_good P sites id values more old new (rw yes at found))
-    (λ (no : (nat_le 1 (count_of values) && nat_le (count_of values) 4) ≡ false). λ (found : (if nat_le 1 (count_of values) && nat_le (count_of values) 4 then sites_from sites id values else None) ≡ Some more). let lost : None ≡ Some more = rw no at found in absurd cc)
+    (λ (yes : (nat_le 1 (count_of values) && nat_le (count_of values) 4) ≡ true).
+    λ (found : (if nat_le 1 (count_of values) && nat_le (count_of values) 4 then sites_from sites id values
+    else None)
+    ≡ Some more).
+    sites_good P sites id values more old new (rw yes at found))
+    (λ (no : (nat_le 1 (count_of values) && nat_le (count_of values) 4) ≡ false).
+    λ (found : (if nat_le 1 (count_of values) && nat_le (count_of values) 4 then sites_from sites id values
+    else None)
+    ≡ Some more).
+    let lost : None ≡ Some more = rw no at found in absurd cc)
     (cases_Bool (nat_le 1 (count_of values) && nat_le (count_of values) 4))
 
 cells_good : (P : Site → Type 0) (sites : List Site) (id : ℕ) (table : Members) (more : List Site)
@@ -146,17 +151,21 @@ apart : (stations : List StationSetup) (id : ℕ) → list_any (λ t. id == t.id
 apart [] id = refl
 apart (s ∷ stations) id = rw (equal_turned id s.id, apart stations id) refl
 
-one_more_good : (network : Network) (id : ℕ) (numbers : Numbers) (cells : List Site) (core : ℕ) → GoodNetwork network → (id ≤ 7) × (has_station network.stations id ≡ false) → IsFirst numbers.first
-    → All (λ site. IsTrue (has_station (network.stations ++ record { id = id; priority = numbers.priority; first = numbers.first } ∷ []) site.station)) cells
-    → All (λ site. IsCell site.cell) cells
+one_more_good : (network : Network) (id : ℕ) (numbers : Numbers) (cells : List Site) (core : ℕ)
+    → GoodNetwork network
+    → (id ≤ 7) × (has_station network.stations id ≡ false)
+    → IsNumber numbers.first
+    → All (IsSiteOf (network.stations ++ record { id = id; priority = numbers.priority; first = numbers.first } ∷ [])) cells
     → core ≤ 1
-    → GoodNetwork (record { stations = network.stations ++ record { id = id; priority = numbers.priority; first = numbers.first } ∷ []; cells = cells; core_of = slice_set network.core_of id core })
-one_more_good network id numbers cells core good new least stand fit own = record {
-  stations = All-push IsStation network.stations _ good.stations (new.0, least.0);
+    → GoodNetwork (record {
+      stations = network.stations ++ record { id = id; priority = numbers.priority; first = numbers.first } ∷ [];
+      cells = cells;
+      core_of = slice_set network.core_of id core;
+    })
+one_more_good network id numbers cells core good new first are own = record {
+  stations = All-push IsStation network.stations _ good.stations (new.0, first);
   ids_differ = IsDistinct-push same_id network.stations _ good.ids_differ (apart network.stations id ∙ new.1);
-  cells_have_stations = stand;
-  firsts_fit = All-push (λ s. s.first < 2 ^ 32) network.stations _ good.firsts_fit least.1;
-  cells_fit = fit;
+  sites = are;
   cores_fit = core_good_at network.core_of id core good.cores_fit own;
 }
 
@@ -165,7 +174,10 @@ core_number_good : (table : Members) (core : ℕ) → core_number_in table ≡ O
 core_number_good table core = default_ok (λ n. n ≤ 1) 0 (number_in 0 1) Core table core (omega arith) (λ n read. (number_in_range 0 1 Core table n read).1)
 
 -- one station more
-with_station_good : (system : System) (network : Network) (table : Members) (next : Network) → GoodNetwork network → with_station system network table ≡ Ok next → GoodNetwork next
+with_station_good : (system : System) (network : Network) (table : Members) (next : Network)
+    → GoodNetwork network
+    → with_station system network table ≡ Ok next
+    → GoodNetwork next
 unfolding with_station
 with_station_good system network table next good =
     then_ok (GoodNetwork next) (only_in (Id ∷ Priority ∷ First ∷ Cells ∷ more_of_station system) table) _ next (λ known e1.
@@ -175,14 +187,16 @@ with_station_good system network table next good =
     then_ok (GoodNetwork next) (core_number_in table) _ next (λ core read_core whole.
     subst GoodNetwork (ok_same _ _ next refl whole)
     (one_more_good network id numbers cells core good (id_good network.stations table id read_id) (numbers_good table numbers read_numbers)
-    (cells_good (λ site. IsTrue (has_station (network.stations ++ record { id = id; priority = numbers.priority; first = numbers.first } ∷ []) site.station)) network.cells id table cells
-    (λ k d below. stands_on network.stations _ _ (good.cells_have_stations k d below))
-    (λ cell fits. stands_itself network.stations (record { id = id; priority = numbers.priority; first = numbers.first }))
+    (cells_good (IsSiteOf (network.stations ++ record { id = id; priority = numbers.priority; first = numbers.first } ∷ [])) network.cells id table cells
+    (λ k d below. ((good.sites k d below).0, stands_on network.stations _ _ (good.sites k d below).1))
+    (λ cell fits. (fits, stands_itself network.stations (record { id = id; priority = numbers.priority; first = numbers.first })))
     read_cells)
-    (cells_good (λ site. IsCell site.cell) network.cells id table cells good.cells_fit (λ cell fits. fits) read_cells)
     (core_number_good table core read_core)))))))
 
-stations_good : (system : System) (network : Network) (values : Items) (next : Network) → GoodNetwork network → stations_from system network values ≡ Ok next → GoodNetwork next
+stations_good : (system : System) (network : Network) (values : Items) (next : Network)
+    → GoodNetwork network
+    → stations_from system network values ≡ Ok next
+    → GoodNetwork next
 stations_good system network no_items next good read = subst GoodNetwork (ok_same _ network next refl read) good
 stations_good system network (item value values) next good read =
     then_ok (GoodNetwork next) (station_from system network value) _ next (λ one first rest.
@@ -192,13 +206,19 @@ stations_good system network (item value values) next good read =
 
 no_station : GoodNetwork no_stations
 unfolding IsDistinct
-no_station = record { stations = All-nil _; ids_differ = tt; cells_have_stations = All-nil _; firsts_fit = All-nil _; cells_fit = All-nil _; cores_fit = (All-replicate (λ core. core ≤ 1) 8 0 (omega arith), length-replicate {A = ℕ} 8 0) }
+no_station = record {
+  stations = All-nil _;
+  ids_differ = tt;
+  sites = All-nil _;
+  cores_fit = (All-replicate (λ core. core ≤ 1) 8 0 (omega arith), length-replicate {A = ℕ} 8 0);
+}
 
 -- AT LEAST ONE CELL
 
 one_cell_more : (sites : List Site) (id : ℕ) (cell : Place) (more : List Site) → with_site sites id cell ≡ Some more → 1 ≤ length more
 one_cell_more sites id cell more = ⊎_elim
-    (λ (yes : list_any (is_site cell) sites ≡ true). λ (found : with_site sites id cell ≡ Some more). let lost : None ≡ Some more = rw yes at found in absurd cc)
+    (λ (yes : list_any (is_site cell) sites ≡ true). λ (found : with_site sites id cell ≡ Some more).
+    let lost : None ≡ Some more = rw yes at found in absurd cc)
     (λ (no : list_any (is_site cell) sites ≡ false). λ (found : with_site sites id cell ≡ Some more).
     let kept : Some (sites ++ record { station = id; cell = cell } ∷ []) ≡ Some more = rw no at found in
     let same : sites ++ record { station = id; cell = cell } ∷ [] ≡ more = cc in
@@ -206,7 +226,10 @@ one_cell_more sites id cell more = ⊎_elim
     subst (λ (m : List Site). 1 ≤ length m) same (omega (arith, long)))
     (cases_Bool (list_any (is_site cell) sites))
 
-cells_stay : (sites : List Site) (id : ℕ) (values : Items) (more : List Site) → (1 ≤ length sites) ⊎ (1 ≤ count_of values) → sites_from sites id values ≡ Some more → 1 ≤ length more
+cells_stay : (sites : List Site) (id : ℕ) (values : Items) (more : List Site)
+    → (1 ≤ length sites) ⊎ (1 ≤ count_of values)
+    → sites_from sites id values ≡ Some more
+    → 1 ≤ length more
 cells_stay sites id no_items more (inl some) found = let same : sites ≡ more = cc in subst (λ (m : List Site). 1 ≤ length m) same some
 cells_stay sites id no_items more (inr none) found = absurd (omega (arith, none))
 cells_stay sites id (item value values) more some found =
@@ -217,9 +240,16 @@ cells_stay sites id (item value values) more some found =
 if_few_cells : (sites : List Site) (id : ℕ) (values : Items) (more : List Site)
     → (if nat_le 1 (count_of values) && nat_le (count_of values) 4 then sites_from sites id values else None) ≡ Some more → 1 ≤ length more
 if_few_cells sites id values more = ⊎_elim
-    (λ (yes : (nat_le 1 (count_of values) && nat_le (count_of values) 4) ≡ true). λ (found : (if nat_le 1 (count_of values) && nat_le (count_of values) 4 then sites_from sites id values else None) ≡ Some more).
+    (λ (yes : (nat_le 1 (count_of values) && nat_le (count_of values) 4) ≡ true).
+    λ (found : (if nat_le 1 (count_of values) && nat_le (count_of values) 4 then sites_from sites id values
+    else None)
+    ≡ Some more).
     cells_stay sites id values more (inr (leb-true 1 (count_of values) (and_parts _ _ yes).0)) (rw yes at found))
-    (λ (no : (nat_le 1 (count_of values) && nat_le (count_of values) 4) ≡ false). λ (found : (if nat_le 1 (count_of values) && nat_le (count_of values) 4 then sites_from sites id values else None) ≡ Some more). let lost : None ≡ Some more = rw no at found in absurd cc)
+    (λ (no : (nat_le 1 (count_of values) && nat_le (count_of values) 4) ≡ false).
+    λ (found : (if nat_le 1 (count_of values) && nat_le (count_of values) 4 then sites_from sites id values
+    else None)
+    ≡ Some more).
+    let lost : None ≡ Some more = rw no at found in absurd cc)
     (cases_Bool (nat_le 1 (count_of values) && nat_le (count_of values) 4))
 
 some_cells : (sites : List Site) (id : ℕ) (table : Members) (more : List Site) → cells_in sites id table ≡ Ok more → 1 ≤ length more
@@ -227,7 +257,9 @@ unfolding cells_in
 some_cells sites id table more =
     then_ok (1 ≤ length more) (array_in Cells table) _ more (λ values e read. if_few_cells sites id values more (ok_or_ok _ _ more read))
 
-station_has_cells : (system : System) (network : Network) (table : Members) (next : Network) → with_station system network table ≡ Ok next → 1 ≤ length next.cells
+station_has_cells : (system : System) (network : Network) (table : Members) (next : Network)
+    → with_station system network table ≡ Ok next
+    → 1 ≤ length next.cells
 unfolding with_station
 station_has_cells system network table next =
     then_ok (1 ≤ length next.cells) (only_in (Id ∷ Priority ∷ First ∷ Cells ∷ more_of_station system) table) _ next (λ known e1.
@@ -238,13 +270,17 @@ station_has_cells system network table next =
     subst (λ (n : Network). 1 ≤ length n.cells) (ok_same _ _ next refl whole)
     (some_cells network.cells id table cells read_cells))))))
 
-stations_have_cells : (system : System) (network : Network) (values : Items) (next : Network) → (1 ≤ length network.cells) ⊎ (1 ≤ count_of values) → stations_from system network values ≡ Ok next → 1 ≤ length next.cells
+stations_have_cells : (system : System) (network : Network) (values : Items) (next : Network)
+    → (1 ≤ length network.cells) ⊎ (1 ≤ count_of values)
+    → stations_from system network values ≡ Ok next
+    → 1 ≤ length next.cells
 stations_have_cells system network no_items next (inl some) read = subst (λ (n : Network). 1 ≤ length n.cells) (ok_same _ network next refl read) some
 stations_have_cells system network no_items next (inr none) read = absurd (omega (arith, none))
 stations_have_cells system network (item value values) next some read =
     then_ok (1 ≤ length next.cells) (station_from system network value) _ next (λ one first rest.
     stations_have_cells system one values next
-    (inl (then_ok (1 ≤ length one.cells) (ok_or (as_table value) (Wrong Station)) _ one (λ table e more. station_has_cells system network table one more) first))
+    (inl (then_ok (1 ≤ length one.cells) (ok_or (as_table value) (Wrong Station)) _ one
+    (λ table e more. station_has_cells system network table one more) first))
     rest) read
 
 -- what holds of all stations and of their cells
@@ -256,7 +292,9 @@ not_none : (n : ℕ) → (n == 0) ≡ false → 1 ≤ n
 not_none n some = grind (arith, nat_tests, some)
 
 abbrev from_tables : System → Items → Result Network Refusal
-from_tables system values = if count_of values == 0 then Err (Missing Station) else (if nat_lt 8 (count_of values) then Err (Wrong Station) else stations_from system no_stations values)
+from_tables system values =
+    if count_of values == 0 then Err (Missing Station)
+    else (if nat_lt 8 (count_of values) then Err (Wrong Station) else stations_from system no_stations values)
 
 some_good : (system : System) (values : Items) (network : Network) → from_tables system values ≡ Ok network
     → WholeNetwork network
@@ -272,7 +310,8 @@ some_good system values network = ⊎_elim
 
 network_good : (system : System) (document : Members) (network : Network) → network_of system document ≡ Ok network → WholeNetwork network
 unfolding network_of
-network_good system document network = then_ok (WholeNetwork network) (tables_in Station document) _ network (λ values e read. some_good system values network read)
+network_good system document network = then_ok (WholeNetwork network) (tables_in Station document) _ network
+    (λ values e read. some_good system values network read)
 
 phone_good : (document : Members) (caps : Caps) → phone_of document ≡ Ok caps → IsCaps caps
 unfolding phone_of
@@ -298,30 +337,31 @@ phones_good system.TwoCores document phones read = subst AreSome (ok_same _ 1 ph
 
 -- what holds of a start that was read
 record GoodStart (start : Start) : Type 0 where
-  can : CanStart start.setup
-  fits : SetupFits start.setup
+  can : IsSetup start.setup
   cells : 1 ≤ length start.setup.cells
   phones : AreSome start.phones
   cores : AreCores start.core_of
 
-of_parts : (phones : ℕ) (caps : Caps) (core : CoreStart) (network : Network) → AreSome phones → IsCaps caps → IsFirst core.numbers.first → WholeNetwork network
+of_parts : (phones : ℕ) (caps : Caps) (core : CoreStart) (network : Network) → AreSome phones → IsCaps caps → IsNumber core.numbers.first → WholeNetwork network
     → GoodStart (record {
-      setup = record { caps = caps; core_priority = core.numbers.priority; core_first = core.numbers.first; core_first_ncc = core.first_ncc; stations = network.stations; cells = network.cells };
+      setup = record {
+        caps = caps;
+        core_priority = core.numbers.priority;
+        core_first = core.numbers.first;
+        core_first_ncc = core.first_ncc;
+        stations = network.stations;
+        cells = network.cells;
+      };
       phones = phones;
       core_of = network.core_of;
     })
 of_parts phones caps core network phones_are caps_good core_is whole = let good = whole.good in record {
   can = record {
-    core_first = core_is.0;
+    caps = caps_good;
+    core_first = core_is;
     stations = good.stations;
     ids_differ = good.ids_differ;
-    cells_have_stations = good.cells_have_stations;
-  };
-  fits = record {
-    caps = caps_good;
-    core_first = core_is.1;
-    stations = good.firsts_fit;
-    cells = good.cells_fit;
+    sites = good.sites;
   };
   cells = whole.some;
   phones = phones_are;
@@ -337,17 +377,14 @@ start_good system document start =
     then_ok (GoodStart start) (core_of document) _ start (λ core read_core.
     then_ok (GoodStart start) (network_of system document) _ start (λ network read_network whole.
     subst GoodStart (ok_same _ _ start refl whole)
-    (of_parts phones caps core network (phones_good system document phones read_phones) (phone_good document caps read_caps) (core_good document core read_core) (network_good system document network read_network)))))))
+    (of_parts phones caps core network (phones_good system document phones read_phones)
+    (phone_good document caps read_caps) (core_good document core read_core)
+    (network_good system document network read_network)))))))
 
 -- what is read of the start is something that a system can start with
-pub start_can : (system : System) (document : Members) (r : Result Start Refusal) → r ≡ start_of system document → IfOk r (λ s. CanStart s.setup)
+pub start_can : (system : System) (document : Members) (r : Result Start Refusal) → r ≡ start_of system document → IfOk r (λ s. IsSetup s.setup)
 start_can system document (Ok start) read = (start_good system document start (sym read)).can
 start_can system document (Err refusal) read = tt
-
--- and each number is in its range
-pub start_fits : (system : System) (document : Members) (r : Result Start Refusal) → r ≡ start_of system document → IfOk r (λ s. SetupFits s.setup)
-start_fits system document (Ok start) read = (start_good system document start (sym read)).fits
-start_fits system document (Err refusal) read = tt
 
 -- and there is a cell at least
 pub start_cells : (system : System) (document : Members) (r : Result Start Refusal) → r ≡ start_of system document → IfOk r (λ s. 1 ≤ length s.setup.cells)
@@ -355,11 +392,15 @@ start_cells system document (Ok start) read = (start_good system document start 
 start_cells system document (Err refusal) read = tt
 
 -- and a phone, and no more than a fleet has
-pub start_phones : (system : System) (document : Members) (r : Result Start Refusal) → r ≡ start_of system document → IfOk r (λ s. (1 ≤ s.phones) × (s.phones ≤ 256))
+pub start_phones : (system : System) (document : Members) (r : Result Start Refusal)
+    → r ≡ start_of system document
+    → IfOk r (λ s. (1 ≤ s.phones) × (s.phones ≤ 256))
 start_phones system document (Ok start) read = (start_good system document start (sym read)).phones
 start_phones system document (Err refusal) read = tt
 
 -- and a core for each number of a station
-pub start_cores : (system : System) (document : Members) (r : Result Start Refusal) → r ≡ start_of system document → IfOk r (λ s. All (λ core. core ≤ 1) s.core_of × (length s.core_of ≡ 8))
+pub start_cores : (system : System) (document : Members) (r : Result Start Refusal)
+    → r ≡ start_of system document
+    → IfOk r (λ s. All (λ core. core ≤ 1) s.core_of × (length s.core_of ≡ 8))
 start_cores system document (Ok start) read = (start_good system document start (sym read)).cores
 start_cores system document (Err refusal) read = tt

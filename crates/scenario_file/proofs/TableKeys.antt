@@ -12,12 +12,14 @@ use Rattle.scenario_file.specs.declared.fields.Field.{Field}
 use Rattle.scenario_file.specs.Field.{name_of}
 use Rattle.scenario_file.specs.Keys.{is_one_of, has_only}
 
-entries_have_only : (fields : List Field) (es : List (String Global × Value)) → list_all (λ k. is_one_of fields (string_bytes k)) (keys_of es) ≡ has_only fields (members_view es)
+entries_have_only : (fields : List Field) (es : List (String Global × Value))
+    → list_all (λ k. is_one_of fields (string_bytes k)) (keys_of es) ≡ has_only fields (members_view es)
 entries_have_only fields [] = refl
 entries_have_only fields (e ∷ es) = ap (λ b. is_one_of fields (string_bytes e.0) && b) (entries_have_only fields es)
 
 -- each key of a table is one of these fields, asked of its map or of its members
-pub all_keys : (fields : List Field) (t : BTreeMap (String Global) Value) → list_all (λ k. is_one_of fields (string_bytes k)) (keys t) ≡ has_only fields (table_view t)
+pub all_keys : (fields : List Field) (t : BTreeMap (String Global) Value)
+    → list_all (λ k. is_one_of fields (string_bytes k)) (keys t) ≡ has_only fields (table_view t)
 all_keys fields t = entries_have_only fields t.entries
 
 -- a key is one of these fields or those where it is one of these, or one of those

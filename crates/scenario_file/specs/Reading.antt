@@ -4,6 +4,7 @@ use Rattle.std.specs.Option.{ok_or}
 use Rattle.std.specs.Str.{is_utf8}
 use Rattle.toml.specs.Data.{Data, Items, no_items, item, Members, as_table}
 use Rattle.toml.specs.Parse.{parse_document}
+use Rattle.lte_events.specs.Scenario.{most_events}
 use Rattle.lte_events.specs.declared.events.Event.{Event}
 use Rattle.lte_events.specs.declared.setups.Setup.{Setup}
 use Rattle.scenario_file.specs.declared.fields.Field.TheVariants.{Step as StepField}
@@ -48,7 +49,7 @@ kept_from kept system start so_far (item value values) =
 
 -- at most 200,000 steps
 abbrev pub if_few : Items → Result (Unit {0}) ScenarioFault
-if_few values = if nat_lt 200000 (count_of values) then Err TooMany else Ok tt
+if_few values = if nat_lt most_events (count_of values) then Err TooMany else Ok tt
 
 -- what a document says before its steps: what a system of this kind starts with, and the tables of its steps
 abbrev pub before_steps : System → Members → Result (Start × Items) ScenarioFault

@@ -1,8 +1,8 @@
 ghost use Rattle.growth.specs.Growth.{WasRefused};
-ghost use Rattle.std.specs.Prelude.{◌≡◌, ◌≤◌, ◌<◌, ◌∷◌, ◌++◌, [], false, length, All, IfOk, IsOkUnless, OnErr};
+ghost use Rattle.std.specs.Prelude.{◌≡◌, ◌≤◌, ◌<◌, ◌∷◌, ◌++◌, [], false, length, IfOk, IsOkUnless, OnErr};
 ghost use Rattle.std.specs.List.{list_any};
 ghost use Rattle.lte_events.specs.Site.{is_site};
-ghost use Rattle.lte_events.specs.Conditions.{CanStart, CanHappen, SetupFits, EventFits};
+ghost use Rattle.lte_events.specs.Scenario.{IsScenario};
 ghost use Rattle.scenario_file.specs.Draws.{cell_of, station_setup, site_of, generated_caps, generated_setup, generated};
 
 use crate::first_steps::FirstSteps;
@@ -12,7 +12,8 @@ use crate::turns::add_opening;
 use crate::{Scenario, ScenarioFault};
 use alg_choice::Caps;
 use annex_a_keys::Cell;
-use lte_events::{Cells, Events, Few, FirstNcc, Setup, StationSetup};
+use lte_events::{Cells, Events, FirstNcc, Setup, StationSetup};
+use rec_base::Few;
 use std::alloc::Global;
 
 /// The scenario of `n` steps that a seed gives, n being 1 to 100,000: a phone with traffic and handovers among
@@ -26,10 +27,7 @@ pub fn generate(alloc: Global, n: u32, seed: u32) -> Result<Scenario, ScenarioFa
     ensures steps { IfOk result (λ s. length s.events.items ≡ n) }
     ensures memory { IsOkUnless result ScenarioFault.Memory }
     ensures refused { OnErr result WasRefused }
-    ensures can_start { IfOk result (λ s. CanStart s.setup) }
-    ensures can_happen { IfOk result (λ s. All (CanHappen s.setup) s.events.items) }
-    ensures setup_fits { IfOk result (λ s. SetupFits s.setup) }
-    ensures events_fit { IfOk result (λ s. All EventFits s.events.items) }
+    ensures is_scenario { IfOk result (λ s. IsScenario s.setup s.events.items) }
 {
     let setup = generated_setup();
     let events = generated_events(alloc, n, seed)?;

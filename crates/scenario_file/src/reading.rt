@@ -1,6 +1,6 @@
 ghost use Rattle.growth.specs.Growth.{WasRefused};
 ghost use Rattle.std.specs.Prelude.{◌≡◌, ◌≤◌, ◌<◌, length, Ok, Err, IfOk, IfErr, All};
-ghost use Rattle.lte_events.specs.Conditions.{CanStart, CanHappen, SetupFits, EventFits};
+ghost use Rattle.lte_events.specs.Scenario.{IsScenario, IsScenarioBy};
 ghost use Rattle.scenario_file.specs.Reading.{reading_of, fleet_reading_of, two_reading_of};
 
 use crate::ScenarioFault;
@@ -47,12 +47,8 @@ pub fn read(alloc: Global, octets: &[u8]) -> Result<Scenario, ScenarioFault>
     ensures scenario { IfOk result (λ s. reading_of octets.now ≡ Ok (s.setup, s.events.items)) }
     ensures refused { IfErr result (λ fault. ¬ (fault ≡ ScenarioFault.Memory) → reading_of octets.now ≡ Err fault) }
     ensures memory { IfErr result (λ fault. fault ≡ ScenarioFault.Memory → WasRefused) }
-    ensures can_start { IfOk result (λ s. CanStart s.setup) }
-    ensures can_happen { IfOk result (λ s. All (CanHappen s.setup) s.events.items) }
-    ensures setup_fits { IfOk result (λ s. SetupFits s.setup) }
+    ensures is_scenario { IfOk result (λ s. IsScenario s.setup s.events.items) }
     ensures cells { IfOk result (λ s. 1 ≤ length s.setup.cells) }
-    ensures events_fit { IfOk result (λ s. All EventFits s.events.items) }
-    ensures few { IfOk result (λ s. length s.events.items ≤ 200000) }
 {
     let whole: Whole<Events> = read_as(alloc, octets, System::Single)?;
     Ok(Scenario {
@@ -67,12 +63,8 @@ pub fn read_fleet(alloc: Global, octets: &[u8]) -> Result<FleetScenario, Scenari
     ensures scenario { IfOk result (λ s. fleet_reading_of octets.now ≡ Ok (s.setup, s.phones, s.events.items)) }
     ensures refused { IfErr result (λ fault. ¬ (fault ≡ ScenarioFault.Memory) → fleet_reading_of octets.now ≡ Err fault) }
     ensures memory { IfErr result (λ fault. fault ≡ ScenarioFault.Memory → WasRefused) }
-    ensures can_start { IfOk result (λ s. CanStart s.setup) }
-    ensures can_happen { IfOk result (λ s. All (λ step. CanHappen s.setup step.1) s.events.items) }
-    ensures setup_fits { IfOk result (λ s. SetupFits s.setup) }
+    ensures is_scenario { IfOk result (λ s. IsScenarioBy (λ step. step.1) s.setup s.events.items) }
     ensures cells { IfOk result (λ s. 1 ≤ length s.setup.cells) }
-    ensures events_fit { IfOk result (λ s. All (λ step. EventFits step.1) s.events.items) }
-    ensures few { IfOk result (λ s. length s.events.items ≤ 200000) }
     ensures phones { IfOk result (λ s. (1 ≤ s.phones) × (s.phones ≤ 256)) }
     ensures phones_stand { IfOk result (λ s. All (λ step. step.0 < s.phones) s.events.items) }
 {
@@ -91,12 +83,8 @@ pub fn read_two(alloc: Global, octets: &[u8]) -> Result<TwoScenario, ScenarioFau
     ensures scenario { IfOk result (λ s. two_reading_of octets.now ≡ Ok (s.setup, s.core_of, s.events.items)) }
     ensures refused { IfErr result (λ fault. ¬ (fault ≡ ScenarioFault.Memory) → two_reading_of octets.now ≡ Err fault) }
     ensures memory { IfErr result (λ fault. fault ≡ ScenarioFault.Memory → WasRefused) }
-    ensures can_start { IfOk result (λ s. CanStart s.setup) }
-    ensures can_happen { IfOk result (λ s. All (CanHappen s.setup) s.events.items) }
-    ensures setup_fits { IfOk result (λ s. SetupFits s.setup) }
+    ensures is_scenario { IfOk result (λ s. IsScenario s.setup s.events.items) }
     ensures cells { IfOk result (λ s. 1 ≤ length s.setup.cells) }
-    ensures events_fit { IfOk result (λ s. All EventFits s.events.items) }
-    ensures few { IfOk result (λ s. length s.events.items ≤ 200000) }
     ensures cores { IfOk result (λ s. All (λ core. core ≤ 1) s.core_of) }
     ensures eight { IfOk result (λ s. length s.core_of ≡ 8) }
 {

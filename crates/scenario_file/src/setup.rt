@@ -12,7 +12,8 @@ use crate::systems::System;
 use crate::{Field, values};
 use alg_choice::{Caps, Eea, Priority};
 use annex_a_keys::Cell;
-use lte_events::{Cells, Few, FirstNcc, Setup, StationSetup};
+use lte_events::{Cells, FirstNcc, Setup, StationSetup};
+use rec_base::Few;
 use toml::{Table, Value};
 
 // The algorithms that the core or a station may choose, and the first number that it draws.
@@ -220,10 +221,7 @@ fn stations(values: &[Value], system: System) -> Result<Network, Refusal>
         core_of: [0; 8],
     };
     for value in values {
-        match station(network, value, system) {
-            Ok(next) => network = next,
-            Err(refusal) => return Err(refusal),
-        }
+        network = station(network, value, system)?;
     }
     Ok(network)
 }

@@ -2,8 +2,8 @@
 ghost use Rattle.std.specs.Prelude.{◌≡◌, ◌≤◌, ◌<◌, ◌∷◌, [], IfOk};
 ghost use Rattle.toml.specs.View.{table_view};
 ghost use Rattle.alg_choice.specs.Caps.{IsCaps};
-ghost use Rattle.lte_events.specs.Ranges.{StationDoes, IsStationAct};
-ghost use Rattle.lte_events.specs.Conditions.{CanHappen, SetupFits, EventFits};
+ghost use Rattle.lte_events.specs.Ranges.{StationDoes, IsSetup, IsStationAct};
+ghost use Rattle.lte_events.specs.Scenario.{CanHappen};
 ghost use Rattle.scenario_file.specs.declared.fields.Field.TheVariants.{Do, From, Bearer as BearerField, Text, Who, N, To, Octets, Caps as CapsField};
 ghost use Rattle.scenario_file.specs.Values.{or_default, caps_in};
 ghost use Rattle.scenario_file.specs.Steps.{auth_of, connect_of, start_of, station_act_of, deliver_of, if_station, user_from, user_of, rrc_from, rrc_of, nas_from, nas_event_of, if_at_station, skip_at, skip_of, phone_target, target_at, target_in, if_air, inject_at, inject_of, event_by, fields_of, phone_in, step_of};
@@ -36,11 +36,10 @@ pub(crate) enum Target {
 // What a step's table says.
 #[tactic(auto, unfolding(crate::specs::Steps::step_of))]
 pub(crate) fn step_in(table: &Table, system: System, start: &Start) -> Result<Step, Refusal>
-    requires setup { SetupFits start.now.setup }
+    requires setup { IsSetup start.now.setup }
     requires phones { 1 ≤ start.now.phones }
     ensures value { result ≡ step_of system start.now (table_view table.now) }
     ensures can { IfOk result (λ step. CanHappen start.now.setup step.event) }
-    ensures fits { IfOk result (λ step. EventFits step.event) }
     ensures phone { IfOk result (λ step. step.phone < start.now.phones) }
 {
     let act = values::act_at(table, Field::Do)?;
@@ -82,10 +81,9 @@ fn fields(act: Act, table: &Table) -> &'static [Field]
 
 // What happens in a step, by its `do`.
 fn event_by(act: Act, table: &Table, setup: &Setup) -> Result<Event, Refusal>
-    requires { SetupFits setup.now }
+    requires { IsSetup setup.now }
     ensures value { result ≡ event_by act setup.now (table_view table.now) }
     ensures can { IfOk result (CanHappen setup.now) }
-    ensures fits { IfOk result EventFits }
 {
     match act {
         Act::Auth => auth(table, setup),
@@ -112,10 +110,9 @@ fn event_by(act: Act, table: &Table, setup: &Setup) -> Result<Event, Refusal>
 
 #[tactic(auto, unfolding(crate::specs::Steps::auth_of))]
 fn auth(table: &Table, setup: &Setup) -> Result<Event, Refusal>
-    requires { SetupFits setup.now }
+    requires { IsSetup setup.now }
     ensures value { result ≡ auth_of setup.now (table_view table.now) }
     ensures can { IfOk result (CanHappen setup.now) }
-    ensures fits { IfOk result EventFits }
 {
     let ksi = values::number(table, Field::Ksi, 0, 6)? as u8;
     let kasme = values::key(table, Field::Kasme)?;
@@ -139,7 +136,6 @@ fn caps_or(table: &Table, usual: Caps) -> Result<Caps, Refusal>
 fn connect(table: &Table, setup: &Setup) -> Result<Event, Refusal>
     ensures value { result ≡ connect_of (table_view table.now) }
     ensures can { IfOk result (CanHappen setup.now) }
-    ensures fits { IfOk result EventFits }
 {
     let cell = values::cell(table, Field::Cell)?;
     Ok(Event::Core(CoreAct::Connect(cell)))
@@ -150,7 +146,6 @@ fn connect(table: &Table, setup: &Setup) -> Result<Event, Refusal>
 fn start(table: &Table, setup: &Setup, kind: HoKind) -> Result<Event, Refusal>
     ensures value { result ≡ start_of kind setup.now (table_view table.now) }
     ensures can { IfOk result (CanHappen setup.now) }
-    ensures fits { IfOk result EventFits }
 {
     let id = values::station(table, setup)?;
     let cell = values::cell(table, Field::Cell)?;
@@ -164,7 +159,6 @@ fn station_act(table: &Table, setup: &Setup, act: StationAct) -> Result<Event, R
     requires fits { IsStationAct act }
     ensures value { result ≡ station_act_of act setup.now (table_view table.now) }
     ensures can { IfOk result (CanHappen setup.now) }
-    ensures fits { IfOk result EventFits }
 {
     let id = values::station(table, setup)?;
     Ok(Event::Station(id, act))
@@ -174,7 +168,6 @@ fn station_act(table: &Table, setup: &Setup, act: StationAct) -> Result<Event, R
 fn deliver(table: &Table, setup: &Setup) -> Result<Event, Refusal>
     ensures value { result ≡ deliver_of (table_view table.now) }
     ensures can { IfOk result (CanHappen setup.now) }
-    ensures fits { IfOk result EventFits }
 {
     let record = values::integer(table, Field::Record)?;
     Ok(Event::Deliver(record))
@@ -184,7 +177,6 @@ fn deliver(table: &Table, setup: &Setup) -> Result<Event, Refusal>
 fn user(table: &Table, setup: &Setup) -> Result<Event, Refusal>
     ensures value { result ≡ user_of setup.now (table_view table.now) }
     ensures can { IfOk result (CanHappen setup.now) }
-    ensures fits { IfOk result EventFits }
 {
     match values::radio_end_at(table, Field::From)? {
         RadioEnd::Phone => user_of_phone(table, setup),
@@ -211,7 +203,6 @@ fn text_fields(from: Result<RadioEnd, Refusal>) -> &'static [Field]
 fn user_of_phone(table: &Table, setup: &Setup) -> Result<Event, Refusal>
     ensures value { result ≡ user_from RadioEnd.Phone setup.now (table_view table.now) }
     ensures can { IfOk result (CanHappen setup.now) }
-    ensures fits { IfOk result EventFits }
 {
     let bearer = values::drb(table, Field::Bearer)?;
     let text = values::octets(table, Field::Text)?;
@@ -221,7 +212,6 @@ fn user_of_phone(table: &Table, setup: &Setup) -> Result<Event, Refusal>
 fn user_of_station(table: &Table, setup: &Setup) -> Result<Event, Refusal>
     ensures value { result ≡ user_from RadioEnd.Station setup.now (table_view table.now) }
     ensures can { IfOk result (CanHappen setup.now) }
-    ensures fits { IfOk result EventFits }
 {
     let id = values::station(table, setup)?;
     let bearer = values::drb(table, Field::Bearer)?;
@@ -233,7 +223,6 @@ fn user_of_station(table: &Table, setup: &Setup) -> Result<Event, Refusal>
 fn rrc(table: &Table, setup: &Setup) -> Result<Event, Refusal>
     ensures value { result ≡ rrc_of setup.now (table_view table.now) }
     ensures can { IfOk result (CanHappen setup.now) }
-    ensures fits { IfOk result EventFits }
 {
     match values::radio_end_at(table, Field::From)? {
         RadioEnd::Phone => rrc_of_phone(table, setup),
@@ -244,7 +233,6 @@ fn rrc(table: &Table, setup: &Setup) -> Result<Event, Refusal>
 fn rrc_of_phone(table: &Table, setup: &Setup) -> Result<Event, Refusal>
     ensures value { result ≡ rrc_from RadioEnd.Phone setup.now (table_view table.now) }
     ensures can { IfOk result (CanHappen setup.now) }
-    ensures fits { IfOk result EventFits }
 {
     let bearer = values::srb(table, Field::Bearer)?;
     let text = values::octets(table, Field::Text)?;
@@ -254,7 +242,6 @@ fn rrc_of_phone(table: &Table, setup: &Setup) -> Result<Event, Refusal>
 fn rrc_of_station(table: &Table, setup: &Setup) -> Result<Event, Refusal>
     ensures value { result ≡ rrc_from RadioEnd.Station setup.now (table_view table.now) }
     ensures can { IfOk result (CanHappen setup.now) }
-    ensures fits { IfOk result EventFits }
 {
     let id = values::station(table, setup)?;
     let bearer = values::srb(table, Field::Bearer)?;
@@ -266,7 +253,6 @@ fn rrc_of_station(table: &Table, setup: &Setup) -> Result<Event, Refusal>
 fn nas(table: &Table, setup: &Setup) -> Result<Event, Refusal>
     ensures value { result ≡ nas_event_of (table_view table.now) }
     ensures can { IfOk result (CanHappen setup.now) }
-    ensures fits { IfOk result EventFits }
 {
     let from = values::nas_end_at(table, Field::From)?;
     let text: ShortText = values::octets(table, Field::Text)?;
@@ -280,7 +266,6 @@ fn nas(table: &Table, setup: &Setup) -> Result<Event, Refusal>
 fn skip(table: &Table, setup: &Setup) -> Result<Event, Refusal>
     ensures value { result ≡ skip_of setup.now (table_view table.now) }
     ensures can { IfOk result (CanHappen setup.now) }
-    ensures fits { IfOk result EventFits }
 {
     let who = values::actor_at(table, Field::Who)?;
     skip_at(who, table, setup)
@@ -305,7 +290,6 @@ fn skip_fields(who: Result<Actor, Refusal>) -> &'static [Field]
 fn skip_at(who: Actor, table: &Table, setup: &Setup) -> Result<Event, Refusal>
     ensures value { result ≡ skip_at who setup.now (table_view table.now) }
     ensures can { IfOk result (CanHappen setup.now) }
-    ensures fits { IfOk result EventFits }
 {
     match who {
         Actor::Phone => {
@@ -331,7 +315,6 @@ fn skip_at(who: Actor, table: &Table, setup: &Setup) -> Result<Event, Refusal>
 fn inject(table: &Table, setup: &Setup) -> Result<Event, Refusal>
     ensures value { result ≡ inject_of setup.now (table_view table.now) }
     ensures can { IfOk result (CanHappen setup.now) }
-    ensures fits { IfOk result EventFits }
 {
     let place = target_in(table)?;
     inject_at(place, table, setup)
@@ -390,7 +373,6 @@ fn phone_target(path: Option<Bearer>) -> Target
 fn inject_at(place: Target, table: &Table, setup: &Setup) -> Result<Event, Refusal>
     ensures value { result ≡ inject_at place setup.now (table_view table.now) }
     ensures can { IfOk result (CanHappen setup.now) }
-    ensures fits { IfOk result EventFits }
 {
     match place {
         Target::PhoneNas => {

@@ -2,7 +2,8 @@
 ghost use Rattle.growth.specs.Growth.{WasRefused};
 ghost use Rattle.std.specs.Prelude.{◌≡◌, ◌≢◌, ◌≤◌, ◌<◌, [], length, Some, None, Ok, Err, IfOk, IfErr, OnOk, All};
 ghost use Rattle.toml.specs.View.{table_view, items_view, view};
-ghost use Rattle.lte_events.specs.Conditions.{CanStart, CanHappen, SetupFits, EventFits};
+ghost use Rattle.lte_events.specs.Ranges.{IsSetup};
+ghost use Rattle.lte_events.specs.Scenario.{most_events, CanHappen, IsScenarioBy};
 ghost use Rattle.scenario_file.specs.Values.{result_map};
 ghost use Rattle.scenario_file.specs.Setup.{start_of};
 ghost use Rattle.scenario_file.specs.Reading.{at_place, before_steps, steps_of, step_in, step_at, kept_from, if_few, whole_of, document_of, text_of};
@@ -31,15 +32,11 @@ pub(crate) fn read_as<E: Kept>(
     ensures whole { IfOk result (λ w. text_of E.kept system octets.now ≡ Ok (w.start, E.items w.steps)) }
     ensures refused { IfErr result (λ fault. ¬ (fault ≡ ScenarioFault.Memory) → text_of E.kept system octets.now ≡ Err fault) }
     ensures memory { IfErr result (λ fault. fault ≡ ScenarioFault.Memory → WasRefused) }
-    ensures can_start { IfOk result (λ w. CanStart w.start.setup) }
-    ensures setup_fits { IfOk result (λ w. SetupFits w.start.setup) }
+    ensures is_scenario { IfOk result (λ w. IsScenarioBy E.happening w.start.setup (E.items w.steps)) }
     ensures cells { IfOk result (λ w. 1 ≤ length w.start.setup.cells) }
     ensures phones { IfOk result (λ w. (1 ≤ w.start.phones) × (w.start.phones ≤ 256)) }
     ensures cores { IfOk result (λ w. All (λ core. core ≤ 1) w.start.core_of × (length w.start.core_of ≡ 8)) }
-    ensures can_happen { IfOk result (λ w. All (λ step. CanHappen w.start.setup (E.happening step)) (E.items w.steps)) }
-    ensures events_fit { IfOk result (λ w. All (λ step. EventFits (E.happening step)) (E.items w.steps)) }
     ensures phones_stand { IfOk result (λ w. All (E.is_of w.start.phones) (E.items w.steps)) }
-    ensures few { IfOk result (λ w. length (E.items w.steps) ≤ 200000) }
 {
     let document = document(alloc, octets)?;
     whole_in(alloc, &document, system)
@@ -74,15 +71,11 @@ fn whole_in<E: Kept>(
     ensures refused { IfErr result (λ fault. ¬ (fault ≡ ScenarioFault.Memory) → whole_of E.kept system (table_view document.now) ≡ Err fault) }
     ensures memory { IfErr result (λ fault. fault ≡ ScenarioFault.Memory → WasRefused) }
     ensures before_steps { (fault : ScenarioFault) → before_steps system (table_view document.now) ≡ Err fault → result ≡ Err fault }
-    ensures can_start { IfOk result (λ w. CanStart w.start.setup) }
-    ensures setup_fits { IfOk result (λ w. SetupFits w.start.setup) }
+    ensures is_scenario { IfOk result (λ w. IsScenarioBy E.happening w.start.setup (E.items w.steps)) }
     ensures cells { IfOk result (λ w. 1 ≤ length w.start.setup.cells) }
     ensures phones { IfOk result (λ w. (1 ≤ w.start.phones) × (w.start.phones ≤ 256)) }
     ensures cores { IfOk result (λ w. All (λ core. core ≤ 1) w.start.core_of × (length w.start.core_of ≡ 8)) }
-    ensures can_happen { IfOk result (λ w. All (λ step. CanHappen w.start.setup (E.happening step)) (E.items w.steps)) }
-    ensures events_fit { IfOk result (λ w. All (λ step. EventFits (E.happening step)) (E.items w.steps)) }
     ensures phones_stand { IfOk result (λ w. All (E.is_of w.start.phones) (E.items w.steps)) }
-    ensures few { IfOk result (λ w. length (E.items w.steps) ≤ 200000) }
 {
     let start = start_in(document, system)?;
     let values = steps_in(document)?;
@@ -94,8 +87,7 @@ fn whole_in<E: Kept>(
 fn start_in(document: &Table, system: System) -> Result<Start, ScenarioFault>
     ensures value { result ≡ at_place None (start_of system (table_view document.now)) }
     ensures of_text { IfErr result (λ fault. fault ≢ ScenarioFault.Memory) }
-    ensures can { IfOk result (λ start. CanStart start.setup) }
-    ensures fits { IfOk result (λ start. SetupFits start.setup) }
+    ensures can { IfOk result (λ start. IsSetup start.setup) }
     ensures cells { IfOk result (λ start. 1 ≤ length start.setup.cells) }
     ensures phones { IfOk result (λ start. (1 ≤ start.phones) × (start.phones ≤ 256)) }
     ensures cores { IfOk result (λ start. All (λ core. core ≤ 1) start.core_of × (length start.core_of ≡ 8)) }
@@ -130,7 +122,7 @@ fn steps_of(document: &Table) -> Result<&[Value], Refusal>
 fn if_few(steps: &[Value]) -> Result<(), ScenarioFault>
     ensures value { result ≡ if_few (items_view steps.now) }
     ensures of_text { IfErr result (λ fault. fault ≢ ScenarioFault.Memory) }
-    ensures few { OnOk result (length steps.now ≤ 200000) }
+    ensures few { OnOk result (length steps.now ≤ most_events) }
 {
     if setup::count(steps) > 200_000 {
         return Err(ScenarioFault::TooMany);
@@ -145,35 +137,31 @@ fn kept_steps<E: Kept>(
     system: System,
     start: &Start,
 ) -> Result<E, ScenarioFault>
-    requires setup { SetupFits start.now.setup }
+    requires setup { IsSetup start.now.setup }
     requires phones { 1 ≤ start.now.phones }
-    requires few { length values.now ≤ 200000 }
+    requires few { length values.now ≤ most_events }
     ensures steps { IfOk result (λ es. kept_from E.kept system start.now [] (items_view values.now) ≡ Ok (E.items es)) }
     ensures refused { IfErr result (λ fault. ¬ (fault ≡ ScenarioFault.Memory) → kept_from E.kept system start.now [] (items_view values.now) ≡ Err fault) }
     ensures memory { IfErr result (λ fault. fault ≡ ScenarioFault.Memory → WasRefused) }
     ensures can { IfOk result (λ es. All (λ e. CanHappen start.now.setup (E.happening e)) (E.items es)) }
-    ensures fit { IfOk result (λ es. All (λ e. EventFits (E.happening e)) (E.items es)) }
     ensures stand { IfOk result (λ es. All (E.is_of start.now.phones) (E.items es)) }
-    ensures few { IfOk result (λ es. length (E.items es) ≤ 200000) }
+    ensures few { IfOk result (λ es. length (E.items es) ≤ most_events) }
 {
     let mut steps = E::new(alloc);
     for value in values {
-        match step_at(value, system, start, steps.len() as u32) {
-            Ok(step) => steps.keep(&step)?,
-            Err(fault) => return Err(fault),
-        }
+        let step = step_at(value, system, start, steps.len() as u32)?;
+        steps.keep(&step)?;
     }
     Ok(steps)
 }
 
 // What a step says, by its number.
 fn step_at(value: &Value, system: System, start: &Start, n: u32) -> Result<Step, ScenarioFault>
-    requires setup { SetupFits start.now.setup }
+    requires setup { IsSetup start.now.setup }
     requires phones { 1 ≤ start.now.phones }
     ensures value { result ≡ step_at system start.now n (view value.now) }
     ensures of_text { IfErr result (λ fault. fault ≢ ScenarioFault.Memory) }
     ensures can { IfOk result (λ step. CanHappen start.now.setup step.event) }
-    ensures fits { IfOk result (λ step. EventFits step.event) }
     ensures phone { IfOk result (λ step. step.phone < start.now.phones) }
 {
     match step_in(value, system, start) {
@@ -183,11 +171,10 @@ fn step_at(value: &Value, system: System, start: &Start, n: u32) -> Result<Step,
 }
 
 fn step_in(value: &Value, system: System, start: &Start) -> Result<Step, Refusal>
-    requires setup { SetupFits start.now.setup }
+    requires setup { IsSetup start.now.setup }
     requires phones { 1 ≤ start.now.phones }
     ensures value { result ≡ step_in system start.now (view value.now) }
     ensures can { IfOk result (λ step. CanHappen start.now.setup step.event) }
-    ensures fits { IfOk result (λ step. EventFits step.event) }
     ensures phone { IfOk result (λ step. step.phone < start.now.phones) }
 {
     match value.as_table() {

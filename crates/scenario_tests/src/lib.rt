@@ -1,8 +1,6 @@
-//! Tests of the reader of scenarios, with the first fault of each text that is none, and of generated scenarios.
+//! Tests of the reader of scenarios: what they say. The first fault of each text that is none stands in examples/ends.
 #![tactic(auto)]
 
-#[cfg(test)]
-mod refusals;
 #[cfg(test)]
 mod scenarios;
 #[cfg(test)]

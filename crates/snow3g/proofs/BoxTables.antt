@@ -67,7 +67,16 @@ sum_of_parts : (c a b d e t u v w : ℕ) → Entry (part_0 c a) t → Entry (par
 sum_of_parts c a b d e t u v w f g h i =
     let n = bit_xor (bit_xor (bit_xor t u) v) w in
     let octets : word_octets n ≡ mixed c (a ∷ b ∷ d ∷ e ∷ []) =
-    rw (word_octets-xor (bit_xor (bit_xor t u) v) w, word_octets-xor (bit_xor t u) v, word_octets-xor t u, f.octets_are, g.octets_are, h.octets_are, i.octets_are) refl in
+    rw (
+      word_octets-xor (bit_xor (bit_xor t u) v) w,
+      word_octets-xor (bit_xor t u) v,
+      word_octets-xor t u,
+      f.octets_are,
+      g.octets_are,
+      h.octets_are,
+      i.octets_are,
+    )
+    refl in
     sym (word_number-word_octets n (xor_of_32 _ _ (xor_of_32 _ _ (xor_of_32 _ _ f.fits g.fits) h.fits) i.fits))
     ∙ ap word_number octets
 
@@ -95,11 +104,17 @@ s1_table_3 = record { parts = refl; lowest = s1_lowest; fit = refl; long = refl;
 
 -- the look-ups of the code
 pub s1-is : (w : ℕ) → w < 2 ^ 32
-    → bit_xor (bit_xor (bit_xor (get_or S1_0 (w / 2 ^ 24) 0) (get_or S1_1 (w / 2 ^ 16 % 256) 0)) (get_or S1_2 (w / 2 ^ 8 % 256) 0)) (get_or S1_3 (w % 256) 0) ≡ s1 w
+    → bit_xor (bit_xor (bit_xor (get_or S1_0 (w / 2 ^ 24) 0) (get_or S1_1 (w / 2 ^ 16 % 256) 0))
+    (get_or S1_2 (w / 2 ^ 8 % 256) 0))
+    (get_or S1_3 (w % 256) 0)
+    ≡ s1 w
 unfolding s1 word_octets
 s1-is w h =
     let highest : w / 2 ^ 24 ≡ w / 2 ^ 24 % 256 = omega arith in
-    ap (λ x. bit_xor (bit_xor (bit_xor (get_or S1_0 x 0) (get_or S1_1 (w / 2 ^ 16 % 256) 0)) (get_or S1_2 (w / 2 ^ 8 % 256) 0)) (get_or S1_3 (w % 256) 0)) highest
+    ap (λ x. bit_xor
+    (bit_xor (bit_xor (get_or S1_0 x 0) (get_or S1_1 (w / 2 ^ 16 % 256) 0)) (get_or S1_2 (w / 2 ^ 8 % 256) 0))
+    (get_or S1_3 (w % 256) 0))
+    highest
     ∙ sum_of_parts 0x1b (sub_byte (w / 2 ^ 24 % 256)) (sub_byte (w / 2 ^ 16 % 256)) (sub_byte (w / 2 ^ 8 % 256)) (sub_byte (w % 256)) _ _ _ _
     (entry _ _ _ _ s1_table_0 (w / 2 ^ 24 % 256) (omega arith)) (entry _ _ _ _ s1_table_1 (w / 2 ^ 16 % 256) (omega arith))
     (entry _ _ _ _ s1_table_2 (w / 2 ^ 8 % 256) (omega arith)) (entry _ _ _ _ s1_table_3 (w % 256) (omega arith))
@@ -128,11 +143,17 @@ s2_table_3 = record { parts = refl; lowest = s2_lowest; fit = refl; long = refl;
 
 -- the look-ups of the code
 pub s2-is : (w : ℕ) → w < 2 ^ 32
-    → bit_xor (bit_xor (bit_xor (get_or S2_0 (w / 2 ^ 24) 0) (get_or S2_1 (w / 2 ^ 16 % 256) 0)) (get_or S2_2 (w / 2 ^ 8 % 256) 0)) (get_or S2_3 (w % 256) 0) ≡ s2 w
+    → bit_xor (bit_xor (bit_xor (get_or S2_0 (w / 2 ^ 24) 0) (get_or S2_1 (w / 2 ^ 16 % 256) 0))
+    (get_or S2_2 (w / 2 ^ 8 % 256) 0))
+    (get_or S2_3 (w % 256) 0)
+    ≡ s2 w
 unfolding s2 word_octets
 s2-is w h =
     let highest : w / 2 ^ 24 ≡ w / 2 ^ 24 % 256 = omega arith in
-    ap (λ x. bit_xor (bit_xor (bit_xor (get_or S2_0 x 0) (get_or S2_1 (w / 2 ^ 16 % 256) 0)) (get_or S2_2 (w / 2 ^ 8 % 256) 0)) (get_or S2_3 (w % 256) 0)) highest
+    ap (λ x. bit_xor
+    (bit_xor (bit_xor (get_or S2_0 x 0) (get_or S2_1 (w / 2 ^ 16 % 256) 0)) (get_or S2_2 (w / 2 ^ 8 % 256) 0))
+    (get_or S2_3 (w % 256) 0))
+    highest
     ∙ sum_of_parts 0x69 (sq (w / 2 ^ 24 % 256)) (sq (w / 2 ^ 16 % 256)) (sq (w / 2 ^ 8 % 256)) (sq (w % 256)) _ _ _ _
     (entry _ _ _ _ s2_table_0 (w / 2 ^ 24 % 256) (omega arith)) (entry _ _ _ _ s2_table_1 (w / 2 ^ 16 % 256) (omega arith))
     (entry _ _ _ _ s2_table_2 (w / 2 ^ 8 % 256) (omega arith)) (entry _ _ _ _ s2_table_3 (w % 256) (omega arith))

@@ -5,6 +5,7 @@ use Rattle.std.specs.Str.{bytes_eq}
 use Rattle.std.proofs.lemmas.Bool.{false≢true}
 use Rattle.std.proofs.lemmas.Option.{none-some, slice_get-map}
 use Rattle.std.proofs.lemmas.Slice.Eq.{bytes_eq-Decides}
+use Rattle.std.specs.List.{AllByRecursion as AllOf}
 use Rattle.hmac_kdf.specs.Kdf.{kdf}
 use Rattle.key_model.specs.Derivation.{Input, FromCount, FromSync, FromCell, FromAlg, Derivation, map_input, map_derivation, kdf_input, derived_of}
 use Rattle.key_model.specs.Term.{Term, IsRoot, IsWellFormed}
@@ -16,7 +17,6 @@ use Rattle.key_terms.proofs.Places.{position_no, slice_get_stays, slice_get_at_e
 use Rattle.key_terms.proofs.LadderLemmas.{found_row}
 use Rattle.lte_machine.specs.Ladder.{RowOrigin, OfRoot, Of, map_row, row_key}
 use Rattle.lte_machine.specs.Distinct.{keys_of, Member}
-use Rattle.lte_machine.specs.Ranges.{AllOf}
 use Rattle.lte_machine.proofs.Rows.{Well, made_of, From, SyncIn}
 use Rattle.store_laws.specs.Additions.{IsInput, CanAdd}
 use Rattle.store_laws.specs.Joins.{HasRow}
@@ -43,7 +43,9 @@ stands_at key [] h = absurd h
 stands_at key (k ∷ ks) (inl e) = (0, ap Some (sym e))
 stands_at key (k ∷ ks) (inr h) = let later = stands_at key ks h in (suc later.0, later.1)
 
-row_at : (rows : List LadderRow) (j : ℕ) (key : List ℕ) → slice_get (map (λ r. r.octets) rows) j ≡ Some key → (r : LadderRow) × (slice_get rows j ≡ Some r) × (r.octets ≡ key)
+row_at : (rows : List LadderRow) (j : ℕ) (key : List ℕ)
+    → slice_get (map (λ r. r.octets) rows) j ≡ Some key
+    → (r : LadderRow) × (slice_get rows j ≡ Some r) × (r.octets ≡ key)
 row_at [] j key e = absurd (none-some key e)
 row_at (r ∷ rows) zero key e = (r, refl, cc)
 row_at (r ∷ rows) (suc j) key e = row_at rows j key e
@@ -70,14 +72,17 @@ term_stands os t m = row_stands (numbered (valued os)) (value_of t) (subst (Stan
 -- THE ROW OF A ROOT
 
 -- a root that was numbered stands as a root
-root_stands : (rows : List LadderRow) (os : List (RowOrigin (List ℕ))) (k : ℕ) (key : List ℕ) → slice_get os k ≡ Some (OfRoot key) → origin_at (numbered_after rows os) (length rows + k) ≡ Some Origin.Root
+root_stands : (rows : List LadderRow) (os : List (RowOrigin (List ℕ))) (k : ℕ) (key : List ℕ)
+    → slice_get os k ≡ Some (OfRoot key)
+    → origin_at (numbered_after rows os) (length rows + k) ≡ Some Origin.Root
 root_stands rows [] k key e = absurd (none-some (OfRoot key) e)
 root_stands rows (x ∷ os) zero key e =
     let one : LadderRow = unheld (origin_in rows x) (row_key x) in
     let later = numbered_grows (rows ++ one ∷ []) os in
     let is : x ≡ OfRoot key = cc in
     let place : length rows + 0 ≡ length rows = omega arith in
-    let stands : slice_get ((rows ++ one ∷ []) ++ later.0) (length rows) ≡ Some one = slice_get_stays (rows ++ one ∷ []) later.0 (length rows) one (slice_get_at_end rows one) in
+    let stands : slice_get ((rows ++ one ∷ []) ++ later.0) (length rows) ≡ Some one =
+    slice_get_stays (rows ++ one ∷ []) later.0 (length rows) one (slice_get_at_end rows one) in
     ap (origin_at (numbered_after rows (x ∷ os))) place
     ∙ ap (λ rs. origin_at rs (length rows)) later.1
     ∙ ap (option_map (λ r. r.origin)) stands
@@ -89,7 +94,9 @@ root_stands rows (x ∷ os) (suc k) key e =
     ap (origin_at (numbered_after rows (x ∷ os))) place ∙ root_stands (rows ++ one ∷ []) os k key e
 
 -- a row that was mapped
-mapped_at : (os : List (RowOrigin Term)) (k : ℕ) (f : RowOrigin (List ℕ)) → slice_get (valued os) k ≡ Some f → (o : RowOrigin Term) × (slice_get os k ≡ Some o) × (map_row value_of o ≡ f)
+mapped_at : (os : List (RowOrigin Term)) (k : ℕ) (f : RowOrigin (List ℕ))
+    → slice_get (valued os) k ≡ Some f
+    → (o : RowOrigin Term) × (slice_get os k ≡ Some o) × (map_row value_of o ≡ f)
 mapped_at [] k f e = absurd (none-some f e)
 mapped_at (o ∷ os) zero f e = (o, refl, cc)
 mapped_at (o ∷ os) (suc k) f e = mapped_at os k f e
@@ -116,19 +123,35 @@ no_root_made k (FromSync sync) h = h
 no_root_made k (FromCell pci earfcn) h = h
 no_root_made k (FromAlg type id) h = h
 
-root_origin : (os : List (RowOrigin Term)) → Well os → (t : Term) → IsRoot t → Member t (keys_of os) → (n : ℕ) → row_of (numbered (valued os)) (value_of t) ≡ Some n → origin_at (numbered (valued os)) n ≡ Some Origin.Root
+root_origin : (os : List (RowOrigin Term))
+    → Well os
+    → (t : Term)
+    → IsRoot t
+    → Member t (keys_of os)
+    → (n : ℕ)
+    → row_of (numbered (valued os)) (value_of t) ≡ Some n
+    → origin_at (numbered (valued os)) n ≡ Some Origin.Root
 root_origin os well t root m n found =
     let row = found_row (numbered (valued os)) (value_of t) n found in
     let key_at : slice_get (map row_key (valued os)) n ≡ Some (value_of t) =
-    ap (λ ks. slice_get ks n) (sym (octets_numbered (valued os))) ∙ slice_get-map (λ r. r.octets) (numbered (valued os)) n ∙ ap (option_map (λ r. r.octets)) row.1 ∙ ap Some row.2 in
+    ap (λ ks. slice_get ks n) (sym (octets_numbered (valued os)))
+    ∙ slice_get-map (λ r. r.octets) (numbered (valued os)) n
+    ∙ ap (option_map (λ r. r.octets)) row.1
+    ∙ ap Some row.2 in
     by (unmapped (valued os) n (value_of t) key_at)
   where
-    unmapped : (rs : List (RowOrigin (List ℕ))) (n : ℕ) (key : List ℕ) → slice_get (map row_key rs) n ≡ Some key → (f : RowOrigin (List ℕ)) × (slice_get rs n ≡ Some f) × (row_key f ≡ key)
+    unmapped : (rs : List (RowOrigin (List ℕ))) (n : ℕ) (key : List ℕ)
+        → slice_get (map row_key rs) n ≡ Some key
+        → (f : RowOrigin (List ℕ)) × (slice_get rs n ≡ Some f) × (row_key f ≡ key)
     unmapped [] n key e = absurd (none-some key e)
     unmapped (r ∷ rs) zero key e = (r, refl, cc)
     unmapped (r ∷ rs) (suc n) key e = unmapped rs n key e
 
-    at : (o : RowOrigin Term) → RowIs (keys_of os) o → row_key o ≡ t → slice_get (valued os) n ≡ Some (map_row value_of o) → origin_at (numbered (valued os)) n ≡ Some Origin.Root
+    at : (o : RowOrigin Term)
+        → RowIs (keys_of os) o
+        → row_key o ≡ t
+        → slice_get (valued os) n ≡ Some (map_row value_of o)
+        → origin_at (numbered (valued os)) n ≡ Some Origin.Root
     at (OfRoot k) ok is e =
         let place : n ≡ 0 + n = omega arith in
         ap (origin_at (numbered (valued os))) place ∙ root_stands [] (valued os) n (value_of k) e
@@ -168,10 +191,18 @@ out_value k (FromCell pci earfcn) = refl
 out_value k (FromAlg type id) = refl
 
 module _ (os : List (RowOrigin Term)) (well : Well os) where
-  has_root : (i : Input Term) (t : Term) → RootOf i t → Member t (keys_of os) → IfSome (row_of (numbered (valued os)) (value_of t)) (λ n. HasRoot (numbered (valued os)) n (kdf_input (map_input value_of i)))
+  has_root : (i : Input Term) (t : Term)
+      → RootOf i t
+      → Member t (keys_of os)
+      → IfSome (row_of (numbered (valued os)) (value_of t))
+      (λ n. HasRoot (numbered (valued os)) n (kdf_input (map_input value_of i)))
   has_root i t root m = by (row_of (numbered (valued os)) (value_of t)) refl
     where
-      at : (i : Input Term) → RootOf i t → (n : ℕ) → row_of (numbered (valued os)) (value_of t) ≡ Some n → HasRoot (numbered (valued os)) n (kdf_input (map_input value_of i))
+      at : (i : Input Term)
+          → RootOf i t
+          → (n : ℕ)
+          → row_of (numbered (valued os)) (value_of t) ≡ Some n
+          → HasRoot (numbered (valued os)) n (kdf_input (map_input value_of i))
       at (FromCount c) root n e = root_origin os well t root m n e
       at (FromSync sync) root n e = root_origin os well t root m n e
       at (FromCell pci earfcn) root n e = tt
@@ -187,7 +218,11 @@ module _ (os : List (RowOrigin Term)) (well : Well os) where
   has_sync (FromCell pci earfcn) h = tt
   has_sync (FromAlg type id) h = tt
 
-  pub can_add : (d : Derivation Term) → From (λ t. Member t (keys_of os)) d → InputIn d.input → IsWellFormed d.out → CanAdd (numbered (valued os)) (derived_of (map_derivation value_of d))
+  pub can_add : (d : Derivation Term)
+      → From (λ t. Member t (keys_of os)) d
+      → InputIn d.input
+      → IsWellFormed d.out
+      → CanAdd (numbered (valued os)) (derived_of (map_derivation value_of d))
   can_add d f cell wf = record {
     input = input_range d.input cell;
     out = ap value_of f.2 ∙ out_value d.key d.input;

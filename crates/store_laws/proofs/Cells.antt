@@ -1,6 +1,7 @@
 -- Each KeNB* of a step is for a cell in range: of an act, a record, a context, or a command that was read.
 use Rattle.std.specs.Prelude.{◌&&◌}
 use Rattle.std.proofs.Common.{◌≡◌, refl, ℕ, zero, suc, ◌≤◌, ◌+◌, Bool, true, false, cond, ◌==◌, List, ◌++◌, length, Option, Some, None, Result, Ok, Err, subst}
+use Rattle.std.specs.List.{AllByRecursion as AllOf}
 use Rattle.alg_choice.specs.declared.algs.Algs.{Algs}
 use Rattle.alg_choice.specs.declared.caps.Caps.{Caps}
 use Rattle.annex_a_keys.specs.Cell.{Place, IsCell, greatest_pci, greatest_earfcn}
@@ -14,11 +15,10 @@ use Rattle.rrc_rec.specs.Reading.{read_rrc, of_kind, command_of, bare, reconfigu
 use Rattle.key_model.specs.Derivation.{Input, FromCell, Derivation}
 use Rattle.key_model.specs.Reading.{Reading}
 use Rattle.nh_chain.specs.Chain.{nhs_made}
-use Rattle.nh_chain.specs.Reach.{handover_made}
+use Rattle.nh_chain.specs.Reach.{handover_made, phone_of}
 use Rattle.pdcp_guard.specs.AsKeys.{as_derivations}
 use Rattle.lte_machine.specs.Bearers.{Srb, Signalling1, Signalling2, Drb, Which, OnSrb, OnDrb, which, srb_counts, drb_counts}
 use Rattle.lte_machine.specs.Opening.{Outcome, Opened, Differs}
-use Rattle.lte_machine.specs.Ranges.{AllOf}
 use Rattle.lte_machine.specs.PhoneState.{Link, Radio, Idle, Connecting, Connected, Phone, PhoneInput, PhoneAuth, PhoneActs, PhoneNasPdu, PhoneAirPdu}
 use Rattle.lte_machine.specs.PhoneRows.{Authenticated, AirRow, HandedOver, KeyChanged, PhoneRow, OfAuth, OfNas, OfAir, OfAct}
 use Rattle.lte_machine.specs.PhoneChoice.{PlainPhone, PlainInput, unciphered_text, AirFront, AirSettled, AtStart, AtSignalling, AtPacket, start_row, command_taken, change_taken, signalling_read, signalling_row, packet_row, air_row, air_front, waiting_front, linked_front, start_at, start_read, signalling_at, packet_at, phone_row, phone_front}
@@ -29,7 +29,6 @@ use Rattle.pdcp_guard.specs.declared.pdus.PdcpFault.{PdcpFault}
 use Rattle.pdcp_guard.specs.Srb.{srb_count}
 use Rattle.pdcp_guard.specs.Drb.{drb_count}
 use Rattle.key_model.specs.HandoverLines.{key_after}
-use Rattle.nh_chain.specs.Reach.{phone_of}
 use Rattle.lte_machine.proofs.PhoneCases.{NasCases, nas_case, AirCases, air_case, ActCases, act_case}
 use Rattle.lte_machine.proofs.KnownLists.{all_append}
 use Rattle.lte_machine.proofs.Tests.{Anything, by_test}
@@ -52,7 +51,10 @@ CellOf other = Unit {0}
 cell_in : (octets : List ℕ) (place : ℕ) (cell : Place) → cell_at octets place ≡ Ok cell → IsCell cell
 unfolding cell_at
 cell_in octets place cell e =
-    let a = bind_ok (number_in 0 greatest_pci octets place 2) (λ pci. number_in 0 greatest_earfcn octets (place + 2) 4 >>= λ earfcn. Ok (record { pci = pci; earfcn = earfcn })) cell e in
+    let a = bind_ok (number_in 0 greatest_pci octets place 2)
+    (λ pci.
+    number_in 0 greatest_earfcn octets (place + 2) 4 >>= λ earfcn. Ok (record { pci = pci; earfcn = earfcn }))
+    cell e in
     let b = bind_ok (number_in 0 greatest_earfcn octets (place + 2) 4) (λ earfcn. Ok (record { pci = a.0; earfcn = earfcn })) cell a.2 in
     let p = in_range_is 0 greatest_pci octets place 2 a.0 a.1 in
     let q = in_range_is 0 greatest_earfcn octets (place + 2) 4 b.0 b.1 in
@@ -61,8 +63,14 @@ cell_in octets place cell e =
 command_cell : (octets : List ℕ) (r : RrcRecord) → command_of octets ≡ Ok r → CellOf r
 unfolding command_of
 command_cell octets r e =
-    let s = bind_ok (of_size 7 octets) (λ size. algs_at octets 1 >>= λ algs. station_at octets 2 >>= λ station. from_one_at octets 3 >>= λ air. Ok (SecurityModeCommand algs station air)) r e in
-    let a = bind_ok (algs_at octets 1) (λ algs. station_at octets 2 >>= λ station. from_one_at octets 3 >>= λ air. Ok (SecurityModeCommand algs station air)) r s.2 in
+    let s = bind_ok (of_size 7 octets)
+    (λ size. algs_at octets 1 >>= λ algs.
+    station_at octets 2 >>= λ station. from_one_at octets 3 >>= λ air. Ok (SecurityModeCommand algs station air))
+    r e in
+    let a = bind_ok (algs_at octets 1)
+    (λ algs.
+    station_at octets 2 >>= λ station. from_one_at octets 3 >>= λ air. Ok (SecurityModeCommand algs station air))
+    r s.2 in
     let b = bind_ok (station_at octets 2) (λ station. from_one_at octets 3 >>= λ air. Ok (SecurityModeCommand a.0 station air)) r a.2 in
     let c = bind_ok (from_one_at octets 3) (λ air. Ok (SecurityModeCommand a.0 b.0 air)) r b.2 in
     subst CellOf (ok_is (SecurityModeCommand a.0 b.0 c.0) r c.2) tt
@@ -74,10 +82,23 @@ bare_cell octets fixed r h e = let s = bind_ok (of_size 1 octets) (λ size. Ok f
 reconfiguration_cell : (octets : List ℕ) (r : RrcRecord) → reconfiguration_of octets ≡ Ok r → CellOf r
 unfolding reconfiguration_of
 reconfiguration_cell octets r e =
-    let s = bind_ok (of_size 14 octets) (λ size. cell_at octets 1 >>= λ cell. ncc_at octets 7 >>= λ ncc. algs_at octets 8 >>= λ algs. station_at octets 9 >>= λ station. from_one_at octets 10 >>= λ air. Ok (Reconfiguration cell ncc algs station air)) r e in
-    let p = bind_ok (cell_at octets 1) (λ cell. ncc_at octets 7 >>= λ ncc. algs_at octets 8 >>= λ algs. station_at octets 9 >>= λ station. from_one_at octets 10 >>= λ air. Ok (Reconfiguration cell ncc algs station air)) r s.2 in
-    let n = bind_ok (ncc_at octets 7) (λ ncc. algs_at octets 8 >>= λ algs. station_at octets 9 >>= λ station. from_one_at octets 10 >>= λ air. Ok (Reconfiguration p.0 ncc algs station air)) r p.2 in
-    let a = bind_ok (algs_at octets 8) (λ algs. station_at octets 9 >>= λ station. from_one_at octets 10 >>= λ air. Ok (Reconfiguration p.0 n.0 algs station air)) r n.2 in
+    let s = bind_ok (of_size 14 octets)
+    (λ size. cell_at octets 1 >>= λ cell. ncc_at octets 7 >>= λ ncc. algs_at octets 8 >>= λ algs.
+    station_at octets 9 >>= λ station.
+    from_one_at octets 10 >>= λ air. Ok (Reconfiguration cell ncc algs station air))
+    r e in
+    let p = bind_ok (cell_at octets 1)
+    (λ cell. ncc_at octets 7 >>= λ ncc. algs_at octets 8 >>= λ algs. station_at octets 9 >>= λ station.
+    from_one_at octets 10 >>= λ air. Ok (Reconfiguration cell ncc algs station air))
+    r s.2 in
+    let n = bind_ok (ncc_at octets 7)
+    (λ ncc. algs_at octets 8 >>= λ algs. station_at octets 9 >>= λ station.
+    from_one_at octets 10 >>= λ air. Ok (Reconfiguration p.0 ncc algs station air))
+    r p.2 in
+    let a = bind_ok (algs_at octets 8)
+    (λ algs. station_at octets 9 >>= λ station.
+    from_one_at octets 10 >>= λ air. Ok (Reconfiguration p.0 n.0 algs station air))
+    r n.2 in
     let b = bind_ok (station_at octets 9) (λ station. from_one_at octets 10 >>= λ air. Ok (Reconfiguration p.0 n.0 a.0 station air)) r a.2 in
     let c = bind_ok (from_one_at octets 10) (λ air. Ok (Reconfiguration p.0 n.0 a.0 b.0 air)) r b.2 in
     subst CellOf (ok_is (Reconfiguration p.0 n.0 a.0 b.0 c.0) r c.2) (cell_in octets 1 p.0 p.1)
@@ -89,8 +110,14 @@ data_cell octets r e = let a = bind_ok _ (λ text. Ok (RrcData text)) r e in sub
 change_cell : (octets : List ℕ) (r : RrcRecord) → key_change_of octets ≡ Ok r → CellOf r
 unfolding key_change_of
 change_cell octets r e =
-    let s = bind_ok (of_size 13 octets) (λ size. cell_at octets 1 >>= λ cell. algs_at octets 7 >>= λ algs. station_at octets 8 >>= λ station. from_one_at octets 9 >>= λ air. Ok (KeyChange cell algs station air)) r e in
-    let p = bind_ok (cell_at octets 1) (λ cell. algs_at octets 7 >>= λ algs. station_at octets 8 >>= λ station. from_one_at octets 9 >>= λ air. Ok (KeyChange cell algs station air)) r s.2 in
+    let s = bind_ok (of_size 13 octets)
+    (λ size. cell_at octets 1 >>= λ cell. algs_at octets 7 >>= λ algs.
+    station_at octets 8 >>= λ station. from_one_at octets 9 >>= λ air. Ok (KeyChange cell algs station air))
+    r e in
+    let p = bind_ok (cell_at octets 1)
+    (λ cell. algs_at octets 7 >>= λ algs.
+    station_at octets 8 >>= λ station. from_one_at octets 9 >>= λ air. Ok (KeyChange cell algs station air))
+    r s.2 in
     let a = bind_ok (algs_at octets 7) (λ algs. station_at octets 8 >>= λ station. from_one_at octets 9 >>= λ air. Ok (KeyChange p.0 algs station air)) r p.2 in
     let b = bind_ok (station_at octets 8) (λ station. from_one_at octets 9 >>= λ air. Ok (KeyChange p.0 a.0 station air)) r a.2 in
     let c = bind_ok (from_one_at octets 9) (λ air. Ok (KeyChange p.0 a.0 b.0 air)) r b.2 in
@@ -124,19 +151,27 @@ abbrev RowCell : PhoneRow → Type 0
 RowCell (OfAir row) = AirCell row
 RowCell other = Unit {0}
 
-taken_cell : (caps : Caps) (srb : Srb) (own : ℕ) (cell : Place) (ncc : ℕ) (algs : Algs) (station air : ℕ) → IsCell cell → AirCell (command_taken caps srb own cell ncc algs station air)
+taken_cell : (caps : Caps) (srb : Srb) (own : ℕ) (cell : Place) (ncc : ℕ) (algs : Algs) (station air : ℕ)
+    → IsCell cell
+    → AirCell (command_taken caps srb own cell ncc algs station air)
 taken_cell caps Signalling1 own cell ncc algs station air h = by_test AirCell (are_supported caps algs) _ _ (λ e. h) (λ e. tt)
 taken_cell caps Signalling2 own cell ncc algs station air h = tt
 
-change_taken_cell : (caps : Caps) (srb : Srb) (cell : Place) (algs : Algs) (station air : ℕ) → IsCell cell → AirCell (change_taken caps srb cell algs station air)
+change_taken_cell : (caps : Caps) (srb : Srb) (cell : Place) (algs : Algs) (station air : ℕ)
+    → IsCell cell
+    → AirCell (change_taken caps srb cell algs station air)
 change_taken_cell caps Signalling1 cell algs station air h = by_test AirCell (are_supported caps algs) _ _ (λ e. h) (λ e. tt)
 change_taken_cell caps Signalling2 cell algs station air h = tt
 
-read_row_cell : (caps : Caps) (srb : Srb) (count own : ℕ) (text : List ℕ) (x : Result RrcRecord RecFault) → read_rrc text ≡ x → AirCell (signalling_read caps srb count own x)
+read_row_cell : (caps : Caps) (srb : Srb) (count own : ℕ) (text : List ℕ) (x : Result RrcRecord RecFault)
+    → read_rrc text ≡ x
+    → AirCell (signalling_read caps srb count own x)
 read_row_cell caps srb count own text (Err fault) e = tt
 read_row_cell caps srb count own text (Ok (RrcData data_in)) e = tt
-read_row_cell caps srb count own text (Ok (Reconfiguration cell ncc algs station air)) e = taken_cell caps srb own cell ncc algs station air (read_cell text (Reconfiguration cell ncc algs station air) e)
-read_row_cell caps srb count own text (Ok (KeyChange cell algs station air)) e = change_taken_cell caps srb cell algs station air (read_cell text (KeyChange cell algs station air) e)
+read_row_cell caps srb count own text (Ok (Reconfiguration cell ncc algs station air)) e =
+    taken_cell caps srb own cell ncc algs station air (read_cell text (Reconfiguration cell ncc algs station air) e)
+read_row_cell caps srb count own text (Ok (KeyChange cell algs station air)) e =
+    change_taken_cell caps srb cell algs station air (read_cell text (KeyChange cell algs station air) e)
 read_row_cell caps srb count own text (Ok (SecurityModeCommand algs station air)) e = tt
 read_row_cell caps srb count own text (Ok SecurityModeComplete) e = tt
 read_row_cell caps srb count own text (Ok ReconfigurationComplete) e = tt
@@ -160,7 +195,8 @@ FrontCell other = Unit {0}
 
 start_read_cell : (caps : Caps) (station air count : ℕ) (x : Result RrcRecord RecFault) → FrontCell (start_read caps station air count x)
 start_read_cell caps station air count (Err fault) = tt
-start_read_cell caps station air count (Ok (SecurityModeCommand algs named_station named_air)) = by_test FrontCell (are_supported caps algs) _ _ (λ e. tt) (λ e. tt)
+start_read_cell caps station air count (Ok (SecurityModeCommand algs named_station named_air)) =
+    by_test FrontCell (are_supported caps algs) _ _ (λ e. tt) (λ e. tt)
 start_read_cell caps station air count (Ok SecurityModeComplete) = tt
 start_read_cell caps station air count (Ok (Reconfiguration cell ncc algs s a)) = tt
 start_read_cell caps station air count (Ok ReconfigurationComplete) = tt
@@ -218,7 +254,8 @@ module _ {K C : Type 0} (r : Reading K C) (s : Phone K C) where
   Cells t d = CellsIn d.1.derived
 
   handed_over_cells : (cell : Place) (steps : ℕ) (algs : Algs) (l : Link K C) → IsCell cell
-      → CellsIn (handover_made r (phone_of l.chain l.kenb) steps cell ++ as_derivations r (key_after r (phone_of l.chain l.kenb) steps cell.pci cell.earfcn).key algs)
+      → CellsIn (handover_made r (phone_of l.chain l.kenb) steps cell
+      ++ as_derivations r (key_after r (phone_of l.chain l.kenb) steps cell.pci cell.earfcn).key algs)
   handed_over_cells cell steps algs l h =
       let star = key_after r (phone_of l.chain l.kenb) steps cell.pci cell.earfcn in
       all_append (λ d. InputIn d.input) (handover_made r (phone_of l.chain l.kenb) steps cell) (as_derivations r star.key algs)

@@ -2,6 +2,7 @@
 use Rattle.std.proofs.Common.{◌≡◌, subst, ℕ, Option, Some, None, Ok, Err}
 use Rattle.alg_choice.specs.declared.caps.Caps.{Caps}
 use Rattle.annex_a_keys.specs.Cell.{IsCell}
+use Rattle.lte_events.specs.Ranges.{IsStationAct}
 use Rattle.lte_events.specs.declared.acts.StationAct.{StationAct}
 use Rattle.lte_events.specs.declared.setups.FirstNcc.{FirstNcc}
 use Rattle.lte_events.specs.declared.setups.FirstNcc.TheVariants.{One, Two}
@@ -16,7 +17,6 @@ use Rattle.lte_machine.specs.StationState.{Station, Context, Interface, StationI
 use Rattle.lte_machine.specs.StationRows.{Admitted}
 use Rattle.lte_machine.specs.StationStep.{plain_station, station_step}
 use Rattle.lte_machine.specs.StationChoice.{record_row, air_front, air_row, act_row}
-use Rattle.lte_machine.specs.Ranges.{IsStationAct}
 use Rattle.lte_machine.specs.CoreState.{Core, CoreInput}
 use Rattle.lte_machine.specs.CoreRows as rows
 use Rattle.lte_machine.specs.CoreRows.{CoreRow}

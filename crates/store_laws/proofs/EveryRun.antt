@@ -1,9 +1,10 @@
 -- Every world of every run in octets: each derivation can be added, and each key that was held was made.
 use Rattle.std.proofs.Common.{◌≡◌, refl, sym, ap, subst, ◌∙◌, ℕ, Bool, true, false, List, [], ◌∷◌, ◌++◌, map, inl, inr, append_assoc, append-nil}
 use Rattle.std.specs.Prelude.{◌||◌}
-use Rattle.std.specs.List.{list_any}
+use Rattle.std.specs.List.{list_any, AllByRecursion as AllOf}
 use Rattle.std.specs.Str.{bytes_eq}
 use Rattle.std.proofs.lemmas.Slice.Eq.{bytes_eq-Decides}
+use Rattle.lte_events.specs.Ranges.{IsEvent, IsSetup}
 use Rattle.lte_events.specs.declared.events.Event.{Event}
 use Rattle.lte_events.specs.declared.setups.Setup.{Setup}
 use Rattle.key_model.specs.Chain.{ncc_of}
@@ -17,7 +18,6 @@ use Rattle.lte_machine.specs.Distinct.{keys_of, Member}
 use Rattle.lte_machine.specs.Ladder.{RowOrigin, OfRoot, Of, map_row, row_key}
 use Rattle.lte_machine.specs.Machines.{Kept, machine_in_octets, opening_by_octets, written_in_values, kept_in_values}
 use Rattle.lte_machine.specs.Opening.{open_octets}
-use Rattle.lte_machine.specs.Ranges.{AllOf, IsEvent, IsSetup}
 use Rattle.lte_machine.specs.Run.{RunState, Running, Stopped, run, replay, first_world}
 use Rattle.lte_machine.specs.World.{Machine, World, Holding, happens}
 use Rattle.lte_machine.proofs.InOctets.{agree, open_octets-map}
@@ -66,11 +66,15 @@ first_good : (setup : Setup) → IsSetup setup → Good (first_world setup)
 first_good setup is = record { grounds = first_grounds setup; ranged = first_ranged setup is; can = tt }
 
 -- one event after the other
-good_from : (setup : Setup) (before es : List Event) → AllOf IsEvent es → Good (run m (first_world setup) before) → Good (run m (first_world setup) (before ++ es))
+good_from : (setup : Setup) (before es : List Event)
+    → AllOf IsEvent es
+    → Good (run m (first_world setup) before)
+    → Good (run m (first_world setup) (before ++ es))
 good_from setup before [] are g = subst (λ l. Good (run m (first_world setup) l)) (sym (append-nil before)) g
 good_from setup before (e ∷ es) are g =
     let more = run_more (first_world setup) before e in
-    let well : WellKeys (happens m (run m (first_world setup) before) e).0.history = subst (λ w. WellKeys w.history) more (well_keys setup (before ++ e ∷ [])) in
+    let well : WellKeys (happens m (run m (first_world setup) before) e).0.history =
+    subst (λ w. WellKeys w.history) more (well_keys setup (before ++ e ∷ [])) in
     let next : Good (run m (first_world setup) (before ++ e ∷ [])) = subst Good (sym more) (happens_good (run m (first_world setup) before) e are.0 well g) in
     subst (λ l. Good (run m (first_world setup) l)) (append_assoc before (e ∷ []) es) (good_from setup (before ++ e ∷ []) es are.1 next)
 
@@ -86,7 +90,8 @@ key_value (Of d) = refl
 made_in : (t : Term) (history : List (RowOrigin Term)) → Member t (keys_of history) → IsMadeIn (valued history) (value_of t)
 made_in t [] h = absurd h
 made_in t (o ∷ os) (inl e) =
-    let same : bytes_eq (row_key (map_row value_of o)) (value_of t) ≡ true = (bytes_eq-Decides (row_key (map_row value_of o)) (value_of t)).1 (key_value o ∙ ap value_of (sym e)) in
+    let same : bytes_eq (row_key (map_row value_of o)) (value_of t) ≡ true =
+    (bytes_eq-Decides (row_key (map_row value_of o)) (value_of t)).1 (key_value o ∙ ap value_of (sym e)) in
     ap (λ b. b || list_any (λ x. bytes_eq (row_key x) (value_of t)) (valued os)) same
 made_in t (o ∷ os) (inr h) = or_true (bytes_eq (row_key (map_row value_of o)) (value_of t)) (made_in t os h)
   where
@@ -94,7 +99,9 @@ made_in t (o ∷ os) (inr h) = or_true (bytes_eq (row_key (map_row value_of o)) 
     or_true true h = refl
     or_true false h = h
 
-held_made : (w : World Term ℕ (Outgoing Term ℕ)) (held : List (Holding Term)) → AllOf (λ h. Member h.key (keys_of w.history)) held → AllOf (λ h. IsMadeIn (valued w.history) h.key) (map (map_holding value_of) held)
+held_made : (w : World Term ℕ (Outgoing Term ℕ)) (held : List (Holding Term))
+    → AllOf (λ h. Member h.key (keys_of w.history)) held
+    → AllOf (λ h. IsMadeIn (valued w.history) h.key) (map (map_holding value_of) held)
 held_made w [] a = tt
 held_made w (h ∷ held) a = (made_in h.key w.history a.0, held_made w held a.1)
 
@@ -105,28 +112,36 @@ pub good_keeps : (w : World Term ℕ (Outgoing Term ℕ)) → Good w → CanKeep
 good_keeps w g = record { history = g.can; held = held_made w w.held g.grounds.keys.held }
 
 -- the world in octets that a run comes to is the value of one
-pub comes_from : (setup : Setup) (events : List Event) (w : World (List ℕ) ℕ Kept) → IsSetup setup → AllOf IsEvent events → octet_run setup events ≡ Running w → w ≡ octets_of_world (run m (first_world setup) events)
+pub comes_from : (setup : Setup) (events : List Event) (w : World (List ℕ) ℕ Kept)
+    → IsSetup setup
+    → AllOf IsEvent events
+    → octet_run setup events ≡ Running w
+    → w ≡ octets_of_world (run m (first_world setup) events)
 comes_from setup events w is are e = by (replay (open_octets (under_keys value_of annex_b)) m (Running (first_world setup)) events) refl
   where
     carried : run_value annex_b (replay (open_octets (under_keys value_of annex_b)) m (Running (first_world setup)) events) ≡ octet_run setup events
     carried =
-        replay-map m q value_of ncc_of (kept_in_values annex_b) (agree annex_b) (open_octets (under_keys value_of annex_b)) (open_octets annex_b) (open_octets-map value_of annex_b) Ranged
+        replay-map m q value_of ncc_of (kept_in_values annex_b) (agree annex_b)
+        (open_octets (under_keys value_of annex_b)) (open_octets annex_b) (open_octets-map value_of annex_b) Ranged
         (ranged_keeps_back annex_b) (Running (first_world setup)) events are (first_ranged setup is)
         ∙ ap (λ r. replay (open_octets annex_b) q r events) (first_value annex_b setup)
 
-    by : (r : RunState Term ℕ (Outgoing Term ℕ)) → replay (open_octets (under_keys value_of annex_b)) m (Running (first_world setup)) events ≡ r → w ≡ octets_of_world (run m (first_world setup) events)
+    by : (r : RunState Term ℕ (Outgoing Term ℕ))
+        → replay (open_octets (under_keys value_of annex_b)) m (Running (first_world setup)) events ≡ r
+        → w ≡ octets_of_world (run m (first_world setup) events)
     by (Running u) s =
         let plain : u ≡ run m (first_world setup) events = still_is_run (open_octets (under_keys value_of annex_b)) m (first_world setup) events u s in
         let same : Running (octets_of_world u) ≡ Running w = ap (run_value annex_b) (sym s) ∙ carried ∙ e in
         sym (still_one same) ∙ ap octets_of_world plain
-    by (Stopped chance) s =
-        let bad : run_value annex_b (Stopped chance) ≡ Running w = ap (run_value annex_b) (sym s) ∙ carried ∙ e in
+    by (Stopped coincidence) s =
+        let bad : run_value annex_b (Stopped coincidence) ≡ Running w = ap (run_value annex_b) (sym s) ∙ carried ∙ e in
         absurd (over bad)
       where
-        over : run_value annex_b (Stopped chance) ≡ Running w → ⊥
+        over : run_value annex_b (Stopped coincidence) ≡ Running w → ⊥
         over bad = cc
 
-module _ (setup : Setup) (events : List Event) (w : World (List ℕ) ℕ Kept) (is : IsSetup setup) (are : AllOf IsEvent events) (e : octet_run setup events ≡ Running w) where
+module _ (setup : Setup) (events : List Event) (w : World (List ℕ) ℕ Kept) (is : IsSetup setup)
+    (are : AllOf IsEvent events) (e : octet_run setup events ≡ Running w) where
   -- the world
   pub world_keeps : CanKeep w
   world_keeps = subst CanKeep (sym (comes_from setup events w is are e)) (good_keeps (run m (first_world setup) events) (run_good setup events is are))
@@ -136,7 +151,9 @@ module _ (setup : Setup) (events : List Event) (w : World (List ℕ) ℕ Kept) (
   event_keeps event good =
       let u = run m (first_world setup) events in
       let g = run_good setup events is are in
-      let well : WellKeys (happens m u event).0.history = subst (λ x. WellKeys x.history) (run_more (first_world setup) events event) (well_keys setup (events ++ event ∷ [])) in
+      let well : WellKeys (happens m u event).0.history = subst (λ x. WellKeys x.history)
+      (run_more (first_world setup) events event) (well_keys setup (events ++ event ∷ [])) in
       let told = happens-map m q value_of ncc_of (kept_in_values annex_b) (agree annex_b) u event (ranged_back annex_b u event g.ranged) in
-      let after : octets_of_world (happens m u event).0 ≡ (happens q w event).0 = ap (λ t. t.0) told ∙ ap (λ x. (happens q x event).0) (sym (comes_from setup events w is are e)) in
+      let after : octets_of_world (happens m u event).0 ≡ (happens q w event).0 =
+      ap (λ t. t.0) told ∙ ap (λ x. (happens q x event).0) (sym (comes_from setup events w is are e)) in
       subst CanKeep after (good_keeps (happens m u event).0 (happens_good u event good well g))

@@ -5,6 +5,7 @@ use Rattle.std.specs.Str.{bytes_eq}
 use Rattle.std.proofs.lemmas.Bool.{false≢true}
 use Rattle.std.proofs.lemmas.Bool.Decides.{Decides-and, Decides-eqb}
 use Rattle.std.proofs.lemmas.Slice.Eq.{bytes_eq-Decides}
+use Rattle.std.specs.List.{AllByRecursion as AllOf}
 use Rattle.hmac_kdf.specs.declared.input.KdfInput.{KdfInput}
 use Rattle.key_model.specs.Derivation.{Input, FromCount, FromSync, FromCell, FromAlg, Derivation, derived_of, kdf_input}
 use Rattle.key_terms.specs.declared.ladder.LadderFault.{LadderFault}
@@ -14,7 +15,6 @@ use Rattle.key_terms.specs.declared.row.Row.{Row}
 use Rattle.key_terms.specs.Ladder.{unheld, holding, row, row_of, origin_at, origin_of}
 use Rattle.key_terms.proofs.LadderLemmas.{found_row}
 use Rattle.lte_machine.specs.Ladder.{RowOrigin, OfRoot, Of, row_key, same_input, same_origin, Hit, hit, stands_or_not, added_at, add_row, root_place, root_if, root_row}
-use Rattle.lte_machine.specs.Ranges.{AllOf}
 use Rattle.lte_machine.specs.World.{Holding}
 use Rattle.store_laws.specs.Rows.{origin_in, numbered, holder_of, noted, all_noted}
 use Rattle.lte_machine.proofs.KnownLists.{all_append}
@@ -75,7 +75,9 @@ input_same (FromAlg p q) (FromAlg r s) e = (Decides-and _ _ (Decides-eqb p r) (D
 
 -- ORIGINS
 
-origin_is : (rows : List LadderRow) (a : RowOrigin (List ℕ)) (d : Derivation (List ℕ)) → same_origin bytes_eq a (Of d) ≡ true → origin_in rows a ≡ origin_in rows (Of d)
+origin_is : (rows : List LadderRow) (a : RowOrigin (List ℕ)) (d : Derivation (List ℕ))
+    → same_origin bytes_eq a (Of d) ≡ true
+    → origin_in rows a ≡ origin_in rows (Of d)
 origin_is rows (OfRoot key) d e = absurd (false≢true e)
 origin_is rows (Of g) d e =
     let key = bytes_eq-Decides g.key d.key in
@@ -95,7 +97,11 @@ abbrev input_in : KdfInput → Origin → KdfInput
 input_in i Origin.Root = i
 input_in i (Origin.From r input) = input
 
-origin_same : (rows : List LadderRow) (a : RowOrigin (List ℕ)) (d : Derivation (List ℕ)) → FromRow rows a → HasRow rows d.key → origin_in rows a ≡ origin_in rows (Of d) → same_origin bytes_eq a (Of d) ≡ true
+origin_same : (rows : List LadderRow) (a : RowOrigin (List ℕ)) (d : Derivation (List ℕ))
+    → FromRow rows a
+    → HasRow rows d.key
+    → origin_in rows a ≡ origin_in rows (Of d)
+    → same_origin bytes_eq a (Of d) ≡ true
 origin_same rows (OfRoot key) d f h e = cc
 origin_same rows (Of g) d f h e =
     let number : unwrap_or (row_of rows g.key) 0 ≡ unwrap_or (row_of rows d.key) 0 = ap (number_in 0) e in
@@ -104,15 +110,20 @@ origin_same rows (Of g) d f h e =
 
 -- LADDERS
 
-held_more : (os : List (RowOrigin (List ℕ))) (o : RowOrigin (List ℕ)) (held : List (Holding (List ℕ))) → AllOf (λ h. HasRow (numbered os) h.key) held → AllOf (λ h. HasRow (numbered (os ++ o ∷ [])) h.key) held
+held_more : (os : List (RowOrigin (List ℕ))) (o : RowOrigin (List ℕ)) (held : List (Holding (List ℕ)))
+    → AllOf (λ h. HasRow (numbered os) h.key) held
+    → AllOf (λ h. HasRow (numbered (os ++ o ∷ [])) h.key) held
 held_more os o [] a = tt
 held_more os o (h ∷ held) a = (
-  subst IsSome (sym (ap (λ rs. row_of rs h.key) (numbered_more os o) ∙ row_kept (numbered os) (unheld (origin_in (numbered os) o) (row_key o) ∷ []) h.key a.0)) a.0,
+  subst IsSome (sym (ap (λ rs. row_of rs h.key) (numbered_more os o)
+      ∙ row_kept (numbered os) (unheld (origin_in (numbered os) o) (row_key o) ∷ []) h.key a.0))
+      a.0,
   held_more os o held a.1,
 )
 
 -- with a new row at the end
-keeps_more : (os : List (RowOrigin (List ℕ))) (o : RowOrigin (List ℕ)) (held : List (Holding (List ℕ))) (before after : List LadderRow) → Keeps os held before → FromRow (numbered os) o →
+keeps_more : (os : List (RowOrigin (List ℕ))) (o : RowOrigin (List ℕ)) (held : List (Holding (List ℕ)))
+    (before after : List LadderRow) → Keeps os held before → FromRow (numbered os) o →
     after ≡ before ++ unheld (origin_in (numbered os) o) (row_key o) ∷ [] → Keeps (os ++ o ∷ []) held after
 keeps_more os o held before after k f put = record {
   are =
@@ -138,13 +149,16 @@ module _ (os : List (RowOrigin (List ℕ))) (held : List (Holding (List ℕ))) (
   hit_before : (key : List ℕ) (x : Option (Hit (List ℕ))) → hit bytes_eq key os ≡ x → row_of before key ≡ option_map (λ h. h.place) x
   hit_before key x e = row_before key ∙ sym (hit_row key os) ∙ ap (option_map (λ h. h.place)) e
 
-  found_before : (key : List ℕ) (h : Hit (List ℕ)) → hit bytes_eq key os ≡ Some h → (origin_at before h.place ≡ Some (origin_in (numbered os) h.found)) × FromRow (numbered os) h.found
+  found_before : (key : List ℕ) (h : Hit (List ℕ))
+      → hit bytes_eq key os ≡ Some h
+      → (origin_at before h.place ≡ Some (origin_in (numbered os) h.found)) × FromRow (numbered os) h.found
   found_before key h e =
       let stands = origin_stands [] os h.place h.found k.placed (hit_at key os h e) in
       let place : h.place ≡ 0 + h.place = omega arith in
       (at_before h.place ∙ ap (origin_at (numbered os)) place ∙ stands.0, stands.1)
 
-  module _ (d : Derivation (List ℕ)) (f : HasRow (numbered os) d.key) (after : List LadderRow) (result : Result Row LadderFault) (a : Adds before after (derived_of d) result) where
+  module _ (d : Derivation (List ℕ)) (f : HasRow (numbered os) d.key) (after : List LadderRow)
+      (result : Result Row LadderFault) (a : Adds before after (derived_of d) result) where
     adds_new : hit bytes_eq d.out os ≡ None → ComesTo None (Of d) (os ++ Of d ∷ []) held after result
     adds_new e =
         let done = a.new (hit_before d.out None e) in (
@@ -175,7 +189,10 @@ module _ (os : List (RowOrigin (List ℕ))) (held : List (Holding (List ℕ))) (
     pub adds : ComesTo (add_row bytes_eq os (Of d)).clash (Of d) (add_row bytes_eq os (Of d)).rows held after result
     adds = by (hit bytes_eq d.out os) refl
       where
-        by : (x : Option (Hit (List ℕ))) → hit bytes_eq d.out os ≡ x → ComesTo (added_at bytes_eq os (Of d) x).clash (Of d) (added_at bytes_eq os (Of d) x).rows held after result
+        by : (x : Option (Hit (List ℕ)))
+            → hit bytes_eq d.out os ≡ x
+            → ComesTo (added_at bytes_eq os (Of d) x).clash (Of d) (added_at bytes_eq os (Of d) x).rows
+            held after result
         by None e = adds_new e
         by (Some h) e = adds_by h e (same_origin bytes_eq h.found (Of d)) refl
 
@@ -198,7 +215,8 @@ module _ (os : List (RowOrigin (List ℕ))) (held : List (Holding (List ℕ))) (
         from_or_root same = cc
 
     -- a root is taken as the machine takes it
-    pub roots : RootComesTo (root_row bytes_eq key os) (add_row bytes_eq os (OfRoot key)).clash (OfRoot key) (add_row bytes_eq os (OfRoot key)).rows held after result
+    pub roots : RootComesTo (root_row bytes_eq key os) (add_row bytes_eq os (OfRoot key)).clash (OfRoot key)
+        (add_row bytes_eq os (OfRoot key)).rows held after result
     roots = by (hit bytes_eq key os) refl
       where
         by : (x : Option (Hit (List ℕ))) → hit bytes_eq key os ≡ x →
@@ -211,7 +229,10 @@ module _ (os : List (RowOrigin (List ℕ))) (held : List (Holding (List ℕ))) (
   -- A HOLDER
 
   -- whoever holds a key of a row is noted there as the world notes it
-  pub holds_one : (h : Holding (List ℕ)) (n : ℕ) (after : List LadderRow) → row_of before h.key ≡ Some n → after ≡ holding (holder_of h.holder) n before → Keeps os (held ++ h ∷ []) after
+  pub holds_one : (h : Holding (List ℕ)) (n : ℕ) (after : List LadderRow)
+      → row_of before h.key ≡ Some n
+      → after ≡ holding (holder_of h.holder) n before
+      → Keeps os (held ++ h ∷ []) after
   holds_one h n after stands put = record {
     are =
         put ∙ ap (λ o. holding (holder_of h.holder) (unwrap_or o 0) before) (sym stands)

@@ -2,6 +2,7 @@
 use Rattle.std.proofs.Common.{◌≡◌, refl, sym, ap, subst, ◌∙◌, ℕ, List, [], ◌∷◌, ◌++◌, map, Option, Some, None, option_map, inl, inr}
 use Rattle.std.specs.Str.{bytes_eq}
 use Rattle.std.proofs.lemmas.List.{map-append}
+use Rattle.lte_events.specs.Ranges.{IsEvent}
 use Rattle.lte_events.specs.declared.events.Event.{Event}
 use Rattle.key_model.specs.Derivation.{Derivation, map_derivation}
 use Rattle.key_model.specs.Reading.{Reading, term_reading_by}
@@ -23,7 +24,6 @@ use Rattle.lte_machine.specs.World.{Machine, World, phone_turn, core_turn, turn_
 use Rattle.lte_machine.specs.Machines.{machine_by}
 use Rattle.lte_machine.specs.Distinct.{keys_of, Member}
 use Rattle.lte_machine.specs.Known.{PairKnown, StationKnown, SentKnown, IsReported}
-use Rattle.lte_machine.specs.Ranges.{IsEvent}
 use Rattle.lte_machine.proofs.History.{Laddered, among_distinct}
 use Rattle.lte_machine.proofs.KnownLadder.{laddered_chain, still_in, new_in, outs_in, outs_more}
 use Rattle.lte_machine.proofs.KnownLists.{OfSome, Plus, Chain, AllOut, chain_more, all_both}
@@ -50,7 +50,9 @@ pub all_can_append : (l : Ladder (List ℕ)) (ms ns : List (RowOrigin (List ℕ)
 all_can_append l [] ns h k = k
 all_can_append l (m ∷ ms) ns h k = (h.0, all_can_append (add_next bytes_eq l m) ms ns h.1 k)
 
-ladder_one : (history : List (RowOrigin Term)) (o : RowOrigin Term) → ladder_of bytes_eq (valued (history ++ o ∷ [])) ≡ add_next bytes_eq (ladder_of bytes_eq (valued history)) (map_row value_of o)
+ladder_one : (history : List (RowOrigin Term)) (o : RowOrigin Term)
+    → ladder_of bytes_eq (valued (history ++ o ∷ []))
+    ≡ add_next bytes_eq (ladder_of bytes_eq (valued history)) (map_row value_of o)
 ladder_one history o = ap (ladder_of bytes_eq) (map-append (map_row value_of) history (o ∷ [])) ∙ rows_append no_rows (valued history) (map_row value_of o ∷ [])
 
 -- the ladder in octets has a clash where that of the terms has one
@@ -60,25 +62,33 @@ calm_terms history e = by (ladder_of same_value history).clash refl
     by : (o : Option (Clash Term)) → (ladder_of same_value history).clash ≡ o → (ladder_of same_value history).clash ≡ None
     by None is = is
     by (Some c) is =
-        let carried : option_map (map_clash value_of) (ladder_of same_value history).clash ≡ None = ap (λ l. l.clash) (ladder_of-map same_value bytes_eq value_of (λ a b. refl) history) ∙ e in
+        let carried : option_map (map_clash value_of) (ladder_of same_value history).clash ≡ None =
+        ap (λ l. l.clash) (ladder_of-map same_value bytes_eq value_of (λ a b. refl) history) ∙ e in
         let bad : Some (map_clash value_of c) ≡ None = ap (option_map (map_clash value_of)) (sym is) ∙ carried in
         absurd cc
 
 -- one derivation from keys of a history
-one_can : (history : List (RowOrigin Term)) (d : Derivation Term) → Laddered history → From (λ t. Member t (keys_of history)) d → CellsIn (d ∷ []) → IsWellFormed d.out →
+one_can : (history : List (RowOrigin Term)) (d : Derivation Term) → Laddered history →
+    From (λ t. Member t (keys_of history)) d → CellsIn (d ∷ []) → IsWellFormed d.out →
     (ladder_of bytes_eq (valued history)).clash ≡ None → CanAddTo (ladder_of bytes_eq (valued history)).rows (Of (map_derivation value_of d))
 one_can history d ladder f cells wf calm =
     let stand = ladder (calm_terms history calm) in
     let rows : List (RowOrigin Term) = (ladder_of same_value history).rows in
-    let from = from_more (λ t. Member t (keys_of history)) (λ t. Member t (keys_of rows)) (λ t m. subst (Member t) (sym stand.keys) (among_distinct [] (keys_of history) t m)) d f in
-    subst (λ rs. CanAddTo rs (Of (map_derivation value_of d))) (ap (λ l. l.rows) (ladder_of-map same_value bytes_eq value_of (λ a b. refl) history)) (can_add rows stand.well d from cells.0 wf)
+    let from = from_more (λ t. Member t (keys_of history)) (λ t. Member t (keys_of rows))
+    (λ t m. subst (Member t) (sym stand.keys) (among_distinct [] (keys_of history) t m)) d f in
+    subst (λ rs. CanAddTo rs (Of (map_derivation value_of d)))
+    (ap (λ l. l.rows) (ladder_of-map same_value bytes_eq value_of (λ a b. refl) history))
+    (can_add rows stand.well d from cells.0 wf)
 
-after_one : (history : List (RowOrigin Term)) (d : Derivation Term) (t : Term) → Plus (λ u. Member u (keys_of history)) d.out t → Member t (keys_of (history ++ Of d ∷ []))
+after_one : (history : List (RowOrigin Term)) (d : Derivation Term) (t : Term)
+    → Plus (λ u. Member u (keys_of history)) d.out t
+    → Member t (keys_of (history ++ Of d ∷ []))
 after_one history d t (inl m) = still_in history (Of d ∷ []) t m
 after_one history d t (inr e) = new_in history (Of d ∷ []) t (inl e)
 
 -- and one after the other
-pub chain_can : (history : List (RowOrigin Term)) (ds : List (Derivation Term)) → Laddered history → Chain (λ t. Member t (keys_of history)) ds → CellsIn ds → AllOut IsWellFormed ds →
+pub chain_can : (history : List (RowOrigin Term)) (ds : List (Derivation Term)) → Laddered history →
+    Chain (λ t. Member t (keys_of history)) ds → CellsIn ds → AllOut IsWellFormed ds →
     AllCanAdd (ladder_of bytes_eq (valued history)) (valued (map Of ds))
 chain_can history [] ladder c cells wf = tt
 chain_can history (d ∷ ds) ladder c cells wf = (
@@ -98,7 +108,8 @@ CanAll history = AllCanAdd no_rows (valued history)
 abbrev pub WellKeys : List (RowOrigin Term) → Type 0
 WellKeys history = (t : Term) → Member t (keys_of history) → IsWellFormed t
 
-chain_all : (history : List (RowOrigin Term)) (ds : List (Derivation Term)) → CanAll history → Laddered history → Chain (λ t. Member t (keys_of history)) ds → CellsIn ds → WellKeys (history ++ map Of ds) →
+chain_all : (history : List (RowOrigin Term)) (ds : List (Derivation Term)) → CanAll history → Laddered history →
+    Chain (λ t. Member t (keys_of history)) ds → CellsIn ds → WellKeys (history ++ map Of ds) →
     CanAll (history ++ map Of ds)
 chain_all history ds can ladder c cells well =
     subst (AllCanAdd no_rows) (sym (map-append (map_row value_of) history (map Of ds)))
@@ -110,7 +121,9 @@ root_all history key can =
     subst (AllCanAdd no_rows) (sym (map-append (map_row value_of) history (OfRoot key ∷ [])))
     (all_can_append no_rows (valued history) (valued (OfRoot key ∷ [])) can ((λ calm. tt), tt))
 
-module _ (root : ℕ → List ℕ → Term) (octets : Outgoing Term ℕ → List ℕ) (sender : Option (Outgoing Term ℕ) → Option (KeyUse Term)) (opener : Opening Term → List ℕ → Option (Outgoing Term ℕ) → Outcome)
+module _ (root : ℕ → List ℕ → Term) (octets : Outgoing Term ℕ → List ℕ)
+    (sender : Option (Outgoing Term ℕ) → Option (KeyUse Term))
+    (opener : Opening Term → List ℕ → Option (Outgoing Term ℕ) → Outcome)
     (w : World Term ℕ (Outgoing Term ℕ)) (g : Grounds w) (f : Ranged w) (can : CanAll w.history) where
   abbrev m : Machine Term ℕ (Outgoing Term ℕ)
   m = machine_by same_value root octets sender opener
@@ -141,7 +154,8 @@ module _ (root : ℕ → List ℕ → Term) (octets : Outgoing Term ℕ → List
       (core_does_keeps same_value P P (λ t h. h) (core_row (plain_core r w.core) (core_front_of r w.core i) outcome) (core_root i) w.core k g.keys.core).0
       (core_step_cells r w.core i outcome) well
 
-  station_turn_can : (id : ℕ) (i : StationInput Term ℕ) (came : Option (Outgoing Term ℕ)) (s : Station Term ℕ) → PairKnown P (station_key i) → StationInputRanged i →
+  station_turn_can : (id : ℕ) (i : StationInput Term ℕ) (came : Option (Outgoing Term ℕ)) (s : Station Term ℕ) →
+      PairKnown P (station_key i) → StationInputRanged i →
       StationKnown P s → StationRanged s → Can (turn_of m w id i came (Some s)).0
   station_turn_can id i came s k n known ranged well =
       let outcome = opener (station_opens r s i) (station_pdu_in i) came in
@@ -179,7 +193,9 @@ module _ (root : ℕ → List ℕ → Term) (octets : Outgoing Term ℕ → List
     core_record = λ pdu came is. core_turn_can (CoreRecord (content_in m came)) came tt;
     station_acts = λ id act is s f. station_turn_can id (StationActs act) None s tt is f.holds.0 f.holds.1;
     station_air = λ id air bearer pdu came is s f. station_turn_can id (AirPdu air bearer pdu) came s tt tt f.holds.0 f.holds.1;
-    station_record = λ on id pdu came is s f. station_turn_can id (StationRecord on (content_in m came)) came s (read_known came is) (read_ranged came is) f.holds.0 f.holds.1;
+    station_record = λ on id pdu came is s f.
+        station_turn_can id (StationRecord on (content_in m came)) came s (read_known came is) (read_ranged came is)
+        f.holds.0 f.holds.1;
     none = λ answer well. can;
   }
 

@@ -2,7 +2,7 @@
 use Rattle.std.proofs.Common.{◌≡◌, ℕ, ◌+◌, ◌<◌, zero, suc, Bool, true, false, Option, Some, None, List, [], ◌∷◌, ◌++◌, length, map, sym, refl, ap, subst, ◌∙◌, arith, length-append, cond, append_assoc, append-nil}
 use Rattle.std.proofs.lemmas.Bool.{false≢true}
 use Rattle.std.specs.Prelude.{slice_get, unwrap_or, position, IsSome, option_map}
-use Rattle.std.specs.List.{position_from}
+use Rattle.std.specs.List.{position_from, AllByRecursion as AllOf}
 use Rattle.std.specs.Str.{bytes_eq}
 use Rattle.std.proofs.lemmas.Iterator.Adapters.{position_from-zero}
 use Rattle.std.proofs.lemmas.Option.{none-some, slice_get_within}
@@ -15,7 +15,6 @@ use Rattle.key_terms.proofs.LadderLemmas.{found_row}
 use Rattle.key_terms.proofs.Places.{position_stays, position_map, slice_get_stays, slice_get_at_end}
 use Rattle.key_terms.proofs.Holding.{plain, plain_holding, read_same, row_of_same}
 use Rattle.lte_machine.specs.Ladder.{RowOrigin, OfRoot, Of, row_key, Hit, hit_if, hit_from, hit}
-use Rattle.lte_machine.specs.Ranges.{AllOf}
 use Rattle.lte_machine.specs.World.{Holding}
 use Rattle.store_laws.specs.Joins.{HasRow, Placed}
 use Rattle.store_laws.specs.Rows.{origin_in, numbered_after, numbered, noted, all_noted, holder_of}
@@ -39,10 +38,12 @@ pub numbered_append : (rows : List LadderRow) (os ps : List (RowOrigin (List ℕ
 numbered_append rows [] ps = refl
 numbered_append rows (o ∷ os) ps = numbered_append (rows ++ unheld (origin_in rows o) (row_key o) ∷ []) os ps
 
-pub numbered_more : (os : List (RowOrigin (List ℕ))) (o : RowOrigin (List ℕ)) → numbered (os ++ o ∷ []) ≡ numbered os ++ unheld (origin_in (numbered os) o) (row_key o) ∷ []
+pub numbered_more : (os : List (RowOrigin (List ℕ))) (o : RowOrigin (List ℕ))
+    → numbered (os ++ o ∷ []) ≡ numbered os ++ unheld (origin_in (numbered os) o) (row_key o) ∷ []
 numbered_more os o = numbered_append [] os (o ∷ [])
 
-pub octets_after : (rows : List LadderRow) (os : List (RowOrigin (List ℕ))) → map (λ r. r.octets) (numbered_after rows os) ≡ map (λ r. r.octets) rows ++ map row_key os
+pub octets_after : (rows : List LadderRow) (os : List (RowOrigin (List ℕ)))
+    → map (λ r. r.octets) (numbered_after rows os) ≡ map (λ r. r.octets) rows ++ map row_key os
 octets_after rows [] = sym (append-nil (map (λ r. r.octets) rows))
 octets_after rows (o ∷ os) =
     octets_after (rows ++ unheld (origin_in rows o) (row_key o) ∷ []) os
@@ -62,12 +63,14 @@ position_is_from : {X : Type 0} (p : X → Bool) (xs : List X) → position p xs
 position_is_from p xs = position_from-zero p xs
 
 -- the place of a hit is the first row with the key
-hit_place : (key : List ℕ) (i : ℕ) (os : List (RowOrigin (List ℕ))) → option_map (λ h. h.place) (hit_from bytes_eq key i os) ≡ position_from (λ o. bytes_eq (row_key o) key) i os
+hit_place : (key : List ℕ) (i : ℕ) (os : List (RowOrigin (List ℕ)))
+    → option_map (λ h. h.place) (hit_from bytes_eq key i os) ≡ position_from (λ o. bytes_eq (row_key o) key) i os
 hit_place key i [] = refl
 hit_place key i (o ∷ os) = by (bytes_eq (row_key o) key) (hit_place key (i + 1) os)
   where
     by : (b : Bool) → option_map (λ h. h.place) (hit_from bytes_eq key (i + 1) os) ≡ position_from (λ o. bytes_eq (row_key o) key) (i + 1) os →
-        option_map (λ h. h.place) (hit_if b (record { place = i; found = o }) (hit_from bytes_eq key (i + 1) os)) ≡ cond b (Some i) (position_from (λ o. bytes_eq (row_key o) key) (i + 1) os)
+        option_map (λ h. h.place) (hit_if b (record { place = i; found = o }) (hit_from bytes_eq key (i + 1) os))
+        ≡ cond b (Some i) (position_from (λ o. bytes_eq (row_key o) key) (i + 1) os)
     by true later = refl
     by false later = later
 
@@ -80,7 +83,9 @@ hit_row key os =
     ∙ position_map (λ r. r.octets) (λ k. bytes_eq k key) (numbered os)
 
 -- and what it found stands there
-hit_found : (key : List ℕ) (i : ℕ) (os : List (RowOrigin (List ℕ))) (h : Hit (List ℕ)) → hit_from bytes_eq key i os ≡ Some h → (j : ℕ) × (h.place ≡ i + j) × (slice_get os j ≡ Some h.found)
+hit_found : (key : List ℕ) (i : ℕ) (os : List (RowOrigin (List ℕ))) (h : Hit (List ℕ))
+    → hit_from bytes_eq key i os ≡ Some h
+    → (j : ℕ) × (h.place ≡ i + j) × (slice_get os j ≡ Some h.found)
 hit_found key i [] h e = absurd (none-some h e)
 hit_found key i (o ∷ os) h e = by (bytes_eq (row_key o) key) e (hit_found key (i + 1) os h)
   where
@@ -135,7 +140,9 @@ noted_kept rows more h stands =
     ∙ ap (λ o. holding (holder_of h.holder) (unwrap_or o 0) rows ++ more) (sym n.1)
 
 -- more rows, where each key that was held has a row among these
-pub all_noted_kept : (rows more : List LadderRow) (hs : List (Holding (List ℕ))) → AllOf (λ h. HasRow rows h.key) hs → all_noted (rows ++ more) hs ≡ all_noted rows hs ++ more
+pub all_noted_kept : (rows more : List LadderRow) (hs : List (Holding (List ℕ)))
+    → AllOf (λ h. HasRow rows h.key) hs
+    → all_noted (rows ++ more) hs ≡ all_noted rows hs ++ more
 all_noted_kept rows more [] stand = refl
 all_noted_kept rows more (h ∷ hs) stand =
     ap (λ rs. all_noted rs hs) (noted_kept rows more h stand.0)
@@ -147,7 +154,9 @@ all_noted_kept rows more (h ∷ hs) stand =
 
 -- PLACED
 
-placed_tail : (rows : List LadderRow) (o : RowOrigin (List ℕ)) (os : List (RowOrigin (List ℕ))) → Placed rows (o ∷ os) → Placed (rows ++ unheld (origin_in rows o) (row_key o) ∷ []) os
+placed_tail : (rows : List LadderRow) (o : RowOrigin (List ℕ)) (os : List (RowOrigin (List ℕ)))
+    → Placed rows (o ∷ os)
+    → Placed (rows ++ unheld (origin_in rows o) (row_key o) ∷ []) os
 placed_tail rows (OfRoot key) os p = p
 placed_tail rows (Of d) os p = p.1
 
@@ -160,7 +169,10 @@ placed_head : (rows : List LadderRow) (o : RowOrigin (List ℕ)) (os : List (Row
 placed_head rows (OfRoot key) os p = tt
 placed_head rows (Of d) os p = p.0
 
-pub placed_more : (rows : List LadderRow) (os : List (RowOrigin (List ℕ))) (o : RowOrigin (List ℕ)) → Placed rows os → FromRow (numbered_after rows os) o → Placed rows (os ++ o ∷ [])
+pub placed_more : (rows : List LadderRow) (os : List (RowOrigin (List ℕ))) (o : RowOrigin (List ℕ))
+    → Placed rows os
+    → FromRow (numbered_after rows os) o
+    → Placed rows (os ++ o ∷ [])
 placed_more rows [] (OfRoot key) p f = tt
 placed_more rows [] (Of d) p f = (f, tt)
 placed_more rows (OfRoot key ∷ os) o p f = placed_more (rows ++ unheld (origin_in rows (OfRoot key)) key ∷ []) os o p f
@@ -193,7 +205,8 @@ origin_stands rows (x ∷ os) zero o p e =
     let is : x ≡ o = cc in
     let from : FromRow rows o = subst (FromRow rows) is (placed_head rows x os p) in
     let place : length rows + 0 ≡ length rows = omega arith in
-    let stands : slice_get ((rows ++ one ∷ []) ++ later.0) (length rows) ≡ Some one = slice_get_stays (rows ++ one ∷ []) later.0 (length rows) one (slice_get_at_end rows one) in (
+    let stands : slice_get ((rows ++ one ∷ []) ++ later.0) (length rows) ≡ Some one =
+    slice_get_stays (rows ++ one ∷ []) later.0 (length rows) one (slice_get_at_end rows one) in (
       ap (origin_at (numbered_after rows (x ∷ os))) place
           ∙ ap (λ rs. origin_at rs (length rows)) later.1
           ∙ ap (option_map (λ r. r.origin)) stands

@@ -6,8 +6,8 @@ use Rattle.key_model.specs.Derivation.{Input, FromCount, FromSync, FromCell, Fro
 use Rattle.key_terms.specs.declared.proof.Proof as proofs
 use Rattle.key_terms.specs.declared.proof.Proof.{Proof}
 use Rattle.lte_machine.specs.Ladder.{RowOrigin, OfRoot, Of}
-use Rattle.lte_machine.specs.Tuples.{Chance, Tuples, Rows}
-use Rattle.store_laws.specs.Proofs.{proof_of, chance_of, clash_proof, input_of, derivation_of}
+use Rattle.lte_machine.specs.Tuples.{Coincidence, Tuples, Rows}
+use Rattle.store_laws.specs.Proofs.{proof_of, coincidence_of, clash_proof, input_of, derivation_of}
 
 input_back : (i : Input (List ℕ)) → input_of (kdf_input i) ≡ i
 input_back (FromCount count) = refl
@@ -27,16 +27,16 @@ derivation_back d = λ j. record { key = d.key; input = input_back d.input j; ou
 pub derived_again : (d : Derived) → derived_of (derivation_of d) ≡ d
 derived_again d = λ j. record { key = d.key; input = input_again d.input j; out = d.out }
 
-clash_back : (row : ℕ) (o : RowOrigin (List ℕ)) → chance_of (clash_proof row o) ≡ Rows (record { row = row; origin = o })
+clash_back : (row : ℕ) (o : RowOrigin (List ℕ)) → coincidence_of (clash_proof row o) ≡ Rows (record { row = row; origin = o })
 clash_back row (OfRoot key) = refl
 clash_back row (Of d) = λ j. Rows (record { row = row; origin = Of (derivation_back d j) })
 
-pub chance_back : (c : Chance (List ℕ)) → chance_of (proof_of c) ≡ c
-chance_back (Tuples None receiver) = refl
-chance_back (Tuples (Some sender) receiver) = refl
-chance_back (Rows clash) = clash_back clash.row clash.origin
+pub coincidence_back : (c : Coincidence (List ℕ)) → coincidence_of (proof_of c) ≡ c
+coincidence_back (Tuples None receiver) = refl
+coincidence_back (Tuples (Some sender) receiver) = refl
+coincidence_back (Rows clash) = clash_back clash.row clash.origin
 
-pub shown_again : (p : Proof) → proof_of (chance_of p) ≡ p
+pub shown_again : (p : Proof) → proof_of (coincidence_of p) ≡ p
 shown_again (proofs.TheVariants.Tuples None receiver) = refl
 shown_again (proofs.TheVariants.Tuples (Some sender) receiver) = refl
 shown_again (proofs.TheVariants.RootIsRow r key) = refl

@@ -1,6 +1,6 @@
 -- What a ladder asks of a derivation that is added, and that the derivations of a run have it.
 use Rattle.std.specs.Prelude.{◌≡◌, ℕ, ◌<◌, ◌≤◌, ◌^◌, IsTrue, List, [], ◌∷◌, None, IsSome, IfSome}
-use Rattle.std.specs.List.{list_any}
+use Rattle.std.specs.List.{list_any, AllByRecursion as AllOf}
 use Rattle.std.specs.Str.{bytes_eq}
 use Rattle.annex_a_keys.specs.declared.derived.Derived.{Derived}
 use Rattle.hmac_kdf.specs.declared.input.KdfInput.{KdfInput}
@@ -9,7 +9,6 @@ use Rattle.key_model.specs.Derivation.{derived_of}
 use Rattle.key_terms.specs.declared.row.LadderRow.{LadderRow}
 use Rattle.key_terms.specs.Ladder.{row_of, HasRoot, HasSync}
 use Rattle.lte_machine.specs.Ladder.{RowOrigin, OfRoot, Of, row_key, Ladder, add_next, no_rows}
-use Rattle.lte_machine.specs.Ranges.{AllOf}
 use Rattle.lte_machine.specs.World.{World}
 use Rattle.store_laws.specs.Rows.{numbered}
 

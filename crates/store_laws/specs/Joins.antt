@@ -1,5 +1,6 @@
 -- The machine's ladder and the program's, side by side: the same rows, and what each does with one root or derivation more.
 use Rattle.std.specs.Prelude.{◌≡◌, ℕ, List, [], ◌∷◌, ◌++◌, Option, Some, None, IsSome, Result, Ok, Err, length}
+use Rattle.std.specs.List.{AllByRecursion as AllOf}
 use Rattle.annex_a_keys.specs.declared.derived.Derived.{Derived}
 use Rattle.key_terms.specs.declared.ladder.LadderFault.{LadderFault}
 use Rattle.key_terms.specs.declared.row.LadderRow.{LadderRow}
@@ -7,7 +8,6 @@ use Rattle.key_terms.specs.declared.row.Origin.{Origin}
 use Rattle.key_terms.specs.declared.row.Row.{Row}
 use Rattle.key_terms.specs.Ladder.{unheld, row, row_of, origin_at, origin_of, Coincides}
 use Rattle.lte_machine.specs.Ladder.{RowOrigin, OfRoot, Of, Clash}
-use Rattle.lte_machine.specs.Ranges.{AllOf}
 use Rattle.lte_machine.specs.World.{Holding}
 use Rattle.store_laws.specs.Rows.{origin_in, numbered, all_noted}
 
@@ -34,7 +34,13 @@ pub record Adds (before after : List LadderRow) (made : Derived) (result : Resul
   pub coincidence : (k : ℕ) → Coincides before (origin_of before made) made.out k → result ≡ Err (LadderFault.Coincidence (row k) (origin_of before made))
 
 -- what it comes to: the rows with one more, or the same; or the clash that the machine ends by
-abbrev pub ComesTo : Option (Clash (List ℕ)) → RowOrigin (List ℕ) → List (RowOrigin (List ℕ)) → List (Holding (List ℕ)) → List LadderRow → Result Row LadderFault → Type 0
+abbrev pub ComesTo : Option (Clash (List ℕ))
+    → RowOrigin (List ℕ)
+    → List (RowOrigin (List ℕ))
+    → List (Holding (List ℕ))
+    → List LadderRow
+    → Result Row LadderFault
+    → Type 0
 ComesTo None o os held after result = ((k : Row) × (result ≡ Ok k)) × Keeps os held after
 ComesTo (Some c) o os held after result = ((n : Origin) × (result ≡ Err (LadderFault.Coincidence (row c.row) n))) × (c.origin ≡ o)
 
@@ -45,6 +51,13 @@ pub record Roots (before after : List LadderRow) (octets : List ℕ) (result : R
   pub coincidence : (k : ℕ) → Coincides before Origin.Root octets k → result ≡ Err (LadderFault.Coincidence (row k) Origin.Root)
 
 -- what it comes to where a root has the octets already, and where none has
-abbrev pub RootComesTo : Option ℕ → Option (Clash (List ℕ)) → RowOrigin (List ℕ) → List (RowOrigin (List ℕ)) → List (Holding (List ℕ)) → List LadderRow → Result Row LadderFault → Type 0
+abbrev pub RootComesTo : Option ℕ
+    → Option (Clash (List ℕ))
+    → RowOrigin (List ℕ)
+    → List (RowOrigin (List ℕ))
+    → List (Holding (List ℕ))
+    → List LadderRow
+    → Result Row LadderFault
+    → Type 0
 RootComesTo (Some k) clash o os held after result = result ≡ Err (LadderFault.RepeatedRoot (row k))
 RootComesTo None clash o os held after result = ComesTo clash o os held after result

@@ -8,7 +8,7 @@ use Rattle.key_terms.specs.declared.proof.Proof.{Proof}
 use Rattle.key_terms.specs.Ladder.{row}
 use Rattle.lte_machine.specs.Calls.{use_out, use_in}
 use Rattle.lte_machine.specs.Ladder.{RowOrigin, OfRoot, Of}
-use Rattle.lte_machine.specs.Tuples.{Chance, Tuples, Rows}
+use Rattle.lte_machine.specs.Tuples.{Coincidence, Tuples, Rows}
 
 -- the row that has the octets, and the root or the derivation that was refused
 abbrev pub clash_proof : ℕ → RowOrigin (List ℕ) → Proof
@@ -16,7 +16,7 @@ clash_proof number (OfRoot key) = proofs.TheVariants.RootIsRow (row number) key
 clash_proof number (Of d) = proofs.TheVariants.Rows (row number) (derived_of d)
 
 -- a coincidence, as the program shows it
-abbrev pub proof_of : Chance (List ℕ) → Proof
+abbrev pub proof_of : Coincidence (List ℕ) → Proof
 proof_of (Tuples sender receiver) = proofs.TheVariants.Tuples (option_map use_out sender) (use_out receiver)
 proof_of (Rows clash) = clash_proof clash.row clash.origin
 
@@ -30,7 +30,7 @@ input_of (KdfInput.Alg kind identity) = FromAlg kind identity
 abbrev pub derivation_of : Derived → Derivation (List ℕ)
 derivation_of d = record { key = d.key; input = input_of d.input; out = d.out }
 
-abbrev pub chance_of : Proof → Chance (List ℕ)
-chance_of (proofs.TheVariants.Tuples sender receiver) = Tuples (option_map use_in sender) (use_in receiver)
-chance_of (proofs.TheVariants.RootIsRow r key) = Rows (record { row = r.0; origin = OfRoot key })
-chance_of (proofs.TheVariants.Rows r d) = Rows (record { row = r.0; origin = Of (derivation_of d) })
+abbrev pub coincidence_of : Proof → Coincidence (List ℕ)
+coincidence_of (proofs.TheVariants.Tuples sender receiver) = Tuples (option_map use_in sender) (use_in receiver)
+coincidence_of (proofs.TheVariants.RootIsRow r key) = Rows (record { row = r.0; origin = OfRoot key })
+coincidence_of (proofs.TheVariants.Rows r d) = Rows (record { row = r.0; origin = Of (derivation_of d) })

@@ -1,6 +1,8 @@
 // The rows of the program's ladder and those of a run.
 ghost use Rattle.std.specs.Prelude.{◌≡◌, ℕ, List, [], ◌∷◌, ◌++◌, Result, Some};
 ghost use Rattle.std.specs.Str.{bytes_eq};
+ghost use Rattle.std.specs.List.{AllByRecursion as AllOf};
+ghost use Rattle.lte_events.specs.Ranges.{IsEvent, IsSetup};
 ghost use Rattle.lte_events.specs.declared.events.Event.{Event};
 ghost use Rattle.lte_events.specs.declared.setups.Setup.{Setup};
 ghost use Rattle.key_model.specs.Derivation.{Derivation, derived_of};
@@ -12,7 +14,6 @@ ghost use Rattle.lte_machine.specs.BothRuns.{octet_run};
 ghost use Rattle.lte_machine.specs.Ciphers.{annex_b};
 ghost use Rattle.lte_machine.specs.Ladder.{RowOrigin, OfRoot, Of, add_row, root_row};
 ghost use Rattle.lte_machine.specs.Machines.{Kept, machine_in_octets};
-ghost use Rattle.lte_machine.specs.Ranges.{AllOf, IsEvent, IsSetup};
 ghost use Rattle.lte_machine.specs.Run.{Running};
 ghost use Rattle.lte_machine.specs.World.{World, Holding, happens};
 ghost use Rattle.store_laws.specs.Additions.{CanKeep};

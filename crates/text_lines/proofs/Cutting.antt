@@ -7,7 +7,11 @@ use Rattle.std.specs.List.{onto_first, position, position_or_len}
 use Rattle.text_lines.specs.Lines.{is_feed, lines_of}
 
 -- a line that ends with a line feed at place k
-lines_cut : (text : List ℕ) (k : ℕ) → k < length text → is_feed (get_or text k 0) ≡ true → ((j : ℕ) → j < k → is_feed (get_or text j 0) ≡ false) → lines_of text ≡ take k text ∷ lines_of (drop (suc k) text)
+lines_cut : (text : List ℕ) (k : ℕ)
+    → k < length text
+    → is_feed (get_or text k 0) ≡ true
+    → ((j : ℕ) → j < k → is_feed (get_or text j 0) ≡ false)
+    → lines_of text ≡ take k text ∷ lines_of (drop (suc k) text)
 unfolding lines_of
 lines_cut [] k within feed before = absurd (omega arith)
 lines_cut (octet ∷ octets) zero within feed before = let e : is_feed octet ≡ true = feed in rw e refl
@@ -34,7 +38,9 @@ no_lines : lines_of [] ≡ []
 unfolding lines_of
 no_lines = refl
 
-pub lines_at_feed : (text : List ℕ) (k : ℕ) → position is_feed text ≡ Some k → lines_of text ≡ take k text ∷ lines_of (take (length text - (k + 1)) (drop (k + 1) text))
+pub lines_at_feed : (text : List ℕ) (k : ℕ)
+    → position is_feed text ≡ Some k
+    → lines_of text ≡ take k text ∷ lines_of (take (length text - (k + 1)) (drop (k + 1) text))
 lines_at_feed text k found =
     let first = position-Some is_feed text k 0 found in
     rw (take_rest, add-one) (lines_cut text k first.0 first.1 first.2)

@@ -22,7 +22,11 @@ pub no_feed : (text : List ℕ) → position is_feed text ≡ None → has_feed 
 no_feed text none = none_passes is_feed text (past_end text none)
 
 -- a text is cut at its first line feed
-cut : (text : List ℕ) (k : ℕ) → k < length text → is_feed (get_or text k 0) ≡ true → ((j : ℕ) → j < k → is_feed (get_or text j 0) ≡ false) → (has_feed (take k text) ≡ false) × (text ≡ take k text ++ (10 ∷ drop (suc k) text))
+cut : (text : List ℕ) (k : ℕ)
+    → k < length text
+    → is_feed (get_or text k 0) ≡ true
+    → ((j : ℕ) → j < k → is_feed (get_or text j 0) ≡ false)
+    → (has_feed (take k text) ≡ false) × (text ≡ take k text ++ (10 ∷ drop (suc k) text))
 cut [] k within feed before = absurd (omega arith)
 cut (octet ∷ octets) zero within feed before = let is : octet ≡ 10 = eqb-true octet 10 feed in (refl, ap (λ o. o ∷ octets) is)
 cut (octet ∷ octets) (suc k) within feed before =
@@ -31,7 +35,9 @@ cut (octet ∷ octets) (suc k) within feed before =
     (rw first rest.0, ap (λ os. octet ∷ os) rest.1)
 
 -- what is behind it as the slice `text[k + 1..]` is written
-pub cut_at_feed : (text : List ℕ) (k : ℕ) → position is_feed text ≡ Some k → (has_feed (take k text) ≡ false) × (text ≡ take k text ++ (10 ∷ take (length text - (k + 1)) (drop (k + 1) text)))
+pub cut_at_feed : (text : List ℕ) (k : ℕ)
+    → position is_feed text ≡ Some k
+    → (has_feed (take k text) ≡ false) × (text ≡ take k text ++ (10 ∷ take (length text - (k + 1)) (drop (k + 1) text)))
 cut_at_feed text k found =
     let first = position-Some is_feed text k 0 found in
     rw (take_rest, add-one) (cut text k first.0 first.1 first.2)
@@ -54,7 +60,9 @@ pub lines_first : (lines : List (List ℕ)) (rest : List ℕ) → AreWhole lines
 unfolding ended
 lines_first [] rest whole = refl
 lines_first (line ∷ lines) rest whole =
-    ap lines_of (append_assoc line (10 ∷ ended lines) rest) ∙ line_first line (ended lines ++ rest) whole.0 ∙ ap (λ ls. line ∷ ls) (lines_first lines rest whole.1)
+    ap lines_of (append_assoc line (10 ∷ ended lines) rest)
+    ∙ line_first line (ended lines ++ rest) whole.0
+    ∙ ap (λ ls. line ∷ ls) (lines_first lines rest whole.1)
 
 pub ended_append : (xs ys : List (List ℕ)) → ended (xs ++ ys) ≡ ended xs ++ ended ys
 unfolding ended
@@ -72,7 +80,9 @@ lines_last (octet ∷ next ∷ octets) whole =
     rw (parts.0, lines_last (next ∷ octets) parts.1) refl
 
 -- the first line is as long as what begins the text with no line feed
-onto : (octet n : ℕ) (lines : List (List ℕ)) → ((line : List ℕ) × (more : List (List ℕ)) × (lines ≡ line ∷ more) × (n ≤ length line)) → (line : List ℕ) × (more : List (List ℕ)) × (onto_first octet lines ≡ line ∷ more) × (suc n ≤ length line)
+onto : (octet n : ℕ) (lines : List (List ℕ))
+    → ((line : List ℕ) × (more : List (List ℕ)) × (lines ≡ line ∷ more) × (n ≤ length line))
+    → (line : List ℕ) × (more : List (List ℕ)) × (onto_first octet lines ≡ line ∷ more) × (suc n ≤ length line)
 onto octet n lines found =
     let line = found.0 in
     (octet ∷ line, found.1, ap (onto_first octet) found.2, omega (arith, found.3))
@@ -81,7 +91,10 @@ first_of : (octet : ℕ) (lines : List (List ℕ)) → (line : List ℕ) × (mor
 first_of octet [] = (octet ∷ [], [], refl, omega arith)
 first_of octet (line ∷ lines) = (octet ∷ line, lines, refl, omega arith)
 
-pub long_first : (text : List ℕ) (n : ℕ) → has_feed (take (suc n) text) ≡ false → suc n ≤ length text → (line : List ℕ) × (more : List (List ℕ)) × (lines_of text ≡ line ∷ more) × (suc n ≤ length line)
+pub long_first : (text : List ℕ) (n : ℕ)
+    → has_feed (take (suc n) text) ≡ false
+    → suc n ≤ length text
+    → (line : List ℕ) × (more : List (List ℕ)) × (lines_of text ≡ line ∷ more) × (suc n ≤ length line)
 unfolding lines_of
 long_first [] n whole within = absurd (omega arith)
 long_first (octet ∷ octets) zero whole within =

@@ -26,7 +26,10 @@ numeral_utf8 : (word : List ℕ) → is_numeral word ≡ true → IsUtf8 word
 numeral_utf8 word h = IsUtf8-from_ascii word (IsAscii-from_digits word (digits_model.to word (all_digits word h)))
 
 -- a word of digits is a text
-pub numeral_is_text : {T E : Type 0} (word : List ℕ) (r : Result T E) (P : T → Type 0) (Q : E → Type 0) → is_numeral word ≡ true → MatchResult r P (λ e. ¬ (IsUtf8 word) × Q e) → IsOk r
+pub numeral_is_text : {T E : Type 0} (word : List ℕ) (r : Result T E) (P : T → Type 0) (Q : E → Type 0)
+    → is_numeral word ≡ true
+    → MatchResult r P (λ e. ¬ (IsUtf8 word) × Q e)
+    → IsOk r
 numeral_is_text word (Ok text) P Q h cases = refl
 numeral_is_text word (Err e) P Q h cases = absurd (cases.0 (numeral_utf8 word h))
 

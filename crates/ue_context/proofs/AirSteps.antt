@@ -76,7 +76,9 @@ module _ (n : NasPart) (l : Link (List ℕ) ℕ) (station air : ℕ) (bearer : B
   at_srb : which bearer ≡ OnSrb (srb_of bearer) → IsSrb bearer
       → phone_call (linked n l) (Air station air bearer pdu) ≡ by_opened (srb_opened l.keys true bearer (srb_counts (srb_of bearer) l.bearers).receive Down pdu)
   at_srb on is =
-      fronted (linked n l) station air bearer pdu (signalling_at (srb_of bearer) l.chain.number (srb_count (srb_counts (srb_of bearer) l.bearers).receive pdu)) (rw (here, on) refl)
+      fronted (linked n l) station air bearer pdu
+      (signalling_at (srb_of bearer) l.chain.number (srb_count (srb_counts (srb_of bearer) l.bearers).receive pdu))
+      (rw (here, on) refl)
       ∙ by_count (srb_count (srb_counts (srb_of bearer) l.bearers).receive pdu) refl
     where
       by_count : (c : Result ℕ PdcpFault) → srb_count (srb_counts (srb_of bearer) l.bearers).receive pdu ≡ c
@@ -104,12 +106,18 @@ module _ (n : NasPart) (l : Link (List ℕ) ℕ) (station air : ℕ) (bearer : B
       → phone_call (linked n l) (Air station air bearer pdu) ≡ by_packet (drb_opened l.keys bearer (drb_counts (drb_of bearer) l.bearers).receive Down pdu)
   unfolding drb_opened_at
   at_drb on is =
-      fronted (linked n l) station air bearer pdu (packet_at (drb_of bearer) (drb_count (drb_counts (drb_of bearer) l.bearers).receive pdu)) (rw (here, on) refl)
+      fronted (linked n l) station air bearer pdu
+      (packet_at (drb_of bearer) (drb_count (drb_counts (drb_of bearer) l.bearers).receive pdu))
+      (rw (here, on) refl)
       ∙ by_count (drb_count (drb_counts (drb_of bearer) l.bearers).receive pdu)
     where
-      at_count : (count : ℕ) (o : PdcpOpened) → o ≡ drb_opened_at l.keys bearer count Down pdu → by_front (linked n l) pdu (AtPacket (drb_of bearer) count) ≡ by_packet (Ok o)
+      at_count : (count : ℕ) (o : PdcpOpened)
+          → o ≡ drb_opened_at l.keys bearer count Down pdu
+          → by_front (linked n l) pdu (AtPacket (drb_of bearer) count) ≡ by_packet (Ok o)
       at_count count o e =
-          ap (λ x. by_air (linked n l) (accepted_of (OpensDrb (drb_ciphering Down l.keys (drb_of bearer) count)) x) (air_row n.caps (AtPacket (drb_of bearer) count) x)) (drb_opened_is l.keys bearer count Down pdu is)
+          ap (λ x. by_air (linked n l) (accepted_of (OpensDrb (drb_ciphering Down l.keys (drb_of bearer) count)) x)
+          (air_row n.caps (AtPacket (drb_of bearer) count) x))
+          (drb_opened_is l.keys bearer count Down pdu is)
           ∙ rw e refl
 
       by_count : (c : Result ℕ PdcpFault) → by_front (linked n l) pdu (packet_at (drb_of bearer) c) ≡ by_packet (drb_opened_by l.keys bearer Down pdu c)

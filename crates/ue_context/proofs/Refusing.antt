@@ -21,9 +21,8 @@ use Rattle.nas_rec.specs.Reading.{read_nas}
 use Rattle.lte_machine.specs.Bearers.{Srb, Drb, Which, which}
 use Rattle.lte_machine.specs.Calls.{phone_call, phone_input, actor_out, record_out, tuple_out}
 use Rattle.lte_machine.specs.Ciphers.{annex_b}
-use Rattle.lte_machine.specs.Kinds.{same_caps}
 use Rattle.lte_machine.specs.Opening.{Outcome, Opened, Differs, open_octets}
-use Rattle.lte_machine.specs.PhoneChoice.{PlainPhone, NasFront, NasSettled, header_for_phone, rejected, rejected_unspecified, capabilities_mismatch, command_at, command_read, command_front, command_row, context_row, message_at, message_front, message_read, message_row, nas_by_header, nas_row, act_row, air_front, air_row}
+use Rattle.lte_machine.specs.PhoneChoice.{PlainPhone, NasFront, NasSettled, header_for_phone, rejected, rejected_unspecified, capabilities_mismatch, command_at, command_read, command_front, command_row, context_row, same_caps, message_at, message_front, message_read, message_row, nas_by_header, nas_row, act_row, air_front, air_row}
 use Rattle.lte_machine.specs.PhoneKeys.{PhoneDone, nas_does, air_does, act_does, before_of, changed_unless, handed_over, key_changed, link_secured, rrc_opened, packet_opened, service_requested, complete_resent, packet_sent, rrc_sent, nas_sent, nas_skipped, bearer_skipped, context_taken, context_taken_connected, nas_opened}
 use Rattle.lte_machine.specs.PhoneRows.{NasRow, NasRefused, RejectedUnder, AirRow, AirRefused, LinkSecured, HandedOver, KeyChanged, RrcOpened, PacketOpened, ActRow, ActRefused, ServiceRequested, CompleteResent, WentIdle, PacketSent, RrcSent, NasSent, NasSkipped, BearerSkipped}
 use Rattle.lte_machine.specs.PhoneState.{Partial, NasContext, Radio, Idle, Connecting, Connected, Phone, map_context, map_radio}
@@ -76,17 +75,21 @@ module _ (s t : State) (i : PhoneIn) (out : ActorOut) (e : (t, out) ≡ phone_ca
 abbrev Quiet : PhoneDone (List ℕ) ℕ → Type 0
 Quiet done = done.1.answer ≢ Done → done.1.sent ≡ None
 
-secured_quiet : (station air : ℕ) (algs : Algs) (count : ℕ) (s : State) (radio : Radio (List ℕ) ℕ) → Quiet (link_secured octet_reading station air algs count s radio)
+secured_quiet : (station air : ℕ) (algs : Algs) (count : ℕ) (s : State) (radio : Radio (List ℕ) ℕ)
+    → Quiet (link_secured octet_reading station air algs count s radio)
 secured_quiet station air algs count s Idle refused = absurd (refused refl)
 secured_quiet station air algs count s (Connecting w) refused = absurd (refused refl)
 secured_quiet station air algs count s (Connected l) refused = absurd (refused refl)
 
-handed_quiet : (cell : Place) (steps : ℕ) (algs : Algs) (station air : ℕ) (s : State) (radio : Radio (List ℕ) ℕ) → Quiet (handed_over octet_reading cell steps algs station air s radio)
+handed_quiet : (cell : Place) (steps : ℕ) (algs : Algs) (station air : ℕ) (s : State) (radio : Radio (List ℕ) ℕ)
+    → Quiet (handed_over octet_reading cell steps algs station air s radio)
 handed_quiet cell steps algs station air s Idle refused = absurd (refused refl)
 handed_quiet cell steps algs station air s (Connecting w) refused = absurd (refused refl)
 handed_quiet cell steps algs station air s (Connected l) refused = absurd (refused refl)
 
-changed_quiet : (cell : Place) (algs : Algs) (station air : ℕ) (s : State) (radio : Radio (List ℕ) ℕ) (o : Option (NasContext (List ℕ))) → Quiet (key_changed octet_reading cell algs station air s radio o)
+changed_quiet : (cell : Place) (algs : Algs) (station air : ℕ) (s : State) (radio : Radio (List ℕ) ℕ)
+    (o : Option (NasContext (List ℕ)))
+    → Quiet (key_changed octet_reading cell algs station air s radio o)
 changed_quiet cell algs station air s Idle o refused = absurd (refused refl)
 changed_quiet cell algs station air s (Connecting w) o refused = absurd (refused refl)
 changed_quiet cell algs station air s (Connected l) None refused = absurd (refused refl)
@@ -172,7 +175,8 @@ taken_told : (algs : Algs) (count : ℕ) (s : State) (p : Option (Partial (List 
 taken_told algs count s None = refl
 taken_told algs count s (Some p) = refl
 
-taken_connected_told : (algs : Algs) (count : ℕ) (s : State) (p : Option (Partial (List ℕ))) → (context_taken_connected octet_reading algs count s p).1.answer ≡ Done
+taken_connected_told : (algs : Algs) (count : ℕ) (s : State) (p : Option (Partial (List ℕ)))
+    → (context_taken_connected octet_reading algs count s p).1.answer ≡ Done
 taken_connected_told algs count s None = refl
 taken_connected_told algs count s (Some p) = refl
 
@@ -189,7 +193,9 @@ module _ (s : State) (o : Option (NasContext (List ℕ))) where
   abbrev seen : Option (NasContext (Unit {0}))
   seen = option_map (map_context unseen) o
 
-rejected_told : (s : State) (answer : Answer) (cause : ℕ) (o : Option (NasContext (List ℕ))) → is_told answer ≡ true → Told (here s o) true (rejected answer cause (seen s o))
+rejected_told : (s : State) (answer : Answer) (cause : ℕ) (o : Option (NasContext (List ℕ)))
+    → is_told answer ≡ true
+    → Told (here s o) true (rejected answer cause (seen s o))
 rejected_told s answer cause None told refused = rw told refl
 rejected_told s answer cause (Some c) told refused = by_test (nat_le nas_count_limit c.send) refused
   where
@@ -219,9 +225,11 @@ module _ (s : State) (o : Option (NasContext (List ℕ))) (radio : Radio (Unit {
   read_told held pdu (Err fault) refused = refl
   read_told held pdu (Ok (nas.TheVariants.SecurityModeCommand ksi algs caps)) refused =
       either CommandTold (ksi == held)
-      (cond (are_supported s.caps algs) (command_at algs caps (estimate_of 0 (sn_in pdu))) (NasSettled (rejected (AlgUnsupported algs) rejected_unspecified (seen s o))))
+      (cond (are_supported s.caps algs) (command_at algs caps (estimate_of 0 (sn_in pdu)))
+      (NasSettled (rejected (AlgUnsupported algs) rejected_unspecified (seen s o))))
       (NasSettled (rejected (WrongKsi held ksi) rejected_unspecified (seen s o)))
-      (either CommandTold (are_supported s.caps algs) (command_at algs caps (estimate_of 0 (sn_in pdu))) (NasSettled (rejected (AlgUnsupported algs) rejected_unspecified (seen s o)))
+      (either CommandTold (are_supported s.caps algs) (command_at algs caps (estimate_of 0 (sn_in pdu)))
+      (NasSettled (rejected (AlgUnsupported algs) rejected_unspecified (seen s o)))
       (at_told algs caps (estimate_of 0 (sn_in pdu))) (rejected_told s (AlgUnsupported algs) rejected_unspecified o refl))
       (rejected_told s (WrongKsi held ksi) rejected_unspecified o refl) refused
   read_told held pdu (Ok nas.TheVariants.SecurityModeComplete) refused = refl
@@ -251,7 +259,8 @@ message_row_told : (s : State) (count : ℕ) (outcome : Outcome) → Told s fals
 message_row_told s count (Differs wanted got) refused = refl
 message_row_told s count (Opened text) refused = message_read_told s count (read_nas text) refused
 
-message_at_told : (s : State) (radio : Radio (Unit {0}) ℕ) (context : Option (NasContext (Unit {0}))) (outcome : Outcome) (header : ℕ) (x : Result ℕ spent.CountSpent)
+message_at_told : (s : State) (radio : Radio (Unit {0}) ℕ) (context : Option (NasContext (Unit {0})))
+    (outcome : Outcome) (header : ℕ) (x : Result ℕ spent.CountSpent)
     → Told s false (nas_row s.caps context radio (message_at header x) outcome)
 message_at_told s radio context outcome header (Ok count) refused = message_row_told s count outcome refused
 message_at_told s radio context outcome header (Err none_left) refused = refl
@@ -266,11 +275,16 @@ module _ (s : State) (outcome : Outcome) (pdu : List ℕ) where
   abbrev plain : PlainPhone
   plain = plain_phone octet_reading s
 
-  by_header : (h : Result ℕ Answer) → Told s (is_third h) (nas_row s.caps plain.context plain.radio (nas_by_header s.caps plain.partial plain.context pdu h) outcome)
+  by_header : (h : Result ℕ Answer)
+      → Told s (is_third h)
+      (nas_row s.caps plain.context plain.radio (nas_by_header s.caps plain.partial plain.context pdu h) outcome)
   by_header (Err answer) refused = refl
   by_header (Ok header) refused = by_third (header == 3) refused
     where
-      by_third : (t : Bool) → Told s t (nas_row s.caps plain.context plain.radio (cond t (command_front s.caps plain.context pdu plain.partial) (message_front header pdu plain.context)) outcome)
+      by_third : (t : Bool)
+          → Told s t (nas_row s.caps plain.context plain.radio
+          (cond t (command_front s.caps plain.context pdu plain.partial) (message_front header pdu plain.context))
+          outcome)
       by_third true refused = command_told s s.context plain.radio outcome pdu plain.partial refused
       by_third false refused = message_told s plain.radio outcome header pdu plain.context refused
 

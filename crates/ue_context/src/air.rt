@@ -1,5 +1,6 @@
 // PDUs of radio bearers while the phone is connected (TS 36.323 5.6 and 5.7, TS 36.331 5.3).
 ghost use Rattle.std.specs.Prelude.{◌≡◌, ◌≤◌, ◌==◌, ◌&&◌, None, Ok, Some, true, length};
+ghost use Rattle.std.specs.Bool.{OnTrue, OnFalse};
 ghost use Rattle.rec_base.specs.Bearer.{IsDrb, IsSrb};
 ghost use Rattle.rec_base.specs.Lengths.{longest_record};
 ghost use Rattle.lte_events.specs.declared.inputs.PhoneIn.TheVariants.{Air};
@@ -7,7 +8,7 @@ ghost use Rattle.lte_events.specs.declared.answers.Answer.TheVariants.{Done};
 ghost use Rattle.lte_events.specs.Reply.{reply_of};
 ghost use Rattle.rrc_rec.specs.Reading.{read_rrc};
 ghost use Rattle.rrc_rec.specs.Spelling.{InRange};
-ghost use Rattle.lte_machine.specs.Bearers.{which, OnSrb, OnDrb, srb_counts, srb_taken};
+ghost use Rattle.lte_machine.specs.Bearers.{which, OnSrb, OnDrb, Signalling1, Signalling2, srb_counts, srb_taken};
 ghost use Rattle.lte_machine.specs.Calls.{phone_call};
 ghost use Rattle.lte_machine.specs.PhoneChoice.{signalling_read};
 ghost use Rattle.radio_bearers.specs.Bearers.{srb_of, drb_of};
@@ -18,7 +19,7 @@ use crate::link::Link;
 use lte_events::{ActorOut, Answer};
 use nas_smc::PhoneNas;
 use pdcp_guard::PdcpOpened;
-use radio_bearers::{answer_of, is_srb, kind_of, packet_text, verified_use};
+use radio_bearers::{answer_of, is_srb, packet_text, verified_use};
 use rec_base::{Bearer, Dir, ShortText, UserText};
 use rrc_rec::RrcRecord;
 
@@ -98,7 +99,7 @@ impl Link {
         out.accepted = accepted;
     }
 
-    // By the kinds that a phone takes on a connection.
+    // By the kinds that a phone takes on a connection; what hands it over or changes its key on SRB1 alone (TS 36.331 4.2.2).
     fn take_message(
         &mut self,
         nas: &PhoneNas,
@@ -113,6 +114,7 @@ impl Link {
         ensures { (linked nas.now self.new, out.new) ≡ by_air (linked nas.now self.old) None
             (signalling_read nas.now.caps (srb_of bearer) count self.old.chain.number (Ok message.now)) }
     {
+        let first = is_srb1(bearer);
         match message {
             RrcRecord::RrcData(text) => self.take_data(bearer, count, text, out),
             RrcRecord::Reconfiguration {
@@ -121,18 +123,14 @@ impl Link {
                 algs,
                 station,
                 air,
-            } => self.hand_over(nas, bearer, cell, *ncc, *algs, *station, *air, out),
+            } if first => self.hand_over(nas, cell, *ncc, *algs, *station, *air, out),
             RrcRecord::KeyChange {
                 cell,
                 algs,
                 station,
                 air,
-            } => self.change_key(nas, bearer, cell, *algs, *station, *air, out),
-            RrcRecord::SecurityModeCommand { .. }
-            | RrcRecord::SecurityModeComplete
-            | RrcRecord::ReconfigurationComplete => {
-                out.only(Answer::WrongKind(kind_of(message)))
-            }
+            } if first => self.change_key(nas, cell, *algs, *station, *air, out),
+            _ => out.only(Answer::WrongKind(message.kind())),
         }
     }
 
@@ -173,4 +171,13 @@ impl Link {
         out.only(Answer::Done);
         out.opened = Some(packet_text(opened.text.as_slice()));
     }
+}
+
+// Whether a bearer is SRB1.
+fn is_srb1(bearer: Bearer) -> bool
+    requires { IsSrb bearer }
+    ensures first { OnTrue result (srb_of bearer ≡ Signalling1) }
+    ensures second { OnFalse result (srb_of bearer ≡ Signalling2) }
+{
+    bearer == Bearer::Srb1
 }

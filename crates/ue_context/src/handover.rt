@@ -1,20 +1,17 @@
 // Handover commands and key changes, as the phone obeys them (TS 33.401 7.2.8.4.4 and 7.2.9.2, TS 36.331
 // 5.3.5.4).
 ghost use Rattle.std.specs.Prelude.{◌≡◌, ◌≤◌, ◌++◌, None, Some, true, length, map};
-ghost use Rattle.std.specs.Bool.{OnTrue, OnFalse};
-ghost use Rattle.rec_base.specs.Bearer.{IsSrb};
 ghost use Rattle.key_model.specs.Derivation.{derived_of};
 ghost use Rattle.key_model.specs.HandoverLines.{steps_to};
 ghost use Rattle.key_model.specs.Reading.{octet_reading};
 ghost use Rattle.pdcp_guard.specs.AsKeys.{as_keys_of, as_derivations};
 ghost use Rattle.rrc_rec.specs.declared.records.RrcRecord.TheVariants.{ReconfigurationComplete};
-ghost use Rattle.lte_machine.specs.Bearers.{Signalling1, Signalling2, new_bearers, srb_sent};
+ghost use Rattle.lte_machine.specs.Bearers.{Signalling1, new_bearers, srb_sent};
 ghost use Rattle.lte_machine.specs.PhoneChoice.{change_taken, command_taken};
 ghost use Rattle.lte_machine.specs.PhoneKeys.{rrc_sealed};
 ghost use Rattle.lte_machine.specs.PhoneRows.{HandedOver, KeyChanged};
 ghost use Rattle.lte_machine.specs.Calls.{sending};
 ghost use Rattle.nas_smc.specs.PhoneNas.{NasPart};
-ghost use Rattle.radio_bearers.specs.Bearers.{srb_of};
 ghost use Rattle.ue_context.specs.Parts.{linked};
 ghost use Rattle.ue_context.specs.Step.{by_air};
 
@@ -30,11 +27,10 @@ use rec_base::{Bearer, Way};
 use rrc_rec::RrcRecord;
 
 impl Link {
-    // A handover command: on SRB1 (TS 36.331 4.2.2), and with algorithms of the phone's own.
+    // A handover command on SRB1: with algorithms of the phone's own.
     pub(crate) fn hand_over(
         &mut self,
         nas: &PhoneNas,
-        bearer: Bearer,
         cell: &Cell,
         ncc: u8,
         algs: Algs,
@@ -42,14 +38,10 @@ impl Link {
         air: u32,
         out: &mut ActorOut,
     )
-        requires srb { IsSrb bearer }
-        requires ncc { ncc ≤ 7 }
+        requires { ncc ≤ 7 }
         ensures { (linked nas.now self.new, out.new) ≡ by_air (linked nas.now self.old) None
-            (command_taken nas.now.caps (srb_of bearer) self.old.chain.number cell.now ncc algs station air) }
+            (command_taken nas.now.caps Signalling1 self.old.chain.number cell.now ncc algs station air) }
     {
-        if is_srb2(bearer) {
-            return out.only(Answer::WrongKind(0x03));
-        }
         if !supports(&nas.caps(), &algs) {
             return out.only(Answer::AlgUnsupported(algs));
         }
@@ -66,25 +58,20 @@ impl Link {
         self.arrive(star, way, made.as_slice(), algs, station, air, out)
     }
 
-    // A key change: the same tests, and the KASME of the NAS context in use is another one than that of the
+    // A key change: the same test, and the KASME of the NAS context in use is another one than that of the
     // connection.
     pub(crate) fn change_key(
         &mut self,
         nas: &PhoneNas,
-        bearer: Bearer,
         cell: &Cell,
         algs: Algs,
         station: u8,
         air: u32,
         out: &mut ActorOut,
     )
-        requires { IsSrb bearer }
         ensures { (linked nas.now self.new, out.new) ≡ by_air (linked nas.now self.old) None
-            (change_taken nas.now.caps (srb_of bearer) cell.now algs station air) }
+            (change_taken nas.now.caps Signalling1 cell.now algs station air) }
     {
-        if is_srb2(bearer) {
-            return out.only(Answer::WrongKind(0x06));
-        }
         if !supports(&nas.caps(), &algs) {
             return out.only(Answer::AlgUnsupported(algs));
         }
@@ -172,13 +159,4 @@ impl Link {
         out.derived.append(rest.as_slice());
         out.note = Some(note);
     }
-}
-
-// Whether a bearer is SRB2.
-fn is_srb2(bearer: Bearer) -> bool
-    requires { IsSrb bearer }
-    ensures second { OnTrue result (srb_of bearer ≡ Signalling2) }
-    ensures first { OnFalse result (srb_of bearer ≡ Signalling1) }
-{
-    bearer == Bearer::Srb2
 }

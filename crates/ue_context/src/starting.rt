@@ -24,7 +24,7 @@ use lte_events::{ActorOut, Answer, KeyNote};
 use nas_smc::PhoneNas;
 use nh_chain::PhoneChain;
 use pdcp_guard::{AsKeys, Srb};
-use radio_bearers::{Bearers, answer_of, kind_of, verified_use};
+use radio_bearers::{Bearers, answer_of, verified_use};
 use rec_base::{Bearer, Dir, Way};
 use rrc_rec::RrcRecord;
 
@@ -132,10 +132,7 @@ fn read_start(caps: &Caps, station: u8, air: u32, pdu: &[u8]) -> Result<Start, A
     ensures front { waiting_front caps.now station air pdu.now (OnSrb Signalling1) ≡ start_front station air result }
     ensures count { IfOk result (λ start. srb_count 0 pdu.now ≡ Ok start.count) }
 {
-    let count = match first_count(pdu) {
-        Ok(count) => count,
-        Err(answer) => return Err(answer),
-    };
+    let count = first_count(pdu)?;
     let (text, _) = pdu[1..].split_at(pdu.len() - 5);
     match RrcRecord::read(text) {
         Err(fault) => Err(Answer::BadRecord(fault)),
@@ -152,7 +149,7 @@ fn read_start(caps: &Caps, station: u8, air: u32, pdu: &[u8]) -> Result<Start, A
             let named = named_station == station && named_air == air;
             Ok(Start { count, algs, named })
         }
-        Ok(other) => Err(Answer::WrongKind(kind_of(&other))),
+        Ok(other) => Err(Answer::WrongKind(other.kind())),
     }
 }
 

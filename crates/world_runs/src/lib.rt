@@ -5,12 +5,8 @@
 #[cfg(test)]
 mod driven;
 #[cfg(test)]
-mod drives;
-#[cfg(test)]
 mod kept;
 #[cfg(test)]
 mod relocations;
 #[cfg(test)]
 mod values;
-#[cfg(test)]
-mod worlds;

@@ -1,31 +1,42 @@
-// A system with two cores, in scenarios of which another implementation of the same rules was asked, and what follows where the
-// context is.
-ghost use Rattle.std.specs.Prelude.{◌≡◌, All};
-ghost use Rattle.lte_events.specs.Conditions.{CanHappen, EventFits};
-ghost use Rattle.lte_world.specs.Whole.{CanBegin};
+// A system with two cores, in scenarios of which another implementation of the same rules was asked: what is told, where the context
+// is, and what the calls of its world show then. The reports stand in examples.
+ghost use Rattle.std.specs.Prelude.{◌≡◌, ◌≤◌, All};
+ghost use Rattle.lte_events.specs.Ranges.{IsSetup};
+ghost use Rattle.lte_events.specs.Scenario.{CanHappen};
 
-use crate::relocations::Told::{By, Else, NotHere};
+use crate::kept::SCENARIO;
 use crate::values::{same, same_at};
-use core_relocation::{Two, TwoLine, write_two};
-use edge_io::MemSink;
+use core_relocation::{Two, TwoLine};
+use key_terms::{Proof, Row as Key};
 use lte_events::{Answer, Event, Events, Setup};
 use lte_world::WorldFault;
+use rec_base::u32_at;
 use scenario_file::read;
 use std::alloc::{AllocError, Global};
 use std::process::Abort;
 use std::test::Fail;
 
-// What is told of an event that is done: by this core, by another actor or by none alone, or that this core does not hold
-// the context.
-#[derive(Clone, Copy, Debug, PartialEq, Eq)]
-enum Told {
-    By(u8),
-    Else,
-    NotHere(u8),
-}
+// What is told of an event: the core that acted, if one did, or that this core does not hold the context.
+type Told = (Option<u8>, bool);
 
 // What is told, which core holds the context then, and to which core it is to go.
 type Row = (Told, u8, Option<u8>);
+
+const ELSE: Told = (None, true);
+
+// The core of each station: two cores, and all in one.
+const CORE_OF: [u8; 8] = [0, 1, 0, 0, 0, 0, 0, 0];
+
+const ALL_IN_ONE: [u8; 8] = [0, 0, 0, 0, 0, 0, 0, 0];
+
+// What core 0 does or core 1, and a refusal of each.
+const ZERO: Told = (Some(0), true);
+
+const ONE: Told = (Some(1), true);
+
+const NOT_ZERO: Told = (Some(0), false);
+
+const NOT_ONE: Told = (Some(1), false);
 
 // Steps behind those that connect the phone, and a row for each.
 struct Case {
@@ -33,8 +44,6 @@ struct Case {
     steps: &'static str,
     rows: &'static [Row],
 }
-
-const CORE_OF: [u8; 8] = [0, 1, 0, 0, 0, 0, 0, 0];
 
 const SETUP: &str = "\
 phone={caps='a020'}
@@ -49,17 +58,17 @@ step=[
 
 // The rows of these.
 static CONNECTED: [Row; 8] = [
-    (Else, 0, None),
-    (By(0), 0, None),
-    (Else, 0, None),
-    (By(0), 0, None),
-    (By(0), 0, None),
-    (Else, 0, None),
-    (Else, 0, None),
-    (Else, 0, None),
+    (ELSE, 0, None),
+    (ZERO, 0, None),
+    (ELSE, 0, None),
+    (ZERO, 0, None),
+    (ZERO, 0, None),
+    (ELSE, 0, None),
+    (ELSE, 0, None),
+    (ELSE, 0, None),
 ];
 
-static CASES: [Case; 5] = [
+static CASES: [Case; 6] = [
     Case {
         shown: "after a relocation the old core is not the one to ask",
         steps: "\
@@ -69,18 +78,18 @@ static CASES: [Case; 5] = [
 {do='deliver',record=5},{do='connect',cell=[10,100]},{do='release'},
 ",
         rows: &[
-            (Else, 0, None),
-            (By(0), 0, Some(1)),
-            (Else, 0, Some(1)),
-            (By(1), 0, Some(1)),
-            (Else, 0, Some(1)),
-            (Else, 0, Some(1)),
-            (Else, 0, Some(1)),
-            (Else, 0, Some(1)),
-            (By(1), 1, None),
-            (NotHere(0), 1, None),
-            (NotHere(0), 1, None),
-            (By(1), 1, None),
+            (ELSE, 0, None),
+            (ZERO, 0, Some(1)),
+            (ELSE, 0, Some(1)),
+            (ONE, 0, Some(1)),
+            (ELSE, 0, Some(1)),
+            (ELSE, 0, Some(1)),
+            (ELSE, 0, Some(1)),
+            (ELSE, 0, Some(1)),
+            (ONE, 1, None),
+            (NOT_ZERO, 1, None),
+            (NOT_ZERO, 1, None),
+            (ONE, 1, None),
         ],
     },
     Case {
@@ -93,19 +102,19 @@ static CASES: [Case; 5] = [
 {do='deliver',record=6},
 ",
         rows: &[
-            (Else, 0, None),
-            (Else, 0, None),
-            (Else, 0, None),
-            (By(0), 0, Some(1)),
-            (By(0), 0, Some(1)),
-            (Else, 0, Some(1)),
-            (By(1), 0, Some(1)),
-            (Else, 0, Some(1)),
-            (Else, 0, Some(1)),
-            (Else, 0, Some(1)),
-            (Else, 0, Some(1)),
-            (By(1), 1, None),
-            (NotHere(0), 1, None),
+            (ELSE, 0, None),
+            (ELSE, 0, None),
+            (ELSE, 0, None),
+            (ZERO, 0, Some(1)),
+            (ZERO, 0, Some(1)),
+            (ELSE, 0, Some(1)),
+            (ONE, 0, Some(1)),
+            (ELSE, 0, Some(1)),
+            (ELSE, 0, Some(1)),
+            (ELSE, 0, Some(1)),
+            (ELSE, 0, Some(1)),
+            (ONE, 1, None),
+            (NOT_ZERO, 1, None),
         ],
     },
     Case {
@@ -115,11 +124,11 @@ static CASES: [Case; 5] = [
 {do='release'},{do='deliver',record=7},
 ",
         rows: &[
-            (Else, 0, None),
-            (By(0), 0, Some(1)),
-            (Else, 0, Some(1)),
-            (By(0), 0, None),
-            (NotHere(1), 0, None),
+            (ELSE, 0, None),
+            (ZERO, 0, Some(1)),
+            (ELSE, 0, Some(1)),
+            (ZERO, 0, None),
+            (NOT_ONE, 0, None),
         ],
     },
     Case {
@@ -133,24 +142,24 @@ static CASES: [Case; 5] = [
 {do='deliver',record=-1},{do='deliver',record=-1},{do='deliver',record=-1},
 ",
         rows: &[
-            (Else, 0, None),
-            (By(0), 0, Some(1)),
-            (Else, 0, Some(1)),
-            (By(1), 0, Some(1)),
-            (Else, 0, Some(1)),
-            (Else, 0, Some(1)),
-            (Else, 0, Some(1)),
-            (Else, 0, Some(1)),
-            (By(1), 1, None),
-            (Else, 1, None),
-            (By(1), 1, Some(0)),
-            (Else, 1, Some(0)),
-            (By(0), 1, Some(0)),
-            (Else, 1, Some(0)),
-            (Else, 1, Some(0)),
-            (Else, 1, Some(0)),
-            (Else, 1, Some(0)),
-            (By(0), 0, None),
+            (ELSE, 0, None),
+            (ZERO, 0, Some(1)),
+            (ELSE, 0, Some(1)),
+            (ONE, 0, Some(1)),
+            (ELSE, 0, Some(1)),
+            (ELSE, 0, Some(1)),
+            (ELSE, 0, Some(1)),
+            (ELSE, 0, Some(1)),
+            (ONE, 1, None),
+            (ELSE, 1, None),
+            (ONE, 1, Some(0)),
+            (ELSE, 1, Some(0)),
+            (ZERO, 1, Some(0)),
+            (ELSE, 1, Some(0)),
+            (ELSE, 1, Some(0)),
+            (ELSE, 1, Some(0)),
+            (ELSE, 1, Some(0)),
+            (ZERO, 0, None),
         ],
     },
     Case {
@@ -164,25 +173,43 @@ static CASES: [Case; 5] = [
 {do='deliver',record=-1},{do='deliver',record=-1},{do='deliver',record=-1},
 ",
         rows: &[
-            (Else, 0, None),
-            (By(0), 0, Some(1)),
-            (Else, 0, Some(1)),
-            (By(1), 0, Some(1)),
-            (Else, 0, Some(1)),
-            (Else, 0, Some(1)),
-            (Else, 0, Some(1)),
-            (Else, 0, Some(1)),
-            (By(1), 1, None),
-            (Else, 1, None),
-            (By(1), 1, None),
-            (Else, 1, None),
-            (By(1), 1, None),
-            (Else, 1, None),
-            (Else, 1, None),
-            (Else, 1, None),
+            (ELSE, 0, None),
+            (ZERO, 0, Some(1)),
+            (ELSE, 0, Some(1)),
+            (ONE, 0, Some(1)),
+            (ELSE, 0, Some(1)),
+            (ELSE, 0, Some(1)),
+            (ELSE, 0, Some(1)),
+            (ELSE, 0, Some(1)),
+            (ONE, 1, None),
+            (ELSE, 1, None),
+            (ONE, 1, None),
+            (ELSE, 1, None),
+            (ONE, 1, None),
+            (ELSE, 1, None),
+            (ELSE, 1, None),
+            (ELSE, 1, None),
         ],
     },
+    Case {
+        shown: "a KASME with the octets of a derived key ends the system, and so it stays",
+        steps: "\
+{do='auth',ksi=1,kasme='e6267359de012d9bda173d1b6fae57dec0e04e01cfcf57cb33a7573f142b8b95'},
+{do='deliver',record=-1},
+",
+        rows: &[],
+    },
 ];
+
+// What it answers then: the KeNB, in row 3, is the KASME.
+const COINCIDENCE: WorldFault = WorldFault::Coincidence(Proof::RootIsRow(
+    Key(3),
+    [
+        0xe6, 0x26, 0x73, 0x59, 0xde, 0x01, 0x2d, 0x9b, 0xda, 0x17, 0x3d, 0x1b, 0x6f, 0xae, 0x57,
+        0xde, 0xc0, 0xe0, 0x4e, 0x01, 0xcf, 0xcf, 0x57, 0xcb, 0x33, 0xa7, 0x57, 0x3f, 0x14, 0x2b,
+        0x8b, 0x95,
+    ],
+));
 
 fn text_of(alloc: Global, steps: &str) -> Result<Vec<u8>, AllocError> {
     let mut text = Vec::new(alloc);
@@ -192,134 +219,157 @@ fn text_of(alloc: Global, steps: &str) -> Result<Vec<u8>, AllocError> {
     Ok(text)
 }
 
-// What is told of an event that is done.
-fn told_of(line: &TwoLine) -> Option<Told> {
-    match line {
-        TwoLine::NotHere(core) => Some(NotHere(*core)),
-        TwoLine::By(line, core) => match line.answer {
-            Answer::Done => Some(match core {
-                Some(core) => By(*core),
-                None => Else,
-            }),
-            _ => None,
-        },
-    }
+// The row of a line, if the event is done, and the context is then where it is.
+fn row_of(two: &Two, line: &TwoLine) -> Option<Row> {
+    let told = match line {
+        TwoLine::NotHere(core) => (Some(*core), false),
+        TwoLine::By(line, core) if line.answer == Answer::Done => (*core, true),
+        TwoLine::By(_, _) => return None,
+    };
+    Some((told, two.holder(), two.next()))
 }
 
 // Two cores in which nothing has happened.
-fn begin(rt: &impl Abort, alloc: Global, setup: &Setup) -> Two
-    requires { CanBegin setup.now }
+fn begin(rt: &impl Abort, alloc: Global, setup: &Setup, core_of: &[u8; 8]) -> Two
+    requires begins { IsSetup setup.now }
+    requires two { All (λ core. core ≤ 1) core_of.now }
     ensures { result.world.setup ≡ setup.now }
 {
-    match Two::new(alloc, setup, &CORE_OF) {
-        Ok(two) => two,
-        // memory ran out once
-        Err(_) => Two::new(alloc, setup, &CORE_OF).expect(rt, "memory"),
-    }
+    Two::new(alloc, setup, core_of).expect(rt, "memory")
 }
 
 // The answer to one event.
-fn happen(rt: &impl Abort, two: &mut Two, event: &Event) -> TwoLine
-    requires can { CanHappen two.old.world.setup event.now }
-    requires fits { EventFits event.now }
+fn happen(rt: &impl Abort, two: &mut Two, event: &Event) -> Result<TwoLine, WorldFault>
+    requires { CanHappen two.old.world.setup event.now }
     ensures { two.new.world.setup ≡ two.old.world.setup }
 {
     assert!(rt; two.events().len() < 200_000);
-    match two.apply(event) {
-        Ok(line) => line,
-        // memory ran out once
-        Err(WorldFault::Memory) => two.apply(event).expect(rt, "memory"),
-        Err(fault) => Err(fault).expect(rt, "no coincidence"),
-    }
+    two.apply(event)
 }
 
-// The row of a step.
-fn row_of(rt: &impl Abort, case: &Case, step: usize) -> Row {
-    let row = match CONNECTED.get(step) {
-        Some(row) => Some(*row),
-        None => case.rows.get(step.saturating_sub(CONNECTED.len())).copied(),
-    };
-    row.expect(rt, "a row")
-}
-
-// Takes the events, and compares what is told of each and where the context is then.
+// Takes the events, and compares what is told of each and where the context is then. Past the rows a coincidence is answered.
 fn follow(rt: &impl Abort, two: &mut Two, events: &Events, case: &Case)
-    requires can { All (CanHappen two.old.world.setup) events.now.items }
-    requires fit { All EventFits events.now.items }
+    requires { All (CanHappen two.old.world.setup) events.now.items }
 {
     for number in 0..events.len() {
         let event = events.at(number);
-        let step = two.events().len();
-        let line = happen(rt, two, &event);
-        let row = row_of(rt, case, step);
-        same_at(rt, case.shown, told_of(&line), Some(row.0));
-        same_at(rt, case.shown, two.holder(), row.1);
-        same_at(rt, case.shown, two.next(), row.2);
+        let wanted = match CONNECTED.get(number) {
+            Some(row) => Some(*row),
+            None => case
+                .rows
+                .get(number.saturating_sub(CONNECTED.len()))
+                .copied(),
+        };
+        match happen(rt, two, &event) {
+            Ok(line) => same_at(rt, case.shown, row_of(two, &line), wanted),
+            Err(fault) => same_at(rt, case.shown, (wanted, fault), (None, COINCIDENCE)),
+        }
     }
+}
+
+// A system, after the events of a scenario.
+fn ran<R: Abort + AllocGlobal>(
+    rt: &R,
+    text: &[u8],
+    core_of: &[u8; 8],
+    case: &Case,
+) -> Result<Two, Fail>
+    requires { All (λ core. core ≤ 1) core_of.now }
+{
+    let scenario = read(rt.alloc(), text)?;
+    assert!(rt; scenario.setup.cells.len() > 0);
+    let mut two = begin(rt, rt.alloc(), &scenario.setup, core_of);
+    follow(rt, &mut two, &scenario.events, case);
+    Ok(two)
 }
 
 #[test]
 fn the_context_is_handed_on(rt: HostRuntime) -> Result<(), Fail> {
     for case in &CASES {
         let text = text_of(rt.alloc(), case.steps)?;
-        let scenario = read(rt.alloc(), &text)?;
-        assert!(rt; scenario.setup.cells.len() > 0);
-        let mut two = begin(&rt, rt.alloc(), &scenario.setup);
-        follow(&rt, &mut two, &scenario.events, case);
-        assert!(rt; two.world().journal().len() <= two.events().len());
+        ran(&rt, &text, &CORE_OF, case)?;
     }
     Ok(())
 }
 
-const CANCELLED: &str = "\
-{do='s1',station=0,cell=[11,101]},{do='deliver',record=-1},{do='cancel',station=0},
-{do='deliver',record=-1},{do='deliver',record=6},{do='deliver',record=9},
-";
+// The ordinary run, all of it in one core. It acts at a path switch too.
+static ORDINARY: Case = Case {
+    shown: "the ordinary run",
+    steps: "",
+    rows: &[
+        (ELSE, 0, None),
+        (ELSE, 0, None),
+        (ELSE, 0, None),
+        (ELSE, 0, None),
+        (ELSE, 0, None),
+        (ELSE, 0, None),
+        (ELSE, 0, None),
+        (ELSE, 0, None),
+        (ZERO, 0, None),
+        (ELSE, 0, None),
+        (ELSE, 0, None),
+        (ELSE, 0, None),
+        (ELSE, 0, None),
+        (ELSE, 0, None),
+        (ELSE, 0, None),
+        (ELSE, 0, None),
+        (ELSE, 0, None),
+        (ELSE, 0, None),
+        (ELSE, 0, None),
+    ],
+};
 
-const CANCELLED_REPORT: &str = "\
-0 both done
-1 core 0 done sent=0:nas
-2 phone done sent=1:nas
-3 core 0 done
-4 core 0 done sent=2:s1 ncc=0 way=initial key=e6267359de012d9bda173d1b6fae57dec0e04e01cfcf57cb33a7573f142b8b95
-5 station 0 done sent=3:air ncc=0 way=given key=e6267359de012d9bda173d1b6fae57dec0e04e01cfcf57cb33a7573f142b8b95
-6 phone done sent=4:air ncc=0 way=initial key=e6267359de012d9bda173d1b6fae57dec0e04e01cfcf57cb33a7573f142b8b95
-7 station 0 done
-8 station 0 done sent=5:s1
-9 core 0 done sent=6:s1 ncc=1 way=chained key=09aba1730b0aaeee84feac6bc03f66b9aa90d45309b719114a90be777b24b74c
-10 station 0 done sent=7:s1
-11 core 0 done sent=8:s1
-12 station 1 done sent=9:s1 ncc=1 way=vertical key=0ffdb98acbf2f03ef9f37effae18f8e4fda63f61f722d6000a5170bf014a3fd6
-13 core 1 NotHere
-end 13 10 12
-row 0 root 000102030405060708090a0b0c0d0e0f101112131415161718191a1b1c1d1e1f P,C
-row 1 alg(0,1,2) 7c3efee61cc2d3e6823c33d84f42c8734eb6379f81a769c754e9dc2534ff77b9 P,C
-row 2 alg(0,2,2) a66b7492bdd63f0e8896a95429302525b5a0e5f9ee4f887e391e3a640e3a688a P,C
-row 3 kenb(0,0) e6267359de012d9bda173d1b6fae57dec0e04e01cfcf57cb33a7573f142b8b95 P,C,S0
-row 4 alg(3,3,2) 9bf10551417d3b3128705dd54a20f8f1ae14c26e3ba014f8e4279841fb8ade28 P,S0
-row 5 alg(3,4,2) 8d29257d8c531a021b5011fee965310a2f6e105d4dda7c910c988fcadc7b4844 P,S0
-row 6 alg(3,5,2) be46925a3289e88171c3922a1190737334172b8b71bb65bba51c03373ec5c528 P,S0
-row 7 nh(0,3) 09aba1730b0aaeee84feac6bc03f66b9aa90d45309b719114a90be777b24b74c C,S1
-row 8 star(7,11,101) 0ffdb98acbf2f03ef9f37effae18f8e4fda63f61f722d6000a5170bf014a3fd6 S1
-row 9 alg(8,3,2) 952550fff21bcf7f479179ba8f4ddcebdd2b391d86a26cee6044a0a348926841 S1
-row 10 alg(8,4,2) 9afbac406643240361280631bc5cb16e94bba42c14f0e569da9f9fe52c671302 S1
-row 11 alg(8,5,2) d6f08dcb03398f524ded85edb23d2b81341c704acce5d6e7a5f3ed2745a2a6f1 S1
-";
+// The first four octets of its keys, and whether the phone, the core and the two stations hold them.
+static KEYS: [(u32, bool, bool, bool, bool); 16] = [
+    (0x00010203, true, true, false, false),
+    (0x7c3efee6, true, true, false, false),
+    (0xa66b7492, true, true, false, false),
+    (0xe6267359, true, true, true, false),
+    (0x9bf10551, true, false, true, false),
+    (0x8d29257d, true, false, true, false),
+    (0xbe46925a, true, false, true, false),
+    (0x4f92e8ce, true, false, true, true),
+    (0x155a30ca, true, false, false, true),
+    (0x436ad7a8, true, false, false, true),
+    (0x28ea3a66, true, false, false, true),
+    (0x09aba173, true, true, false, true),
+    (0x5a3b5a21, true, false, true, true),
+    (0x8d83f83d, true, false, true, false),
+    (0x9dde0c5d, true, false, true, false),
+    (0xa7d588dc, true, false, true, false),
+];
 
 #[test]
-fn the_report_numbers_the_cores(rt: HostRuntime) -> Result<(), Fail> {
-    let text = text_of(rt.alloc(), CANCELLED)?;
-    let scenario = read(rt.alloc(), &text)?;
-    assert!(rt; scenario.setup.cells.len() > 0 && scenario.events.len() <= 200_000);
-    let mut out = MemSink::new(rt.alloc(), 8192, Vec::new(rt.alloc()))?;
-    let coincides = write_two(
-        rt.alloc(),
-        &scenario.setup,
-        &CORE_OF,
-        &scenario.events,
-        &mut out,
+fn the_calls_of_a_world_show_the_ordinary_run(rt: HostRuntime) -> Result<(), Fail> {
+    let two = ran(&rt, SCENARIO, &ALL_IN_ONE, &ORDINARY)?;
+    let world = two.world();
+    let counts = (
+        world.journal().len(),
+        world.records(),
+        world.uses().len(),
+        world.replies().len(),
     );
-    same(&rt, coincides, Ok(false));
-    same(&rt, out.octets(), CANCELLED_REPORT.as_bytes());
+    same(&rt, counts, (27, 19, 15, 1));
+    let ladder = world.ladder();
+    same(&rt, ladder.len(), KEYS.len());
+    for number in 0..16u32 {
+        assert!(rt; (number as usize) < ladder.len());
+        let row = ladder.row(Key(number));
+        let held = (
+            u32_at(&row.octets, 0),
+            row.phone,
+            row.core,
+            row.stations[0],
+            row.stations[1],
+        );
+        same_at(&rt, number, held, KEYS[number as usize]);
+    }
+    let shared = world.phone_kenb();
+    same(&rt, shared.map(|key| u32_at(&key, 0)), Some(0x5a3b5a21));
+    same(
+        &rt,
+        (world.station_kenb(0), world.station_kenb(2)),
+        (shared, None),
+    );
     Ok(())
 }

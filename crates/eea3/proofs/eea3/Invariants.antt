@@ -7,5 +7,7 @@ use Rattle.eea3.proofs.eea3.Given as goal
 abbrev pub invariant-loop-number : goal.invariant-loop-number
 invariant-loop-number l = record {
   state : l.zuc ≡ after (initialised l.key (eea3_iv l.count l.bearer l.fn.dir)) (16 * l.number);
-  text : l.text ≡ combined (octet_in (eea3_word l.key l.count l.bearer l.fn.dir)) 0 (take (64 * l.number) l.initial.text) ++ drop (64 * l.number) l.initial.text;
+  text : l.text
+      ≡ combined (octet_in (eea3_word l.key l.count l.bearer l.fn.dir)) 0 (take (64 * l.number) l.initial.text)
+      ++ drop (64 * l.number) l.initial.text;
 }

@@ -20,6 +20,18 @@ pub returns : goal.returns
 unfolding eia1_of mac_by_words
 returns c =
     let f = eia1_word c.args.key.now c.args.count c.args.bearer c.args.dir in
-    let number : bit_xor (c.multiply-closed.result / 2 ^ 32) (slice_index c.next_words-z.result 4) ≡ bit_xor (closed c.args.text.now (two_words f 0) (two_words f 2) / 2 ^ 32) (f 4) =
-    rw (c.multiply-closed.ensures, c.evaluated-value.ensures, c.two_words.ensures, c.two_words-2.ensures, word c 0 (omega arith), word c 1 (omega arith), word c 2 (omega arith), word c 3 (omega arith), word c 4 (omega arith)) refl in
+    let number : bit_xor (c.multiply-closed.result / 2 ^ 32) (slice_index c.next_words-z.result 4)
+    ≡ bit_xor (closed c.args.text.now (two_words f 0) (two_words f 2) / 2 ^ 32) (f 4) =
+    rw (
+      c.multiply-closed.ensures,
+      c.evaluated-value.ensures,
+      c.two_words.ensures,
+      c.two_words-2.ensures,
+      word c 0 (omega arith),
+      word c 1 (omega arith),
+      word c 2 (omega arith),
+      word c 3 (omega arith),
+      word c 4 (omega arith),
+    )
+    refl in
     c.to_be_bytes.ensures ∙ sym (octets_of-is 4 _) ∙ ap (octets_of 4) number

@@ -1,43 +1,38 @@
 -- Openings are calm: a phone that waits for the security of its connection opens no ciphered record, since it never took
 -- its KeNB before; and a connected one no unciphered record, since it took the one of its air address before.
 use Rattle.std.proofs.Common.{◌≡◌, refl, sym, ap, ◌∙◌, subst, ℕ, ◌≤◌, nat_lt, Bool, true, false, List, length, Option, Some, None, Result, Ok, Err, arith}
-use Rattle.std.specs.Prelude.{⊤}
+use Rattle.std.specs.Prelude.{⊤, if◌then◌else◌}
 use Rattle.rec_base.specs.declared.uses.Dir.TheVariants.{Up, Down}
 use Rattle.lte_events.specs.declared.events.Event.{Event}
 use Rattle.lte_events.specs.Site.{Site}
 use Rattle.key_model.specs.Term.{Term}
 use Rattle.key_model.specs.Reading.{term_reading_by, Reading}
-use Rattle.lte_machine.specs.Bearers.{Srb, Signalling1, Which, OnSrb, which}
-use Rattle.lte_machine.specs.Wire.{KeyUse, Ciphering, Outgoing, SealedNas, PlainNas, SealedRrc, UserPacket, Between, srb_ciphering, address_of}
-use Rattle.lte_machine.specs.Opening.{Opening, Outcome, Opened}
+use Rattle.lte_machine.specs.Bearers.{Srb, Signalling1, Which, OnSrb, which, srb_counts}
+use Rattle.lte_machine.specs.Wire.{KeyUse, Ciphering, Outgoing, SealedNas, PlainNas, SealedRrc, UserPacket, Between, srb_ciphering, address_of, srb_use}
+use Rattle.lte_machine.specs.Opening.{Opening, Outcome, Opened, Differs, OpensSrb}
 use Rattle.lte_machine.specs.Reply.{BySetup, Took}
-use Rattle.lte_machine.specs.PhoneState.{Phone, PhoneInput, PhoneAuth, PhoneActs, PhoneNasPdu, PhoneAirPdu}
+use Rattle.lte_machine.specs.PhoneState.{Phone, PhoneInput, PhoneAuth, PhoneActs, PhoneNasPdu, PhoneAirPdu, Waiting, Link, Radio, Connecting, NasContext, Partial}
 use Rattle.lte_machine.specs.PhoneStep.{plain_phone}
 use Rattle.lte_machine.specs.StationState.{Station, Context, StationInput, StationActs, AirPdu, StationRecord}
-use Rattle.lte_machine.specs.CoreState.{Core, CoreInput, CoreActs, CoreNasPdu, CoreRecord}
+use Rattle.lte_machine.specs.CoreState.{Core, CoreInput, CoreActs, CoreNasPdu, CoreRecord, CoreContext}
 use Rattle.lte_machine.specs.CoreStep.{core_front_of}
 use Rattle.lte_machine.specs.World.{Machine, content_in}
 use Rattle.lte_machine.specs.Step.{Attempted, phone_attempts, core_attempts, attempts_at}
-use Rattle.ho_prep.specs.Prep.{at_air}
+use Rattle.ho_prep.specs.Prep.{at_air, Prep}
 use Rattle.lte_machine.proofs.Routing.{IsTurn, PhoneGets, Turns, happens_by}
 use Rattle.lte_properties.proofs.Agreement.Came.{CameTo, none_came, sent_came}
 use Rattle.lte_properties.specs.ChainHolds.{machine_by}
 use Rattle.lte_properties.specs.Agreement.{made_at}
-use Rattle.lte_properties.proofs.Agreement.Openings.{IsHonest, IsCalm, outcome_of, Honest, Calm}
+use Rattle.lte_properties.proofs.Agreement.Openings.{IsHonest, IsCalm, outcome_of, Honest, Calm, WasSealed, CipheredAs}
 use Rattle.lte_properties.proofs.ChainNumbers.Lists.{all_map, all_each}
-use Rattle.lte_properties.proofs.Agreement.Ghost.{Ghost, RadioOk, SentOk}
-use Rattle.lte_properties.proofs.Agreement.PhoneWalk.{CameDown}
-use Rattle.std.specs.Prelude.{if◌then◌else◌}
+use Rattle.lte_properties.proofs.Agreement.Ghost.{Ghost, RadioOk, SentOk, keys_of, LinkIs}
+use Rattle.lte_properties.proofs.Agreement.PhoneWalk.{CameDown, by_test, one_key}
 use Rattle.key_model.specs.Least.{least}
 use Rattle.alg_choice.specs.declared.algs.Algs.{Algs}
 use Rattle.nas_guard.specs.Open.{first_in}
 use Rattle.pdcp_guard.specs.declared.pdus.PdcpFault.{PdcpFault}
 use Rattle.pdcp_guard.specs.Counts.{in_32_bits, count_limit}
 use Rattle.pdcp_guard.specs.Srb.{srb_sn, srb_count}
-use Rattle.lte_machine.specs.Bearers.{srb_counts}
-use Rattle.lte_machine.specs.Wire.{srb_use}
-use Rattle.lte_machine.specs.Opening.{Differs, OpensSrb}
-use Rattle.lte_machine.specs.PhoneState.{Waiting, Link, Radio, Connecting, NasContext, Partial}
 use Rattle.lte_machine.specs.PhoneChoice.{NasFront, NasSettled, AtCommand, AtMessage, AirFront, AirSettled, AtStart, AtSignalling, AtPacket, nas_by_header, header_for_phone}
 use Rattle.lte_machine.specs.PhoneKeys.{nas_expects, air_expects, start_expects, signalling_expects, packet_expects, command_expects, message_expects}
 use Rattle.lte_machine.specs.StationChoice as st
@@ -45,15 +40,11 @@ use Rattle.lte_machine.specs.StationKeys as stk
 use Rattle.lte_machine.specs.StationStep.{station_front_of}
 use Rattle.lte_machine.specs.CoreChoice.{CoreFront, Settled, FromNas, CoreNasFront, NasSettled as CoreSettled, OpensComplete, OpensProtected}
 use Rattle.lte_machine.specs.CoreKeys.{core_expects, core_nas_expects, opens_by_procedure, opens_by_context}
-use Rattle.lte_machine.specs.CoreState.{CoreContext}
 use Rattle.nas_guard.specs.Keys.{Keys}
-use Rattle.ho_prep.specs.Prep.{Prep}
 use Rattle.lte_machine.proofs.PhoneAirFacts.{FrontHas, phone_air, front_has}
-use Rattle.lte_properties.proofs.Agreement.Openings.{WasSealed, CipheredAs}
-use Rattle.lte_properties.proofs.Agreement.Ghost.{keys_of, LinkIs}
-use Rattle.lte_properties.proofs.Agreement.PhoneWalk.{by_test, one_key}
+use Rattle.lte_machine.proofs.Worlds.{TheWorld}
 use Rattle.lte_properties.proofs.Agreement.Later.{same_found}
-use Rattle.lte_properties.proofs.Agreement.World.{TheWorld, Conns, ghost, WorldOk, OctetsTell}
+use Rattle.lte_properties.proofs.Agreement.World.{Conns, ghost, WorldOk, OctetsTell}
 use Rattle.lte_machine.specs.Distinct.{Member}
 
 -- a phone that waits for the security of its connection took its KeNB nowhere yet
@@ -85,7 +76,8 @@ count_low next pdu count e =
 
 -- THE PHONE
 
-module _ (same : Term → Term → Bool) (g : Ghost) (s : Phone Term ℕ) (station air : ℕ) (pdu : List ℕ) (on : Which) (came : Option (Outgoing Term ℕ)) (came_ok : CameDown g station air on pdu came) where
+module _ (same : Term → Term → Bool) (g : Ghost) (s : Phone Term ℕ) (station air : ℕ) (pdu : List ℕ) (on : Which)
+    (came : Option (Outgoing Term ℕ)) (came_ok : CameDown g station air on pdu came) where
   -- a ciphered record of this address is under a key that the phone had taken
   pub plain_here : (w : Waiting Term) → NewKenb g.took (Connecting w) → (u : KeyUse Term) → (algs : Algs) → u.key ≡ (keys_of w.kenb algs).rrc_int
       → (text : List ℕ) (o : Option (Outgoing Term ℕ)) → CameDown g station air on pdu o → WasSealed u None text o → CipheredAs Down None o
@@ -137,7 +129,12 @@ module _ (same : Term → Term → Bool) (g : Ghost) (s : Phone Term ℕ) (stati
   abbrev Calmly : Outcome → AirFront → Type 0
   Calmly outcome front = IsHonest (air_expects q front s) came outcome → IsCalm (air_expects q front s) came outcome
 
-  front_calm : RadioOk g s.radio → NewKenb g.took s.radio → (front : AirFront) → FrontHas q s station air on pdu front → (outcome : Outcome) → Calmly outcome front
+  front_calm : RadioOk g s.radio
+      → NewKenb g.took s.radio
+      → (front : AirFront)
+      → FrontHas q s station air on pdu front
+      → (outcome : Outcome)
+      → Calmly outcome front
   front_calm ok never (AirSettled row) f outcome honest = tt
   front_calm ok never (AtStart count algs named st a) f (Differs wanted got) honest =
       subst (λ radio. IsCalm (start_expects q count algs radio) came (Differs wanted got)) (sym f.waits) tt
@@ -198,11 +195,14 @@ core_calm (FromNas front) s came outcome = by_front front
     by_front (OpensProtected header count) = by_context s.context header count
 
 -- an opening on an SRB of what goes up
-up_calm : (u : KeyUse Term) (e : Option (Ciphering Term)) (came : Option (Outgoing Term ℕ)) (outcome : Outcome) → u.dir ≡ Up → IsCalm (OpensSrb u e) came outcome
+up_calm : (u : KeyUse Term) (e : Option (Ciphering Term)) (came : Option (Outgoing Term ℕ)) (outcome : Outcome)
+    → u.dir ≡ Up
+    → IsCalm (OpensSrb u e) came outcome
 up_calm u e came (Opened text) up = subst (λ d. CipheredAs d e came) (sym up) tt
 up_calm u e came (Differs wanted got) up = tt
 
-station_calm : (front : st.StationFront) (s : Station Term ℕ) (came : Option (Outgoing Term ℕ)) (outcome : Outcome) → IsCalm (stk.station_expects front s) came outcome
+station_calm : (front : st.StationFront) (s : Station Term ℕ) (came : Option (Outgoing Term ℕ)) (outcome : Outcome)
+    → IsCalm (stk.station_expects front s) came outcome
 station_calm (st.Settled row) s came outcome = tt
 station_calm (st.FromAir (st.AirSettled row)) s came outcome = tt
 station_calm (st.FromAir (st.OnStarting count)) s came outcome = by_context s.context
@@ -228,7 +228,10 @@ station_calm (st.FromAir (st.OnPrepared air by count)) s came outcome = by_prep 
 
 -- AN EVENT
 
-module _ (same : Term → Term → Bool) (root : ℕ → List ℕ → Term) (octets : Outgoing Term ℕ → List ℕ) (sender : Option (Outgoing Term ℕ) → Option (KeyUse Term)) (opener : Opening Term → List ℕ → Option (Outgoing Term ℕ) → Outcome) (tell : OctetsTell octets) (cells : List Site) where
+module _ (same : Term → Term → Bool) (root : ℕ → List ℕ → Term) (octets : Outgoing Term ℕ → List ℕ)
+    (sender : Option (Outgoing Term ℕ) → Option (KeyUse Term))
+    (opener : Opening Term → List ℕ → Option (Outgoing Term ℕ) → Outcome) (tell : OctetsTell octets)
+    (cells : List Site) where
   abbrev m : Machine Term ℕ (Outgoing Term ℕ)
   m = machine_by same root octets sender opener
 
@@ -248,7 +251,8 @@ module _ (same : Term → Term → Bool) (root : ℕ → List ℕ → Term) (oct
     phone_calm_at (PhoneActs act) came turn k honest = tt
     phone_calm_at (PhoneNasPdu pdu) came turn k honest =
         let p = plain_phone (term_reading_by same) w.phone in
-        nas_calm same (nas_by_header p.caps p.partial p.context pdu (header_for_phone pdu)) w.phone came (outcome_of m (phone_attempts m w (PhoneNasPdu pdu) came))
+        nas_calm same (nas_by_header p.caps p.partial p.context pdu (header_for_phone pdu)) w.phone came
+        (outcome_of m (phone_attempts m w (PhoneNasPdu pdu) came))
     phone_calm_at (PhoneAirPdu station air bearer pdu) came turn k honest =
         air_calm same (ghost c w) w.phone station air pdu (which bearer) came k h.radio never
         (outcome_of m (phone_attempts m w (PhoneAirPdu station air bearer pdu) came)) honest
@@ -272,5 +276,7 @@ module _ (same : Term → Term → Bool) (root : ℕ → List ℕ → Term) (oct
   -- an honest event is calm, where the phone took the KeNB that it waits with nowhere yet
   pub calm_at : (c : Conns) (w : TheWorld) (e : Event) → WorldOk cells c w → NewKenb w.took w.phone.radio → Honest m w e → Calm m w e
   calm_at c w e h never honest =
-      happens_by (turns c w h never) (none_came (ghost c w)) (all_map (SentOk (ghost c w)) (λ x. CameTo (ghost c w) (address_of x) (octets x) (Some x)) (sent_came octets tell (ghost c w)) w.sent h.sent)
+      happens_by (turns c w h never) (none_came (ghost c w))
+      (all_map (SentOk (ghost c w)) (λ x. CameTo (ghost c w) (address_of x) (octets x) (Some x))
+      (sent_came octets tell (ghost c w)) w.sent h.sent)
       (all_each (λ s. ⊤) (λ s. tt) w.stations) e tt honest

@@ -34,7 +34,9 @@ none_came g (Address.StationAir station air bearer) pdu = tt
 none_came g (Address.StationS1 station) pdu = tt
 none_came g (Address.StationX2 station) pdu = tt
 
-between_came : (g : Ghost) (to : Address) (pdu : List ℕ) (fields : Fields) (key : Option (NumberedKey Term ℕ)) → BetweenOk g to fields key → CameTo g to pdu (Some (Between to fields key))
+between_came : (g : Ghost) (to : Address) (pdu : List ℕ) (fields : Fields) (key : Option (NumberedKey Term ℕ))
+    → BetweenOk g to fields key
+    → CameTo g to pdu (Some (Between to fields key))
 between_came g Address.PhoneNas pdu fields key k = tt
 between_came g (Address.Phone station air bearer) pdu fields key k = tt
 between_came g Address.CoreNas pdu fields key k = tt
@@ -49,8 +51,14 @@ module _ (octets : Outgoing Term ℕ → List ℕ) (tell : OctetsTell octets) wh
   sent_came g (SealedNas Down header i e text) k = tt
   sent_came g (PlainNas pdu) k = tt
   sent_came g (SealedRrc Up station air srb i e text) k = (refl, refl, k)
-  sent_came g (SealedRrc Down station air srb i e text) k =
-      (refl, refl, which_srb srb, k, (λ none. ap (λ f. unciphered_text (octets (SealedRrc Down station air srb i f text))) none ∙ tell.text Down station air srb i text))
+  sent_came g (SealedRrc Down station air srb i e text) k = (
+    refl,
+    refl,
+    which_srb srb,
+    k,
+    (λ none. ap (λ f. unciphered_text (octets (SealedRrc Down station air srb i f text))) none
+        ∙ tell.text Down station air srb i text),
+  )
   sent_came g (UserPacket Up station air drb e text) k = tt
   sent_came g (UserPacket Down station air drb e text) k = tt
   sent_came g (Between to fields key) k = between_came g to (octets (Between to fields key)) fields key k

@@ -27,9 +27,10 @@ use Rattle.lte_properties.proofs.Agreement.Later.{same_found}
 use Rattle.lte_properties.proofs.Agreement.Phone.{all_found}
 use Rattle.lte_properties.proofs.Agreement.PhoneWalk.{both_named}
 use Rattle.lte_properties.proofs.Agreement.Told.{found_holds, term_number}
-use Rattle.lte_properties.proofs.Agreement.World.{TheWorld, Conns, ghost, WorldOk}
+use Rattle.lte_properties.proofs.Agreement.World.{Conns, ghost, WorldOk}
 use Rattle.lte_machine.specs.Distinct.{Member}
 use Rattle.lte_machine.specs.StationChoice.{x2_number, s1_number}
+use Rattle.lte_machine.proofs.Worlds.{TheWorld}
 
 -- a key on two chains has one number
 one_number : (r s : Term) (m n i j : ℕ) (t : Term) → OnChain r m t i → OnChain s n t j → i ≡ j
@@ -47,7 +48,8 @@ found_in : {A : Type 0} (p : A → Bool) (xs : List A) (x : A) → find p xs ≡
 found_in p [] x e = absurd cc
 found_in p (z ∷ zs) x e = in_step (p z) z x (find p zs) zs e (found_in p zs x)
 
-module _ (cells : List Site) (c : Conns) (w : TheWorld) (h : WorldOk cells c w) (top : ℕ → ℕ) (fits : (conn : ℕ) → c.top conn ≤ top conn) (holds : Holds top w) where
+module _ (cells : List Site) (c : Conns) (w : TheWorld) (h : WorldOk cells c w) (top : ℕ → ℕ)
+    (fits : (conn : ℕ) → c.top conn ≤ top conn) (holds : Holds top w) where
   abbrev chains : Chains
   chains = record { root = c.root; count = c.count; top = top }
 
@@ -77,26 +79,37 @@ module _ (cells : List Site) (c : Conns) (w : TheWorld) (h : WorldOk cells c w) 
   context_on id (Some x) k = (key_of x.conn x.key.kenb x.key.number k.0, pairs_of x.conn x.key.pair k.1)
 
   -- an attempt, under the key of its context
-  opened_under : (id : ℕ) (x : Context Term ℕ) (number : ℕ) → TermOk (ghost c w) x.conn x.key.kenb x.key.number → UnderKey (ghost c w) id x.conn x.key.kenb number
+  opened_under : (id : ℕ) (x : Context Term ℕ) (number : ℕ)
+      → TermOk (ghost c w) x.conn x.key.kenb x.key.number
+      → UnderKey (ghost c w) id x.conn x.key.kenb number
       → OpenedUnder w.tried id x number
   opened_under id x number own k =
       let e = k.0 in
       let at = both_named e.station id e.attempt number (found_holds (is_tried_at id number) w.tried e k.1) in
       let term = (all_found (TriedOk cells (ghost c w)) _ w.tried e h.tried k.1).0 in
-      let one : e.number ≡ x.key.number = sym (term_number (ghost c w) e.conn e.key e.number term) ∙ ap chain_number k.2 ∙ term_number (ghost c w) x.conn x.key.kenb x.key.number own in
+      let one : e.number ≡ x.key.number = sym (term_number (ghost c w) e.conn e.key e.number term)
+      ∙ ap chain_number k.2
+      ∙ term_number (ghost c w) x.conn x.key.kenb x.key.number own in
       (e, found_in (is_tried_at id number) w.tried e k.1, at.0, at.1, k.3, k.2, one)
 
-  x2_under : (id : ℕ) (x : Context Term ℕ) (state : X2State Term ℕ) → X2Ok (ghost c w) id x.conn x.key.kenb state → UnderKey (ghost c w) id x.conn x.key.kenb (x2_number state)
+  x2_under : (id : ℕ) (x : Context Term ℕ) (state : X2State Term ℕ)
+      → X2Ok (ghost c w) id x.conn x.key.kenb state
+      → UnderKey (ghost c w) id x.conn x.key.kenb (x2_number state)
   x2_under id x (X2Open start) k = (k.0.0, k.0.1, k.0.2, k.0.5)
   x2_under id x (X2Ready acked) k = k.2
   x2_under id x (X2Commanded sent) k = k.1
 
-  s1_under : (id : ℕ) (x : Context Term ℕ) (state : S1State) → S1Ok (ghost c w) id x.conn x.key.kenb state → UnderKey (ghost c w) id x.conn x.key.kenb (s1_number state)
+  s1_under : (id : ℕ) (x : Context Term ℕ) (state : S1State)
+      → S1Ok (ghost c w) id x.conn x.key.kenb state
+      → UnderKey (ghost c w) id x.conn x.key.kenb (s1_number state)
   s1_under id x (S1Open start) k = (k.0, k.1, k.2, k.5)
   s1_under id x (S1Ready acked) k = k.1
   s1_under id x (S1Commanded sent) k = k.1
 
-  attempt_on : (id : ℕ) (x : Context Term ℕ) → TermOk (ghost c w) x.conn x.key.kenb x.key.number → (o : Option (Attempt Term ℕ)) → AttemptOk (ghost c w) id x.conn x.key.kenb o
+  attempt_on : (id : ℕ) (x : Context Term ℕ)
+      → TermOk (ghost c w) x.conn x.key.kenb x.key.number
+      → (o : Option (Attempt Term ℕ))
+      → AttemptOk (ghost c w) id x.conn x.key.kenb o
       → AttemptOn w.made w.tried id x o
   attempt_on id x own None k = tt
   attempt_on id x own (Some (OverX2 state)) k = opened_under id x (x2_number state) own (x2_under id x state k)
@@ -153,8 +166,16 @@ module _ (cells : List Site) (c : Conns) (w : TheWorld) (h : WorldOk cells c w) 
       let e = made.0 in
       let at = both_named e.station o.source e.attempt o.attempt (found_holds (is_tried_at o.source o.attempt) w.tried e made.1) in
       let own = (all_found (TriedOk cells (ghost c w)) _ w.tried e h.tried made.1).0 in
-      let low = made.4.0 in
-      (e, found_in (is_tried_at o.source o.attempt) w.tried e made.1, at.0, at.1, made.3, made.6, made.7, star_of e m own made.6 made.7 (m.number - e.number) (omega arith) made.4.1)
+      let low = made.4.0 in (
+        e,
+        found_in (is_tried_at o.source o.attempt) w.tried e made.1,
+        at.0,
+        at.1,
+        made.3,
+        made.6,
+        made.7,
+        star_of e m own made.6 made.7 (m.number - e.number) (omega arith) made.4.1,
+      )
   how m k (ByChange old) is =
       let made : FromOk (ghost c w) m (ByChange old) = subst (FromOk (ghost c w) m) is k.3 in
       (made.0, change_key m made.2 made.0 k.5 made.3, made.4, made.5)
@@ -219,7 +240,9 @@ module _ (cells : List Site) (c : Conns) (w : TheWorld) (h : WorldOk cells c w) 
     how = all_map (MadeOk (ghost c w)) (λ m. MadeHow chains w.tried w.took m m.from) (λ m k. how m k m.from refl) w.made h.made;
     tried = all_map (TriedOk cells (ghost c w)) (TriedOn chains) tried_on w.tried h.tried;
     contexts = all_map (StationOk cells (ghost c w)) (λ s. ContextOn chains s.context) (λ s k. context_on s.id s.context k.0) w.stations h.stations;
-    attempts = all_map (StationOk cells (ghost c w)) (λ s. AttemptsOn w.made w.tried s.id s.context) (λ s k. attempts_on s.id s.context k.0) w.stations h.stations;
+    attempts =
+        all_map (StationOk cells (ghost c w)) (λ s. AttemptsOn w.made w.tried s.id s.context)
+        (λ s k. attempts_on s.id s.context k.0) w.stations h.stations;
     preps = all_map (StationOk cells (ghost c w)) (λ s. AllOf (PrepOn chains) s.preps) (λ s k. preps_on s.id s.preps k.1) w.stations h.stations;
     core = link_on w.core.next w.core.link h.core.0 holds.core.0;
     sent = all_map (SentOk (ghost c w)) (RecordOn chains) record_on w.sent h.sent;

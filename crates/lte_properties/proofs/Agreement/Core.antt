@@ -287,4 +287,5 @@ module _ (same : Term → Term → Bool) (cells : List Site) (g : Ghost) (tried_
   pub core_act_goes : (act : CoreAct) (s : Core Term ℕ) → CoreOk cells g s
       → CoreGoes cells g (core_does_act (term_reading_by same) (core_act_row (plain_core (term_reading_by same) s) act) s)
   core_act_goes act s h =
-      act_case (term_reading_by same) _ Keeps s (act_goes act s) (core_act_row (plain_core (term_reading_by same) s) act) (act_has (term_reading_by same) s act) h
+      act_case (term_reading_by same) _ Keeps s (act_goes act s)
+      (core_act_row (plain_core (term_reading_by same) s) act) (act_has (term_reading_by same) s act) h

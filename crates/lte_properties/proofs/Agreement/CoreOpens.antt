@@ -34,7 +34,10 @@ first_count pdu count is (Some (Between to fields key)) h counted = absurd count
 
 -- a Complete that opened was sealed with its COUNT
 pub core_nas_zero : (same : Term → Term → Bool) (s : Core Term ℕ) (pdu : List ℕ) (came : Option (Outgoing Term ℕ)) → CameNas pdu came → (outcome : Outcome)
-    → IsHonest (core_nas_expects (nas_front (term_reading_by same) s pdu) s) came outcome → (count : ℕ) → Completes (term_reading_by same) s pdu outcome count → count ≡ 0
+    → IsHonest (core_nas_expects (nas_front (term_reading_by same) s pdu) s) came outcome
+    → (count : ℕ)
+    → Completes (term_reading_by same) s pdu outcome count
+    → count ≡ 0
 core_nas_zero same s pdu came came_ok outcome honest count c =
     let opened = subst (λ o. IsHonest (core_nas_expects (nas_front (term_reading_by same) s pdu) s) came o) c.opened honest in
     let expected = subst (λ f. IsHonest (core_nas_expects f s) came (Opened c.text)) c.front opened in

@@ -29,7 +29,7 @@ OfNewest P made (x ∷ took) = WithMade P x (made_at made x.station x.air)
 
 abbrev AtEnd : Compares → RunState Term ℕ (Outgoing Term ℕ) → Type 0
 AtEnd P (Running w) = OfNewest P w.made (reverse w.took)
-AtEnd P (Stopped chance) = ⊥
+AtEnd P (Stopped coincidence) = ⊥
 
 abbrev After : List Event → Compares → Type 0
 After events P = AtEnd P (replay (open_octets toy) machine start events)

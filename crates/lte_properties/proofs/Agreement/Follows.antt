@@ -61,30 +61,43 @@ module _ (same : Term → Term → Bool) (took : List (Took Term ℕ)) (h : Foll
   handed cell steps algs station air s (Connected l) k last =
       (follow_more None took _ h (last_is took l last), (took, _, refl, (refl, refl, refl, number_is steps, refl)))
     where
-      number_is : (n : ℕ) → (reached_after (term_reading_by same) l.chain l.kenb n cell).star.number ≡ (reached_after (term_reading_by same) l.chain l.kenb n cell).chain.number
+      number_is : (n : ℕ)
+          → (reached_after (term_reading_by same) l.chain l.kenb n cell).star.number
+          ≡ (reached_after (term_reading_by same) l.chain l.kenb n cell).chain.number
       number_is zero = refl
       number_is (suc n) = refl
   handed cell steps algs station air s Idle k last = (h, k)
   handed cell steps algs station air s (Connecting w) k last = (h, k)
 
-  changed : (cell : Place) (algs : Algs) (station air : ℕ) (s : Phone Term ℕ) (l : Link Term ℕ) (root : Term) (b : Bool) → TookLast took s.radio → TookLast took (Connected l)
+  changed : (cell : Place) (algs : Algs) (station air : ℕ) (s : Phone Term ℕ) (l : Link Term ℕ) (root : Term) (b : Bool)
+      → TookLast took s.radio
+      → TookLast took (Connected l)
       → Follows took (changed_unless (term_reading_by same) cell algs station air s (before_of l) root b)
   changed cell algs station air s l root true k last = (h, k)
   changed cell algs station air s l root false k last = (follow_more None took _ h (last_is took l last), (took, _, refl, (refl, refl, refl, refl, refl)))
 
-  key_change : (cell : Place) (algs : Algs) (station air : ℕ) (s : Phone Term ℕ) (radio : Radio Term ℕ) (o : Option (NasContext Term)) → TookLast took s.radio → TookLast took radio
+  key_change : (cell : Place) (algs : Algs) (station air : ℕ) (s : Phone Term ℕ) (radio : Radio Term ℕ)
+      (o : Option (NasContext Term))
+      → TookLast took s.radio
+      → TookLast took radio
       → Follows took (key_changed (term_reading_by same) cell algs station air s radio o)
   key_change cell algs station air s (Connected l) (Some c) k last = changed cell algs station air s l c.root (same c.root l.chain.root) k last
   key_change cell algs station air s (Connected l) None k last = (h, k)
   key_change cell algs station air s Idle o k last = (h, k)
   key_change cell algs station air s (Connecting w) o k last = (h, k)
 
-  opened_rrc : (srb : Srb) (count : ℕ) (text : List ℕ) (s : Phone Term ℕ) (radio : Radio Term ℕ) → TookLast took s.radio → TookLast took radio → Follows took (rrc_opened srb count text s radio)
+  opened_rrc : (srb : Srb) (count : ℕ) (text : List ℕ) (s : Phone Term ℕ) (radio : Radio Term ℕ)
+      → TookLast took s.radio
+      → TookLast took radio
+      → Follows took (rrc_opened srb count text s radio)
   opened_rrc srb count text s (Connected l) k last = (h, last)
   opened_rrc srb count text s Idle k last = (h, k)
   opened_rrc srb count text s (Connecting w) k last = (h, k)
 
-  opened_packet : (drb : Drb) (count : ℕ) (text : List ℕ) (s : Phone Term ℕ) (radio : Radio Term ℕ) → TookLast took s.radio → TookLast took radio → Follows took (packet_opened drb count text s radio)
+  opened_packet : (drb : Drb) (count : ℕ) (text : List ℕ) (s : Phone Term ℕ) (radio : Radio Term ℕ)
+      → TookLast took s.radio
+      → TookLast took radio
+      → Follows took (packet_opened drb count text s radio)
   opened_packet drb count text s (Connected l) k last = (h, last)
   opened_packet drb count text s Idle k last = (h, k)
   opened_packet drb count text s (Connecting w) k last = (h, k)
@@ -97,15 +110,21 @@ module _ (same : Term → Term → Bool) (took : List (Took Term ℕ)) (h : Foll
   air_follows (RrcOpened srb count text) s k = opened_rrc srb count text s s.radio k k
   air_follows (PacketOpened drb count text) s k = opened_packet drb count text s s.radio k k
 
-  rejected : (answer : Answer) (cause : ℕ) (s : Phone Term ℕ) (o : Option (NasContext Term)) → TookLast took s.radio → Follows took (rejected_under answer cause s o)
+  rejected : (answer : Answer) (cause : ℕ) (s : Phone Term ℕ) (o : Option (NasContext Term))
+      → TookLast took s.radio
+      → Follows took (rejected_under answer cause s o)
   rejected answer cause s None k = (h, k)
   rejected answer cause s (Some c) k = (h, k)
 
-  taken : (algs : Algs) (count : ℕ) (s : Phone Term ℕ) (o : Option (Partial Term)) → TookLast took s.radio → Follows took (context_taken (term_reading_by same) algs count s o)
+  taken : (algs : Algs) (count : ℕ) (s : Phone Term ℕ) (o : Option (Partial Term))
+      → TookLast took s.radio
+      → Follows took (context_taken (term_reading_by same) algs count s o)
   taken algs count s None k = (h, k)
   taken algs count s (Some p) k = (h, tt)
 
-  taken_connected : (algs : Algs) (count : ℕ) (s : Phone Term ℕ) (o : Option (Partial Term)) → TookLast took s.radio → Follows took (context_taken_connected (term_reading_by same) algs count s o)
+  taken_connected : (algs : Algs) (count : ℕ) (s : Phone Term ℕ) (o : Option (Partial Term))
+      → TookLast took s.radio
+      → Follows took (context_taken_connected (term_reading_by same) algs count s o)
   taken_connected algs count s None k = (h, k)
   taken_connected algs count s (Some p) k = (h, k)
 
@@ -130,12 +149,18 @@ module _ (same : Term → Term → Bool) (took : List (Took Term ℕ)) (h : Foll
   resent s Idle k last = (h, k)
   resent s (Connecting w) k last = (h, k)
 
-  sent_packet : (drb : Drb) (text : List ℕ) (s : Phone Term ℕ) (radio : Radio Term ℕ) → TookLast took s.radio → TookLast took radio → Follows took (packet_sent drb text s radio)
+  sent_packet : (drb : Drb) (text : List ℕ) (s : Phone Term ℕ) (radio : Radio Term ℕ)
+      → TookLast took s.radio
+      → TookLast took radio
+      → Follows took (packet_sent drb text s radio)
   sent_packet drb text s (Connected l) k last = (h, last)
   sent_packet drb text s Idle k last = (h, k)
   sent_packet drb text s (Connecting w) k last = (h, k)
 
-  sent_rrc : (srb : Srb) (text : List ℕ) (s : Phone Term ℕ) (radio : Radio Term ℕ) → TookLast took s.radio → TookLast took radio → Follows took (rrc_sent srb text s radio)
+  sent_rrc : (srb : Srb) (text : List ℕ) (s : Phone Term ℕ) (radio : Radio Term ℕ)
+      → TookLast took s.radio
+      → TookLast took radio
+      → Follows took (rrc_sent srb text s radio)
   sent_rrc srb text s (Connected l) k last = (h, last)
   sent_rrc srb text s Idle k last = (h, k)
   sent_rrc srb text s (Connecting w) k last = (h, k)
@@ -148,7 +173,10 @@ module _ (same : Term → Term → Bool) (took : List (Took Term ℕ)) (h : Foll
   left_nas n s None k = (h, k)
   left_nas n s (Some c) k = (h, k)
 
-  left_bearer : (on : Which) (n : ℕ) (s : Phone Term ℕ) (radio : Radio Term ℕ) → TookLast took s.radio → TookLast took radio → Follows took (bearer_skipped on n s radio)
+  left_bearer : (on : Which) (n : ℕ) (s : Phone Term ℕ) (radio : Radio Term ℕ)
+      → TookLast took s.radio
+      → TookLast took radio
+      → Follows took (bearer_skipped on n s radio)
   left_bearer on n s (Connected l) k last = (h, last)
   left_bearer on n s Idle k last = (h, k)
   left_bearer on n s (Connecting w) k last = (h, k)
@@ -178,7 +206,9 @@ module _ (same : Term → Term → Bool) (took : List (Took Term ℕ)) (h : Foll
 abbrev pub InTurn : World Term ℕ (Outgoing Term ℕ) → Type 0
 InTurn w = Follow None w.took × TookLast w.took w.phone.radio
 
-module _ (same : Term → Term → Bool) (root : ℕ → List ℕ → Term) (octets : Outgoing Term ℕ → List ℕ) (sender : Option (Outgoing Term ℕ) → Option (KeyUse Term)) (opener : Opening Term → List ℕ → Option (Outgoing Term ℕ) → Outcome) where
+module _ (same : Term → Term → Bool) (root : ℕ → List ℕ → Term) (octets : Outgoing Term ℕ → List ℕ)
+    (sender : Option (Outgoing Term ℕ) → Option (KeyUse Term))
+    (opener : Opening Term → List ℕ → Option (Outgoing Term ℕ) → Outcome) where
   abbrev m : Machine Term ℕ (Outgoing Term ℕ)
   m = machine_by same root octets sender opener
 
@@ -186,7 +216,8 @@ module _ (same : Term → Term → Bool) (root : ℕ → List ℕ → Term) (oct
     phone_goes : (input : PhoneInput Term) (came : Option (Outgoing Term ℕ)) → InTurn (phone_turn m w input came).0
     phone_goes input came =
         phone_follows same w.took h.0
-        (phone_row (plain_phone (term_reading_by same) w.phone) (front_of (term_reading_by same) w.phone input) (opener (phone_opens (term_reading_by same) w.phone input) (phone_pdu_in input) came))
+        (phone_row (plain_phone (term_reading_by same) w.phone) (front_of (term_reading_by same) w.phone input)
+        (opener (phone_opens (term_reading_by same) w.phone input) (phone_pdu_in input) came))
         (phone_root input) w.phone h.1
 
     pub happens_in_turn : (e : Event) → InTurn (happens m w e).0

@@ -3,14 +3,13 @@ use Rattle.std.proofs.Common.{◌≡◌, refl, sym, ap, ◌∙◌, subst, ℕ, �
 use Rattle.std.specs.Prelude.{◌||◌, IsTrue, replicate}
 use Rattle.std.proofs.lemmas.Bool.{eqb-true}
 use Rattle.std.proofs.lemmas.List.Elements.{recursion_from_All}
-use Rattle.lte_events.specs.Ranges.{has_station}
+use Rattle.lte_events.specs.Ranges.{has_station, IsSetup, IsStation, IsSiteOf, IsEvent}
 use Rattle.lte_events.specs.declared.setups.Setup.{Setup}
 use Rattle.lte_events.specs.declared.setups.StationSetup.{StationSetup}
 use Rattle.lte_events.specs.Site.{Site}
 use Rattle.key_model.specs.Term.{Term, Root}
 use Rattle.key_model.specs.Number.{chain_number}
 use Rattle.ho_prep.specs.Prep.{Prep}
-use Rattle.lte_machine.specs.Ranges.{IsSetup, IsStation, IsSiteOf, IsEvent}
 use Rattle.lte_machine.specs.Reply.{From, BySetup, ByAttempt, ByChange, Made, Came, Secured, Commanded, Changed, Took}
 use Rattle.lte_machine.specs.PhoneState.{Radio, Idle, Connecting, Connected, Link}
 use Rattle.lte_machine.specs.StationState.{Station, Context}
@@ -25,8 +24,9 @@ use Rattle.lte_properties.proofs.Freshness.Sequence.{IsBefore}
 use Rattle.lte_properties.proofs.Agreement.Follows.{InTurn}
 use Rattle.lte_properties.proofs.Agreement.Later.{Later, same_found, here_later}
 use Rattle.lte_properties.proofs.Agreement.Told.{SiteOk, term_number}
-use Rattle.lte_properties.proofs.Agreement.World.{TheWorld, Conns, ghost, WorldOk}
+use Rattle.lte_properties.proofs.Agreement.World.{Conns, ghost, WorldOk}
 use Rattle.lte_machine.specs.Distinct.{Member}
+use Rattle.lte_machine.proofs.Worlds.{TheWorld}
 
 -- THE FIRST WORLD
 
@@ -44,23 +44,39 @@ sites_ok stations low (site ∷ sites) h = ((low_id site.station stations low h.
 
 pub cells_of : (setup : Setup) → IsSetup setup → AllOf SiteOk setup.cells
 cells_of setup h =
-    sites_ok setup.stations (recursion_from_All IsStation setup.stations h.stations) setup.cells (recursion_from_All (IsSiteOf setup.stations) setup.cells h.sites)
+    sites_ok setup.stations (recursion_from_All IsStation setup.stations h.stations) setup.cells
+    (recursion_from_All (IsSiteOf setup.stations) setup.cells h.sites)
 
 -- before the first event there is no connection
 pub no_conns : Setup → Conns
 no_conns setup = record { root = λ conn. Root 0 []; count = λ conn. 0; top = λ conn. 0; next = setup.core_first }
 
-stations_begin : (cells : List Site) (g : Ghost) (made : g.made ≡ []) (tried : g.tried ≡ []) (ss : List StationSetup) → AllOf IsStation ss → AllOf (StationOk cells g) (stations_of cells ss)
+stations_begin : (cells : List Site) (g : Ghost) (made : g.made ≡ []) (tried : g.tried ≡ []) (ss : List StationSetup)
+    → AllOf IsStation ss
+    → AllOf (StationOk cells g) (stations_of cells ss)
 stations_begin cells g made tried [] h = tt
-stations_begin cells g made tried (s ∷ ss) h =
-    ((tt, tt, (λ n low. (ap (λ xs. made_at xs s.id n) made, ap (λ xs. tried_at xs s.id n) tried)), refl, h.0.0, h.0.1.0, refl, subst (λ xs. AllOf (SeenBy s.id (replicate 8 0)) xs) (sym made) tt), stations_begin cells g made tried ss h.1)
+stations_begin cells g made tried (s ∷ ss) h = (
+  (
+    tt,
+    tt,
+    (λ n low. (ap (λ xs. made_at xs s.id n) made, ap (λ xs. tried_at xs s.id n) tried)),
+    refl,
+    h.0.0,
+    h.0.1.0,
+    refl,
+    subst (λ xs. AllOf (SeenBy s.id (replicate 8 0)) xs) (sym made) tt,
+  ),
+  stations_begin cells g made tried ss h.1,
+)
 
 pub first_ok : (setup : Setup) → IsSetup setup → WorldOk setup.cells (no_conns setup) (first_world setup)
 unfolding no_conns
 first_ok setup h = record {
   core = (tt, refl, refl);
   radio = tt;
-  stations = stations_begin setup.cells (ghost (no_conns setup) (first_world setup)) refl refl setup.stations (recursion_from_All IsStation setup.stations h.stations);
+  stations =
+      stations_begin setup.cells (ghost (no_conns setup) (first_world setup)) refl refl setup.stations
+      (recursion_from_All IsStation setup.stations h.stations);
   sent = tt;
   made = tt;
   tried = tt;
@@ -110,7 +126,13 @@ other_key (Commanded before) y n h wide same = (h.far wide).0 same
 other_key (Changed before root) y n h wide same = h.far wide same
 
 -- what is a far key is not the one made there
-far_is_other : (made : List (Made Term ℕ)) (x : Took Term ℕ) → Obeys made x → IsFar made x → (m : Made Term ℕ) → made_at made x.station x.air ≡ Some m → x.key ≡ m.key → ⊥
+far_is_other : (made : List (Made Term ℕ)) (x : Took Term ℕ)
+    → Obeys made x
+    → IsFar made x
+    → (m : Made Term ℕ)
+    → made_at made x.station x.air ≡ Some m
+    → x.key ≡ m.key
+    → ⊥
 far_is_other made x obeys far m found same =
     let one : obeys.0 ≡ m = same_found _ obeys.0 m obeys.1 found in
     let also : far.0 ≡ m = same_found _ far.0 m far.1 found in
@@ -153,7 +175,13 @@ module _ (cells : List Site) (c : Conns) (w : TheWorld) (h : WorldOk cells c w) 
       (subst (λ n. HereIs (ghost c w) n x.air y.key) (sym station) (subst (λ n. HereIs (ghost c w) y.station n y.key) (sym air) b.0))))
 
   -- a joined phone and context have what the phone takes there
-  joined_one : (l : Link Term ℕ) → LinkIs (ghost c w) l → (s : Station Term ℕ) → s.id ≡ l.station → (o : Option (Context Term ℕ)) → CtxOk (ghost c w) s.id o → ContextAt l.air o (Agree l)
+  joined_one : (l : Link Term ℕ)
+      → LinkIs (ghost c w) l
+      → (s : Station Term ℕ)
+      → s.id ≡ l.station
+      → (o : Option (Context Term ℕ))
+      → CtxOk (ghost c w) s.id o
+      → ContextAt l.air o (Agree l)
   joined_one l k s is None ok = tt
   joined_one l k s is (Some x) ok = λ at_air.
       let here : HereIs (ghost c w) l.station l.air l.kenb = (k.2, k.3, k.5) in

@@ -150,7 +150,9 @@ module _ (g h : Ghost) (l : Later g h) where
   entry_later id air t number algs x =
       (x.0, l.made id air x.0 x.1, x.2, from_later x.0 t x.0.from x.3, taken_if_later id air t x.0.from x.4)
 
-  pub order_later : (source : ℕ) (t : Term) (cell : Place) (ncc : ℕ) (algs : Algs) (station air : ℕ) → OrderIs g source t cell ncc algs station air → OrderIs h source t cell ncc algs station air
+  pub order_later : (source : ℕ) (t : Term) (cell : Place) (ncc : ℕ) (algs : Algs) (station air : ℕ)
+      → OrderIs g source t cell ncc algs station air
+      → OrderIs h source t cell ncc algs station air
   order_later source t cell ncc algs station air x =
       (x.0, x.1, x.2, l.made station air x.0 x.3, x.4, l.tried x.1.source x.1.attempt x.2 x.5, x.6, x.7, x.8, x.9, x.10)
 
@@ -221,11 +223,15 @@ module _ (g h : Ghost) (l : Later g h) where
   says_later source t (KeyChange cell algs station air) x = change_later t cell algs station air x
   says_later source t other x = tt
 
-  ciphered_later : (station air : ℕ) (n : Made Term ℕ) (srb : Srb) (i : KeyUse Term) (f : Option (Ciphering Term)) → CipheredSo g station air n srb i f → CipheredSo h station air n srb i f
+  ciphered_later : (station air : ℕ) (n : Made Term ℕ) (srb : Srb) (i : KeyUse Term) (f : Option (Ciphering Term))
+      → CipheredSo g station air n srb i f
+      → CipheredSo h station air n srb i f
   ciphered_later station air n srb i None x = x
   ciphered_later station air n srb i (Some e) x = (x.0, had_later station air n.key x.1)
 
-  down_later : (station air : ℕ) (srb : Srb) (i : KeyUse Term) (f : Option (Ciphering Term)) (text : List ℕ) → DownOk g station air srb i f text → DownOk h station air srb i f text
+  down_later : (station air : ℕ) (srb : Srb) (i : KeyUse Term) (f : Option (Ciphering Term)) (text : List ℕ)
+      → DownOk g station air srb i f text
+      → DownOk h station air srb i f text
   down_later station air srb i f text x =
       (x.0, l.made station air x.0 x.1, x.2, ciphered_later station air x.0 srb i f x.3, λ r e. says_later station x.0.key r (x.4 r e))
 

@@ -20,12 +20,13 @@ use Rattle.lte_machine.specs.StationKeys.{started_by_x2, started_within, station
 use Rattle.lte_machine.specs.StationStep.{station_opens, station_pdu_in, station_row_of, station_key, station_step}
 use Rattle.lte_machine.specs.World.{Machine, Line, put_if, put_station, station_after, station_of_id, turn_of, happens}
 use Rattle.lte_machine.proofs.Routing.{happens_each}
+use Rattle.lte_machine.proofs.Worlds.{TheWorld}
 use Rattle.lte_properties.specs.ChainBelow.{AllOf}
 use Rattle.lte_properties.specs.ChainHolds.{machine_by, run}
 use Rattle.lte_properties.specs.Agreement.{HadTaken, OfStation, HasContext, TellsWay, TellsNote, CompletedLines}
 use Rattle.lte_properties.proofs.ChainNumbers.Lists.{all_both, all_put}
 use Rattle.lte_properties.proofs.Agreement.Ghost.{Ghost, CtxOk, StartedOk, StationOk}
-use Rattle.lte_properties.proofs.Agreement.World.{TheWorld, Conns, ghost, WorldOk}
+use Rattle.lte_properties.proofs.Agreement.World.{Conns, ghost, WorldOk}
 use Rattle.lte_machine.specs.Distinct.{Member}
 
 -- the context is active, and has this key
@@ -48,7 +49,8 @@ started_way : (id : ℕ) (t : Station Term ℕ) (key : Term) (pair : Option (Num
 started_way id t key None = tt
 started_way id t key (Some pair) = tt
 
-station_tells : (same : Term → Term → Bool) (row : StationRow) (key : Option (NumberedKey Term ℕ)) (s : Station Term ℕ) → RowTells s.id (station_does (term_reading_by same) row key s)
+station_tells : (same : Term → Term → Bool) (row : StationRow) (key : Option (NumberedKey Term ℕ)) (s : Station Term ℕ)
+    → RowTells s.id (station_does (term_reading_by same) row key s)
 station_tells same row key s =
     station_case (term_reading_by same) s (RowTells s.id)
     (record {
@@ -75,9 +77,13 @@ station_tells same row key s =
     })
     (record {
       nothing = λ answer. tt;
-      by_x2 = λ number target cell k c e. started_way s.id (started_by_x2 (term_reading_by same) number target cell (Some c) s).0 (opened (term_reading_by same) c.key cell).star.key c.key.pair;
+      by_x2 = λ number target cell k c e.
+          started_way s.id (started_by_x2 (term_reading_by same) number target cell (Some c) s).0
+          (opened (term_reading_by same) c.key cell).star.key c.key.pair;
       by_s1 = λ number target cell k c e. tt;
-      within = λ number air cell k c e. started_way s.id (started_within (term_reading_by same) number air cell (Some c) s).0 (opened (term_reading_by same) c.key cell).star.key c.key.pair;
+      within = λ number air cell k c e.
+          started_way s.id (started_within (term_reading_by same) number air cell (Some c) s).0
+          (opened (term_reading_by same) c.key cell).star.key c.key.pair;
       commanded = λ order count k c e. tt;
       changed = λ renewal count k c e. tt;
       cancelled_x2 = λ conn number target k. tt;
@@ -99,7 +105,9 @@ abbrev NoteShown : TheWorld → Who → Option (Note Term) → Type 0
 NoteShown u (Who.Station id) (Some note) = WayShown u id note.key note.way
 NoteShown u who told = ⊤
 
-module _ (same : Term → Term → Bool) (root : ℕ → List ℕ → Term) (octets : Outgoing Term ℕ → List ℕ) (sender : Option (Outgoing Term ℕ) → Option (KeyUse Term)) (opener : Opening Term → List ℕ → Option (Outgoing Term ℕ) → Outcome) where
+module _ (same : Term → Term → Bool) (root : ℕ → List ℕ → Term) (octets : Outgoing Term ℕ → List ℕ)
+    (sender : Option (Outgoing Term ℕ) → Option (KeyUse Term))
+    (opener : Opening Term → List ℕ → Option (Outgoing Term ℕ) → Outcome) where
   abbrev m : Machine Term ℕ (Outgoing Term ℕ)
   m = machine_by same root octets sender opener
 
@@ -118,11 +126,18 @@ module _ (same : Term → Term → Bool) (root : ℕ → List ℕ → Term) (oct
   is_put id new [] s e = absurd cc
   is_put id new (z ∷ zs) s e = step (z.id == id) e (is_put id new zs s)
     where
-      step : (b : Bool) → cond b (Some z) (station_of_id id zs) ≡ Some s → (station_of_id id zs ≡ Some s → Member new (put_station id new zs)) → Member new (put_if b new z ∷ put_station id new zs)
+      step : (b : Bool)
+          → cond b (Some z) (station_of_id id zs) ≡ Some s
+          → (station_of_id id zs ≡ Some s → Member new (put_station id new zs))
+          → Member new (put_if b new z ∷ put_station id new zs)
       step true f rest = inl refl
       step false f rest = inr (rest f)
 
-  way_after : (w : TheWorld) (id : ℕ) (s : Station Term ℕ) → station_of_id id w.stations ≡ Some s → (d : Station Term ℕ × Reply Term ℕ) (key : Term) (way : Way) → WayIsNew id d.0 key way → WayShown (station_after m w id d).0 id key way
+  way_after : (w : TheWorld) (id : ℕ) (s : Station Term ℕ)
+      → station_of_id id w.stations ≡ Some s
+      → (d : Station Term ℕ × Reply Term ℕ) (key : Term) (way : Way)
+      → WayIsNew id d.0 key way
+      → WayShown (station_after m w id d).0 id key way
   way_after w id s e d key Way.Completed h = (d.0, is_put id d.0 w.stations s e, h.0, way_put id d.0 w.stations key h.1)
   way_after w id s e d key Way.Initial h = tt
   way_after w id s e d key Way.Horizontal h = tt
@@ -130,7 +145,11 @@ module _ (same : Term → Term → Bool) (root : ℕ → List ℕ → Term) (oct
   way_after w id s e d key Way.Chained h = tt
   way_after w id s e d key Way.Given h = tt
 
-  note_after : (w : TheWorld) (id : ℕ) (s : Station Term ℕ) → station_of_id id w.stations ≡ Some s → (d : Station Term ℕ × Reply Term ℕ) (o : Option (Note Term)) → NoteIsNew id d.0 o → NoteShown (station_after m w id d).0 (Who.Station id) o
+  note_after : (w : TheWorld) (id : ℕ) (s : Station Term ℕ)
+      → station_of_id id w.stations ≡ Some s
+      → (d : Station Term ℕ × Reply Term ℕ) (o : Option (Note Term))
+      → NoteIsNew id d.0 o
+      → NoteShown (station_after m w id d).0 (Who.Station id) o
   note_after w id s e d None h = tt
   note_after w id s e d (Some note) h = way_after w id s e d note.key note.way h
 
@@ -138,24 +157,37 @@ module _ (same : Term → Term → Bool) (root : ℕ → List ℕ → Term) (oct
     abbrev Shows : TheWorld × Line Term → Type 0
     Shows h = NoteShown h.0 h.1.who h.1.note
 
-    station_shows : (id : ℕ) (input : StationInput Term ℕ) (came : Option (Outgoing Term ℕ)) (s : Station Term ℕ) → station_of_id id w.stations ≡ Some s → s.id ≡ id → Shows (turn_of m w id input came (Some s))
+    station_shows : (id : ℕ) (input : StationInput Term ℕ) (came : Option (Outgoing Term ℕ)) (s : Station Term ℕ)
+        → station_of_id id w.stations ≡ Some s
+        → s.id ≡ id
+        → Shows (turn_of m w id input came (Some s))
     station_shows id input came s there own =
         let outcome = opener (station_opens (term_reading_by same) s input) (station_pdu_in input) came in
         let d = station_step (term_reading_by same) s input outcome in
-        note_after w id s there d d.1.note (subst (λ n. NoteIsNew n d.0 d.1.note) own (station_tells same (station_row_of (term_reading_by same) s input outcome) (station_key input) s))
+        note_after w id s there d d.1.note
+        (subst (λ n. NoteIsNew n d.0 d.1.note) own
+        (station_tells same (station_row_of (term_reading_by same) s input outcome) (station_key input) s))
 
     happens_shows : (e : Event) → Shows (happens m w e)
     happens_shows = happens_each m w (λ done a. Shows done) (λ ksi key caps. tt) (λ input came turn. tt) (λ input came. tt) station_shows (λ answer. tt)
 
 -- in a world with the invariant, the phone had taken the key of an active context
-had_active : (cells : List Site) (g : Ghost) (s : Station Term ℕ) (id : ℕ) (key : Term) → s.id ≡ id → (o : Option (Context Term ℕ)) → CtxOk g s.id o → IsNew o key
+had_active : (cells : List Site) (g : Ghost) (s : Station Term ℕ) (id : ℕ) (key : Term)
+    → s.id ≡ id
+    → (o : Option (Context Term ℕ))
+    → CtxOk g s.id o
+    → IsNew o key
     → HasContext o (λ c. (c.key.kenb ≡ key) × HadTaken g.took id c.air key)
 had_active cells g s id key is None ok h = h
 had_active cells g s id key is (Some c) ok h =
     let had : HadTaken g.took s.id c.air c.key.kenb = subst (λ b. StartedOk g s.id c.air c.key.kenb b c.attempt) h.1 ok.5 in
     (h.0, subst (λ n. HadTaken g.took n c.air key) is (subst (HadTaken g.took s.id c.air) h.0 had))
 
-way_told : (cells : List Site) (c : Conns) (u : TheWorld) → WorldOk cells c u → (id : ℕ) (key : Term) (way : Way) → WayShown u id key way → TellsWay u id key way
+way_told : (cells : List Site) (c : Conns) (u : TheWorld)
+    → WorldOk cells c u
+    → (id : ℕ) (key : Term) (way : Way)
+    → WayShown u id key way
+    → TellsWay u id key way
 way_told cells c u h id key Way.Completed k = (
   k.0,
   k.1,
@@ -178,7 +210,9 @@ note_told cells c u h Who.World o k = tt
 note_told cells c u h Who.Both o k = tt
 
 -- at each line
-pub line_told : (same : Term → Term → Bool) (root : ℕ → List ℕ → Term) (octets : Outgoing Term ℕ → List ℕ) (sender : Option (Outgoing Term ℕ) → Option (KeyUse Term)) (opener : Opening Term → List ℕ → Option (Outgoing Term ℕ) → Outcome)
+pub line_told : (same : Term → Term → Bool) (root : ℕ → List ℕ → Term) (octets : Outgoing Term ℕ → List ℕ)
+    (sender : Option (Outgoing Term ℕ) → Option (KeyUse Term))
+    (opener : Opening Term → List ℕ → Option (Outgoing Term ℕ) → Outcome)
     → (w : TheWorld) (e : Event) (cells : List Site) (c : Conns) → let h = happens (machine_by same root octets sender opener) w e in
     WorldOk cells c h.0 → TellsNote h.0 h.1.who h.1.note
 line_told same root octets sender opener w e cells c ok =
@@ -186,7 +220,9 @@ line_told same root octets sender opener w e cells c ok =
     note_told cells c h.0 ok h.1.who h.1.note (happens_shows same root octets sender opener w e)
 
 -- and so of a run each of whose worlds has the invariant
-pub lines_of : (same : Term → Term → Bool) (root : ℕ → List ℕ → Term) (octets : Outgoing Term ℕ → List ℕ) (sender : Option (Outgoing Term ℕ) → Option (KeyUse Term)) (opener : Opening Term → List ℕ → Option (Outgoing Term ℕ) → Outcome)
+pub lines_of : (same : Term → Term → Bool) (root : ℕ → List ℕ → Term) (octets : Outgoing Term ℕ → List ℕ)
+    (sender : Option (Outgoing Term ℕ) → Option (KeyUse Term))
+    (opener : Opening Term → List ℕ → Option (Outgoing Term ℕ) → Outcome)
     → (cells : List Site) (w : TheWorld) (es : List Event)
     → ((n : ℕ) → (c : Conns) × WorldOk cells c (run (machine_by same root octets sender opener) w (take n es)))
     → CompletedLines (machine_by same root octets sender opener) w es

@@ -1,6 +1,6 @@
 -- What a station makes and what the phone takes is told in the line of its event: its key, and the NCC of its number.
-use Rattle.std.proofs.Common.{◌≡◌, refl, sym, ap, ◌∙◌, subst, ℕ, Bool, List, [], ◌∷◌, ◌++◌, Option, Some, None, ◌≢◌}
-use Rattle.std.specs.Prelude.{⊤}
+use Rattle.std.proofs.Common.{◌≡◌, refl, sym, ap, ◌∙◌, subst, ℕ, Bool, List, [], ◌∷◌, ◌++◌, Option, Some, None, ◌≢◌, inl, inr}
+use Rattle.std.specs.Prelude.{⊤, ◌⊎◌}
 use Rattle.lte_events.specs.declared.lines.Who.{Who}
 use Rattle.lte_events.specs.declared.events.Event.{Event}
 use Rattle.key_model.specs.Term.{Term}
@@ -9,25 +9,21 @@ use Rattle.key_model.specs.Reading.{term_reading_by}
 use Rattle.lte_machine.proofs.StationCases.{station_case}
 use Rattle.lte_machine.specs.Wire.{KeyUse, Outgoing}
 use Rattle.lte_machine.specs.Opening.{Opening, Outcome}
-use Rattle.lte_machine.specs.Reply.{Note, Reply}
+use Rattle.lte_machine.specs.Reply.{Note, Reply, Made, Took}
 use Rattle.lte_machine.specs.PhoneState.{PhoneInput}
 use Rattle.lte_machine.specs.StationState.{Station, StationInput}
 use Rattle.lte_machine.specs.StationStep.{station_opens, station_pdu_in, station_row_of, station_key}
-use Rattle.lte_machine.specs.World.{Machine, phone_turn, turn_of, happens, with_one}
+use Rattle.lte_machine.specs.World.{Machine, phone_turn, turn_of, happens, with_one, Line}
 use Rattle.lte_machine.specs.PhoneChoice.{phone_row}
 use Rattle.lte_machine.specs.PhoneStep.{plain_phone, front_of, phone_root, phone_opens, phone_pdu_in}
 use Rattle.lte_machine.specs.StationRows.{StationRow}
 use Rattle.lte_machine.specs.StationKeys.{station_does}
-use Rattle.std.specs.Prelude.{◌⊎◌}
-use Rattle.std.proofs.Common.{inl, inr}
 use Rattle.lte_machine.specs.PhoneKeys.{phone_does}
 use Rattle.lte_machine.proofs.Routing.{happens_each}
-use Rattle.lte_machine.specs.Reply.{Made, Took}
-use Rattle.lte_machine.specs.World.{Line}
 use Rattle.lte_properties.specs.ChainHolds.{machine_by}
 use Rattle.lte_properties.specs.Agreement.{Reported, MadeIsTold, TookIsTold, KeysTold, TellsNoneGiven}
 use Rattle.lte_machine.proofs.PhoneGives.{NotedAs, TookNoted, phone_gives}
-use Rattle.lte_properties.proofs.Agreement.World.{TheWorld}
+use Rattle.lte_machine.proofs.Worlds.{TheWorld}
 use Rattle.rec_base.specs.declared.ways.Way.{Way}
 use Rattle.nh_chain.specs.Station.{way_of}
 
@@ -49,7 +45,8 @@ MadeNoted id told (Some m) = (m.station ≡ id) × NotedAs told m.key m.number
 abbrev Notes : ℕ → Station Term ℕ × Reply Term ℕ → Type 0
 Notes id d = MadeNoted id d.1.note d.1.made
 
-station_notes : (same : Term → Term → Bool) (row : StationRow) (key : Option (NumberedKey Term ℕ)) (s : Station Term ℕ) → Notes s.id (station_does (term_reading_by same) row key s)
+station_notes : (same : Term → Term → Bool) (row : StationRow) (key : Option (NumberedKey Term ℕ)) (s : Station Term ℕ)
+    → Notes s.id (station_does (term_reading_by same) row key s)
 station_notes same row key s =
     station_case (term_reading_by same) s (Notes s.id)
     (record {
@@ -93,7 +90,12 @@ station_notes same row key s =
 -- THE WORLD
 
 -- a note that has a key tells it
-noted_tells : (l : Line Term) (who : Who) (key : Term) (number : ℕ) → l.who ≡ who → (o : Option (Note Term)) → l.note ≡ o → NotedAs o key number → Reported l who key number
+noted_tells : (l : Line Term) (who : Who) (key : Term) (number : ℕ)
+    → l.who ≡ who
+    → (o : Option (Note Term))
+    → l.note ≡ o
+    → NotedAs o key number
+    → Reported l who key number
 noted_tells l who key number is None e h = absurd h
 noted_tells l who key number is (Some note) e h = (note, is, e, h.0, h.1)
 
@@ -102,7 +104,8 @@ none_given id None h = tt
 none_given id (Some note) h = h
 
 made_told : (made : List (Made Term ℕ)) (o : Option (Made Term ℕ)) (id : ℕ) (l : Line Term) → l.who ≡ Who.Station id → MadeNoted id l.note o
-    → ((with_one o made ≡ made) × TellsNoneGiven l.who l.note) ⊎ ((m : Made Term ℕ) × (with_one o made ≡ made ++ m ∷ []) × Reported l (Who.Station m.station) m.key m.number)
+    → ((with_one o made ≡ made) × TellsNoneGiven l.who l.note)
+    ⊎ ((m : Made Term ℕ) × (with_one o made ≡ made ++ m ∷ []) × Reported l (Who.Station m.station) m.key m.number)
 made_told made None id l is h = inl (refl, subst (λ who. TellsNoneGiven who l.note) (sym is) (none_given id l.note h))
 made_told made (Some m) id l is h =
     inr (m, refl, noted_tells l (Who.Station m.station) m.key m.number (is ∙ ap Who.Station (sym h.0)) l.note refl h.1)
@@ -124,14 +127,17 @@ world_is_none : Who.World ≡ Who.Phone → ⊥
 world_is_none e = cc
 
 took_told : (took : List (Took Term ℕ)) (o : Option (Took Term ℕ)) (l : Line Term) → l.who ≡ Who.Phone → TookNoted l.note o
-    → ((with_one o took ≡ took) × (l.who ≡ Who.Phone → l.note ≡ None)) ⊎ ((x : Took Term ℕ) × (with_one o took ≡ took ++ x ∷ []) × Reported l Who.Phone x.key x.number)
+    → ((with_one o took ≡ took) × (l.who ≡ Who.Phone → l.note ≡ None))
+    ⊎ ((x : Took Term ℕ) × (with_one o took ≡ took ++ x ∷ []) × Reported l Who.Phone x.key x.number)
 took_told took None l is h = inl (refl, λ e. no_note l.note h)
 took_told took (Some x) l is h = inr (x, refl, noted_tells l Who.Phone x.key x.number is l.note refl h)
 
 abbrev pub BothTold : TheWorld → TheWorld × Line Term → Type 0
 BothTold w h = MadeIsTold w h.0 h.1 × TookIsTold w h.0 h.1
 
-module _ (same : Term → Term → Bool) (root : ℕ → List ℕ → Term) (octets : Outgoing Term ℕ → List ℕ) (sender : Option (Outgoing Term ℕ) → Option (KeyUse Term)) (opener : Opening Term → List ℕ → Option (Outgoing Term ℕ) → Outcome) where
+module _ (same : Term → Term → Bool) (root : ℕ → List ℕ → Term) (octets : Outgoing Term ℕ → List ℕ)
+    (sender : Option (Outgoing Term ℕ) → Option (KeyUse Term))
+    (opener : Opening Term → List ℕ → Option (Outgoing Term ℕ) → Outcome) where
   abbrev m : Machine Term ℕ (Outgoing Term ℕ)
   m = machine_by same root octets sender opener
 
@@ -140,10 +146,15 @@ module _ (same : Term → Term → Bool) (root : ℕ → List ℕ → Term) (oct
     phone_told input came =
         let h = phone_turn m w input came in
         let outcome = opener (phone_opens (term_reading_by same) w.phone input) (phone_pdu_in input) came in
-        let row = phone_row (plain_phone (term_reading_by same) w.phone) (front_of (term_reading_by same) w.phone input) outcome in
-        (inl (refl, tt), took_told w.took (phone_does (term_reading_by same) row (phone_root input) w.phone).1.took h.1 refl (phone_gives same row (phone_root input) w.phone).1)
+        let row = phone_row (plain_phone (term_reading_by same) w.phone) (front_of (term_reading_by same) w.phone input) outcome in (
+          inl (refl, tt),
+          took_told w.took (phone_does (term_reading_by same) row (phone_root input) w.phone).1.took h.1 refl
+              (phone_gives same row (phone_root input) w.phone).1,
+        )
 
-    station_told : (id : ℕ) (input : StationInput Term ℕ) (came : Option (Outgoing Term ℕ)) (s : Station Term ℕ) → s.id ≡ id → BothTold w (turn_of m w id input came (Some s))
+    station_told : (id : ℕ) (input : StationInput Term ℕ) (came : Option (Outgoing Term ℕ)) (s : Station Term ℕ)
+        → s.id ≡ id
+        → BothTold w (turn_of m w id input came (Some s))
     station_told id input came s own =
         let h = turn_of m w id input came (Some s) in
         let outcome = opener (station_opens (term_reading_by same) s input) (station_pdu_in input) came in
@@ -156,7 +167,9 @@ module _ (same : Term → Term → Bool) (root : ℕ → List ℕ → Term) (oct
 
     happens_told : (e : Event) → BothTold w (happens m w e)
     happens_told =
-        happens_each m w (λ done a. BothTold w done) (λ ksi key caps. (inl (refl, tt), inl (refl, λ f. absurd (both_is_none f)))) (λ input came turn. phone_told input came)
+        happens_each m w (λ done a. BothTold w done)
+        (λ ksi key caps. (inl (refl, tt), inl (refl, λ f. absurd (both_is_none f))))
+        (λ input came turn. phone_told input came)
         (λ input came. (inl (refl, tt), inl (refl, λ f. absurd (core_is_none f)))) (λ id input came s there own. station_told id input came s own)
         (λ answer. (inl (refl, tt), inl (refl, λ f. absurd (world_is_none f))))
 

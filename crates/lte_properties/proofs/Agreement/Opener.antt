@@ -142,10 +142,12 @@ nas_honest : (same : Term → Term → Bool) (c : Ciphers Term) (u : KeyUse Term
 unfolding open_foreign
 nas_honest same c u e pdu None = tt
 nas_honest same c u e pdu (Some (SealedNas dir header i f sent)) =
-    counted_case c u e pdu (Some (SealedNas dir header i f sent)) (same_uses same u i) (same_ciphering same e f) sent (λ b. counted_nas u i e f dir header sent (one_count same u i b))
+    counted_case c u e pdu (Some (SealedNas dir header i f sent)) (same_uses same u i) (same_ciphering same e f) sent
+    (λ b. counted_nas u i e f dir header sent (one_count same u i b))
 nas_honest same c u e pdu (Some (PlainNas octets)) = tt
 nas_honest same c u e pdu (Some (SealedRrc dir station air srb i f sent)) =
-    counted_case c u e pdu (Some (SealedRrc dir station air srb i f sent)) (same_uses same u i) false sent (λ b. counted_rrc u i e f dir station air srb sent (one_count same u i b))
+    counted_case c u e pdu (Some (SealedRrc dir station air srb i f sent)) (same_uses same u i) false sent
+    (λ b. counted_rrc u i e f dir station air srb sent (one_count same u i b))
 nas_honest same c u e pdu (Some (UserPacket dir station air drb f sent)) = tt
 nas_honest same c u e pdu (Some (Between to fields key)) = tt
 
@@ -158,7 +160,10 @@ opener_honest c opener is (OpensSrb u e) pdu came = subst (IsHonest (OpensSrb u 
 opener_honest c opener is (OpensDrb e) pdu came = tt
 
 -- so each event of its machine is honest
-pub honest : (same : Term → Term → Bool) (root : ℕ → List ℕ → Term) (octets : Outgoing Term ℕ → List ℕ) (sender : Option (Outgoing Term ℕ) → Option (KeyUse Term)) (opener : Opening Term → List ℕ → Option (Outgoing Term ℕ) → Outcome) (c : Ciphers Term) → OpensByTerms c opener
+pub honest : (same : Term → Term → Bool) (root : ℕ → List ℕ → Term) (octets : Outgoing Term ℕ → List ℕ)
+    (sender : Option (Outgoing Term ℕ) → Option (KeyUse Term))
+    (opener : Opening Term → List ℕ → Option (Outgoing Term ℕ) → Outcome) (c : Ciphers Term)
+    → OpensByTerms c opener
     → (w : World Term ℕ (Outgoing Term ℕ)) (e : Event) → Honest (machine_by same root octets sender opener) w e
 honest same root octets sender opener c is w e =
     let a = attempted (machine_by same root octets sender opener) w e in opener_honest c opener is a.opening a.octets a.came

@@ -36,8 +36,13 @@ follows_key m kenb is x (Changed before root) h last j xs b =
     let k : IsBehind (Some before) (x ∷ xs) = subst (λ o. IsBehind o (x ∷ xs)) j b in
     subst (λ t. IsBefore t x.key) (one_change m.from before.key kenb h.renewed is) k.0
 
-module _ (made : List (Made Term ℕ)) (station air : ℕ) (m : Made Term ℕ) (there : made_at made station air ≡ Some m) (kenb : Term) (is : m.from ≡ ByChange kenb) where
-  not_here : (last : Option (Before Term ℕ)) (x : Took Term ℕ) (xs : List (Took Term ℕ)) → Joins x.came last → IsBehind last (x ∷ xs) → IsNotAfter x.key kenb → Obeys made x
+module _ (made : List (Made Term ℕ)) (station air : ℕ) (m : Made Term ℕ) (there : made_at made station air ≡ Some m)
+    (kenb : Term) (is : m.from ≡ ByChange kenb) where
+  not_here : (last : Option (Before Term ℕ)) (x : Took Term ℕ) (xs : List (Took Term ℕ))
+      → Joins x.came last
+      → IsBehind last (x ∷ xs)
+      → IsNotAfter x.key kenb
+      → Obeys made x
       → is_took_at station air x ≡ true → ⊥
   not_here last x xs j b after obeys e =
       let at = both_named x.station station x.air air e in
@@ -50,7 +55,11 @@ module _ (made : List (Made Term ℕ)) (station air : ℕ) (m : Made Term ℕ) (
   step x o true f e = absurd (f refl)
   step x o false f e = e
 
-  new_in : (last : Option (Before Term ℕ)) (took : List (Took Term ℕ)) → Follow last took → TookInOrder took → IsBehind last took → AllOf (λ x. IsNotAfter x.key kenb) took
+  new_in : (last : Option (Before Term ℕ)) (took : List (Took Term ℕ))
+      → Follow last took
+      → TookInOrder took
+      → IsBehind last took
+      → AllOf (λ x. IsNotAfter x.key kenb) took
       → AllOf (Obeys made) took → took_at took station air ≡ None
   new_in last [] f o b after obeys = refl
   new_in last (x ∷ xs) f o b after obeys =

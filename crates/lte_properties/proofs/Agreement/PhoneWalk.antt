@@ -76,7 +76,8 @@ start_named g w station air pdu on algs ns na reads is_s is_a u key down text (S
 start_named g w station air pdu on algs ns na reads is_s is_a u key down text (Some (UserPacket dir st a drb e sent)) h sealed calm = absurd sealed
 start_named g w station air pdu on algs ns na reads is_s is_a u key down text (Some (Between to fields k)) h sealed calm = absurd sealed
 
-module _ (same : Term → Term → Bool) (g : Ghost) (s : Phone Term ℕ) (station air : ℕ) (pdu : List ℕ) (on : Which) (came : Option (Outgoing Term ℕ)) (came_ok : CameDown g station air on pdu came) (yet : NothingYet g s.radio) where
+module _ (same : Term → Term → Bool) (g : Ghost) (s : Phone Term ℕ) (station air : ℕ) (pdu : List ℕ) (on : Which)
+    (came : Option (Outgoing Term ℕ)) (came_ok : CameDown g station air on pdu came) (yet : NothingYet g s.radio) where
   -- a text under the phone's keys is what the station there sent, which made the phone's key
   text_is : (l : Link Term ℕ) → LinkIs g l → l.station ≡ station → l.air ≡ air → (srb : Srb) (count : ℕ) → on ≡ OnSrb srb
       → (text : List ℕ) (o : Option (Outgoing Term ℕ)) → CameDown g station air on pdu o
@@ -100,7 +101,9 @@ module _ (same : Term → Term → Bool) (g : Ghost) (s : Phone Term ℕ) (stati
       let srbs : srb ≡ sr = one_srb srb sr (sym is_on ∙ k.2) in
       let cipher : Some (srb_ciphering Down l.keys srb count) ≡ Some f =
       (λ j. Some (srb_ciphering Down (keys j) (srbs j) (counts j))) ∙ ap Some (sym d.3.0) in (
-        subst (λ n. TextOk g n l.kenb text) (sym is_s) (subst (λ t. TextOk g station t text) (sym kenb) (subst (TextOk g station m.key) (sym (sealed.1 cipher)) d.4)),
+        subst (λ n. TextOk g n l.kenb text) (sym is_s)
+            (subst (λ t. TextOk g station t text) (sym kenb)
+            (subst (TextOk g station m.key) (sym (sealed.1 cipher)) d.4)),
         (h.2, h.3, kenb ∙ ap (λ x. x.key) (sym one)),
       )
     where
@@ -116,7 +119,8 @@ module _ (same : Term → Term → Bool) (g : Ghost) (s : Phone Term ℕ) (stati
   abbrev front : AirFront
   front = phone_air q s station air on pdu
 
-  module _ (ok : RadioOk g s.radio) (outcome : Outcome) (honest : IsHonest (air_expects q front s) came outcome) (calm : IsCalm (air_expects q front s) came outcome) where
+  module _ (ok : RadioOk g s.radio) (outcome : Outcome) (honest : IsHonest (air_expects q front s) came outcome)
+      (calm : IsCalm (air_expects q front s) came outcome) where
     -- where the front and the text are known
     abbrev At : (Opening Term → Option (Outgoing Term ℕ) → Outcome → Type 0) → AirFront → List ℕ → Type 0
     At P x text = P (air_expects q x s) came (Opened text)
@@ -125,10 +129,12 @@ module _ (same : Term → Term → Bool) (g : Ghost) (s : Phone Term ℕ) (stati
         → P (air_expects q front s) came outcome → At P x text
     at_front P x text e f h = subst (λ y. At P y text) e (subst (λ o. P (air_expects q front s) came o) f h)
 
-    at_start : (P : Opening Term → Option (Outgoing Term ℕ) → Outcome → Type 0) (st a : ℕ) (algs : Algs) (count : ℕ) → (f : Secures q s station air on pdu outcome st a algs count)
+    at_start : (P : Opening Term → Option (Outgoing Term ℕ) → Outcome → Type 0) (st a : ℕ) (algs : Algs) (count : ℕ)
+        → (f : Secures q s station air on pdu outcome st a algs count)
         → P (air_expects q front s) came outcome → P (start_expects q count algs (Connecting f.by.waiting)) came (Opened f.text)
     at_start P st a algs count f h =
-        subst (λ radio. P (start_expects q count algs radio) came (Opened f.text)) f.by.waits (at_front P (AtStart count algs f.named st a) f.text f.front f.opened h)
+        subst (λ radio. P (start_expects q count algs radio) came (Opened f.text)) f.by.waits
+        (at_front P (AtStart count algs f.named st a) f.text f.front f.opened h)
 
     secured : (st a : ℕ) (algs : Algs) (count : ℕ) → Secures q s station air on pdu outcome st a algs count → StartNeeds g st a algs s.radio
     secured st a algs count f =
@@ -141,10 +147,12 @@ module _ (same : Term → Term → Bool) (g : Ghost) (s : Phone Term ℕ) (stati
         (srb_use Down (keys_of b.waiting.kenb algs).rrc_int Signalling1 count) refl refl f.text came came_ok
         (at_start IsHonest st a algs count f honest) (at_start IsCalm st a algs count f calm))))
 
-    at_signalling : (P : Opening Term → Option (Outgoing Term ℕ) → Outcome → Type 0) (srb : Srb) (count : ℕ) (y : RrcRecord) → (f : Reads q s station air on pdu outcome srb count y)
+    at_signalling : (P : Opening Term → Option (Outgoing Term ℕ) → Outcome → Type 0) (srb : Srb)
+        (count : ℕ) (y : RrcRecord) → (f : Reads q s station air on pdu outcome srb count y)
         → P (air_expects q front s) came outcome → P (signalling_expects {C = ℕ} srb count (Connected f.by.here.link)) came (Opened f.text)
     at_signalling P srb count y f h =
-        subst (λ radio. P (signalling_expects {C = ℕ} srb count radio) came (Opened f.text)) f.by.here.connected (at_front P (AtSignalling srb count f.own) f.text f.front f.opened h)
+        subst (λ radio. P (signalling_expects {C = ℕ} srb count radio) came (Opened f.text)) f.by.here.connected
+        (at_front P (AtSignalling srb count f.own) f.text f.front f.opened h)
 
     heard : (srb : Srb) (count : ℕ) (y : RrcRecord) → (f : Reads q s station air on pdu outcome srb count y)
         → TextOk g f.by.here.link.station f.by.here.link.kenb f.text × OwnMade g f.by.here.link

@@ -1,36 +1,47 @@
--- What the rows of a station on records and PDUs leave of the invariant of agreement.
-use Rattle.std.proofs.Common.{◌≡◌, ℕ, ◌+◌, ◌<◌, ◌≤◌, refl, sym, ◌∙◌, ap, subst, arith, Bool, true, false, List, [], ◌∷◌, ◌++◌, Option, Some, None, option_map}
+-- What the rows of a station on records leave of the invariant of agreement.
+use Rattle.std.proofs.Common.{◌≡◌, ℕ, ◌<◌, ◌≤◌, ◌+◌, refl, sym, ◌∙◌, ap, subst, arith, Bool, true, false, List, [], ◌∷◌, ◌++◌, Option, Some, None, Ok, option_map}
 use Rattle.std.specs.Prelude.{⊤, length, slice_index, slice_set}
 use Rattle.std.proofs.lemmas.List.{length-set}
 use Rattle.alg_choice.specs.declared.algs.Algs.{Algs}
 use Rattle.alg_choice.specs.declared.caps.Caps.{Caps}
 use Rattle.annex_a_keys.specs.Cell.{Place, IsCell}
+use Rattle.lte_events.specs.declared.answers.Answer.TheVariants.{Done}
+use Rattle.lte_events.specs.declared.addresses.Address.{Address}
 use Rattle.lte_events.specs.Site.{Site}
-use Rattle.key_model.specs.Term.{Term, Kenb, Star}
+use Rattle.key_model.specs.Term.{Term, Star}
 use Rattle.key_model.specs.Chain.{ncc_of}
-use Rattle.key_model.specs.Reading.{term_reading_by}
+use Rattle.key_model.specs.Reading.{Reading, term_reading_by}
 use Rattle.key_model.specs.HandoverTable.{NumberedKey}
+use Rattle.key_model.specs.HandoverLines.{star_line}
 use Rattle.rrc_rec.specs.declared.records.RrcRecord.TheVariants.{SecurityModeCommand}
+use Rattle.s1x2_rec.specs.Content.{Content, map_content}
+use Rattle.s1x2_rec.specs.Fields.{Fields, HandoverRequest, X2Request, ContextModification}
 use Rattle.ho_prep.specs.declared.origins.By.{By}
-use Rattle.ho_prep.specs.Prep.{Prep, is_at, at_air}
 use Rattle.lte_machine.specs.Bearers.{Signalling1}
-use Rattle.lte_machine.specs.Reply.{Origin, BySetup, ByAttempt, ByChange, Made, Tried, Reply, BySource, ByTarget}
-use Rattle.lte_machine.specs.StationState.{Station, Context, Attempt, OverX2, OverS1, Within, Renewal, Renewing, X2Open, X2Ready, X2Commanded, S1Open, S1Ready, S1Commanded}
-use Rattle.lte_machine.specs.StationRows.{Admitted, RecordRow, RecordRefused, ContextGiven, ContextReleased, PairTaken, PreparedByS1, PreparedByX2, AckedByS1, AckedByX2, PreparationCancelled, SourceReleased, KeyRenewed, AirRow, AirRefused, SecurityStarted, RrcOpened, PacketOpened, CompletedByS1, CompletedWithin, CompletedByX2}
-use Rattle.lte_machine.specs.StationKeys.{with_security, with_rrc_taken, with_packet_taken, completed_by_s1, completed_within, completed_by_x2, air_does}
-use Rattle.lte_machine.specs.StationRecords.{context_given, with_pair, source_release, pair_taken, admitted_prep, prepared_by_s1, prepared_by_x2, s1_acked, x2_acked, with_s1_ack, with_x2_ack, change_text, key_renewed, record_does}
+use Rattle.lte_machine.specs.Reply.{Origin, BySetup, ByAttempt, ByChange, Made, Tried, Reply, Handover, BySource, ByTarget, only, unseen}
+use Rattle.lte_machine.specs.Wire.{Outgoing, Between}
+use Rattle.lte_machine.specs.StationState.{Station, Context, Attempt, OverX2, OverS1, Renewal, X2Open, S1Open, Interface, OnS1, OnX2}
+use Rattle.lte_machine.specs.StationRows.{Admitted, RecordRow}
+use Rattle.lte_machine.specs.StationRecords.{context_given, with_pair, source_release, pair_taken, admitted_prep, admitted_made, with_admitted, prepared_by_s1, prepared_by_x2, s1_acked, x2_acked, with_s1_ack, with_x2_ack, change_text, key_renewed, record_does}
+use Rattle.lte_machine.specs.StationChoice.{record_row}
+use Rattle.lte_machine.specs.StationStep.{plain_station}
+use Rattle.lte_machine.proofs.RecordFacts.{Takes, Admits, AnswersS1, AnswersX2, Renews, RecordHas, record_has}
+use Rattle.lte_machine.proofs.Routing.{address_on}
+use Rattle.lte_machine.proofs.StationCases.{RecordCases, record_case}
+use Rattle.lte_machine.proofs.Tests.{by_some}
 use Rattle.lte_properties.specs.ChainBelow.{AllOf}
+use Rattle.lte_properties.specs.ChainAbove.{AnswerOk, InFlight}
 use Rattle.lte_properties.specs.Agreement.{made_at, HadTaken}
-use Rattle.lte_properties.proofs.Agreement.Terms.{base_nh}
 use Rattle.lte_properties.specs.Chains.{chain_key}
-use Rattle.lte_properties.proofs.Agreement.Ghost.{Ghost, is_tried_at, tried_at, chain_at, keys_of, TermOk, PairOk, PairsOk, FromIs, HereIs, Leads, GivenFits, FromOk, MadeOk, GivenOk, TriedOk, EntryIs, AttemptOk, StartedOk, CtxOk, PrepOk, FreshFrom, SeenBy, StationOk, SaysOk, IsOther, ChangeIs, AskedIs, AckIs, HasNcc, AnyMade, OutOk}
+use Rattle.lte_properties.proofs.Agreement.Terms.{base_nh}
+use Rattle.lte_properties.proofs.Agreement.Ghost.{Ghost, is_tried_at, tried_at, chain_at, TermOk, PairOk, Leads, GivenFits, FromOk, MadeOk, TriedOk, GivenOk, AttemptOk, StartedOk, CtxOk, PrepOk, FreshFrom, SeenBy, StationOk, SaysOk, IsOther, StartIs, OrderIs, UnderKey, ChangeIs, AckIs, HasNcc, AnyMade, BetweenOk, OutOk}
 use Rattle.lte_properties.proofs.Agreement.Later.{same_found, made_later, ctx_later, preps_later}
 use Rattle.lte_properties.proofs.ChainNumbers.Lists.{all_map}
 use Rattle.lte_properties.proofs.Agreement.Phone.{all_found}
 use Rattle.lte_properties.proofs.Agreement.PhoneWalk.{both_named}
 use Rattle.lte_properties.proofs.Agreement.Seen.{NotBoth, setup_no_attempt, change_no_attempt, change_no_setup, apart_always, apart_unseen, seen_more, seen_there}
 use Rattle.lte_properties.proofs.Agreement.StationSends.{sends_down, change_says}
-use Rattle.lte_properties.proofs.Agreement.Told.{found_holds, told, told_more, made_new, made_none, MadeBy, TriedBy, all_append, all_filter, reads_as, term_number, leads_up, star_term, if_tried}
+use Rattle.lte_properties.proofs.Agreement.Told.{found_holds, told, told_more, made_new, made_none, MadeBy, TriedBy, all_append, all_filter, reads_as, term_number, leads_up, star_term}
 
 -- what is told anew
 abbrev pub NewMade : Ghost → Ghost → Option (Made Term ℕ) → Type 0
@@ -48,96 +59,14 @@ StationGoes cells g s d =
     StationOk cells h d.0 × NewMade g h d.1.made × NewTried cells h s.id d.1.tried × OutOk h d.1.sent
     × (d.0.id ≡ s.id) × MadeBy s.id d.1.made × TriedBy s.id d.1.tried
 
--- what the rows on a record need of it
-abbrev pub PairNeeds : Ghost → NumberedKey Term ℕ → Option (Context Term ℕ) → Type 0
-PairNeeds g pair None = ⊤
-PairNeeds g pair (Some c) = PairOk g c.conn pair
+-- the cell of a context is a cell
+abbrev pub CellFits : Option (Context Term ℕ) → Type 0
+CellFits None = ⊤
+CellFits (Some c) = IsCell c.cell
 
--- an air address is drawn: the station's next number, which is in range
-abbrev pub DrawsAir : ℕ → ℕ → Type 0
-DrawsAir next air = (air ≡ next) × (air < 4294967296)
-
-abbrev pub IsTarget : ℕ → Tried Term ℕ → Type 0
-IsTarget id e = (e.target ≡ id) × IsOther e
-
-abbrev pub IsTargetAbove : ℕ → ℕ → Tried Term ℕ → Type 0
-IsTargetAbove id number e = (e.number < number) × IsTarget id e
-
-abbrev pub ContextNeeds : Ghost → ℕ → ℕ → ℕ → Option (NumberedKey Term ℕ) → Type 0
-ContextNeeds g next conn air None = ⊤
-ContextNeeds g next conn air (Some key) = DrawsAir next air × (conn < g.next) × (key.key ≡ chain_at g conn 0)
-
-abbrev pub PairTakenNeeds : Ghost → Option (Context Term ℕ) → Option (NumberedKey Term ℕ) → Type 0
-PairTakenNeeds g o None = ⊤
-PairTakenNeeds g o (Some pair) = PairNeeds g pair o
-
--- an attempt that was not seen yet
-abbrev pub IsNews : List ℕ → Origin → Type 0
-IsNews seen o = slice_index seen o.source < o.attempt
-
-abbrev pub S1Needs : Ghost → ℕ → ℕ → Admitted → Option (NumberedKey Term ℕ) → Type 0
-S1Needs g id next w None = ⊤
-S1Needs g id next w (Some pair) =
-    DrawsAir next w.air × PairOk g w.conn pair
-    × AskedIs g w.conn w.from.source w.from.attempt w.cell ByTarget (IsTargetAbove id pair.number)
-
-abbrev pub X2Needs : Ghost → ℕ → ℕ → Admitted → Option (NumberedKey Term ℕ) → Type 0
-X2Needs g id next w None = ⊤
-X2Needs g id next w (Some star) =
-    DrawsAir next w.air × TermOk g w.conn star.key star.number
-    × AskedIs g w.conn w.from.source w.from.attempt w.cell (BySource star) (IsTarget id)
-
-abbrev pub S1AckNeeds : Ghost → ℕ → ℕ → Algs → ℕ → Option (Attempt Term ℕ) → Type 0
-S1AckNeeds g id ncc algs air (Some (OverS1 (S1Open start))) = AckIs g id start.number algs air (HasNcc ncc)
-S1AckNeeds g id ncc algs air other = ⊤
-
-abbrev pub S1AckOf : Ghost → ℕ → ℕ → Algs → ℕ → Option (Context Term ℕ) → Type 0
-S1AckOf g id ncc algs air None = ⊤
-S1AckOf g id ncc algs air (Some c) = S1AckNeeds g id ncc algs air c.attempt
-
-abbrev pub X2AckNeeds : Ghost → ℕ → Algs → ℕ → Option (Attempt Term ℕ) → Type 0
-X2AckNeeds g id algs air (Some (OverX2 (X2Open start))) = AckIs g id start.number algs air AnyMade
-X2AckNeeds g id algs air other = ⊤
-
-abbrev pub X2AckOf : Ghost → ℕ → Algs → ℕ → Option (Context Term ℕ) → Type 0
-X2AckOf g id algs air None = ⊤
-X2AckOf g id algs air (Some c) = X2AckNeeds g id algs air c.attempt
-
--- the context is active, its cell is a cell, and the key received is the first of the next connection, of COUNT 0
-abbrev pub RenewNeeds : Ghost → ℕ → ℕ → ℕ → Option (Context Term ℕ) → Option (NumberedKey Term ℕ) → Type 0
-RenewNeeds g next conn air (Some c) (Some key) =
-    DrawsAir (next + 1) air × (c.starting ≡ false) × IsCell c.cell × (conn < g.next)
-    × (key.key ≡ chain_at g conn 0) × (r : Term) × (key.key ≡ Kenb r 0)
-RenewNeeds g next conn air context key = ⊤
-
-abbrev pub RecordNeeds : Ghost → Station Term ℕ → RecordRow → Option (NumberedKey Term ℕ) → Type 0
-RecordNeeds g s (ContextGiven conn cell caps algs air) key = ContextNeeds g s.next conn air key
-RecordNeeds g s (PairTaken conn origin) key = PairTakenNeeds g s.context key
-RecordNeeds g s (PreparedByS1 w) key = S1Needs g s.id s.next w key × IsNews s.seen w.from
-RecordNeeds g s (PreparedByX2 w) key = X2Needs g s.id s.next w key × IsNews s.seen w.from
-RecordNeeds g s (AckedByS1 ncc algs air) key = S1AckOf g s.id ncc algs air s.context
-RecordNeeds g s (AckedByX2 algs air) key = X2AckOf g s.id algs air s.context
-RecordNeeds g s (KeyRenewed conn number air count) key = RenewNeeds g s.next conn air s.context key
-RecordNeeds g s other key = ⊤
-
--- what the rows on a PDU need: the phone had taken the key of the preparation
-abbrev pub TakenThere : Ghost → ℕ → Option (Prep Term ℕ) → Type 0
-TakenThere g id None = ⊤
-TakenThere g id (Some p) = HereIs g id p.air p.key.kenb × HadTaken g.took id p.air p.key.kenb
-
-abbrev pub StartingNeeds : Ghost → ℕ → Option (Context Term ℕ) → Type 0
-StartingNeeds g id None = ⊤
-StartingNeeds g id (Some c) = HadTaken g.took id c.air c.key.kenb
-
-abbrev pub AirNeeds : Ghost → Station Term ℕ → AirRow → Type 0
-AirNeeds g s (SecurityStarted count) = StartingNeeds g s.id s.context
-AirNeeds g s (CompletedByS1 air count) = TakenThere g s.id (at_air air s.preps)
-AirNeeds g s (CompletedWithin air count origin) = TakenThere g s.id (at_air air s.preps)
-AirNeeds g s (CompletedByX2 air count number) = (number ≡ s.next) × TakenThere g s.id (at_air air s.preps)
-AirNeeds g s other = ⊤
-
-at_least : {next air : ℕ} → air ≡ next → 1 ≤ next → 1 ≤ air
-at_least e low = omega arith
+-- a number that is drawn is in range
+drawn : (next air : ℕ) → air ≡ next → next < 4294967296 → air < 4294967296
+drawn next air e lt = omega arith
 
 pub started_map : (g : Ghost) (id air : ℕ) (t : Term) (starting : Bool) (f : Attempt Term ℕ → Attempt Term ℕ) (o : Option (Attempt Term ℕ))
     → StartedOk g id air t starting o → StartedOk g id air t starting (option_map f o)
@@ -145,55 +74,91 @@ started_map g id air t true f o h = ap (option_map f) h
 started_map g id air t false f o h = h
 
 -- an active context's key was taken, so that it may have any attempt
-pub started_any : (g : Ghost) (id air : ℕ) (t : Term) (starting : Bool) (o : Option (Attempt Term ℕ)) → starting ≡ false → HadTaken g.took id air t → StartedOk g id air t starting o
+pub started_any : (g : Ghost) (id air : ℕ) (t : Term) (starting : Bool) (o : Option (Attempt Term ℕ)) → starting ≡ false → HadTaken g.took id air t
+    → StartedOk g id air t starting o
 started_any g id air t true o e h = absurd cc
 started_any g id air t false o e h = h
 
-pub had_by : (g : Ghost) (id air : ℕ) (t : Term) (starting : Bool) (o : Option (Attempt Term ℕ)) → starting ≡ false → StartedOk g id air t starting o → HadTaken g.took id air t
+pub had_by : (g : Ghost) (id air : ℕ) (t : Term) (starting : Bool) (o : Option (Attempt Term ℕ)) → starting ≡ false → StartedOk g id air t starting o
+    → HadTaken g.took id air t
 had_by g id air t true o e h = absurd cc
 had_by g id air t false o e h = h
 
--- a change of the context that keeps all this
-pub map_ctx : (g : Ghost) (id : ℕ) (f : Context Term ℕ → Context Term ℕ) → ((c : Context Term ℕ) → CtxOk g id (Some c) → CtxOk g id (Some (f c)))
-    → (o : Option (Context Term ℕ)) → CtxOk g id o → CtxOk g id (option_map f o)
-map_ctx g id f keeps None h = tt
-map_ctx g id f keeps (Some c) h = keeps c h
+-- the context of a station
+module _ (cells : List Site) (g : Ghost) (s : Station Term ℕ) (ok : StationOk cells g s) where
+  -- where it alone changes
+  pub with_ctx : (o : Option (Context Term ℕ)) → CtxOk g s.id o → StationOk cells g (record s { context = o })
+  with_ctx o k = (k, ok.1, ok.2, ok.3, ok.4, ok.5, ok.6, ok.7)
 
-module _ (same : Term → Term → Bool) (cells : List Site) (g : Ghost) (made_ok : AllOf (MadeOk g) g.made) (tried_ok : AllOf (TriedOk cells g) g.tried) where
-  -- BY A RECORD
+  map_ctx : (f : Context Term ℕ → Context Term ℕ) → ((c : Context Term ℕ) → CtxOk g s.id (Some c) → CtxOk g s.id (Some (f c)))
+      → (o : Option (Context Term ℕ)) → CtxOk g s.id o → CtxOk g s.id (option_map f o)
+  map_ctx f keeps None h = tt
+  map_ctx f keeps (Some c) h = keeps c h
 
-  context_given_goes : (conn : ℕ) (cell : Place) (caps : Caps) (algs : Algs) (air : ℕ) (key : Option (NumberedKey Term ℕ)) (s : Station Term ℕ)
-      → StationOk cells g s → ContextNeeds g s.next conn air key
-      → StationGoes cells g s (context_given (term_reading_by same) conn cell caps algs air key s)
-  context_given_goes conn cell caps algs air None s h needs = (h, tt, tt, tt, refl, tt, tt)
-  context_given_goes conn cell caps algs air (Some key) s h needs =
+  pub mapped : (f : Context Term ℕ → Context Term ℕ) → ((c : Context Term ℕ) → CtxOk g s.id (Some c) → CtxOk g s.id (Some (f c)))
+      → StationOk cells g (record s { context = option_map f s.context })
+  mapped f keeps = with_ctx (option_map f s.context) (map_ctx f keeps s.context ok.0)
+
+  -- where it is this one
+  pub ctx_at : (c : Context Term ℕ) → s.context ≡ Some c → CtxOk g s.id (Some c)
+  ctx_at c e = subst (CtxOk g s.id) e ok.0
+
+  pub mapped_at : (f : Context Term ℕ → Context Term ℕ) (c : Context Term ℕ) → s.context ≡ Some c → CtxOk g s.id (Some (f c))
+      → StationOk cells g (record s { context = option_map f s.context })
+  mapped_at f c e k = with_ctx (option_map f s.context) (subst (λ o. CtxOk g s.id (option_map f o)) (sym e) k)
+
+  -- an active one is the one that a choice found, and the phone had taken its key
+  pub had : (b c : Context Term ℕ) → s.context ≡ Some b → s.context ≡ Some c → b.starting ≡ false → HadTaken g.took s.id c.air c.key.kenb
+  had b c e f active =
+      let h = ctx_at c f in had_by g s.id c.air c.key.kenb c.starting c.attempt (subst (λ x. x.starting ≡ false) (by_some (sym e ∙ f)) active) h.5
+
+module _ (same : Term → Term → Bool) (cells : List Site) (g : Ghost) (made_ok : AllOf (MadeOk g) g.made) (tried_ok : AllOf (TriedOk cells g) g.tried)
+    (s : Station Term ℕ) (ok : StationOk cells g s) where
+  abbrev r : Reading Term ℕ
+  r = term_reading_by same
+
+  abbrev Goes : Station Term ℕ × Reply Term ℕ → Type 0
+  Goes d = StationGoes cells g s d
+
+  -- what was tried, and what was made
+  own_try : (source attempt : ℕ) (e : Tried Term ℕ) → tried_at g.tried source attempt ≡ Some e → TriedOk cells g e
+  own_try source attempt e found = all_found (TriedOk cells g) (is_tried_at source attempt) g.tried e tried_ok found
+
+  -- nothing was made or tried above what is made now
+  fresh_above : (m : Made Term ℕ) → s.next ≤ m.air → FreshFrom (told g (Some m) None) s.id (m.air + 1)
+  fresh_above m up n above = (made_none g.made m s.id n (ok.2 n (omega arith)).0 (omega arith), (ok.2 n (omega arith)).1)
+
+  -- A CONTEXT
+
+  given_goes : (conn : ℕ) (cell : Place) (caps : Caps) (algs : Algs) (air : ℕ) (kenb : NumberedKey Term ℕ) → air ≡ s.next → air < 4294967296
+      → conn < g.next → kenb.key ≡ chain_at g conn 0 → Goes (context_given r conn cell caps algs air (Some kenb) s)
+  given_goes conn cell caps algs air kenb draws small of_conn key_is =
       let m : Made Term ℕ = record {
         station = s.id;
         air = air;
         conn = conn;
         cell = cell;
-        key = key.key;
+        key = kenb.key;
         number = 0;
         algs = algs;
         from = BySetup;
       } in
-      let draws = needs.0 in
-      let here : made_at (g.made ++ m ∷ []) s.id air ≡ Some m = made_new g.made m (h.2 air (omega arith)).0 in
-      let low : 1 ≤ air = at_least draws.0 h.5 in
-      let text = reads_as (SaysOk (told g (Some m) None) s.id key.key) (SecurityModeCommand algs s.id air) (h.4, (low, draws.1)) (m, here, refl, refl) in
-      let fresh : FreshFrom (told g (Some m) None) s.id (air + 1) =
-      λ n above. (made_none g.made m s.id n (h.2 n (omega arith)).0 (omega arith), (h.2 n (omega arith)).1) in (
+      let here : made_at (g.made ++ m ∷ []) s.id air ≡ Some m = made_new g.made m (ok.2 air (omega arith)).0 in
+      let first = ok.5 in
+      let low : 1 ≤ air = omega arith in
+      let term : TermOk (told g (Some m) None) conn kenb.key 0 = (of_conn, omega arith, ap chain_key key_is) in
+      let text = reads_as (SaysOk (told g (Some m) None) s.id kenb.key) (SecurityModeCommand algs s.id air) (ok.4, (low, small)) (m, here, refl, refl) in (
         (
-          ((needs.1, omega arith, ap chain_key needs.2), tt, refl, (m, here, (refl, refl, refl), refl, tt), tt, refl),
+          (term, tt, refl, (m, here, (refl, refl, refl), refl, tt), tt, refl),
           tt,
-          fresh,
-          h.3,
-          h.4,
+          fresh_above m (omega arith),
+          ok.3,
+          ok.4,
           omega arith,
-          h.6,
-          all_append (SeenBy s.id s.seen) g.made m h.7 (λ at o e other. absurd (setup_no_attempt m refl o e)),
+          ok.6,
+          all_append (SeenBy s.id s.seen) g.made m ok.7 (λ at o e other. absurd (setup_no_attempt m refl o e)),
         ),
-        ((low, draws.1, h.4, (refl, needs.1, needs.2), here, (needs.1, omega arith, ap chain_key needs.2)), apart_always m (setup_no_attempt m refl) g.made),
+        ((low, small, ok.4, (refl, of_conn, key_is), here, term), apart_always m (setup_no_attempt m refl) g.made),
         tt,
         (m, here, refl, (refl, refl, refl), text),
         refl,
@@ -201,300 +166,261 @@ module _ (same : Term → Term → Bool) (cells : List Site) (g : Ghost) (made_o
         tt,
       )
 
-  pair_ctx : (id : ℕ) (pair : NumberedKey Term ℕ) (o : Option (Context Term ℕ)) → CtxOk g id o → PairNeeds g pair o
-      → CtxOk g id (option_map (with_pair pair) o)
-  pair_ctx id pair None h needs = tt
-  pair_ctx id pair (Some c) h needs = (h.0, needs, h.2, h.3, h.4, h.5)
-
   release_out : (conn : ℕ) (origin : Option Origin) → OutOk g (source_release conn origin)
   release_out conn None = tt
   release_out conn (Some o) = tt
 
-  pair_taken_goes : (conn : ℕ) (origin : Option Origin) (key : Option (NumberedKey Term ℕ)) (s : Station Term ℕ)
-      → StationOk cells g s → PairTakenNeeds g s.context key → StationGoes cells g s (pair_taken conn origin key s)
-  pair_taken_goes conn origin None s h needs = (h, tt, tt, tt, refl, tt, tt)
-  pair_taken_goes conn origin (Some pair) s h needs =
-      ((pair_ctx s.id pair s.context h.0 needs, h.1, h.2, h.3, h.4, h.5, h.6, h.7), tt, tt, release_out conn origin, refl, tt, tt)
+  taken_goes : (conn : ℕ) (origin : Option Origin) (pair : NumberedKey Term ℕ) (c : Context Term ℕ) → s.context ≡ Some c → PairOk g c.conn pair
+      → Goes (pair_taken conn origin (Some pair) s)
+  taken_goes conn origin pair c e pair_ok =
+      let h = ctx_at cells g s ok c e in
+      (mapped_at cells g s ok (with_pair pair) c e (h.0, pair_ok, h.2, h.3, h.4, h.5), tt, tt, release_out conn origin, refl, tt, tt)
 
-  -- a preparation of what was made by an attempt
-  prepared_goes : (w : Admitted) (star : NumberedKey Term ℕ) (s : Station Term ℕ) → StationOk cells g s → DrawsAir s.next w.air
-      → (e : Tried Term ℕ) → tried_at g.tried w.from.source w.from.attempt ≡ Some e → e.target ≡ s.id → e.conn ≡ w.conn → e.cell ≡ w.cell
-      → TermOk g w.conn star.key star.number → Leads e star.key star.number → GivenFits e.kind star.number
-      → (p : Prep Term ℕ) → p.conn ≡ w.conn → p.key.kenb ≡ star.key → p.key.number ≡ star.number → p.key.pair ≡ None
-      → p.air ≡ w.air → p.algs ≡ w.algs → p.keys ≡ keys_of star.key w.algs
-      → (m : Made Term ℕ) → m ≡ record { station = s.id; air = w.air; conn = w.conn; cell = w.cell; key = star.key; number = star.number; algs = w.algs; from = ByAttempt w.from }
-      → let k = told g (Some m) None in
-      (made_at k.made s.id w.air ≡ Some m) × MadeOk k m × PrepOk k s.id p × FreshFrom k s.id (w.air + 1) × (1 ≤ w.air + 1)
-  prepared_goes w star s h draws e found target of_conn of_cell term leads given p conn kenb number pair air algs keys m is =
-      let k = told g (Some m) None in
-      let l = told_more g (Some m) None in
-      let none : made_at g.made m.station m.air ≡ None = (λ j. made_at g.made (is j).station (is j).air) ∙ (h.2 w.air (omega arith)).0 in
-      let here : made_at k.made s.id w.air ≡ Some m =
-      subst (λ x. made_at (g.made ++ m ∷ []) x.station x.air ≡ Some m) is (made_new g.made m none) in
-      let is_air : m.air ≡ w.air = ap (λ x. x.air) is in
-      let low : 1 ≤ w.air = at_least draws.0 h.5 in
-      let fresh : FreshFrom k s.id (w.air + 1) =
-      λ n above. (made_none g.made m s.id n (h.2 n (omega arith)).0 (omega arith), (h.2 n (omega arith)).1) in
-      let from : FromOk k (record { station = s.id; air = w.air; conn = w.conn; cell = w.cell; key = star.key; number = star.number; algs = w.algs; from = ByAttempt w.from }) (ByAttempt w.from) =
-      (e, found, term_number g e.conn e.key e.number (all_found (TriedOk cells g) _ g.tried e tried_ok found).0, target, leads, given, of_conn, of_cell) in
-      let made : MadeOk k m = subst (MadeOk k) (sym is) (low, draws.1, h.4, from, here ∙ ap Some is, term) in
-      let prep : PrepOk k s.id p = (
-        subst (λ x. TermOk k x p.key.kenb p.key.number) (sym conn)
-            (subst (λ x. TermOk k w.conn x p.key.number) (sym kenb) (subst (λ x. TermOk k w.conn star.key x) (sym number) term)),
-        subst (PairsOk k p.conn) (sym pair) tt,
-        keys ∙ (λ j. keys_of (sym kenb j) (sym algs j)),
-        m,
-        ap (made_at k.made s.id) air ∙ here,
-        (kenb ∙ sym (ap (λ x. x.key) is), number ∙ sym (ap (λ x. x.number) is), algs ∙ sym (ap (λ x. x.algs) is)),
-        λ e. setup_no_attempt m e w.from (ap (λ x. x.from) is),
-      ) in
-      (here, made, prep, fresh, omega arith)
+  -- A PREPARATION
 
   -- its attempt is of another source, and was not seen before
-  taken_once : (w : Admitted) (s : Station Term ℕ) (m : Made Term ℕ) → m.from ≡ ByAttempt w.from → StationOk cells g s → IsNews s.seen w.from
-      → (e : Tried Term ℕ) → tried_at g.tried w.from.source w.from.attempt ≡ Some e → IsTarget s.id e
+  taken_once : (w : Admitted) (m : Made Term ℕ) → m.from ≡ ByAttempt w.from → slice_index s.seen w.from.source < w.from.attempt
+      → (e : Tried Term ℕ) → tried_at g.tried w.from.source w.from.attempt ≡ Some e → e.target ≡ s.id → IsOther e
       → (length (slice_set s.seen w.from.source w.from.attempt) ≡ 8)
       × AllOf (SeenBy s.id (slice_set s.seen w.from.source w.from.attempt)) (g.made ++ m ∷ []) × AllOf (NotBoth m) g.made
-  taken_once w s m is h news e found target =
+  taken_once w m is news e found target other =
       let at = both_named e.station w.from.source e.attempt w.from.attempt (found_holds (is_tried_at w.from.source w.from.attempt) g.tried e found) in
-      let own = all_found (TriedOk cells g) _ g.tried e tried_ok found in
+      let own = own_try w.from.source w.from.attempt e found in
       let low : w.from.source ≤ 7 = subst (λ n. n ≤ 7) at.0 own.3 in (
-        length-set s.seen w.from.source w.from.attempt ∙ h.6,
+        length-set s.seen w.from.source w.from.attempt ∙ ok.6,
         all_append (SeenBy s.id (slice_set s.seen w.from.source w.from.attempt)) g.made m
-            (seen_more s.id w.from.source w.from.attempt s.seen h.6 low news g.made h.7) (seen_there s.id s.seen m w.from is h.6 low),
-        apart_unseen g s.id s.seen m w.from is e found target.0 (λ own_source. target.1 (target.0 ∙ sym own_source ∙ sym at.0)) news g.made made_ok h.7,
+            (seen_more s.id w.from.source w.from.attempt s.seen ok.6 low news g.made ok.7) (seen_there s.id s.seen m w.from is ok.6 low),
+        apart_unseen g s.id s.seen m w.from is e found target (λ own_source. other (target ∙ sym own_source ∙ sym at.0)) news g.made made_ok ok.7,
       )
 
-  prepared_s1_goes : (w : Admitted) (key : Option (NumberedKey Term ℕ)) (s : Station Term ℕ)
-      → StationOk cells g s → S1Needs g s.id s.next w key → IsNews s.seen w.from → StationGoes cells g s (prepared_by_s1 (term_reading_by same) w key s)
-  prepared_s1_goes w None s h needs news = (h, tt, tt, tt, refl, tt, tt)
-  prepared_s1_goes w (Some pair) s h needs news =
-      let asked = needs.2 in
-      let e = asked.0 in
-      let own = (all_found (TriedOk cells g) _ g.tried e tried_ok asked.1).0 in
-      let star : NumberedKey Term ℕ = record { key = Star pair.key w.cell.pci w.cell.earfcn; number = pair.number } in
-      let m : Made Term ℕ = record { station = s.id; air = w.air; conn = w.conn; cell = w.cell; key = star.key; number = star.number; algs = w.algs; from = ByAttempt w.from } in
-      let pair_ok : PairOk g e.conn pair = subst (λ c. PairOk g c pair) (sym asked.2) needs.1 in
-      let up = leads_up g e.conn e.key e.number pair e.cell own pair_ok asked.5.0 in
-      let same_star : Star pair.key w.cell.pci w.cell.earfcn ≡ Star pair.key e.cell.pci e.cell.earfcn = ap (λ c. Star pair.key c.pci c.earfcn) (sym asked.3) in
-      let leads : Leads e star.key star.number = (omega arith, same_star ∙ up) in
-      let given : GivenFits e.kind star.number = subst (λ o. GivenFits o star.number) (sym asked.4) tt in
-      let goes = prepared_goes w star s h needs.0 e asked.1 asked.5.1.0 asked.2 asked.3 (star_term g w.conn pair w.cell.pci w.cell.earfcn needs.1) leads given
-      (admitted_prep (term_reading_by same) w By.S1 star) refl refl refl refl refl refl refl m refl in
-      let asked_once = taken_once w s m refl h news e asked.1 asked.5.1 in
-      let l = told_more g (Some m) None in (
+  -- what is made is of the attempt, and what is sent may point to what was made
+  admitted_goes : (w : Admitted) (by : By) (star : NumberedKey Term ℕ) (sent : Option (Outgoing Term ℕ)) → Admits r s w
+      → (e : Tried Term ℕ) → tried_at g.tried w.from.source w.from.attempt ≡ Some e → e.conn ≡ w.conn → e.cell ≡ w.cell → s.id ≡ e.target → IsOther e
+      → TermOk g w.conn star.key star.number → Leads e star.key star.number → GivenFits e.kind star.number
+      → (let m = admitted_made s.id w star in made_at (g.made ++ m ∷ []) s.id w.air ≡ Some m → OutOk (told g (Some m) None) sent)
+      → Goes (with_admitted w (admitted_prep r w by star) s, record (only Done) { sent = sent; made = Some (admitted_made s.id w star) })
+  admitted_goes w by star sent a e found conn cell target other term leads given out =
+      let m = admitted_made s.id w star in
+      let k = told g (Some m) None in
+      let l = told_more g (Some m) None in
+      let air_is : w.air ≡ s.next = a.air_is in
+      let first = ok.5 in
+      let low : 1 ≤ w.air = omega arith in
+      let here : made_at k.made s.id w.air ≡ Some m = made_new g.made m (ok.2 w.air (omega arith)).0 in
+      let own = own_try w.from.source w.from.attempt e found in
+      let from : FromOk k m (ByAttempt w.from) = (e, found, term_number g e.conn e.key e.number own.0, sym target, leads, given, conn, cell) in
+      let prep : PrepOk k s.id (admitted_prep r w by star) = (term, tt, refl, m, here, (refl, refl, refl), λ e. setup_no_attempt m e w.from refl) in
+      let once = taken_once w m refl a.new e found (sym target) other in (
         (
-          ctx_later g (told g (Some m) None) l s.id s.context h.0,
-          all_append _ _ _ (all_filter _ _ s.preps (preps_later g (told g (Some m) None) l s.id s.preps h.1)) goes.2,
-          goes.3,
-          h.3,
-          h.4,
-          goes.4,
-          asked_once.0,
-          asked_once.1,
+          ctx_later g k l s.id s.context ok.0,
+          all_append _ _ _ (all_filter _ _ s.preps (preps_later g k l s.id s.preps ok.1)) prep,
+          fresh_above m (omega arith),
+          ok.3,
+          ok.4,
+          omega arith,
+          once.0,
+          once.1,
         ),
-        (goes.1, asked_once.2),
+        ((low, drawn s.next w.air a.air_is a.left, ok.4, from, here, term), once.2),
         tt,
-        (m, goes.0, refl, refl, refl),
+        out here,
         refl,
         refl,
         tt,
       )
 
-  prepared_x2_goes : (w : Admitted) (key : Option (NumberedKey Term ℕ)) (s : Station Term ℕ)
-      → StationOk cells g s → X2Needs g s.id s.next w key → IsNews s.seen w.from → StationGoes cells g s (prepared_by_x2 (term_reading_by same) w key s)
-  prepared_x2_goes w None s h needs news = (h, tt, tt, tt, refl, tt, tt)
-  prepared_x2_goes w (Some star) s h needs news =
-      let asked = needs.2 in
+  by_s1_goes : (w : Admitted) (pair : NumberedKey Term ℕ) → Admits r s w
+      → BetweenOk g (Address.StationS1 s.id) (HandoverRequest w.conn w.from.source w.from.attempt w.cell w.caps) (Some pair)
+      → Goes (prepared_by_s1 r w (Some pair) s)
+  by_s1_goes w pair a came =
+      let asked = came.1 in
       let e = asked.0 in
-      let own = all_found (TriedOk cells g) _ g.tried e tried_ok asked.1 in
-      let m : Made Term ℕ = record { station = s.id; air = w.air; conn = w.conn; cell = w.cell; key = star.key; number = star.number; algs = w.algs; from = ByAttempt w.from } in
+      let own = (own_try w.from.source w.from.attempt e asked.1).0 in
+      let star = star_line r pair w.cell.pci w.cell.earfcn in
+      let pair_ok : PairOk g e.conn pair = subst (λ c. PairOk g c pair) (sym asked.2) came.0 in
+      let up = leads_up g e.conn e.key e.number pair e.cell own pair_ok asked.5.0 in
+      let below : e.number < pair.number = asked.5.0 in
+      let same_star : Star pair.key w.cell.pci w.cell.earfcn ≡ Star pair.key e.cell.pci e.cell.earfcn =
+      ap (λ c. Star pair.key c.pci c.earfcn) (sym asked.3) in
+      let given : GivenFits e.kind star.number = subst (λ o. GivenFits o star.number) (sym asked.4) tt in
+      admitted_goes w By.S1 star (prepared_by_s1 r w (Some pair) s).1.sent a e asked.1 asked.2 asked.3 asked.5.1 asked.5.2
+      (star_term g w.conn pair w.cell.pci w.cell.earfcn came.0) (omega arith, same_star ∙ up) given
+      (λ here. (admitted_made s.id w star, here, refl, refl, refl))
+
+  by_x2_goes : (w : Admitted) (star : NumberedKey Term ℕ) → Admits r s w
+      → BetweenOk g (Address.StationX2 s.id) (X2Request w.conn w.from.source w.from.attempt w.cell w.caps) (Some star)
+      → Goes (prepared_by_x2 r w (Some star) s)
+  by_x2_goes w star a came =
+      let asked = came.1 in
+      let e = asked.0 in
+      let own = own_try w.from.source w.from.attempt e asked.1 in
       let of_given : GivenOk g e (BySource star) = subst (GivenOk g e) asked.4 own.2 in
       let given : GivenFits e.kind star.number = subst (λ o. GivenFits o star.number) (sym asked.4) refl in
-      let goes = prepared_goes w star s h needs.0 e asked.1 asked.5.0 asked.2 asked.3 needs.1 of_given.1 given
-      (admitted_prep (term_reading_by same) w By.X2 star) refl refl refl refl refl refl refl m refl in
-      let asked_once = taken_once w s m refl h news e asked.1 asked.5 in
-      let l = told_more g (Some m) None in (
+      admitted_goes w By.X2 star (prepared_by_x2 r w (Some star) s).1.sent a e asked.1 asked.2 asked.3 asked.5.0 asked.5.1 came.0 of_given.1 given
+      (λ here. (admitted_made s.id w star, here, refl, refl, tt))
+
+  -- AN ANSWER TO AN ATTEMPT
+
+  -- it is the order for the phone: of the attempt that was opened, whose target made this
+  order_of : (t : Term) (conn number station : ℕ) (cell : Place) (kind : Handover Term ℕ) (ncc : ℕ) (algs : Algs) (air : ℕ) (P : Made Term ℕ → Type 0)
+      → StartIs g s.id conn t number station cell kind → (a : AckIs g s.id number algs air P) → (GivenFits kind a.0.number → P a.0 → ncc_of a.0.number ≡ ncc)
+      → OrderIs g s.id t cell ncc algs station air × UnderKey g s.id conn t number
+  order_of t conn number station cell kind ncc algs air P h a fits =
+      let m = a.0 in
+      let e = h.0 in
+      let ok : FromOk g m (ByAttempt (record { source = s.id; attempt = number })) =
+      subst (FromOk g m) a.2 (all_found (MadeOk g) _ g.made m made_ok a.1).3 in
+      let one : ok.0 ≡ e = same_found _ ok.0 e ok.1 h.1 in
+      let there : m.station ≡ station = sym ok.3 ∙ ap (λ x. x.target) one ∙ h.4 in
+      let given : GivenFits kind m.number = subst (λ o. GivenFits o m.number) (ap (λ x. x.kind) one ∙ h.6) ok.5 in (
         (
-          ctx_later g (told g (Some m) None) l s.id s.context h.0,
-          all_append _ _ _ (all_filter _ _ s.preps (preps_later g (told g (Some m) None) l s.id s.preps h.1)) goes.2,
-          goes.3,
+          m,
+          record { source = s.id; attempt = number },
+          e,
+          ap (λ n. made_at g.made n air) (sym there) ∙ a.1,
+          a.2,
+          h.1,
+          h.2,
           h.3,
-          h.4,
-          goes.4,
-          asked_once.0,
-          asked_once.1,
+          fits given a.4,
+          a.3,
+          refl,
         ),
-        (goes.1, asked_once.2),
-        tt,
-        (m, goes.0, refl, refl, tt),
-        refl,
-        refl,
-        tt,
+        (e, h.1, h.2, h.5),
       )
 
-  -- the answer to an attempt is the order for the phone
-  s1_attempt_acked : (id conn : ℕ) (t : Term) (ncc : ℕ) (algs : Algs) (air : ℕ) (o : Option (Attempt Term ℕ)) → AttemptOk g id conn t o
-      → S1AckNeeds g id ncc algs air o → AttemptOk g id conn t (option_map (s1_acked ncc algs air) o)
-  s1_attempt_acked id conn t ncc algs air None h needs = tt
-  s1_attempt_acked id conn t ncc algs air (Some (OverX2 state)) h needs = h
-  s1_attempt_acked id conn t ncc algs air (Some (OverS1 (S1Open start))) h needs =
-      let m = needs.0 in
-      let e = h.0 in
-      let ok : FromOk g m (ByAttempt (record { source = id; attempt = start.number })) = subst (FromOk g m) needs.2 (all_found (MadeOk g) _ g.made m made_ok needs.1).3 in
-      let one : ok.0 ≡ e = same_found _ ok.0 e ok.1 h.1 in
-      let there : m.station ≡ start.station = sym ok.3 ∙ ap (λ x. x.target) one ∙ h.4 in
-      ((m, record { source = id; attempt = start.number }, e, ap (λ n. made_at g.made n air) (sym there) ∙ needs.1, needs.2, h.1, h.2, h.3, needs.4, needs.3, refl), (e, h.1, h.2, h.5))
-  s1_attempt_acked id conn t ncc algs air (Some (OverS1 (S1Ready acked))) h needs = h
-  s1_attempt_acked id conn t ncc algs air (Some (OverS1 (S1Commanded sent))) h needs = h
-  s1_attempt_acked id conn t ncc algs air (Some (Within state)) h needs = h
-  s1_attempt_acked id conn t ncc algs air (Some (Renewing a)) h needs = h
+  -- so the context has it
+  abbrev with_attempt : (Attempt Term ℕ → Attempt Term ℕ) → Context Term ℕ → Context Term ℕ
+  with_attempt f c = record c { attempt = option_map f c.attempt }
 
-  s1_ack_ctx : (id ncc : ℕ) (algs : Algs) (air : ℕ) (o : Option (Context Term ℕ)) → CtxOk g id o → S1AckOf g id ncc algs air o
-      → CtxOk g id (option_map (with_s1_ack ncc algs air) o)
-  s1_ack_ctx id ncc algs air None h needs = tt
-  s1_ack_ctx id ncc algs air (Some c) h needs =
-      (h.0, h.1, h.2, h.3, s1_attempt_acked id c.conn c.key.kenb ncc algs air c.attempt h.4 needs, started_map g id c.air c.key.kenb c.starting (s1_acked ncc algs air) c.attempt h.5)
+  acked_goes : (f : Attempt Term ℕ → Attempt Term ℕ) (c : Context Term ℕ) (first : Attempt Term ℕ) → s.context ≡ Some c → c.attempt ≡ Some first
+      → (AttemptOk g s.id c.conn c.key.kenb (Some first) → AttemptOk g s.id c.conn c.key.kenb (Some (f first)))
+      → StationOk cells g (record s { context = option_map (with_attempt f) s.context })
+  acked_goes f c first e trying keeps =
+      let h = ctx_at cells g s ok c e in
+      let attempt : AttemptOk g s.id c.conn c.key.kenb (option_map f c.attempt) =
+      subst (λ o. AttemptOk g s.id c.conn c.key.kenb (option_map f o)) (sym trying) (keeps (subst (AttemptOk g s.id c.conn c.key.kenb) trying h.4)) in
+      mapped_at cells g s ok (with_attempt f) c e
+      (h.0, h.1, h.2, h.3, attempt, started_map g s.id c.air c.key.kenb c.starting f c.attempt h.5)
 
-  x2_attempt_acked : (id conn : ℕ) (t : Term) (algs : Algs) (air : ℕ) (o : Option (Attempt Term ℕ)) → AttemptOk g id conn t o
-      → X2AckNeeds g id algs air o → AttemptOk g id conn t (option_map (x2_acked algs air) o)
-  x2_attempt_acked id conn t algs air None h needs = tt
-  x2_attempt_acked id conn t algs air (Some (OverX2 (X2Open start))) h needs =
-      let m = needs.0 in
-      let e = h.0.0 in
-      let ok : FromOk g m (ByAttempt (record { source = id; attempt = start.number })) = subst (FromOk g m) needs.2 (all_found (MadeOk g) _ g.made m made_ok needs.1).3 in
-      let one : ok.0 ≡ e = same_found _ ok.0 e ok.1 h.0.1 in
-      let there : m.station ≡ start.station = sym ok.3 ∙ ap (λ x. x.target) one ∙ h.0.4 in
-      let number : start.star.number ≡ m.number = subst (λ o. GivenFits o m.number) (ap (λ x. x.kind) one ∙ h.0.6) ok.5 in
-      ((m, record { source = id; attempt = start.number }, e, ap (λ n. made_at g.made n air) (sym there) ∙ needs.1, needs.2, h.0.1, h.0.2, h.0.3, ap ncc_of (sym number), needs.3, refl), h.1, (e, h.0.1, h.0.2, h.0.5))
-  x2_attempt_acked id conn t algs air (Some (OverX2 (X2Ready acked))) h needs = h
-  x2_attempt_acked id conn t algs air (Some (OverX2 (X2Commanded sent))) h needs = h
-  x2_attempt_acked id conn t algs air (Some (OverS1 state)) h needs = h
-  x2_attempt_acked id conn t algs air (Some (Within state)) h needs = h
-  x2_attempt_acked id conn t algs air (Some (Renewing a)) h needs = h
+  -- A KEY CHANGE
 
-  x2_ack_ctx : (id : ℕ) (algs : Algs) (air : ℕ) (o : Option (Context Term ℕ)) → CtxOk g id o → X2AckOf g id algs air o
-      → CtxOk g id (option_map (with_x2_ack algs air) o)
-  x2_ack_ctx id algs air None h needs = tt
-  x2_ack_ctx id algs air (Some c) h needs =
-      (h.0, h.1, h.2, h.3, x2_attempt_acked id c.conn c.key.kenb algs air c.attempt h.4 needs, started_map g id c.air c.key.kenb c.starting (x2_acked algs air) c.attempt h.5)
-
-  -- the key is to change: what is made is KeNB* of the KeNB received, for the context's cell, and the order goes under the
-  -- context's key
-  renewed_with_goes : (conn number air count : ℕ) (c : Context Term ℕ) (key : NumberedKey Term ℕ) (s : Station Term ℕ)
-      → StationOk cells g s → CtxOk g s.id (Some c) → RenewNeeds g s.next conn air (Some c) (Some key)
-      → StationGoes cells g s (key_renewed (term_reading_by same) conn number air count (Some c) (Some key) s)
-  renewed_with_goes conn number air count c key s h ctx needs =
-      let star : NumberedKey Term ℕ = record { key = Star key.key c.cell.pci c.cell.earfcn; number = 0 } in
-      let m : Made Term ℕ = record { station = s.id; air = air; conn = conn; cell = c.cell; key = star.key; number = 0; algs = c.algs; from = ByChange c.key.kenb } in
+  -- what is made is KeNB* of the KeNB received, for the context's cell, and the order goes under the context's key
+  renewed_goes : (conn number air count : ℕ) (c : Context Term ℕ) (kenb : NumberedKey Term ℕ) → s.context ≡ Some c → IsCell c.cell → c.starting ≡ false
+      → air ≡ s.next + 1 → air < 4294967296 → BetweenOk g (Address.StationS1 s.id) (ContextModification c.conn conn) (Some kenb)
+      → Goes (key_renewed r conn number air count (Some c) (Some kenb) s)
+  renewed_goes conn number air count c kenb e is_cell active draws small came =
+      let m : Made Term ℕ = record {
+        station = s.id;
+        air = air;
+        conn = conn;
+        cell = c.cell;
+        key = Star kenb.key c.cell.pci c.cell.earfcn;
+        number = 0;
+        algs = c.algs;
+        from = ByChange c.key.kenb;
+      } in
       let a : Renewal = record { number = number; cell = c.cell; algs = c.algs; air = air } in
       let k = told g (Some m) None in
       let l = told_more g (Some m) None in
-      let draws = needs.0 in
-      let low : 1 ≤ air = at_least draws.0 (omega arith) in
-      let here : made_at (g.made ++ m ∷ []) s.id air ≡ Some m = made_new g.made m (h.2 air (omega arith)).0 in
-      let ctx_new : CtxOk k s.id (Some c) = ctx_later g k l s.id (Some c) ctx in
-      let had : HadTaken k.took s.id c.air c.key.kenb = had_by k s.id c.air c.key.kenb c.starting c.attempt needs.1 ctx_new.5 in
-      let from : FromOk k m (ByChange c.key.kenb) = (refl, needs.2, needs.5, (λ j. Star (needs.6 j) c.cell.pci c.cell.earfcn), c.air, had) in
-      let term : TermOk k conn star.key 0 = (needs.3, omega arith, ap chain_key needs.4 ∙ base_nh (g.root conn) (g.count conn) 0) in
-      let made_new_ok : MadeOk k m = (low, draws.1, h.4, from, here, term) in
+      let low : 1 ≤ air = omega arith in
+      let here : made_at (g.made ++ m ∷ []) s.id air ≡ Some m = made_new g.made m (ok.2 air (omega arith)).0 in
+      let ctx : CtxOk k s.id (Some c) = ctx_later g k l s.id (Some c) (ctx_at cells g s ok c e) in
+      let taken : HadTaken k.took s.id c.air c.key.kenb = had_by k s.id c.air c.key.kenb c.starting c.attempt active ctx.5 in
+      let from : FromOk k m (ByChange c.key.kenb) = (refl, is_cell, came.2, (λ j. Star (came.3 j) c.cell.pci c.cell.earfcn), c.air, taken) in
+      let term : TermOk k conn m.key 0 = (came.0, omega arith, ap chain_key came.1 ∙ base_nh (g.root conn) (g.count conn) 0) in
+      let made_new_ok : MadeOk k m = (low, small, ok.4, from, here, term) in
       let change : ChangeIs k c.key.kenb c.cell c.algs s.id air = (m, here, refl, refl, refl) in
-      let all_made : AllOf (MadeOk k) k.made = all_append (MadeOk k) g.made m (all_map (MadeOk g) (MadeOk k) (made_later g k l) g.made made_ok) made_new_ok in
-      let fresh : FreshFrom k s.id (air + 1) =
-      λ n above. (made_none g.made m s.id n (h.2 n (omega arith)).0 (omega arith), (h.2 n (omega arith)).1) in (
+      let all_made : AllOf (MadeOk k) k.made =
+      all_append (MadeOk k) g.made m (all_map (MadeOk g) (MadeOk k) (made_later g k l) g.made made_ok) made_new_ok in (
         (
-          (ctx_new.0, ctx_new.1, ctx_new.2, ctx_new.3, change, started_any k s.id c.air c.key.kenb c.starting _ needs.1 had),
+          (ctx.0, ctx.1, ctx.2, ctx.3, change, started_any k s.id c.air c.key.kenb c.starting _ active taken),
           ((term, tt, refl, m, here, (refl, refl, refl), λ e. change_no_setup m c.key.kenb refl e), tt),
-          fresh,
-          h.3,
-          h.4,
+          fresh_above m (omega arith),
+          ok.3,
+          ok.4,
           omega arith,
-          h.6,
-          all_append (SeenBy s.id s.seen) g.made m h.7 (λ at o e other. absurd (change_no_attempt m c.key.kenb refl o e)),
+          ok.6,
+          all_append (SeenBy s.id s.seen) g.made m ok.7 (λ at o e other. absurd (change_no_attempt m c.key.kenb refl o e)),
         ),
         (made_new_ok, apart_always m (change_no_attempt m c.key.kenb refl) g.made),
         tt,
-        sends_down k s.id c.air c ctx_new refl Signalling1 count (change_text s.id a) (change_says k all_made c.key.kenb s.id a change) had,
+        sends_down k s.id c.air c ctx refl Signalling1 count (change_text s.id a) (change_says k all_made c.key.kenb s.id a change) taken,
         refl,
         refl,
         tt,
       )
 
-  key_renewed_goes : (conn number air count : ℕ) (o : Option (Context Term ℕ)) (key : Option (NumberedKey Term ℕ)) (s : Station Term ℕ)
-      → StationOk cells g s → CtxOk g s.id o → RenewNeeds g s.next conn air o key
-      → StationGoes cells g s (key_renewed (term_reading_by same) conn number air count o key s)
-  key_renewed_goes conn number air count (Some c) (Some key) s h ctx needs = renewed_with_goes conn number air count c key s h ctx needs
-  key_renewed_goes conn number air count (Some c) None s h ctx needs = (h, tt, tt, tt, refl, tt, tt)
-  key_renewed_goes conn number air count None key s h ctx needs = (h, tt, tt, tt, refl, tt, tt)
+  -- THE ROWS
 
-  pub record_goes : (row : RecordRow) (key : Option (NumberedKey Term ℕ)) (s : Station Term ℕ) → StationOk cells g s → RecordNeeds g s row key
-      → StationGoes cells g s (record_does (term_reading_by same) row key s)
-  record_goes (RecordRefused answer) key s h needs = (h, tt, tt, tt, refl, tt, tt)
-  record_goes (ContextGiven conn cell caps algs air) key s h needs = context_given_goes conn cell caps algs air key s h needs
-  record_goes ContextReleased key s h needs = ((tt, tt, h.2, h.3, h.4, h.5, h.6, h.7), tt, tt, tt, refl, tt, tt)
-  record_goes (PairTaken conn origin) key s h needs = pair_taken_goes conn origin key s h needs
-  record_goes (PreparedByS1 w) key s h needs = prepared_s1_goes w key s h needs.0 needs.1
-  record_goes (PreparedByX2 w) key s h needs = prepared_x2_goes w key s h needs.0 needs.1
-  record_goes (AckedByS1 ncc algs air) key s h needs =
-      ((s1_ack_ctx s.id ncc algs air s.context h.0 needs, h.1, h.2, h.3, h.4, h.5, h.6, h.7), tt, tt, tt, refl, tt, tt)
-  record_goes (AckedByX2 algs air) key s h needs =
-      ((x2_ack_ctx s.id algs air s.context h.0 needs, h.1, h.2, h.3, h.4, h.5, h.6, h.7), tt, tt, tt, refl, tt, tt)
-  record_goes (PreparationCancelled from) key s h needs =
-      ((h.0, all_filter _ _ s.preps h.1, h.2, h.3, h.4, h.5, h.6, h.7), tt, tt, tt, refl, tt, tt)
-  record_goes SourceReleased key s h needs = ((tt, h.1, h.2, h.3, h.4, h.5, h.6, h.7), tt, tt, tt, refl, tt, tt)
-  record_goes (KeyRenewed conn number air count) key s h needs = key_renewed_goes conn number air count s.context key s h h.0 needs
+  module _ (on : Interface) (fields : Fields) where
+    -- what was established of a row, and what came in the record
+    abbrev Came : Option (NumberedKey Term ℕ) → Type 0
+    Came key =
+        BetweenOk g (address_on on s.id) fields key × (on ≡ OnS1 → CellFits s.context × InFlight s (Between (Address.StationS1 s.id) fields key))
 
-  -- BY A PDU
+    abbrev Known : RecordRow → Option (NumberedKey Term ℕ) → Type 0
+    Known row key = RecordHas r s on fields row × Came key
 
-  there_air : (id : ℕ) (p : Prep Term ℕ) → HereIs g id p.air p.key.kenb × HadTaken g.took id p.air p.key.kenb → HadTaken g.took id p.air p.key.kenb
-  there_air id p needs = needs.1
+    -- as a record of this kind
+    says : (x : Interface) (f : Fields) (key : Option (NumberedKey Term ℕ)) → on ≡ x → fields ≡ f → Came key → BetweenOk g (address_on x s.id) f key
+    says x f key e k came = subst (λ y. BetweenOk g (address_on x s.id) y key) k (subst (λ y. BetweenOk g (address_on y s.id) fields key) e came.0)
 
-  -- security starts: the phone had taken the key
-  security_ctx : (id count : ℕ) (o : Option (Context Term ℕ)) → CtxOk g id o → StartingNeeds g id o → CtxOk g id (option_map (with_security count) o)
-  security_ctx id count None h needs = tt
-  security_ctx id count (Some c) h needs = (h.0, h.1, h.2, h.3, h.4, needs)
+    -- the pair of an answer is of the connection of the context
+    answered : (conn : ℕ) (origin : Option Origin) (pair : NumberedKey Term ℕ) (f : Takes s on fields conn origin) → Came (Some pair)
+        → PairOk g f.context.conn pair
+    answered conn origin pair f came =
+        let flies = subst (λ x. InFlight s (Between (Address.StationS1 s.id) x (Some pair))) f.fields_is (came.1 f.on_is).1 in
+        let answer : AnswerOk (Some f.context) f.asked f.number pair.number = subst (λ o. AnswerOk o f.asked f.number pair.number) f.serving (flies refl).1 in
+        subst (λ n. PairOk g n pair) (sym (answer f.outstanding).0) (says OnS1 _ (Some pair) f.on_is f.fields_is came)
 
-  -- a completed preparation is a context of what was made, and the phone had taken its key
-  arrived_ok : (id : ℕ) (p : Prep Term ℕ) → PrepOk g id p → HereIs g id p.air p.key.kenb × HadTaken g.took id p.air p.key.kenb
-      → EntryIs g id p.air p.key.kenb p.key.number p.algs
-  arrived_ok id p h needs =
-      let m = h.3 in
-      let one : needs.0.0 ≡ m = same_found _ needs.0.0 m needs.0.1 h.4 in
-      (m, h.4, h.5, subst (λ x. FromIs g x p.key.kenb x.from) one needs.0.2, if_tried g.took id p.air p.key.kenb m.from needs.1)
+    acked_s1 : (ncc : ℕ) (algs : Algs) (air : ℕ) (key : Option (NumberedKey Term ℕ)) (f : AnswersS1 s on fields ncc algs air) → Came key
+        → StationOk cells g (record s { context = option_map (with_s1_ack ncc algs air) s.context })
+    acked_s1 ncc algs air key f came =
+        acked_goes (s1_acked ncc algs air) f.context (OverS1 (S1Open f.start)) f.serving f.opened
+        (λ h. order_of f.context.key.kenb f.context.conn f.start.number f.start.station f.start.cell ByTarget ncc algs air (HasNcc ncc) h
+        (says OnS1 _ key f.on_is f.fields_is came) (λ fits n. n))
 
-  prep_found : (s : Station Term ℕ) → StationOk cells g s → (air : ℕ) (p : Prep Term ℕ) → at_air air s.preps ≡ Some p → PrepOk g s.id p
-  prep_found s h air p e = all_found (PrepOk g s.id) (is_at air) s.preps p h.1 e
+    acked_x2 : (algs : Algs) (air : ℕ) (key : Option (NumberedKey Term ℕ)) (f : AnswersX2 s on fields algs air) → Came key
+        → StationOk cells g (record s { context = option_map (with_x2_ack algs air) s.context })
+    acked_x2 algs air key f came =
+        acked_goes (x2_acked algs air) f.context (OverX2 (X2Open f.start)) f.serving f.opened
+        (λ h.
+        let star = f.start.star in
+        let o = order_of f.context.key.kenb f.context.conn f.start.number f.start.station f.start.cell (BySource star) (ncc_of star.number) algs air AnyMade
+        h.0 (says OnX2 _ key f.on_is f.fields_is came) (λ fits n. ap ncc_of (sym fits)) in
+        (o.0, h.1, o.1))
 
-  by_s1_goes : (count : ℕ) (air : ℕ) (o : Option (Prep Term ℕ)) (s : Station Term ℕ) → at_air air s.preps ≡ o → StationOk cells g s → TakenThere g s.id o
-      → StationGoes cells g s (completed_by_s1 (term_reading_by same) count o s)
-  by_s1_goes count air None s e h needs = (h, tt, tt, tt, refl, tt, tt)
-  by_s1_goes count air (Some p) s e h needs =
-      let ok = prep_found s h air p e in
-      (((ok.0, ok.1, ok.2, arrived_ok s.id p ok needs, tt, there_air s.id p needs), tt, h.2, h.3, h.4, h.5, h.6, h.7), tt, tt, tt, refl, tt, tt)
+    -- of a key change
+    renewed : (conn number air count : ℕ) (c : Context Term ℕ) → s.context ≡ Some c → (kenb : NumberedKey Term ℕ)
+        → (f : Renews s on fields conn number air count) → Came (Some kenb) → Goes (key_renewed r conn number air count (Some c) (Some kenb) s)
+    renewed conn number air count c e kenb f came =
+        let one : f.context ≡ c = by_some (sym f.serving ∙ e) in
+        renewed_goes conn number air count c kenb e (subst CellFits e (came.1 f.on_is).0) (subst (λ x. x.starting ≡ false) one f.active) f.air_is
+        (drawn (s.next + 1) air f.air_is f.left)
+        (subst (λ x. BetweenOk g (Address.StationS1 s.id) (ContextModification x.conn conn) (Some kenb)) one (says OnS1 _ (Some kenb) f.on_is f.fields_is came))
 
-  within_goes : (count : ℕ) (air : ℕ) (origin : Option Origin) (o : Option (Prep Term ℕ)) (s : Station Term ℕ) → at_air air s.preps ≡ o → StationOk cells g s → TakenThere g s.id o
-      → StationGoes cells g s (completed_within (term_reading_by same) count origin o s)
-  within_goes count air origin None s e h needs = (h, tt, tt, tt, refl, tt, tt)
-  within_goes count air origin (Some p) s e h needs =
-      let ok = prep_found s h air p e in
-      (((ok.0, ok.1, ok.2, arrived_ok s.id p ok needs, tt, there_air s.id p needs), tt, h.2, h.3, h.4, h.5, h.6, h.7), tt, tt, tt, refl, tt, tt)
+    record_cases : RecordCases r s Known Goes
+    record_cases = record {
+      nothing = λ answer. (ok, tt, tt, tt, refl, tt, tt);
+      given = λ conn cell caps algs air kenb k.
+          let b = says OnS1 _ (Some kenb) k.0.on_is k.0.fields_is k.1 in
+          given_goes conn cell caps algs air kenb k.0.air_is (drawn s.next air k.0.air_is k.0.left) b.0 b.1;
+      released = λ key k. ((tt, tt, ok.2, ok.3, ok.4, ok.5, ok.6, ok.7), tt, tt, tt, refl, tt, tt);
+      taken = λ conn origin pair k. taken_goes conn origin pair k.0.context k.0.serving (answered conn origin pair k.0 k.1);
+      by_s1 = λ w pair k. by_s1_goes w pair k.0.admits (says OnS1 _ (Some pair) k.0.on_is k.0.fields_is k.1);
+      by_x2 = λ w star k. by_x2_goes w star k.0.admits (says OnX2 _ (Some star) k.0.on_is k.0.fields_is k.1);
+      acked_s1 = λ ncc algs air key k. (acked_s1 ncc algs air key k.0 k.1, tt, tt, tt, refl, tt, tt);
+      acked_x2 = λ algs air key k. (acked_x2 algs air key k.0 k.1, tt, tt, tt, refl, tt, tt);
+      cancelled = λ from key k. ((ok.0, all_filter _ _ s.preps ok.1, ok.2, ok.3, ok.4, ok.5, ok.6, ok.7), tt, tt, tt, refl, tt, tt);
+      left = λ key k. (with_ctx cells g s ok None tt, tt, tt, tt, refl, tt, tt);
+      renewed = λ conn number air count c e kenb k. renewed conn number air count c e kenb k.0 k.1;
+    }
 
-  by_x2_goes : (count number : ℕ) (air : ℕ) (o : Option (Prep Term ℕ)) (s : Station Term ℕ) → at_air air s.preps ≡ o → StationOk cells g s → number ≡ s.next → TakenThere g s.id o
-      → StationGoes cells g s (completed_by_x2 (term_reading_by same) count number o s)
-  by_x2_goes count number air None s e h draws needs = (h, tt, tt, tt, refl, tt, tt)
-  by_x2_goes count number air (Some p) s e h draws needs =
-      let ok = prep_found s h air p e in
-      (((ok.0, ok.1, ok.2, arrived_ok s.id p ok needs, tt, there_air s.id p needs), tt, (λ n above. h.2 n (omega arith)), h.3, h.4, omega arith, h.6, h.7), tt, tt, tt, refl, tt, tt)
-
-  pub air_goes : (row : AirRow) (s : Station Term ℕ) → StationOk cells g s → AirNeeds g s row
-      → StationGoes cells g s (air_does (term_reading_by same) row s)
-  air_goes (AirRefused answer) s h needs = (h, tt, tt, tt, refl, tt, tt)
-  air_goes (SecurityStarted count) s h needs =
-      ((security_ctx s.id count s.context h.0 needs, h.1, h.2, h.3, h.4, h.5, h.6, h.7), tt, tt, tt, refl, tt, tt)
-  air_goes (RrcOpened srb count text) s h needs =
-      ((map_ctx g s.id (with_rrc_taken srb count) (λ c k. k) s.context h.0, h.1, h.2, h.3, h.4, h.5, h.6, h.7), tt, tt, tt, refl, tt, tt)
-  air_goes (PacketOpened drb count text) s h needs =
-      ((map_ctx g s.id (with_packet_taken drb count) (λ c k. k) s.context h.0, h.1, h.2, h.3, h.4, h.5, h.6, h.7), tt, tt, tt, refl, tt, tt)
-  air_goes (CompletedByS1 air count) s h needs = by_s1_goes count air (at_air air s.preps) s refl h needs
-  air_goes (CompletedWithin air count origin) s h needs = within_goes count air origin (at_air air s.preps) s refl h needs
-  air_goes (CompletedByX2 air count number) s h needs = by_x2_goes count number air (at_air air s.preps) s refl h needs.0 needs.1
+    -- the row that is chosen
+    pub record_goes : (key : Option (NumberedKey Term ℕ)) → Came key
+        → Goes (record_does r (record_row (plain_station r s) on (Ok (map_content unseen r.ncc (record { fields = fields; key = key })))) key s)
+    record_goes key came =
+        let content : Content Term ℕ = record { fields = fields; key = key } in
+        let row = record_row (plain_station r s) on (Ok (map_content unseen r.ncc content)) in
+        record_case r s Goes Known record_cases row key (record_has r s on content, came)

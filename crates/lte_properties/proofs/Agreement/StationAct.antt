@@ -1,295 +1,252 @@
 -- What the rows of a station's own acts leave of the invariant of agreement.
-use Rattle.std.proofs.Common.{◌≡◌, ℕ, ◌+◌, ◌-◌, ◌<◌, ◌≤◌, refl, sym, ap, arith, Bool, true, false, List, [], ◌∷◌, ◌++◌, Option, Some, None, option_map}
-use Rattle.std.specs.Prelude.{⊤, length}
+use Rattle.std.proofs.Common.{◌≡◌, ℕ, ◌+◌, ◌-◌, ◌<◌, ◌≤◌, refl, sym, ◌∙◌, ap, subst, arith, Bool, true, false, List, [], ◌∷◌, ◌++◌, Option, Some, None, option_map}
+use Rattle.std.proofs.lemmas.Bool.{eqb-false}
 use Rattle.annex_a_keys.specs.Cell.{Place}
+use Rattle.lte_events.specs.declared.acts.StationAct.{StationAct}
+use Rattle.lte_events.specs.declared.acts.StationAct.TheVariants.{SendRrc}
+use Rattle.lte_events.specs.declared.answers.Answer.TheVariants.{Done}
 use Rattle.lte_events.specs.Site.{Site, station_of}
 use Rattle.key_model.specs.Term.{Term}
 use Rattle.key_model.specs.Number.{chain_number}
-use Rattle.key_model.specs.Reading.{term_reading_by}
+use Rattle.key_model.specs.Reading.{Reading, term_reading_by}
 use Rattle.key_model.specs.HandoverTable.{NumberedKey}
+use Rattle.key_model.specs.HandoverLines.{star_line}
+use Rattle.nh_chain.specs.Station.{restored_if, pair_after, opened, base_of}
+use Rattle.rrc_rec.specs.declared.records.RrcRecord.TheVariants.{RrcData}
+use Rattle.rrc_rec.specs.Spelling.{spelling_of}
 use Rattle.x2_handover.specs.declared.orders.Order.{Order}
-use Rattle.lte_machine.specs.Bearers.{Srb, Drb}
-use Rattle.lte_machine.specs.Reply.{ByAttempt, Made, Tried, BySource, ByTarget}
-use Rattle.lte_machine.specs.StationState.{Station, Context, Attempt, OverX2, OverS1, Within, Renewal, Renewing, X2State, X2Open, X2Ready, X2Commanded, S1State, S1Open, S1Ready, S1Commanded}
-use Rattle.lte_machine.specs.StationRows.{ActRow, ActRefused, StartedByX2, StartedByS1, StartedWithin, HandoverCommanded, ChangeCommanded, CancelledByX2, CancelledByS1, CancelledWithin, PathSwitchAsked, PacketSent, RrcSent, BearerSkipped}
-use Rattle.lte_properties.specs.ChainBelow.{AllOf}
+use Rattle.lte_machine.specs.Bearers.{Srb, Signalling1}
+use Rattle.lte_events.specs.Ranges.{IsStationAct}
+use Rattle.lte_machine.specs.Reply.{Origin, ByAttempt, Made, Tried, Handover, BySource, ByTarget, Reply, only}
+use Rattle.lte_machine.specs.Wire.{Outgoing}
+use Rattle.lte_machine.specs.StationState.{Station, Context, Attempt, OverX2, OverS1, Within, Renewal, Renewing, X2Open, X2Ready, X2Commanded, S1Open, S1Ready, S1Commanded}
+use Rattle.lte_machine.specs.StationKeys.{started_by_x2, started_by_s1, started_within, commanded, commands, commands_change, spent_in, given_up, sends_rrc, with_skipped, act_does}
+use Rattle.lte_machine.specs.StationChoice.{act_row}
+use Rattle.lte_machine.specs.StationRecords.{order_text, change_text}
+use Rattle.lte_machine.specs.StationStep.{plain_station}
+use Rattle.lte_machine.proofs.AttemptSteps.{commanded_so}
+use Rattle.lte_machine.proofs.StationActFacts.{Orders, SendsText, StationActHas, station_act_has}
+use Rattle.lte_machine.proofs.StationCases.{ActCases, act_case}
+use Rattle.lte_machine.proofs.Tests.{by_some}
+use Rattle.lte_properties.specs.ChainBelow.{AllOf, OfPair, IsAbove}
+use Rattle.lte_properties.specs.ChainAbove.{ContextAbove}
 use Rattle.lte_properties.specs.Agreement.{made_at, HadTaken}
 use Rattle.lte_properties.proofs.Agreement.Terms.{lands}
-use Rattle.lte_properties.proofs.Agreement.Ghost.{Ghost, tried_at, TermOk, PairOk, PairsOk, MadeOk, TriedOk, IsOrder, ChangeIs, X2Ok, S1Ok, AttemptOk, StartedOk, CtxOk, FreshFrom, SeenBy, StationOk, SaysOk}
-use Rattle.rrc_rec.specs.declared.records.RrcRecord.TheVariants.{RrcData}
-use Rattle.nh_chain.specs.Station.{restored_if, pair_after, opened, base_of}
-use Rattle.key_model.specs.HandoverLines.{star_line}
-use Rattle.lte_machine.specs.Bearers.{Signalling1}
-use Rattle.lte_machine.specs.StationKeys.{started_by_x2_with, started_by_x2, started_by_s1, started_within_with, started_within, x2_commanded, s1_commanded, commanded, commands, commands_change, spent_in, given_up, asks_again, sends_packet, sends_rrc, with_skipped, act_does}
-use Rattle.lte_machine.specs.StationRecords.{order_text, change_text}
-use Rattle.rrc_rec.specs.Spelling.{spelling_of}
-use Rattle.lte_properties.specs.ChainBelow.{OfPair, IsAbove}
-use Rattle.lte_properties.specs.ChainAbove.{ContextAbove}
-use Rattle.lte_properties.proofs.Agreement.Later.{term_later, pairs_later, entry_later, preps_later}
+use Rattle.lte_properties.proofs.Agreement.Ghost.{Ghost, tried_at, TermOk, PairOk, PairsOk, MadeOk, TriedOk, GivenOk, IsOrder, AttemptOk, StartedOk, CtxOk, FreshFrom, SeenBy, StationOk, SaysOk, OutOk}
+use Rattle.lte_properties.proofs.Agreement.Later.{term_later, ctx_later, preps_later}
 use Rattle.lte_properties.proofs.Agreement.Told.{told, told_more, made_new, made_none, tried_new, tried_none, all_append, all_filter, SiteOk, reads_as, term_number, leads_up, leads_level, star_term}
-use Rattle.lte_properties.proofs.Agreement.Station.{StationGoes, map_ctx, started_map, started_any, had_by}
+use Rattle.lte_properties.proofs.Agreement.Station.{StationGoes, started_map, started_any, with_ctx, mapped, ctx_at, had}
 use Rattle.lte_properties.proofs.Agreement.Seen.{setup_no_attempt, one_origin, apart_new}
 use Rattle.lte_properties.proofs.Agreement.StationSends.{sends_down, order_says, change_says}
 
--- what the rows of acts need
-abbrev pub OrderNeeds : Ghost → ℕ → Order → Option (Context Term ℕ) → Type 0
-OrderNeeds g id order None = ⊤
-OrderNeeds g id order (Some c) = IsOrder g id c.key.kenb order × HadTaken g.took id c.air c.key.kenb
-
-abbrev pub RenewalNeeds : Ghost → ℕ → Renewal → Option (Context Term ℕ) → Type 0
-RenewalNeeds g id a None = ⊤
-RenewalNeeds g id a (Some c) =
-    ChangeIs g c.key.kenb a.cell a.algs id a.air × HadTaken g.took id c.air c.key.kenb
-
--- the context is active
-abbrev pub IsActive : Option (Context Term ℕ) → Type 0
-IsActive None = ⊤
-IsActive (Some c) = c.starting ≡ false
-
-abbrev pub ActNeeds : List Site → Ghost → Station Term ℕ → ActRow → Type 0
-ActNeeds cells g s (StartedByX2 number target cell) =
-    (number ≡ s.next) × (station_of cell cells ≡ Some target) × IsActive s.context × (target ≡ s.id → ⊥)
-ActNeeds cells g s (StartedByS1 number target cell) =
-    (number ≡ s.next) × (station_of cell cells ≡ Some target) × IsActive s.context × (target ≡ s.id → ⊥)
-ActNeeds cells g s (StartedWithin number air cell) =
-    (number ≡ s.next) × (air ≡ s.next + 1) × (air < 4294967296) × (station_of cell cells ≡ Some s.id)
-    × IsActive s.context
-ActNeeds cells g s (HandoverCommanded order count) = OrderNeeds g s.id order s.context
-ActNeeds cells g s (ChangeCommanded renewal count) = RenewalNeeds g s.id renewal s.context
-ActNeeds cells g s (PathSwitchAsked number) = number ≡ s.next
-ActNeeds cells g s (RrcSent srb count text) = (length text ≤ 200) × IsActive s.context
-ActNeeds cells g s other = ⊤
-
-started_none : (g : Ghost) (id air : ℕ) (t : Term) (starting : Bool) (o : Option (Attempt Term ℕ)) → StartedOk g id air t starting o → StartedOk g id air t starting None
+started_none : (g : Ghost) (id air : ℕ) (t : Term) (starting : Bool) (o : Option (Attempt Term ℕ)) → StartedOk g id air t starting o
+    → StartedOk g id air t starting None
 started_none g id air t true o h = refl
 started_none g id air t false o h = h
 
-module _ (same : Term → Term → Bool) (cells : List Site) (cells_ok : AllOf SiteOk cells) (g : Ghost) (made_ok : AllOf (MadeOk g) g.made) (tried_ok : AllOf (TriedOk cells g) g.tried) where
+-- a context with an attempt is active, and the phone had taken its key
+had_with : (g : Ghost) (id air : ℕ) (t : Term) (starting : Bool) (o : Option (Attempt Term ℕ)) (a : Attempt Term ℕ) → o ≡ Some a
+    → StartedOk g id air t starting o → HadTaken g.took id air t
+had_with g id air t true o a e h = absurd cc
+had_with g id air t false o a e h = h
+
+-- what an attempt orders
+orders_ok : (same : Term → Term → Bool) (g : Ghost) (id conn : ℕ) (t : Term) (attempt : Attempt Term ℕ) (order : Order)
+    → Orders (term_reading_by same) attempt order → AttemptOk g id conn t (Some attempt) → IsOrder g id t order
+orders_ok same g id conn t (OverX2 (X2Open start)) order o h = absurd o
+orders_ok same g id conn t (OverX2 (X2Ready acked)) order o h = subst (IsOrder g id t) (sym o) h.0
+orders_ok same g id conn t (OverX2 (X2Commanded sent)) order o h = subst (IsOrder g id t) (sym o) h.0
+orders_ok same g id conn t (OverS1 (S1Open start)) order o h = absurd o
+orders_ok same g id conn t (OverS1 (S1Ready acked)) order o h = subst (IsOrder g id t) (sym o) h.0
+orders_ok same g id conn t (OverS1 (S1Commanded sent)) order o h = subst (IsOrder g id t) (sym o) h.0
+orders_ok same g id conn t (Within (X2Open start)) order o h = absurd o
+orders_ok same g id conn t (Within (X2Ready acked)) order o h = subst (IsOrder g id t) (sym o) h.0
+orders_ok same g id conn t (Within (X2Commanded sent)) order o h = subst (IsOrder g id t) (sym o) h.0
+orders_ok same g id conn t (Renewing renewal) order o h = absurd o
+
+module _ (same : Term → Term → Bool) (cells : List Site) (cells_ok : AllOf SiteOk cells) (g : Ghost) (made_ok : AllOf (MadeOk g) g.made)
+    (tried_ok : AllOf (TriedOk cells g) g.tried) (s : Station Term ℕ) (ok : StationOk cells g s) where
+  abbrev r : Reading Term ℕ
+  r = term_reading_by same
+
+  abbrev Goes : Station Term ℕ × Reply Term ℕ → Type 0
+  Goes d = StationGoes cells g s d
+
+  -- A HANDOVER BEGINS
+
   -- KeNB* of a start is of the connection, and where the context's key leads
   star_ok : (conn : ℕ) (t : Term) (number : ℕ) (cell : Place) (pair : Option (NumberedKey Term ℕ)) → TermOk g conn t number → PairsOk g conn pair
       → OfPair (IsAbove number) pair
-      → let star = star_line (term_reading_by same) (base_of pair t number) cell.pci cell.earfcn in
+      → let star = star_line r (base_of pair t number) cell.pci cell.earfcn in
       TermOk g conn star.key star.number × (number ≤ star.number) × (star.key ≡ lands t (star.number - number) cell)
   star_ok conn t number cell None h k above = ((h.0, h.1, h.2), omega arith, leads_level t number cell)
   star_ok conn t number cell (Some pair) h k above =
       (star_term g conn pair cell.pci cell.earfcn k, omega arith, leads_up g conn t number pair cell h k above)
 
-  x2_with_goes : (number target : ℕ) (cell : Place) (c : Context Term ℕ) (s : Station Term ℕ) → StationOk cells g s → CtxOk g s.id (Some c) → ContextAbove (Some c)
-      → number ≡ s.next → station_of cell cells ≡ Some target → IsActive (Some c) → (target ≡ s.id → ⊥)
-      → StationGoes cells g s (started_by_x2_with (term_reading_by same) number target cell c (opened (term_reading_by same) c.key cell) s)
-  x2_with_goes number target cell c s h k above draws there active other =
-      let o = opened (term_reading_by same) c.key cell in
-      let e : Tried Term ℕ = record {
-        station = s.id;
-        attempt = number;
-        target = target;
-        conn = c.conn;
-        cell = cell;
-        key = c.key.kenb;
-        number = c.key.number;
-        kind = BySource o.star;
-      } in
+  -- what is told of its start
+  abbrev attempts : ℕ → ℕ → Place → Context Term ℕ → Handover Term ℕ → Tried Term ℕ
+  attempts number target cell c kind = record {
+    station = s.id;
+    attempt = number;
+    target = target;
+    conn = c.conn;
+    cell = cell;
+    key = c.key.kenb;
+    number = c.key.number;
+    kind = kind;
+  }
+
+  -- an attempt for another station
+  begins : (number target : ℕ) (cell : Place) (c : Context Term ℕ) (o : Option (Context Term ℕ)) (kind : Handover Term ℕ) (sent : Option (Outgoing Term ℕ))
+      → s.context ≡ Some c → number ≡ s.next → station_of cell s.cells ≡ Some target →
+      (let e = attempts number target cell c kind in let x = told g None (Some e) in
+      tried_at (g.tried ++ e ∷ []) s.id number ≡ Some e → CtxOk x s.id (Some c) → CtxOk x s.id o × GivenOk x e kind × OutOk x sent)
+      → Goes (record s { next = number + 1; context = o }, record (only Done) { sent = sent; tried = Some (attempts number target cell c kind) })
+  begins number target cell c o kind sent at draws site rest =
+      let e = attempts number target cell c kind in
       let x = told g None (Some e) in
       let l = told_more g None (Some e) in
-      let here : tried_at (g.tried ++ e ∷ []) s.id number ≡ Some e = tried_new g.tried e (h.2 number (omega arith)).1 in
-      let star = star_ok c.conn c.key.kenb c.key.number cell c.key.pair k.0 k.1 above.0 in
-      let star_later : TermOk x c.conn o.star.key o.star.number = term_later g x l c.conn o.star.number o.star.key star.0 in
-      let had : HadTaken g.took s.id c.air c.key.kenb = had_by g s.id c.air c.key.kenb c.starting c.attempt active k.5 in
-      let own_later : TermOk x c.conn c.key.kenb c.key.number = term_later g x l c.conn c.key.number c.key.kenb k.0 in
+      let here : tried_at (g.tried ++ e ∷ []) s.id number ≡ Some e = tried_new g.tried e (ok.2 number (omega arith)).1 in
+      let ctx : CtxOk x s.id (Some c) = ctx_later g x l s.id (Some c) (ctx_at cells g s ok c at) in
+      let so = rest here ctx in
+      let there : station_of cell cells ≡ Some target = subst (λ x. station_of cell x ≡ Some target) ok.3 site in
       let fresh : FreshFrom x s.id (number + 1) =
-      λ n up. ((h.2 n (omega arith)).0, tried_none g.tried e s.id n (h.2 n (omega arith)).1 (omega arith)) in (
-        (
-          (
-            own_later,
-            tt,
-            k.2,
-            entry_later g x l s.id c.air c.key.kenb c.key.number c.algs k.3,
-            ((e, here, refl, refl, refl, refl, refl), pairs_later g x l c.conn c.key.pair k.1),
-            started_any x s.id c.air c.key.kenb c.starting _ active had,
-          ),
-          preps_later g x l s.id s.preps h.1,
-          fresh,
-          h.3,
-          h.4,
-          omega arith,
-          h.6,
-          h.7,
-        ),
+      λ n up. ((ok.2 n (omega arith)).0, tried_none g.tried e s.id n (ok.2 n (omega arith)).1 (omega arith)) in (
+        (so.0, preps_later g x l s.id s.preps ok.1, fresh, ok.3, ok.4, omega arith, ok.6, ok.7),
         tt,
-        (own_later, there, (star_later, (star.1, star.2)), h.4),
-        (star_later, (e, here, refl, refl, refl, (refl, other))),
+        (ctx.0, there, so.1, ok.4),
+        so.2,
         refl,
         tt,
         refl,
       )
 
-  by_x2_goes : (number target : ℕ) (cell : Place) (o : Option (Context Term ℕ)) (s : Station Term ℕ) → StationOk cells g s → CtxOk g s.id o → ContextAbove o
-      → number ≡ s.next → station_of cell cells ≡ Some target → IsActive o → (target ≡ s.id → ⊥)
-      → StationGoes cells g s (started_by_x2 (term_reading_by same) number target cell o s)
-  by_x2_goes number target cell None s h k above draws there active other = (h, tt, tt, tt, refl, tt, tt)
-  by_x2_goes number target cell (Some c) s h k above draws there active other = x2_with_goes number target cell c s h k above draws there active other
-
-  by_s1_goes : (number target : ℕ) (cell : Place) (o : Option (Context Term ℕ)) (s : Station Term ℕ) → StationOk cells g s → CtxOk g s.id o
-      → number ≡ s.next → station_of cell cells ≡ Some target → IsActive o → (target ≡ s.id → ⊥)
-      → StationGoes cells g s (started_by_s1 number target cell o s)
-  by_s1_goes number target cell None s h k draws there active other = (h, tt, tt, tt, refl, tt, tt)
-  by_s1_goes number target cell (Some c) s h k draws there active other =
-      let e : Tried Term ℕ = record {
-        station = s.id;
-        attempt = number;
-        target = target;
-        conn = c.conn;
-        cell = cell;
-        key = c.key.kenb;
-        number = c.key.number;
-        kind = ByTarget;
-      } in
+  by_x2_goes : (number target : ℕ) (cell : Place) (c : Context Term ℕ) → s.context ≡ Some c → ContextAbove (Some c) → HadTaken g.took s.id c.air c.key.kenb
+      → c.starting ≡ false → number ≡ s.next → station_of cell s.cells ≡ Some target → (target ≡ s.id → ⊥)
+      → Goes (started_by_x2 r number target cell (Some c) s)
+  by_x2_goes number target cell c at above taken active draws site other =
+      let star = (opened r c.key cell).star in
+      let k = ctx_at cells g s ok c at in
+      let ok_star = star_ok c.conn c.key.kenb c.key.number cell c.key.pair k.0 k.1 above.0 in
+      let e = attempts number target cell c (BySource star) in
       let x = told g None (Some e) in
-      let l = told_more g None (Some e) in
-      let here : tried_at (g.tried ++ e ∷ []) s.id number ≡ Some e = tried_new g.tried e (h.2 number (omega arith)).1 in
-      let had : HadTaken g.took s.id c.air c.key.kenb = had_by g s.id c.air c.key.kenb c.starting c.attempt active k.5 in
-      let own_later : TermOk x c.conn c.key.kenb c.key.number = term_later g x l c.conn c.key.number c.key.kenb k.0 in
-      let fresh : FreshFrom x s.id (number + 1) =
-      λ n up. ((h.2 n (omega arith)).0, tried_none g.tried e s.id n (h.2 n (omega arith)).1 (omega arith)) in (
+      let term : TermOk x c.conn star.key star.number = term_later g x (told_more g None (Some e)) c.conn star.number star.key ok_star.0 in
+      let done = started_by_x2 r number target cell (Some c) s in
+      begins number target cell c done.0.context (BySource star) done.1.sent at draws site (λ here k. (
+        (k.0, tt, k.2, k.3, ((e, here, refl, refl, refl, refl, refl), k.1), started_any x s.id c.air c.key.kenb c.starting _ active taken),
+        (term, (ok_star.1, ok_star.2)),
+        (term, (e, here, refl, refl, refl, (refl, other))),
+      ))
+
+  by_s1_goes : (number target : ℕ) (cell : Place) (c : Context Term ℕ) → s.context ≡ Some c → HadTaken g.took s.id c.air c.key.kenb
+      → c.starting ≡ false → number ≡ s.next → station_of cell s.cells ≡ Some target → (target ≡ s.id → ⊥)
+      → Goes (started_by_s1 number target cell (Some c) s)
+  by_s1_goes number target cell c at taken active draws site other =
+      let e = attempts number target cell c ByTarget in
+      let done : Station Term ℕ × Reply Term ℕ = started_by_s1 number target cell (Some c) s in
+      begins number target cell c done.0.context ByTarget done.1.sent at draws site (λ here k. (
         (
-          (
-            own_later,
-            pairs_later g x l c.conn c.key.pair k.1,
-            k.2,
-            entry_later g x l s.id c.air c.key.kenb c.key.number c.algs k.3,
-            (e, here, refl, refl, refl, refl, refl),
-            started_any x s.id c.air c.key.kenb c.starting _ active had,
-          ),
-          preps_later g x l s.id s.preps h.1,
-          fresh,
-          h.3,
-          h.4,
-          omega arith,
-          h.6,
-          h.7,
+          k.0,
+          k.1,
+          k.2,
+          k.3,
+          (e, here, refl, refl, refl, refl, refl),
+          started_any (told g None (Some e)) s.id c.air c.key.kenb c.starting _ active taken,
         ),
         tt,
-        (own_later, there, tt, h.4),
         (e, here, refl, refl, refl, other),
-        refl,
-        tt,
-        refl,
-      )
+      ))
 
-  within_with_goes : (number air : ℕ) (cell : Place) (c : Context Term ℕ) (s : Station Term ℕ) → StationOk cells g s → CtxOk g s.id (Some c) → ContextAbove (Some c)
-      → number ≡ s.next → air ≡ s.next + 1 → air < 4294967296 → station_of cell cells ≡ Some s.id → IsActive (Some c)
-      → StationGoes cells g s (started_within_with (term_reading_by same) number air cell c (opened (term_reading_by same) c.key cell) s)
-  within_with_goes number air cell c s h k above draws draws_air small there active =
-      let o = opened (term_reading_by same) c.key cell in
-      let e : Tried Term ℕ = record {
-        station = s.id;
-        attempt = number;
-        target = s.id;
-        conn = c.conn;
-        cell = cell;
-        key = c.key.kenb;
-        number = c.key.number;
-        kind = BySource o.star;
-      } in
+  -- within the station the preparation is made at once
+  within_goes : (number air : ℕ) (cell : Place) (c : Context Term ℕ) → s.context ≡ Some c → ContextAbove (Some c) → HadTaken g.took s.id c.air c.key.kenb
+      → c.starting ≡ false → number ≡ s.next → air ≡ s.next + 1 → s.next + 1 < 4294967296 → station_of cell s.cells ≡ Some s.id
+      → Goes (started_within r number air cell (Some c) s)
+  within_goes number air cell c at above taken active draws draws_air small site =
+      let k = ctx_at cells g s ok c at in
+      let star = (opened r c.key cell).star in
+      let origin : Origin = record { source = s.id; attempt = number } in
+      let e = attempts number s.id cell c (BySource star) in
       let m : Made Term ℕ = record {
         station = s.id;
         air = air;
         conn = c.conn;
         cell = cell;
-        key = o.star.key;
-        number = o.star.number;
+        key = star.key;
+        number = star.number;
         algs = c.algs;
-        from = ByAttempt (record { source = s.id; attempt = number });
+        from = ByAttempt origin;
       } in
       let x = told g (Some m) (Some e) in
       let l = told_more g (Some m) (Some e) in
-      let tried_here : tried_at (g.tried ++ e ∷ []) s.id number ≡ Some e = tried_new g.tried e (h.2 number (omega arith)).1 in
-      let made_here : made_at (g.made ++ m ∷ []) s.id air ≡ Some m = made_new g.made m (h.2 air (omega arith)).0 in
-      let star = star_ok c.conn c.key.kenb c.key.number cell c.key.pair k.0 k.1 above.0 in
-      let star_later : TermOk x c.conn o.star.key o.star.number = term_later g x l c.conn o.star.number o.star.key star.0 in
-      let had : HadTaken g.took s.id c.air c.key.kenb = had_by g s.id c.air c.key.kenb c.starting c.attempt active k.5 in
-      let own_later : TermOk x c.conn c.key.kenb c.key.number = term_later g x l c.conn c.key.number c.key.kenb k.0 in
+      let tried_here : tried_at (g.tried ++ e ∷ []) s.id number ≡ Some e = tried_new g.tried e (ok.2 number (omega arith)).1 in
+      let made_here : made_at (g.made ++ m ∷ []) s.id air ≡ Some m = made_new g.made m (ok.2 air (omega arith)).0 in
+      let ok_star = star_ok c.conn c.key.kenb c.key.number cell c.key.pair k.0 k.1 above.0 in
+      let term : TermOk x c.conn star.key star.number = term_later g x l c.conn star.number star.key ok_star.0 in
+      let ctx : CtxOk x s.id (Some c) = ctx_later g x l s.id (Some c) k in
+      let there : station_of cell cells ≡ Some s.id = subst (λ x. station_of cell x ≡ Some s.id) ok.3 site in
       let fresh : FreshFrom x s.id (air + 1) =
-      λ n up. (made_none g.made m s.id n (h.2 n (omega arith)).0 (omega arith), tried_none g.tried e s.id n (h.2 n (omega arith)).1 (omega arith)) in
+      λ n up. (
+        made_none g.made m s.id n (ok.2 n (omega arith)).0 (omega arith),
+        tried_none g.tried e s.id n (ok.2 n (omega arith)).1 (omega arith),
+      ) in
       let number_is : chain_number c.key.kenb ≡ c.key.number = term_number g c.conn c.key.kenb c.key.number k.0 in (
         (
           (
-            own_later,
+            ctx.0,
             tt,
-            k.2,
-            entry_later g x l s.id c.air c.key.kenb c.key.number c.algs k.3,
-            ((m, record { source = s.id; attempt = number }, e, made_here, refl, tried_here, refl, refl, refl, refl, refl), pairs_later g x l c.conn c.key.pair k.1, (e, tried_here, refl, refl)),
-            started_any x s.id c.air c.key.kenb c.starting _ active had,
+            ctx.2,
+            ctx.3,
+            ((m, origin, e, made_here, refl, tried_here, refl, refl, refl, refl, refl), ctx.1, (e, tried_here, refl, refl)),
+            started_any x s.id c.air c.key.kenb c.starting _ active taken,
           ),
-          all_append _ _ _ (preps_later g x l s.id s.preps h.1) (star_later, tt, refl, m, made_here, (refl, refl, refl), λ e. setup_no_attempt m e (record { source = s.id; attempt = number }) refl),
+          all_append _ _ _ (preps_later g x l s.id s.preps ok.1) (term, tt, refl, m, made_here, (refl, refl, refl), λ e. setup_no_attempt m e origin refl),
           fresh,
-          h.3,
-          h.4,
+          ok.3,
+          ok.4,
           omega arith,
-          h.6,
-          all_append (SeenBy s.id s.seen) g.made m h.7 (λ at o e other. absurd (other (sym (ap (λ p. p.source) (one_origin m.from (record { source = s.id; attempt = number }) o refl e))))),
+          ok.6,
+          all_append (SeenBy s.id s.seen) g.made m ok.7 (λ at o e other. absurd (other (sym (ap (λ p. p.source) (one_origin m.from origin o refl e))))),
         ),
-        ((omega arith, small, h.4, (e, tried_here, number_is, refl, (star.1, star.2), refl, refl, refl), made_here, star.0), apart_new g m (record { source = s.id; attempt = number }) refl (h.2 number (omega arith)).1 g.made made_ok),
-        (own_later, there, (star_later, (star.1, star.2)), h.4),
+        (
+          (omega arith, omega arith, ok.4, (e, tried_here, number_is, refl, (ok_star.1, ok_star.2), refl, refl, refl), made_here, ok_star.0),
+          apart_new g m origin refl (ok.2 number (omega arith)).1 g.made made_ok,
+        ),
+        (ctx.0, there, (term, (ok_star.1, ok_star.2)), ok.4),
         tt,
         refl,
         refl,
         refl,
       )
 
-  within_goes : (number air : ℕ) (cell : Place) (o : Option (Context Term ℕ)) (s : Station Term ℕ) → StationOk cells g s → CtxOk g s.id o → ContextAbove o
-      → number ≡ s.next → air ≡ s.next + 1 → air < 4294967296 → station_of cell cells ≡ Some s.id → IsActive o
-      → StationGoes cells g s (started_within (term_reading_by same) number air cell o s)
-  within_goes number air cell None s h k above draws draws_air small there active = (h, tt, tt, tt, refl, tt, tt)
-  within_goes number air cell (Some c) s h k above draws draws_air small there active = within_with_goes number air cell c s h k above draws draws_air small there active
-
   -- THE COMMAND
 
-  x2_commanded_ok : (id conn : ℕ) (t : Term) (order : Order) (state : X2State Term ℕ) → X2Ok g id conn t state → IsOrder g id t order
-      → X2Ok g id conn t (x2_commanded order state)
-  x2_commanded_ok id conn t order (X2Open start) h k = h
-  x2_commanded_ok id conn t order (X2Ready acked) h k = (k, h.2)
-  x2_commanded_ok id conn t order (X2Commanded sent) h k = h
+  commands_goes : (order : Order) (count : ℕ) (c : Context Term ℕ) (attempt : Attempt Term ℕ) → s.context ≡ Some c → c.attempt ≡ Some attempt
+      → Orders r attempt order → Goes (commands order count (Some c) s)
+  commands_goes order count c attempt at trying orders =
+      let k = ctx_at cells g s ok c at in
+      let is_order : IsOrder g s.id c.key.kenb order =
+      orders_ok same g s.id c.conn c.key.kenb attempt order orders (subst (AttemptOk g s.id c.conn c.key.kenb) trying k.4) in
+      let sent =
+      commanded_so (AttemptOk g s.id c.conn c.key.kenb) order (λ a h. (is_order, h.2)) (λ a h. (is_order, h.1)) (λ a h. (is_order, h.2)) c.attempt k.4 in
+      let says = order_says cells cells_ok g made_ok tried_ok s.id c.key.kenb order is_order in
+      let taken = had_with g s.id c.air c.key.kenb c.starting c.attempt attempt trying k.5 in (
+        with_ctx cells g s ok (commands order count (Some c) s).0.context
+            (k.0, k.1, k.2, k.3, sent, started_map g s.id c.air c.key.kenb c.starting (commanded order) c.attempt k.5),
+        tt,
+        tt,
+        sends_down g s.id c.air c k refl Signalling1 count (order_text order) says taken,
+        refl,
+        tt,
+        tt,
+      )
 
-  s1_commanded_ok : (id conn : ℕ) (t : Term) (order : Order) (state : S1State) → S1Ok g id conn t state → IsOrder g id t order
-      → S1Ok g id conn t (s1_commanded order state)
-  s1_commanded_ok id conn t order (S1Open start) h k = h
-  s1_commanded_ok id conn t order (S1Ready acked) h k = (k, h.1)
-  s1_commanded_ok id conn t order (S1Commanded sent) h k = h
-
-  commanded_ok : (id conn : ℕ) (t : Term) (order : Order) (o : Option (Attempt Term ℕ)) → AttemptOk g id conn t o → IsOrder g id t order
-      → AttemptOk g id conn t (option_map (commanded order) o)
-  commanded_ok id conn t order None h k = tt
-  commanded_ok id conn t order (Some (OverX2 state)) h k = x2_commanded_ok id conn t order state h k
-  commanded_ok id conn t order (Some (OverS1 state)) h k = s1_commanded_ok id conn t order state h k
-  commanded_ok id conn t order (Some (Within state)) h k = x2_commanded_ok id conn t order state h k
-  commanded_ok id conn t order (Some (Renewing a)) h k = h
-
-  commands_goes : (order : Order) (count : ℕ) (o : Option (Context Term ℕ)) (s : Station Term ℕ) → StationOk cells g s → CtxOk g s.id o → OrderNeeds g s.id order o
-      → StationGoes cells g s (commands order count o s)
-  commands_goes order count None s h k needs = (h, tt, tt, tt, refl, tt, tt)
-  commands_goes order count (Some c) s h k needs = (
-    ((k.0, k.1, k.2, k.3, commanded_ok s.id c.conn c.key.kenb order c.attempt k.4 needs.0, started_map g s.id c.air c.key.kenb c.starting (commanded order) c.attempt k.5), h.1, h.2, h.3, h.4, h.5, h.6, h.7),
-    tt,
-    tt,
-    sends_down g s.id c.air c k refl Signalling1 count (order_text order) (order_says cells cells_ok g made_ok tried_ok s.id c.key.kenb order needs.0) needs.1,
-    refl,
-    tt,
-    tt,
-  )
-
-  commands_change_goes : (a : Renewal) (count : ℕ) (o : Option (Context Term ℕ)) (s : Station Term ℕ) → StationOk cells g s → CtxOk g s.id o → RenewalNeeds g s.id a o
-      → StationGoes cells g s (commands_change a count o s)
-  commands_change_goes a count None s h k needs = (h, tt, tt, tt, refl, tt, tt)
-  commands_change_goes a count (Some c) s h k needs = (
-    ((k.0, k.1, k.2, k.3, k.4, k.5), h.1, h.2, h.3, h.4, h.5, h.6, h.7),
-    tt,
-    tt,
-    sends_down g s.id c.air c k refl Signalling1 count (change_text s.id a) (change_says g made_ok c.key.kenb s.id a needs.0) needs.1,
-    refl,
-    tt,
-    tt,
-  )
+  commands_change_goes : (a : Renewal) (count : ℕ) (c : Context Term ℕ) → s.context ≡ Some c → c.attempt ≡ Some (Renewing a)
+      → Goes (commands_change a count (Some c) s)
+  commands_change_goes a count c at trying =
+      let k = ctx_at cells g s ok c at in
+      let says = change_says g made_ok c.key.kenb s.id a (subst (AttemptOk g s.id c.conn c.key.kenb) trying k.4) in
+      let taken = had_with g s.id c.air c.key.kenb c.starting c.attempt (Renewing a) trying k.5 in
+      (with_ctx cells g s ok (Some c) k, tt, tt, sends_down g s.id c.air c k refl Signalling1 count (change_text s.id a) says taken, refl, tt, tt)
 
   -- GIVING UP
 
@@ -312,53 +269,66 @@ module _ (same : Term → Term → Bool) (cells : List Site) (cells_ok : AllOf S
   restored_ctx : (id : ℕ) (c : Context Term ℕ) (spent : Option (NumberedKey Term ℕ)) → CtxOk g id (Some c) → PairsOk g c.conn spent
       → CtxOk g id (Some (record c { key = restored_if c.key spent; attempt = None }))
   restored_ctx id c None h k = (h.0, h.1, h.2, h.3, tt, started_none g id c.air c.key.kenb c.starting c.attempt h.5)
-  restored_ctx id c (Some back) h k = (h.0, restored_pair c.conn c.key.pair back h.1 k, h.2, h.3, tt, started_none g id c.air c.key.kenb c.starting c.attempt h.5)
+  restored_ctx id c (Some back) h k =
+      (h.0, restored_pair c.conn c.key.pair back h.1 k, h.2, h.3, tt, started_none g id c.air c.key.kenb c.starting c.attempt h.5)
 
   given_up_ok : (id : ℕ) (c : Context Term ℕ) → CtxOk g id (Some c) → CtxOk g id (Some (given_up c))
   given_up_ok id c h = restored_ctx id c (spent_in c.attempt) h (spent_ok id c.conn c.key.kenb c.attempt h.4)
 
-  -- SENDING
+  gives_up : StationOk cells g (record s { context = option_map given_up s.context })
+  gives_up = mapped cells g s ok given_up (given_up_ok s.id)
 
-  asks_goes : (number : ℕ) (o : Option (Context Term ℕ)) (s : Station Term ℕ) → StationOk cells g s → CtxOk g s.id o → number ≡ s.next
-      → StationGoes cells g s (asks_again number o s)
-  asks_goes number None s h k draws = (h, tt, tt, tt, refl, tt, tt)
-  asks_goes number (Some c) s h k draws = ((k, h.1, (λ n above. h.2 n (omega arith)), h.3, h.4, omega arith, h.6, h.7), tt, tt, tt, refl, tt, tt)
+  -- THE ROWS
 
-  packet_goes : (drb : Drb) (count : ℕ) (text : List ℕ) (o : Option (Context Term ℕ)) (s : Station Term ℕ) → StationOk cells g s → CtxOk g s.id o
-      → StationGoes cells g s (sends_packet drb count text o s)
-  packet_goes drb count text None s h k = (h, tt, tt, tt, refl, tt, tt)
-  packet_goes drb count text (Some c) s h k = ((k, h.1, h.2, h.3, h.4, h.5, h.6, h.7), tt, tt, tt, refl, tt, tt)
+  -- the context that a choice found is the one that there is
+  one_context : (b c : Context Term ℕ) → s.context ≡ Some b → s.context ≡ Some c → b ≡ c
+  one_context b c e f = by_some (sym e ∙ f)
 
-  rrc_goes : (srb : Srb) (count : ℕ) (text : List ℕ) (o : Option (Context Term ℕ)) (s : Station Term ℕ) → StationOk cells g s → CtxOk g s.id o → length text ≤ 200 → IsActive o
-      → StationGoes cells g s (sends_rrc srb count text o s)
-  rrc_goes srb count text None s h k fits active = (h, tt, tt, tt, refl, tt, tt)
-  rrc_goes srb count text (Some c) s h k fits active = (
-    (k, h.1, h.2, h.3, h.4, h.5, h.6, h.7),
-    tt,
-    tt,
-    sends_down g s.id c.air c k refl srb count (spelling_of (RrcData text)) (reads_as (SaysOk g s.id c.key.kenb) (RrcData text) fits tt) (had_by g s.id c.air c.key.kenb c.starting c.attempt active k.5),
-    refl,
-    tt,
-    tt,
-  )
+  is_active : (b c : Context Term ℕ) → s.context ≡ Some b → s.context ≡ Some c → b.starting ≡ false → c.starting ≡ false
+  is_active b c e f active = subst (λ x. x.starting ≡ false) (one_context b c e f) active
 
-  pub act_goes : (row : ActRow) (s : Station Term ℕ) → StationOk cells g s → ContextAbove s.context → ActNeeds cells g s row
-      → StationGoes cells g s (act_does (term_reading_by same) row s)
-  act_goes (ActRefused answer) s h above needs = (h, tt, tt, tt, refl, tt, tt)
-  act_goes (StartedByX2 number target cell) s h above needs = by_x2_goes number target cell s.context s h h.0 above needs.0 needs.1 needs.2 needs.3
-  act_goes (StartedByS1 number target cell) s h above needs = by_s1_goes number target cell s.context s h h.0 needs.0 needs.1 needs.2 needs.3
-  act_goes (StartedWithin number air cell) s h above needs =
-      within_goes number air cell s.context s h h.0 above needs.0 needs.1 needs.2 needs.3 needs.4
-  act_goes (HandoverCommanded order count) s h above needs = commands_goes order count s.context s h h.0 needs
-  act_goes (ChangeCommanded renewal count) s h above needs = commands_change_goes renewal count s.context s h h.0 needs
-  act_goes (CancelledByX2 conn number target) s h above needs =
-      ((map_ctx g s.id given_up (given_up_ok s.id) s.context h.0, h.1, h.2, h.3, h.4, h.5, h.6, h.7), tt, tt, tt, refl, tt, tt)
-  act_goes (CancelledByS1 conn number cell) s h above needs =
-      ((map_ctx g s.id given_up (given_up_ok s.id) s.context h.0, h.1, h.2, h.3, h.4, h.5, h.6, h.7), tt, tt, tt, refl, tt, tt)
-  act_goes (CancelledWithin number) s h above needs =
-      ((map_ctx g s.id given_up (given_up_ok s.id) s.context h.0, all_filter _ _ s.preps h.1, h.2, h.3, h.4, h.5, h.6, h.7), tt, tt, tt, refl, tt, tt)
-  act_goes (PathSwitchAsked number) s h above needs = asks_goes number s.context s h h.0 needs
-  act_goes (PacketSent drb count text) s h above needs = packet_goes drb count text s.context s h h.0
-  act_goes (RrcSent srb count text) s h above needs = rrc_goes srb count text s.context s h h.0 needs.0 needs.1
-  act_goes (BearerSkipped on n) s h above needs =
-      ((map_ctx g s.id (with_skipped on n) (λ c k. k) s.context h.0, h.1, h.2, h.3, h.4, h.5, h.6, h.7), tt, tt, tt, refl, tt, tt)
+  module _ (above : ContextAbove s.context) (act : StationAct) (is : IsStationAct act) where
+    above_at : (c : Context Term ℕ) → s.context ≡ Some c → ContextAbove (Some c)
+    above_at c e = subst ContextAbove e above
+
+    rrc_goes : (srb : Srb) (count : ℕ) (text : List ℕ) → SendsText s act srb count text → (c : Context Term ℕ) → s.context ≡ Some c
+        → Goes (sends_rrc srb count text (Some c) s)
+    rrc_goes srb count text f c e =
+        let k = ctx_at cells g s ok c e in
+        let short : IsStationAct (SendRrc f.bearer text) = subst IsStationAct f.act_is is in
+        let says = reads_as (SaysOk g s.id c.key.kenb) (RrcData text) short.1 tt in
+        let taken = had cells g s ok f.context c f.serving e f.active in
+        (with_ctx cells g s ok (Some c) k, tt, tt, sends_down g s.id c.air c k refl srb count (spelling_of (RrcData text)) says taken, refl, tt, tt)
+
+    act_cases : ActCases r s (StationActHas r s act) Goes
+    act_cases = record {
+      nothing = λ answer. (ok, tt, tt, tt, refl, tt, tt);
+      by_x2 = λ number target cell k c e.
+          by_x2_goes number target cell c e (above_at c e) (had cells g s ok k.context c k.serving e k.active)
+          (is_active k.context c k.serving e k.active) k.number_is k.site (eqb-false target s.id k.placed);
+      by_s1 = λ number target cell k c e.
+          by_s1_goes number target cell c e (had cells g s ok k.context c k.serving e k.active)
+          (is_active k.context c k.serving e k.active) k.number_is k.site (eqb-false target s.id k.placed);
+      within = λ number air cell k c e.
+          let b = k.starts in
+          within_goes number air cell c e (above_at c e) (had cells g s ok b.context c b.serving e b.active)
+          (is_active b.context c b.serving e b.active) b.number_is k.air_is k.left b.site;
+      commanded = λ order count k c e.
+          commands_goes order count c k.attempt e (subst (λ x. x.attempt ≡ Some k.attempt) (one_context k.context c k.serving e) k.trying) k.orders;
+      changed = λ renewal count k c e.
+          commands_change_goes renewal count c e (subst (λ x. x.attempt ≡ Some (Renewing renewal)) (one_context k.context c k.serving e) k.trying);
+      cancelled_x2 = λ conn number target k. (gives_up, tt, tt, tt, refl, tt, tt);
+      cancelled_s1 = λ conn number cell k. (gives_up, tt, tt, tt, refl, tt, tt);
+      cancelled_within = λ number k. ((gives_up.0, all_filter _ _ s.preps ok.1, ok.2, ok.3, ok.4, ok.5, ok.6, ok.7), tt, tt, tt, refl, tt, tt);
+      asked = λ number k c e.
+          let draws : number ≡ s.next = k.number_is in
+          let first = ok.5 in
+          ((ctx_at cells g s ok c e, ok.1, (λ n up. ok.2 n (omega arith)), ok.3, ok.4, omega arith, ok.6, ok.7), tt, tt, tt, refl, tt, tt);
+      packet = λ drb count text k c e. (with_ctx cells g s ok (Some c) (ctx_at cells g s ok c e), tt, tt, tt, refl, tt, tt);
+      text = λ srb count text k c e. rrc_goes srb count text k c e;
+      skipped = λ on n k. (mapped cells g s ok (with_skipped on n) (λ c h. h), tt, tt, tt, refl, tt, tt);
+    }
+
+    -- the row that is chosen
+    pub act_goes : Goes (act_does r (act_row (plain_station r s) act) s)
+    act_goes = act_case r s Goes (StationActHas r s act) act_cases (act_row (plain_station r s) act) (station_act_has r s act)

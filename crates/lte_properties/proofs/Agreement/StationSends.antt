@@ -19,7 +19,12 @@ use Rattle.lte_properties.proofs.Agreement.Told.{made_there, SiteOk, cell_found,
 
 module _ (g : Ghost) where
   -- what a station sends on an SRB is under the key made for the air address
-  pub sends_down : (id air : ℕ) (c : Context Term ℕ) → CtxOk g id (Some c) → c.air ≡ air → (srb : Srb) (count : ℕ) (text : List ℕ) → TextOk g id c.key.kenb text → HadTaken g.took id c.air c.key.kenb
+  pub sends_down : (id air : ℕ) (c : Context Term ℕ)
+      → CtxOk g id (Some c)
+      → c.air ≡ air
+      → (srb : Srb) (count : ℕ) (text : List ℕ)
+      → TextOk g id c.key.kenb text
+      → HadTaken g.took id c.air c.key.kenb
       → OutOk g (Some (signalling_sent id c.air c.keys srb count text))
   sends_down id air c h at_air srb count text says had =
       let m = h.3.0 in
@@ -32,7 +37,9 @@ module _ (g : Ghost) where
       )
 
   -- the text of a key change reads as it
-  pub change_says : (made_ok : AllOf (MadeOk g) g.made) (t : Term) (id : ℕ) (a : Renewal) → ChangeIs g t a.cell a.algs id a.air → TextOk g id t (change_text id a)
+  pub change_says : (made_ok : AllOf (MadeOk g) g.made) (t : Term) (id : ℕ) (a : Renewal)
+      → ChangeIs g t a.cell a.algs id a.air
+      → TextOk g id t (change_text id a)
   change_says made_ok t id a h =
       let m = h.0 in
       let ok = all_found (MadeOk g) _ g.made m made_ok h.1 in

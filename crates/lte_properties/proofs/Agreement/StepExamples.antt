@@ -22,11 +22,11 @@ At = ℕ × ℕ × ℕ
 
 abbrev made_in : Runs → List (Made Term ℕ)
 made_in (Running w) = w.made
-made_in (Stopped chance) = []
+made_in (Stopped coincidence) = []
 
 abbrev took_in : Runs → List (Took Term ℕ)
 took_in (Running w) = w.took
-took_in (Stopped chance) = []
+took_in (Stopped coincidence) = []
 
 -- with step k, where this came new
 abbrev with_made : ℕ → Option (Made Term ℕ) → List At → List At

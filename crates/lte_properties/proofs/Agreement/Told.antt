@@ -73,10 +73,15 @@ made_none made m id n none low = found_none (is_made_at id n) made m none (secon
 made_other : (made : List (Made Term ℕ)) (m : Made Term ℕ) (id n : ℕ) → made_at made id n ≡ None → m.station ≢ id → made_at (made ++ m ∷ []) id n ≡ None
 made_other made m id n none other = found_none (is_made_at id n) made m none (first_differs m.station id m.air n other)
 
-pub tried_new : (tried : List (Tried Term ℕ)) (e : Tried Term ℕ) → tried_at tried e.station e.attempt ≡ None → tried_at (tried ++ e ∷ []) e.station e.attempt ≡ Some e
+pub tried_new : (tried : List (Tried Term ℕ)) (e : Tried Term ℕ)
+    → tried_at tried e.station e.attempt ≡ None
+    → tried_at (tried ++ e ∷ []) e.station e.attempt ≡ Some e
 tried_new tried e none = found_new (is_tried_at e.station e.attempt) tried e none (both_same e.station e.station e.attempt e.attempt refl refl)
 
-pub tried_none : (tried : List (Tried Term ℕ)) (e : Tried Term ℕ) (id n : ℕ) → tried_at tried id n ≡ None → e.attempt < n → tried_at (tried ++ e ∷ []) id n ≡ None
+pub tried_none : (tried : List (Tried Term ℕ)) (e : Tried Term ℕ) (id n : ℕ)
+    → tried_at tried id n ≡ None
+    → e.attempt < n
+    → tried_at (tried ++ e ∷ []) id n ≡ None
 tried_none tried e id n none low = found_none (is_tried_at id n) tried e none (second_differs e.station id e.attempt n low)
 
 tried_other : (tried : List (Tried Term ℕ)) (e : Tried Term ℕ) (id n : ℕ) → tried_at tried id n ≡ None → e.station ≢ id → tried_at (tried ++ e ∷ []) id n ≡ None

@@ -3,13 +3,13 @@ use Rattle.std.proofs.Common.{◌≡◌, ◌≤◌, ℕ, zero, suc, Bool, List, 
 use Rattle.lte_events.specs.declared.events.Event.{Event}
 use Rattle.lte_events.specs.declared.setups.Setup.{Setup}
 use Rattle.lte_events.specs.Site.{Site}
+use Rattle.lte_events.specs.Ranges.{IsSetup, IsEvent}
 use Rattle.key_model.specs.Term.{Term, Root}
 use Rattle.key_model.specs.HandoverTable.{NumberedKey}
 use Rattle.s1x2_rec.specs.Fields.{Fields}
 use Rattle.lte_machine.specs.Wire.{KeyUse, Outgoing}
 use Rattle.lte_machine.specs.Ciphers.{Ciphers, octets_of}
 use Rattle.lte_machine.specs.Opening.{Opening, Outcome}
-use Rattle.lte_machine.specs.Ranges.{IsSetup, IsEvent}
 use Rattle.lte_machine.specs.PhoneState.{Radio, Idle, Connecting, Connected}
 use Rattle.lte_machine.specs.Reply.{Took}
 use Rattle.lte_machine.specs.World.{Machine, happens}
@@ -24,11 +24,11 @@ use Rattle.lte_properties.proofs.Freshness.PhoneUses.{RadioInOrder, PhoneFresh}
 use Rattle.lte_properties.proofs.Freshness.PhoneRun.{in_order, happens_order, first_order, phone_always_in_order}
 use Rattle.lte_properties.proofs.Agreement.Later.{later_itself}
 use Rattle.lte_properties.proofs.Agreement.Told.{SiteOk}
-use Rattle.lte_properties.proofs.Agreement.World.{TheWorld, Conns, ghost, WorldOk, OctetsTell, Settled}
+use Rattle.lte_properties.proofs.Agreement.World.{Conns, ghost, WorldOk, OctetsTell, Settled}
 use Rattle.lte_properties.proofs.Agreement.Events.{fits_after, RunGoes, happens_goes, run_goes}
 use Rattle.lte_properties.proofs.Agreement.Holds.{cells_of, no_conns, first_ok, first_fits, agrees, none_before, of_each}
 use Rattle.lte_properties.proofs.Agreement.Follows.{InTurn, happens_in_turn, in_turn}
-use Rattle.lte_properties.proofs.Agreement.StationWalk.{CellFits}
+use Rattle.lte_properties.proofs.Agreement.Station.{CellFits}
 use Rattle.lte_properties.proofs.ChainNumbers.Lists.{all_map}
 use Rattle.lte_machine.proofs.RangeHolds.{ContextRanged, StationRanged, Ranged}
 use Rattle.lte_machine.proofs.RangeWorld.{ranged_keeps, first_ranged}
@@ -41,6 +41,7 @@ use Rattle.lte_properties.proofs.Agreement.Noted.{keys_told}
 use Rattle.lte_properties.proofs.Agreement.Calm.{NewKenb, calm_at}
 use Rattle.lte_properties.proofs.Agreement.Opener.{honest, octets_tell}
 use Rattle.lte_machine.proofs.CipherLaws.{AreCiphers}
+use Rattle.lte_machine.proofs.Worlds.{TheWorld}
 
 -- the four statements of a run: in the world after these events, of far commands in each world on the way, of the lines of
 -- completed handovers, and of what each line tells
@@ -69,7 +70,10 @@ new_kenb (Connecting w) took h = λ x i. of_each (λ y. y.key ≡ w.kenb → ⊥
 new_kenb (Connected l) took h = tt
 
 -- an opener by terms is honest along every run
-pub honest_along : (same : Term → Term → Bool) (root : ℕ → List ℕ → Term) (octets : Outgoing Term ℕ → List ℕ) (sender : Option (Outgoing Term ℕ) → Option (KeyUse Term)) (opener : Opening Term → List ℕ → Option (Outgoing Term ℕ) → Outcome) (c : Ciphers Term) → OpensByTerms c opener
+pub honest_along : (same : Term → Term → Bool) (root : ℕ → List ℕ → Term) (octets : Outgoing Term ℕ → List ℕ)
+    (sender : Option (Outgoing Term ℕ) → Option (KeyUse Term))
+    (opener : Opening Term → List ℕ → Option (Outgoing Term ℕ) → Outcome) (c : Ciphers Term)
+    → OpensByTerms c opener
     → (w : TheWorld) (es : List Event) → Along (Honest (machine_by same root octets sender opener)) (machine_by same root octets sender opener) w es
 honest_along same root octets sender opener c is w [] = tt
 honest_along same root octets sender opener c is w (e ∷ es) = (
@@ -77,7 +81,9 @@ honest_along same root octets sender opener c is w (e ∷ es) = (
   honest_along same root octets sender opener c is (happens (machine_by same root octets sender opener) w e).0 es,
 )
 
-module _ (same : Term → Term → Bool) (itself : IsReflexive same) (octets : Outgoing Term ℕ → List ℕ) (sender : Option (Outgoing Term ℕ) → Option (KeyUse Term)) (opener : Opening Term → List ℕ → Option (Outgoing Term ℕ) → Outcome) where
+module _ (same : Term → Term → Bool) (itself : IsReflexive same) (octets : Outgoing Term ℕ → List ℕ)
+    (sender : Option (Outgoing Term ℕ) → Option (KeyUse Term))
+    (opener : Opening Term → List ℕ → Option (Outgoing Term ℕ) → Outcome) where
   abbrev settling : Machine Term ℕ (Outgoing Term ℕ)
   settling = machine_by same Root octets sender opener
 
@@ -86,7 +92,8 @@ module _ (same : Term → Term → Bool) (itself : IsReflexive same) (octets : O
   settled_along w [] fresh turn ranged is = tt
   settled_along w (e ∷ es) fresh turn ranged is = (
     settled_by w fresh turn ranged,
-    settled_along (happens settling w e).0 es (happens_order same itself octets sender opener w fresh e) (happens_in_turn same Root octets sender opener w turn e)
+    settled_along (happens settling w e).0 es (happens_order same itself octets sender opener w fresh e)
+        (happens_in_turn same Root octets sender opener w turn e)
         (ranged_keeps same Root octets sender opener w e is.0 ranged) is.1,
   )
 
@@ -94,7 +101,10 @@ module _ (same : Term → Term → Bool) (itself : IsReflexive same) (octets : O
   settled_from_first setup is es each =
       settled_along (first_world setup) es (first_order same itself octets sender opener setup) (tt, tt) (first_ranged setup is) each
 
-module _ (same : Term → Term → Bool) (root : ℕ → List ℕ → Term) (octets : Outgoing Term ℕ → List ℕ) (sender : Option (Outgoing Term ℕ) → Option (KeyUse Term)) (opener : Opening Term → List ℕ → Option (Outgoing Term ℕ) → Outcome) (tell : OctetsTell octets) (cells : List Site) (cells_ok : AllOf SiteOk cells) where
+module _ (same : Term → Term → Bool) (root : ℕ → List ℕ → Term) (octets : Outgoing Term ℕ → List ℕ)
+    (sender : Option (Outgoing Term ℕ) → Option (KeyUse Term))
+    (opener : Opening Term → List ℕ → Option (Outgoing Term ℕ) → Outcome) (tell : OctetsTell octets) (cells : List Site)
+    (cells_ok : AllOf SiteOk cells) where
   abbrev m : Machine Term ℕ (Outgoing Term ℕ)
   m = machine_by same root octets sender opener
 
@@ -110,7 +120,11 @@ module _ (same : Term → Term → Bool) (root : ℕ → List ℕ → Term) (oct
       (calm, calm_along (noted u.core.link top) step.0 u es next step.2 is.1 settled.1 honest.1)
 
   -- in each world of a run no context has an air address where the phone took a far key by the end of it
-  none_ever : (top : ℕ → ℕ) (c : Conns) (w : TheWorld) (es : List Event) → Holds top w → WorldOk cells c w → ((conn : ℕ) → c.top conn ≤ top conn) → AllOf IsEvent es
+  none_ever : (top : ℕ → ℕ) (c : Conns) (w : TheWorld) (es : List Event)
+      → Holds top w
+      → WorldOk cells c w
+      → ((conn : ℕ) → c.top conn ≤ top conn)
+      → AllOf IsEvent es
       → Along (λ v e. Settled v) m w es → Along (Honest m) m w es → Along (Calm m) m w es → NoneEver m w es
   none_ever top c w es holds h fits is settled honest calm zero =
       let g = run_goes same root octets sender opener tell cells cells_ok top c w es holds h fits is settled honest calm in
@@ -120,7 +134,9 @@ module _ (same : Term → Term → Bool) (root : ℕ → List ℕ → Term) (oct
       let u = (happens m w e).0 in
       let step = happens_goes same root octets sender opener tell cells cells_ok c w e is.0 h settled.0 holds.above holds.flight honest.0 calm.0 in
       let next = happens_holds same root octets sender opener top w e holds in
-      none_ever (noted u.core.link top) step.0 u es next step.2 (fits_after same root octets sender opener tell cells cells_ok top c step.0 u step.2 step.3 fits) is.1 settled.1 honest.1 calm.1 n
+      none_ever (noted u.core.link top) step.0 u es next step.2
+      (fits_after same root octets sender opener tell cells cells_ok top c step.0 u step.2 step.3 fits) is.1
+      settled.1 honest.1 calm.1 n
 
   -- at each line of a completed handover the phone had taken the new context's key
   lines_along : (top : ℕ → ℕ) (c : Conns) (w : TheWorld) (es : List Event) → Holds top w → WorldOk cells c w → AllOf IsEvent es
@@ -135,7 +151,10 @@ module _ (same : Term → Term → Bool) (root : ℕ → List ℕ → Term) (oct
       )
 
 -- from the first world
-module _ (same : Term → Term → Bool) (itself : IsReflexive same) (octets : Outgoing Term ℕ → List ℕ) (sender : Option (Outgoing Term ℕ) → Option (KeyUse Term)) (opener : Opening Term → List ℕ → Option (Outgoing Term ℕ) → Outcome) (tell : OctetsTell octets) (setup : Setup) (is : IsSetup setup) (events : List Event) (are : AllOf IsEvent events) where
+module _ (same : Term → Term → Bool) (itself : IsReflexive same) (octets : Outgoing Term ℕ → List ℕ)
+    (sender : Option (Outgoing Term ℕ) → Option (KeyUse Term))
+    (opener : Opening Term → List ℕ → Option (Outgoing Term ℕ) → Outcome) (tell : OctetsTell octets) (setup : Setup)
+    (is : IsSetup setup) (events : List Event) (are : AllOf IsEvent events) where
   abbrev rooted : Machine Term ℕ (Outgoing Term ℕ)
   rooted = machine_by same Root octets sender opener
 
@@ -144,18 +163,26 @@ module _ (same : Term → Term → Bool) (itself : IsReflexive same) (octets : O
 
   module _ (honest : Along (Honest rooted) rooted (first_world setup) events) where
     calm : Along (Calm rooted) rooted (first_world setup) events
-    calm = calm_along same Root octets sender opener tell setup.cells (cells_of setup is) (λ conn. 0) (no_conns setup) (first_world setup) events (first_holds setup) (first_ok setup is) are settled honest
+    calm =
+        calm_along same Root octets sender opener tell setup.cells (cells_of setup is) (λ conn. 0) (no_conns setup)
+        (first_world setup) events (first_holds setup) (first_ok setup is) are settled honest
 
-    goes : RunGoes same Root octets sender opener tell setup.cells (cells_of setup is) (no_conns setup) (first_world setup) (run rooted (first_world setup) events) (core_numbers rooted (first_world setup) (λ conn. 0) events)
-    goes = run_goes same Root octets sender opener tell setup.cells (cells_of setup is) (λ conn. 0) (no_conns setup) (first_world setup) events (first_holds setup) (first_ok setup is) (first_fits setup) are settled honest calm
+    goes : RunGoes same Root octets sender opener tell setup.cells (cells_of setup is) (no_conns setup)
+        (first_world setup) (run rooted (first_world setup) events)
+        (core_numbers rooted (first_world setup) (λ conn. 0) events)
+    goes =
+        run_goes same Root octets sender opener tell setup.cells (cells_of setup is) (λ conn. 0) (no_conns setup)
+        (first_world setup) events (first_holds setup) (first_ok setup is) (first_fits setup) are settled honest calm
 
     -- every run whose openings are honest
     pub agreement_if_honest : AgreementHolds rooted setup events
     agreement_if_honest = (
       agrees setup.cells goes.0 (run rooted (first_world setup) events) goes.2 (in_turn same Root octets sender opener setup events)
           (phone_always_in_order same itself octets sender opener setup events).0,
-      none_ever same Root octets sender opener tell setup.cells (cells_of setup is) (λ conn. 0) (no_conns setup) (first_world setup) events (first_holds setup) (first_ok setup is) (first_fits setup) are settled honest calm,
-      lines_along same Root octets sender opener tell setup.cells (cells_of setup is) (λ conn. 0) (no_conns setup) (first_world setup) events (first_holds setup) (first_ok setup is) are settled honest calm,
+      none_ever same Root octets sender opener tell setup.cells (cells_of setup is) (λ conn. 0) (no_conns setup)
+          (first_world setup) events (first_holds setup) (first_ok setup is) (first_fits setup) are settled honest calm,
+      lines_along same Root octets sender opener tell setup.cells (cells_of setup is) (λ conn. 0) (no_conns setup)
+          (first_world setup) events (first_holds setup) (first_ok setup is) are settled honest calm,
       keys_told same Root octets sender opener (first_world setup) events,
     )
 
@@ -169,7 +196,10 @@ module _ (same : Term → Term → Bool) (itself : IsReflexive same) (octets : O
     )
 
 -- over these ciphers, by an opener that compares the uses on SRBs as terms
-module _ (same : Term → Term → Bool) (itself : IsReflexive same) (c : Ciphers Term) (good : AreCiphers c) (between : Fields → Option (NumberedKey Term ℕ) → List ℕ) (opener : Opening Term → List ℕ → Option (Outgoing Term ℕ) → Outcome) (by_terms : OpensByTerms c opener) (setup : Setup) (is : IsSetup setup) (events : List Event) (are : AllOf IsEvent events) where
+module _ (same : Term → Term → Bool) (itself : IsReflexive same) (c : Ciphers Term) (good : AreCiphers c)
+    (between : Fields → Option (NumberedKey Term ℕ) → List ℕ)
+    (opener : Opening Term → List ℕ → Option (Outgoing Term ℕ) → Outcome) (by_terms : OpensByTerms c opener)
+    (setup : Setup) (is : IsSetup setup) (events : List Event) (are : AllOf IsEvent events) where
   abbrev over : Machine Term ℕ (Outgoing Term ℕ)
   over = record (machine_over same c between) { opener = opener }
 

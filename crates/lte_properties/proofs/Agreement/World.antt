@@ -1,13 +1,13 @@
 -- Agreement's invariant of a world, and what an event leaves of it.
-use Rattle.std.proofs.Common.{◌≡◌, refl, sym, ap, ◌∙◌, subst, ℕ, ◌≤◌, Bool, List, Option, Some, None, Ok}
+use Rattle.std.proofs.Common.{◌≡◌, refl, sym, ◌∙◌, subst, ℕ, ◌≤◌, Bool, List, Option, Some, None, Ok}
 use Rattle.std.specs.Prelude.{⊤}
 use Rattle.std.proofs.lemmas.Bool.{eqb-false}
 use Rattle.rec_base.specs.declared.bearers.Bearer.{Bearer}
 use Rattle.rec_base.specs.declared.uses.Dir.{Dir}
 use Rattle.lte_events.specs.declared.acts.StationAct.{StationAct}
-use Rattle.lte_events.specs.declared.addresses.Address.{Address}
 use Rattle.lte_events.specs.declared.answers.Answer.{Answer}
 use Rattle.lte_events.specs.Site.{Site}
+use Rattle.lte_events.specs.Ranges.{IsStationAct}
 use Rattle.key_model.specs.Term.{Term}
 use Rattle.key_model.specs.HandoverTable.{NumberedKey}
 use Rattle.key_model.specs.Reading.{term_reading_by}
@@ -15,26 +15,23 @@ use Rattle.s1x2_rec.specs.Fields.{Fields}
 use Rattle.lte_machine.specs.Bearers.{Srb, which}
 use Rattle.lte_machine.specs.Wire.{KeyUse, Ciphering, Outgoing, SealedNas, PlainNas, SealedRrc, UserPacket, Between, address_of}
 use Rattle.lte_machine.specs.Opening.{Opening, Outcome}
-use Rattle.lte_machine.specs.Ranges.{IsStationAct}
 use Rattle.lte_machine.specs.Reply.{Made, Tried, Took, Reply}
-use Rattle.lte_machine.specs.PhoneState.{PhoneInput, PhoneAirPdu}
+use Rattle.lte_machine.specs.PhoneState.{PhoneInput, PhoneAirPdu, Radio, Idle, Connecting, Connected}
 use Rattle.lte_machine.specs.PhoneChoice.{unciphered_text, phone_row}
 use Rattle.lte_machine.specs.PhoneKeys.{PhoneDone}
 use Rattle.lte_machine.specs.PhoneStep.{plain_phone, front_of, phone_root, phone_step}
-use Rattle.lte_machine.specs.StationState.{Station, StationInput, StationActs, AirPdu, StationRecord, Interface, OnS1, OnX2}
-use Rattle.lte_machine.specs.StationRows.{StationRow, OfRecord, OfAir, OfAct}
-use Rattle.lte_machine.specs.StationKeys.{station_does}
-use Rattle.lte_machine.specs.StationStep.{station_step, station_row_of, station_key}
+use Rattle.lte_machine.specs.StationState.{Station, StationInput, StationActs, AirPdu, StationRecord, Interface}
+use Rattle.lte_machine.specs.StationStep.{station_step}
 use Rattle.lte_machine.specs.CoreState.{CoreInput}
 use Rattle.lte_machine.specs.CoreKeys.{CoreDone}
 use Rattle.lte_machine.specs.CoreStep.{core_step}
-use Rattle.lte_machine.specs.World.{Machine, World, with_one, phone_after, core_after, station_after, by_world, phone_turn, core_turn, turn_of, content_in}
+use Rattle.lte_machine.specs.World.{Machine, with_one, phone_after, core_after, station_after, by_world, phone_turn, core_turn, turn_of, content_in}
 use Rattle.lte_machine.specs.Step.{phone_attempts, core_attempts, attempts_at}
 use Rattle.lte_machine.proofs.Routing.{address_on, Found}
+use Rattle.lte_machine.proofs.Worlds.{TheWorld}
 use Rattle.lte_properties.specs.ChainBelow.{AllOf}
-use Rattle.lte_properties.specs.ChainAbove.{ContextAbove, StationAbove, InFlight}
+use Rattle.lte_properties.specs.ChainAbove.{StationAbove, InFlight}
 use Rattle.lte_properties.specs.ChainHolds.{machine_by}
-use Rattle.lte_machine.specs.PhoneState.{Radio, Idle, Connecting, Connected}
 use Rattle.lte_machine.specs.CoreChoice.{core_header}
 use Rattle.lte_properties.proofs.Freshness.PhoneUses.{TookInOrder, RadioInOrder, PhoneInOrder}
 use Rattle.lte_properties.specs.Agreement.{made_at, OneOf, TriedOnce, Obeys, Follow}
@@ -49,14 +46,10 @@ use Rattle.lte_properties.proofs.Agreement.Later.{Later, later_itself, ctx_later
 use Rattle.lte_properties.proofs.Agreement.Phone.{PhoneGoes, NewTook, PhoneNeeds, took_more, phone_goes}
 use Rattle.lte_properties.proofs.Agreement.PhoneWalk.{CameDown, NothingYet, air_walks}
 use Rattle.lte_properties.proofs.Agreement.Told.{told_more, fresh_beside, SiteOk}
-use Rattle.lte_properties.proofs.Agreement.Station.{StationGoes, NewMade, NewTried, RecordNeeds, AirNeeds, record_goes, air_goes}
-use Rattle.lte_properties.proofs.Agreement.StationAct.{ActNeeds, act_goes}
-use Rattle.lte_properties.proofs.Agreement.StationWalk.{CellFits, s1_walks, x2_walks}
-use Rattle.lte_properties.proofs.Agreement.StationOpens.{CameUp, air_row_walks, act_walks}
+use Rattle.lte_properties.proofs.Agreement.Station.{StationGoes, NewMade, NewTried, CellFits, record_goes}
+use Rattle.lte_properties.proofs.Agreement.StationAct.{act_goes}
+use Rattle.lte_properties.proofs.Agreement.StationOpens.{CameUp, air_goes}
 use Rattle.lte_properties.proofs.Agreement.Core.{StaysOff, as_before, CoreGoes}
-
-abbrev pub TheWorld : Type 0
-TheWorld = World Term ℕ (Outgoing Term ℕ)
 
 -- of each connection its KASME, the COUNT of its KeNB and its greatest number; the next connection
 pub record Conns : Type 0 where
@@ -135,7 +128,11 @@ module _ (cells : List Site) (c d : Conns) (w u : TheWorld) (l : Later (ghost c 
     subst (λ xs. AllOf (SeenBy s.id s.seen) xs) (sym made) h.7,
   )
 
-  stations_stay : (ss : List (Station Term ℕ)) → u.made ≡ w.made → u.tried ≡ w.tried → AllOf (StationOk cells (ghost c w)) ss → AllOf (StationOk cells (ghost d u)) ss
+  stations_stay : (ss : List (Station Term ℕ))
+      → u.made ≡ w.made
+      → u.tried ≡ w.tried
+      → AllOf (StationOk cells (ghost c w)) ss
+      → AllOf (StationOk cells (ghost d u)) ss
   stations_stay ss made tried h = all_map (StationOk cells (ghost c w)) (StationOk cells (ghost d u)) (λ s k. station_stays s made tried k) ss h
 
   sent_stays : (xs : List (Outgoing Term ℕ)) → AllOf (SentOk (ghost c w)) xs → AllOf (SentOk (ghost d u)) xs
@@ -161,7 +158,12 @@ abbrev pub IsAt : List Site → Conns → TheWorld → Station Term ℕ → Type
 IsAt cells c w s = StationOk cells (ghost c w) s × StationAbove s × CellFits s.context × AllOf (InFlight s) w.sent
 
 -- so where the present key is to change, the phone took nothing yet
-not_yet : (g : Ghost) (radio : Radio Term ℕ) → Follow None g.took → TookInOrder g.took → RadioInOrder g.took radio → AllOf (Obeys g.made) g.took → NothingYet g radio
+not_yet : (g : Ghost) (radio : Radio Term ℕ)
+    → Follow None g.took
+    → TookInOrder g.took
+    → RadioInOrder g.took radio
+    → AllOf (Obeys g.made) g.took
+    → NothingYet g radio
 not_yet g Idle follow order radio obeys = tt
 not_yet g (Connecting w) follow order radio obeys = tt
 not_yet g (Connected l) follow order radio obeys = λ station air m there from. new_at g.made station air m there l.kenb from g.took follow order radio obeys
@@ -171,7 +173,10 @@ abbrev pub ReadOk : (Fields → Option (NumberedKey Term ℕ) → Type 0) → Op
 ReadOk P (Some (Between to fields key)) = P fields key
 ReadOk P other = ⊤
 
-module _ (same : Term → Term → Bool) (root : ℕ → List ℕ → Term) (octets : Outgoing Term ℕ → List ℕ) (sender : Option (Outgoing Term ℕ) → Option (KeyUse Term)) (opener : Opening Term → List ℕ → Option (Outgoing Term ℕ) → Outcome) (tell : OctetsTell octets) (cells : List Site) (cells_ok : AllOf SiteOk cells) where
+module _ (same : Term → Term → Bool) (root : ℕ → List ℕ → Term) (octets : Outgoing Term ℕ → List ℕ)
+    (sender : Option (Outgoing Term ℕ) → Option (KeyUse Term))
+    (opener : Opening Term → List ℕ → Option (Outgoing Term ℕ) → Outcome) (tell : OctetsTell octets) (cells : List Site)
+    (cells_ok : AllOf SiteOk cells) where
   abbrev m : Machine Term ℕ (Outgoing Term ℕ)
   m = machine_by same root octets sender opener
 
@@ -214,7 +219,9 @@ module _ (same : Term → Term → Bool) (root : ℕ → List ℕ → Term) (oct
       )
 
   pub phone_turn_goes : (c : Conns) (w : TheWorld) (input : PhoneInput Term) (came : Option (Outgoing Term ℕ)) → WorldOk cells c w
-      → PhoneNeeds (ghost c w) w.phone.radio (phone_row (plain_phone (term_reading_by same) w.phone) (front_of (term_reading_by same) w.phone input) (outcome_of m (phone_attempts m w input came)))
+      → PhoneNeeds (ghost c w) w.phone.radio
+      (phone_row (plain_phone (term_reading_by same) w.phone) (front_of (term_reading_by same) w.phone input)
+      (outcome_of m (phone_attempts m w input came)))
       → Goes cells c w (phone_turn m w input came).0
   phone_turn_goes c w input came h needs =
       phone_after_goes c w (phone_step (term_reading_by same) w.phone input (outcome_of m (phone_attempts m w input came))) h
@@ -222,7 +229,10 @@ module _ (same : Term → Term → Bool) (root : ℕ → List ℕ → Term) (oct
       (phone_row (plain_phone (term_reading_by same) w.phone) (front_of (term_reading_by same) w.phone input) (outcome_of m (phone_attempts m w input came)))
       (phone_root input) w.phone h.radio needs)
 
-  pub phone_air_goes : (c : Conns) (w : TheWorld) (station air : ℕ) (bearer : Bearer) (pdu : List ℕ) (came : Option (Outgoing Term ℕ)) → WorldOk cells c w → Settled w
+  pub phone_air_goes : (c : Conns) (w : TheWorld) (station air : ℕ) (bearer : Bearer) (pdu : List ℕ)
+      (came : Option (Outgoing Term ℕ))
+      → WorldOk cells c w
+      → Settled w
       → CameDown (ghost c w) station air (which bearer) pdu came
       → let a = phone_attempts m w (PhoneAirPdu station air bearer pdu) came in
       IsHonest a.opening a.came (outcome_of m a) → IsCalm a.opening a.came (outcome_of m a)
@@ -230,7 +240,8 @@ module _ (same : Term → Term → Bool) (root : ℕ → List ℕ → Term) (oct
   phone_air_goes c w station air bearer pdu came h settled k honest calm =
       phone_turn_goes c w (PhoneAirPdu station air bearer pdu) came h
       (air_walks same (ghost c w) w.phone station air pdu (which bearer) came k
-      (not_yet (ghost c w) w.phone.radio settled.turn.0 settled.order.0 settled.order.1 (all_map (TookOk (ghost c w)) (Obeys w.made) (λ x t. t.1) w.took h.took))
+      (not_yet (ghost c w) w.phone.radio settled.turn.0 settled.order.0 settled.order.1
+      (all_map (TookOk (ghost c w)) (Obeys w.made) (λ x t. t.1) w.took h.took))
       h.radio (outcome_of m (phone_attempts m w (PhoneAirPdu station air bearer pdu) came)) honest calm)
 
   -- THE CORE
@@ -264,7 +275,9 @@ module _ (same : Term → Term → Bool) (root : ℕ → List ℕ → Term) (oct
 
   -- of another station, whose numbers are its own
   beside : (c : Conns) (w u : TheWorld) (l : Later (ghost c w) (ghost c u)) (s : Station Term ℕ) → StationOk cells (ghost c w) s
-      → ((n : ℕ) → s.next ≤ n → (made_at u.made s.id n ≡ None) × (tried_at u.tried s.id n ≡ None)) → AllOf (SeenBy s.id s.seen) u.made → StationOk cells (ghost c u) s
+      → ((n : ℕ) → s.next ≤ n → (made_at u.made s.id n ≡ None) × (tried_at u.tried s.id n ≡ None))
+      → AllOf (SeenBy s.id s.seen) u.made
+      → StationOk cells (ghost c u) s
   beside c w u l s h fresh seen =
       (ctx_later (ghost c w) (ghost c u) l s.id s.context h.0, preps_later (ghost c w) (ghost c u) l s.id s.preps h.1, fresh, h.3, h.4, h.5, h.6, seen)
 
@@ -298,70 +311,62 @@ module _ (same : Term → Term → Bool) (root : ℕ → List ℕ → Term) (oct
               h.stations;
           sent = all_one (SentOk (ghost c u)) d.1.sent w.sent (sent_stays cells c c w u l w.sent h.sent) (out_ok d.1.sent (ghost c u) k.3);
           made = all_one (MadeOk (ghost c u)) d.1.made w.made (made_stays cells c c w u l w.made h.made) (new_made d.1.made (ghost c w) (ghost c u) k.1);
-          tried = all_one (TriedOk cells (ghost c u)) d.1.tried w.tried (tried_stays cells c c w u l w.tried h.tried) (new_tried d.1.tried (ghost c u) s.id k.2);
+          tried =
+              all_one (TriedOk cells (ghost c u)) d.1.tried w.tried (tried_stays cells c c w u l w.tried h.tried)
+              (new_tried d.1.tried (ghost c u) s.id k.2);
           took = took_stays cells c c w u l w.took h.took;
           once = once_after d.1.made w.made (ghost c u) (ghost c w) refl k.1 h.once;
         },
         as_before w.core.link c.top,
       )
 
-  -- what a row needs
-  abbrev StationNeeds : Ghost → Station Term ℕ → StationRow → Option (NumberedKey Term ℕ) → Type 0
-  StationNeeds g s (OfRecord row) key = RecordNeeds g s row key
-  StationNeeds g s (OfAir row) key = AirNeeds g s row
-  StationNeeds g s (OfAct row) key = ActNeeds cells g s row
-
-  station_does_goes : (c : Conns) (w : TheWorld) → WorldOk cells c w → (row : StationRow) (key : Option (NumberedKey Term ℕ)) (s : Station Term ℕ)
-      → StationOk cells (ghost c w) s → ContextAbove s.context → StationNeeds (ghost c w) s row key
-      → StationGoes cells (ghost c w) s (station_does (term_reading_by same) row key s)
-  station_does_goes c w h (OfRecord row) key s ok above needs = record_goes same cells (ghost c w) h.made h.tried row key s ok needs
-  station_does_goes c w h (OfAir row) key s ok above needs = air_goes same cells (ghost c w) h.made h.tried row s ok needs
-  station_does_goes c w h (OfAct row) key s ok above needs = act_goes same cells cells_ok (ghost c w) h.made h.tried row s ok above needs
-
   -- the turn of a station
-  station_goes : (c : Conns) (w : TheWorld) (id : ℕ) (input : StationInput Term ℕ) (came : Option (Outgoing Term ℕ)) (s : Station Term ℕ) → WorldOk cells c w → s.id ≡ id
-      → StationOk cells (ghost c w) s → ContextAbove s.context
-      → StationNeeds (ghost c w) s (station_row_of (term_reading_by same) s input (outcome_of m (attempts_at m input came (Some s)))) (station_key input)
+  station_goes : (c : Conns) (w : TheWorld) (id : ℕ) (input : StationInput Term ℕ) (came : Option (Outgoing Term ℕ)) (s : Station Term ℕ) → WorldOk cells c w
+      → s.id ≡ id → StationGoes cells (ghost c w) s (station_step (term_reading_by same) s input (outcome_of m (attempts_at m input came (Some s))))
       → Goes cells c w (turn_of m w id input came (Some s)).0
-  station_goes c w id input came s h is ok above needs =
-      let outcome = outcome_of m (attempts_at m input came (Some s)) in
-      station_after_goes c w id s (station_step (term_reading_by same) s input outcome) is h
-      (station_does_goes c w h (station_row_of (term_reading_by same) s input outcome) (station_key input) s ok above needs)
+  station_goes c w id input came s h is k =
+      station_after_goes c w id s (station_step (term_reading_by same) s input (outcome_of m (attempts_at m input came (Some s)))) is h k
 
-  pub station_acts_goes : (c : Conns) (w : TheWorld) (id : ℕ) (act : StationAct) → IsStationAct act → WorldOk cells c w → (s : Station Term ℕ) → Found w (IsAt cells c w) id s
-      → Goes cells c w (turn_of m w id (StationActs act) None (Some s)).0
+  pub station_acts_goes : (c : Conns) (w : TheWorld) (id : ℕ) (act : StationAct) → IsStationAct act → WorldOk cells c w → (s : Station Term ℕ)
+      → Found w (IsAt cells c w) id s → Goes cells c w (turn_of m w id (StationActs act) None (Some s)).0
   station_acts_goes c w id act is h s f =
-      station_goes c w id (StationActs act) None s h f.own f.holds.0 f.holds.1.0 (act_walks same cells (ghost c w) s f.holds.0 act is)
+      station_goes c w id (StationActs act) None s h f.own
+      (act_goes same cells cells_ok (ghost c w) h.made h.tried s f.holds.0 f.holds.1.0 act is)
 
-  pub station_air_goes : (c : Conns) (w : TheWorld) (id air : ℕ) (bearer : Bearer) (pdu : List ℕ) (came : Option (Outgoing Term ℕ)) → CameUp (ghost c w) id air came → WorldOk cells c w
-      → (s : Station Term ℕ) → Found w (IsAt cells c w) id s
+  pub station_air_goes : (c : Conns) (w : TheWorld) (id air : ℕ) (bearer : Bearer) (pdu : List ℕ)
+      (came : Option (Outgoing Term ℕ))
+      → CameUp (ghost c w) id air came
+      → WorldOk cells c w → (s : Station Term ℕ) → Found w (IsAt cells c w) id s
       → let a = attempts_at m (AirPdu air bearer pdu) came (Some s) in IsHonest a.opening a.came (outcome_of m a)
       → Goes cells c w (turn_of m w id (AirPdu air bearer pdu) came (Some s)).0
   station_air_goes c w id air bearer pdu came k h s f honest =
-      station_goes c w id (AirPdu air bearer pdu) came s h f.own f.holds.0 f.holds.1.0
-      (air_row_walks same cells (ghost c w) s f.holds.0 air came (subst (λ n. CameUp (ghost c w) n air came) (sym f.own) k)
-      (outcome_of m (attempts_at m (AirPdu air bearer pdu) came (Some s)))
-      (which bearer) pdu honest)
+      station_goes c w id (AirPdu air bearer pdu) came s h f.own
+      (air_goes same cells (ghost c w) s f.holds.0 air came (subst (λ n. CameUp (ghost c w) n air came) (sym f.own) k)
+      (outcome_of m (attempts_at m (AirPdu air bearer pdu) came (Some s))) (which bearer) pdu honest)
 
   -- what comes to it in a record
-  record_needs : (c : Conns) (w : TheWorld) (on : Interface) (id : ℕ) (came : Option (Outgoing Term ℕ)) → ReadOk (BetweenOk (ghost c w) (address_on on id)) came
-      → OfSome (λ x. (address_of x ≡ address_on on id) × FitsAll w x) came → (outcome : Outcome) (s : Station Term ℕ) → Found w (IsAt cells c w) id s
-      → StationNeeds (ghost c w) s (station_row_of (term_reading_by same) s (StationRecord on (content_in m came)) outcome) (station_key (StationRecord on (content_in m came)))
-  record_needs c w on id None k fits outcome s f = tt
-  record_needs c w on id (Some (SealedNas dir header i e text)) k fits outcome s f = tt
-  record_needs c w on id (Some (PlainNas pdu)) k fits outcome s f = tt
-  record_needs c w on id (Some (SealedRrc dir station air srb i e text)) k fits outcome s f = tt
-  record_needs c w on id (Some (UserPacket dir station air drb e text)) k fits outcome s f = tt
-  record_needs c w OnS1 id (Some (Between to fields key)) k fits outcome s f =
-      s1_walks same (ghost c w) s fields key f.holds.2
-      (subst (λ n. BetweenOk (ghost c w) (Address.StationS1 n) fields key) (sym f.own) k)
-      (subst (λ a. InFlight s (Between a fields key)) (fits.0 ∙ ap Address.StationS1 (sym f.own)) (fits.1 s f.holds.3))
-  record_needs c w OnX2 id (Some (Between to fields key)) k fits outcome s f =
-      x2_walks same (ghost c w) s fields key (subst (λ n. BetweenOk (ghost c w) (Address.StationX2 n) fields key) (sym f.own) k)
+  station_reads : (c : Conns) (w : TheWorld) (on : Interface) (id : ℕ) (came : Option (Outgoing Term ℕ))
+      → ReadOk (BetweenOk (ghost c w) (address_on on id)) came
+      → OfSome (λ x. (address_of x ≡ address_on on id) × FitsAll w x) came → WorldOk cells c w → (outcome : Outcome) (s : Station Term ℕ)
+      → Found w (IsAt cells c w) id s → StationGoes cells (ghost c w) s (station_step (term_reading_by same) s (StationRecord on (content_in m came)) outcome)
+  station_reads c w on id None k fits h outcome s f = (f.holds.0, tt, tt, tt, refl, tt, tt)
+  station_reads c w on id (Some (SealedNas dir header i e text)) k fits h outcome s f = (f.holds.0, tt, tt, tt, refl, tt, tt)
+  station_reads c w on id (Some (PlainNas pdu)) k fits h outcome s f = (f.holds.0, tt, tt, tt, refl, tt, tt)
+  station_reads c w on id (Some (SealedRrc dir station air srb i e text)) k fits h outcome s f = (f.holds.0, tt, tt, tt, refl, tt, tt)
+  station_reads c w on id (Some (UserPacket dir station air drb e text)) k fits h outcome s f = (f.holds.0, tt, tt, tt, refl, tt, tt)
+  station_reads c w on id (Some (Between to fields key)) k fits h outcome s f =
+      record_goes same cells (ghost c w) h.made h.tried s f.holds.0 on fields key (
+        subst (λ n. BetweenOk (ghost c w) (address_on on n) fields key) (sym f.own) k,
+        λ e. (
+          f.holds.2,
+          subst (λ a. InFlight s (Between a fields key)) (fits.0 ∙ (λ j. address_on (e j) (sym f.own j))) (fits.1 s f.holds.3),
+        ),
+      )
 
-  pub station_record_goes : (c : Conns) (w : TheWorld) (on : Interface) (id : ℕ) (came : Option (Outgoing Term ℕ)) → ReadOk (BetweenOk (ghost c w) (address_on on id)) came
+  pub station_record_goes : (c : Conns) (w : TheWorld) (on : Interface) (id : ℕ) (came : Option (Outgoing Term ℕ))
+      → ReadOk (BetweenOk (ghost c w) (address_on on id)) came
       → OfSome (λ x. (address_of x ≡ address_on on id) × FitsAll w x) came → WorldOk cells c w → (s : Station Term ℕ) → Found w (IsAt cells c w) id s
       → Goes cells c w (turn_of m w id (StationRecord on (content_in m came)) came (Some s)).0
   station_record_goes c w on id came k fits h s f =
-      station_goes c w id (StationRecord on (content_in m came)) came s h f.own f.holds.0 f.holds.1.0
-      (record_needs c w on id came k fits (outcome_of m (attempts_at m (StationRecord on (content_in m came)) came (Some s))) s f)
+      station_goes c w id (StationRecord on (content_in m came)) came s h f.own
+      (station_reads c w on id came k fits h (outcome_of m (attempts_at m (StationRecord on (content_in m came)) came (Some s))) s f)

@@ -36,7 +36,8 @@ derived_are_none [] = refl
 derived_are_none (d ∷ ds) = derived_are_none ds
 
 -- derivations add none to a history
-pub roots_kept : (rows : List (RowOrigin Term)) (ds : List (Derivation Term)) → length (filter is_root_row (rows ++ map Of ds)) ≡ length (filter is_root_row rows)
+pub roots_kept : (rows : List (RowOrigin Term)) (ds : List (Derivation Term))
+    → length (filter is_root_row (rows ++ map Of ds)) ≡ length (filter is_root_row rows)
 roots_kept [] ds = derived_are_none ds
 roots_kept (OfRoot root ∷ rows) ds = ap suc (roots_kept rows ds)
 roots_kept (Of d ∷ rows) ds = roots_kept rows ds

@@ -30,13 +30,21 @@ pub data Moves (next : ℕ) (old new : Option (Context Term ℕ)) : Type 0 where
 not_new : {A : Type 0} (next number : ℕ) → number < next → next ≤ number → A
 not_new next number h k = absurd (omega arith)
 
-request_moves_by : (next conn number : ℕ) (old new : Option (Context Term ℕ)) → number < next → Moves next old new → RequestOk old conn number → RequestOk new conn number
+request_moves_by : (next conn number : ℕ) (old new : Option (Context Term ℕ))
+    → number < next
+    → Moves next old new
+    → RequestOk old conn number
+    → RequestOk new conn number
 request_moves_by next conn number old None lt m h = tt
 request_moves_by next conn number None (Some d) lt (Stays s) h = absurd s
 request_moves_by next conn number (Some c) (Some d) lt (Stays s) h = λ e. s.1 ∙ h (sym s.0 ∙ e)
 request_moves_by next conn number old (Some d) lt (Renewed f) h = λ e. not_new next number lt (f number e)
 
-answer_moves_by : (next conn number n : ℕ) (old new : Option (Context Term ℕ)) → number < next → Moves next old new → AnswerOk old conn number n → AnswerOk new conn number n
+answer_moves_by : (next conn number n : ℕ) (old new : Option (Context Term ℕ))
+    → number < next
+    → Moves next old new
+    → AnswerOk old conn number n
+    → AnswerOk new conn number n
 answer_moves_by next conn number n old None lt m h = tt
 answer_moves_by next conn number n None (Some d) lt (Stays s) h = absurd s
 answer_moves_by next conn number n (Some c) (Some d) lt (Stays s) h =

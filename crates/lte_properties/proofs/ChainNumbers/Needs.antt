@@ -39,13 +39,17 @@ abbrev Answers : Option (Context Term ℕ) → Fields → ℕ → Type 0
 Answers o fields n = (asked number : ℕ) → fields ≡ PathSwitchAnswer asked number → AnswerOk o asked number n
 
 -- on S1 an answer fits the station that it goes to
-answers_on_s1 : (s : Station Term ℕ) (to : Address) (fields : Fields) (key : NumberedKey Term ℕ) → to ≡ StationS1 s.id → InFlight s (Between to fields (Some key)) → Answers s.context fields key.number
+answers_on_s1 : (s : Station Term ℕ) (to : Address) (fields : Fields) (key : NumberedKey Term ℕ)
+    → to ≡ StationS1 s.id
+    → InFlight s (Between to fields (Some key))
+    → Answers s.context fields key.number
 answers_on_s1 s to fields key e h asked number f =
     let k = subst (λ a. AnswerTo a s asked number key.number) e (subst (λ g. InFlight s (Between to g (Some key))) f h) in
     (k refl).1
 
 -- a record with a key supplies what its row needs
-module _ (top : ℕ → ℕ) (same : Term → Term → Bool) (s : Station Term ℕ) (on : Interface) (to : Address) (fields : Fields) (key : NumberedKey Term ℕ) (goes : to ≡ address_on on s.id)
+module _ (top : ℕ → ℕ) (same : Term → Term → Bool) (s : Station Term ℕ) (on : Interface) (to : Address)
+    (fields : Fields) (key : NumberedKey Term ℕ) (goes : to ≡ address_on on s.id)
     (below : key.number ≤ top (conn_of fields)) (flies : InFlight s (Between to fields (Some key))) where
   taken_needs : (conn : ℕ) (origin : Option Origin) → Takes s on fields conn origin → PairNeeds top key.number s.context
   taken_needs conn origin f =
@@ -69,7 +73,9 @@ module _ (top : ℕ → ℕ) (same : Term → Term → Bool) (s : Station Term �
   row_needs (KeyRenewed conn number air count) f = tt
 
 abbrev RecordOf : (Term → Term → Bool) → Station Term ℕ → Interface → Fields → Option (NumberedKey Term ℕ) → RecordRow
-RecordOf same s on fields key = record_row (plain_station (term_reading_by same) s) on (map_read unseen (term_reading_by same).ncc (Ok (record { fields = fields; key = key })))
+RecordOf same s on fields key =
+    record_row (plain_station (term_reading_by same) s) on
+    (map_read unseen (term_reading_by same).ncc (Ok (record { fields = fields; key = key })))
 
 -- A STEP OF A STATION
 
@@ -84,17 +90,21 @@ module _ (top : ℕ → ℕ) (same : Term → Term → Bool) (s : Station Term �
   Keeps d = StepKept top s d
 
   pub act_step_kept : (act : StationAct) (outcome : Outcome) → StepKept top s (station_step r s (StationActs act) outcome)
-  act_step_kept act outcome = act_case r s Keeps (StationActHas r s act) (act_kept top same s below above act) (act_row (plain_station r s) act) (station_act_has r s act)
+  act_step_kept act outcome =
+      act_case r s Keeps (StationActHas r s act) (act_kept top same s below above act) (act_row (plain_station r s) act)
+      (station_act_has r s act)
 
   pub air_step_kept : (air : ℕ) (bearer : Bearer) (pdu : List ℕ) (outcome : Outcome) → StepKept top s (station_step r s (AirPdu air bearer pdu) outcome)
   air_step_kept air bearer pdu outcome =
       air_case r s Keeps (AirHas r s air (which bearer) pdu outcome) (air_kept top same s below above air (which bearer) pdu outcome)
       (air_row (plain_station r s) (air_front (plain_station r s) air (which bearer) pdu) outcome) (air_has r s air (which bearer) pdu outcome)
 
-  between_kept : (on : Interface) (fields : Fields) (key : Option (NumberedKey Term ℕ)) (outcome : Outcome) → RowNeeds top s (OfRecord (RecordOf same s on fields key)) key →
+  between_kept : (on : Interface) (fields : Fields) (key : Option (NumberedKey Term ℕ)) (outcome : Outcome) →
+      RowNeeds top s (OfRecord (RecordOf same s on fields key)) key →
       StepKept top s (station_step r s (StationRecord on (Ok (record { fields = fields; key = key }))) outcome)
   between_kept on fields key outcome n =
-      record_case r s Keeps (λ row key. RecordHas r s on fields row × RowNeeds top s (OfRecord row) key) (record_kept top same s below above on fields) (RecordOf same s on fields key) key
+      record_case r s Keeps (λ row key. RecordHas r s on fields row × RowNeeds top s (OfRecord row) key)
+      (record_kept top same s below above on fields) (RecordOf same s on fields key) key
       (record_has r s on (record { fields = fields; key = key }), n)
 
   -- a record that was not sent, and one that was
@@ -123,5 +133,6 @@ none_between (Some (SealedRrc dir station air srb u e text)) h = ((λ top. tt), 
 none_between (Some (UserPacket dir station air drb e text)) h = ((λ top. tt), (λ u. tt))
 none_between (Some (Between to fields key)) h = absurd h
 
-pub phone_does_plain : (same : Term → Term → Bool) (row : PhoneRow) (root : Option Term) (s : Phone Term ℕ) → Plainly (phone_does (term_reading_by same) row root s).1.sent
+pub phone_does_plain : (same : Term → Term → Bool) (row : PhoneRow) (root : Option Term) (s : Phone Term ℕ)
+    → Plainly (phone_does (term_reading_by same) row root s).1.sent
 phone_does_plain same row root s = none_between (phone_does (term_reading_by same) row root s).1.sent (phone_gives same row root s).0

@@ -168,7 +168,11 @@ module _ (top : ℕ → ℕ) (same : Term → Term → Bool) (s : Station Term �
   unchanged = same_context top s s.next s.last s.seen s.preps None (omega arith) pb pa tt h a
 
   -- with the context that the station has
-  of_context : (c : Context Term ℕ) → s.context ≡ Some c → (d : Station Term ℕ × Reply Term ℕ) → (ContextBelow top (Some c) → ContextAbove (Some c) → After (Some c) d) → After s.context d
+  of_context : (c : Context Term ℕ)
+      → s.context ≡ Some c
+      → (d : Station Term ℕ × Reply Term ℕ)
+      → (ContextBelow top (Some c) → ContextAbove (Some c) → After (Some c) d)
+      → After s.context d
   of_context c e d f = subst (λ o. After o d) (sym e) (f (subst (ContextBelow top) e h) (subst ContextAbove e a))
 
   above_next : (n : ℕ) → n ≡ s.next + 1 → s.next ≤ n + 1
@@ -215,20 +219,51 @@ module _ (top : ℕ → ℕ) (same : Term → Term → Bool) (s : Station Term �
   record_kept on fields =
       record {
         nothing = λ answer. unchanged;
-        given = λ conn cell caps algs air kenb k. let e : air ≡ s.next = k.0.air_is in record { below = ((omega arith, tt, tt, tt), tt); above = ((tt, tt), tt); same = refl; rises = omega arith; moves = Renewed (λ n f. absurd (none_some f)); sends = (tt, tt, tt) };
+        given = λ conn cell caps algs air kenb k.
+            let e : air ≡ s.next = k.0.air_is in
+            record {
+              below = ((omega arith, tt, tt, tt), tt);
+              above = ((tt, tt), tt);
+              same = refl;
+              rises = omega arith;
+              moves = Renewed (λ n f. absurd (none_some f));
+              sends = (tt, tt, tt);
+            };
         released = λ key k. record { below = (tt, tt); above = (tt, tt); same = refl; rises = omega arith; moves = Stays tt; sends = tt };
         taken = λ conn origin pair k. pair_taken_some conn origin pair s.context k.1 h a;
         by_s1 = λ w pair k. prepared_kept w _ _ k.0.admits.air_is k.1 refl (tt, tt, tt);
         by_x2 = λ w star k. prepared_kept w _ _ k.0.admits.air_is k.1 refl (tt, tt, tt);
         acked_s1 = λ ncc algs air key k. mapped top s (with_s1_ack ncc algs air) s.preps None (λ c. refl) (λ c. refl)
-            (λ c P k. (k.0, k.1, s1_acked_so (λ o. OfPair P (star_in o)) ncc algs air (λ start m. m) c.attempt k.2, s1_acked_so (λ o. OfPair P (spent_in o)) ncc algs air (λ start m. m) c.attempt k.3))
+            (λ c P k. (
+              k.0,
+              k.1,
+              s1_acked_so (λ o. OfPair P (star_in o)) ncc algs air (λ start m. m) c.attempt k.2,
+              s1_acked_so (λ o. OfPair P (spent_in o)) ncc algs air (λ start m. m) c.attempt k.3,
+            ))
             (λ c k. (k.0, s1_acked_so (λ o. OfPair (IsAbove c.key.number) (spent_in o)) ncc algs air (λ start m. m) c.attempt k.1)) pb pa s.context tt h a;
         acked_x2 = λ algs air key k. mapped top s (with_x2_ack algs air) s.preps None (λ c. refl) (λ c. refl)
-            (λ c P k. (k.0, k.1, x2_acked_so (λ o. OfPair P (star_in o)) algs air (λ start m. m) c.attempt k.2, x2_acked_so (λ o. OfPair P (spent_in o)) algs air (λ start m. m) c.attempt k.3))
+            (λ c P k. (
+              k.0,
+              k.1,
+              x2_acked_so (λ o. OfPair P (star_in o)) algs air (λ start m. m) c.attempt k.2,
+              x2_acked_so (λ o. OfPair P (spent_in o)) algs air (λ start m. m) c.attempt k.3,
+            ))
             (λ c k. (k.0, x2_acked_so (λ o. OfPair (IsAbove c.key.number) (spent_in o)) algs air (λ start m. m) c.attempt k.1)) pb pa s.context tt h a;
-        cancelled = λ from key k. same_context top s s.next s.last s.seen (without from.source from.attempt s.preps) None (omega arith) (all_filter (PrepBelow top) (λ p. not (is_of from.source from.attempt p)) s.preps pb) (all_filter HasNoPair (λ p. not (is_of from.source from.attempt p)) s.preps pa) tt h a;
+        cancelled = λ from key k.
+            same_context top s s.next s.last s.seen (without from.source from.attempt s.preps) None (omega arith)
+            (all_filter (PrepBelow top) (λ p. not (is_of from.source from.attempt p)) s.preps pb)
+            (all_filter HasNoPair (λ p. not (is_of from.source from.attempt p)) s.preps pa) tt h a;
         left = λ key k. record { below = (tt, pb); above = (tt, pa); same = refl; rises = omega arith; moves = Stays tt; sends = tt };
-        renewed = λ conn number air count c e kenb k. of_context c e (key_renewed (term_reading_by same) conn number air count (Some c) (Some kenb) s) (λ h a. record { below = ((h.0, h.1, tt, tt), (omega arith, tt)); above = ((a.0, tt), (refl, tt)); same = refl; rises = above_next air k.0.air_is; moves = Stays (refl, refl, λ n k. (k.0, k.1, tt, tt)); sends = (tt, tt, tt) });
+        renewed = λ conn number air count c e kenb k.
+            of_context c e (key_renewed (term_reading_by same) conn number air count (Some c) (Some kenb) s)
+            (λ h a. record {
+              below = ((h.0, h.1, tt, tt), (omega arith, tt));
+              above = ((a.0, tt), (refl, tt));
+              same = refl;
+              rises = above_next air k.0.air_is;
+              moves = Stays (refl, refl, λ n k. (k.0, k.1, tt, tt));
+              sends = (tt, tt, tt);
+            });
       }
 
   found : (at : ℕ) (p : Prep Term ℕ) → at_air at s.preps ≡ Some p → PrepBelow top p × HasNoPair p
@@ -237,7 +272,8 @@ module _ (top : ℕ → ℕ) (same : Term → Term → Bool) (s : Station Term �
     (subst (OfSome (λ q. HasNoPair q × (is_at at q ≡ true))) e (all_find HasNoPair (is_at at) s.preps pa)).0,
   )
 
-  pub air_kept : (air : ℕ) (on : Which) (pdu : List ℕ) (outcome : Outcome) → AirCases (term_reading_by same) s (AirHas (term_reading_by same) s air on pdu outcome) (After s.context)
+  pub air_kept : (air : ℕ) (on : Which) (pdu : List ℕ) (outcome : Outcome)
+      → AirCases (term_reading_by same) s (AirHas (term_reading_by same) s air on pdu outcome) (After s.context)
   air_kept air on pdu outcome =
       record {
         nothing = λ answer. unchanged;
@@ -250,9 +286,18 @@ module _ (top : ℕ → ℕ) (same : Term → Term → Bool) (s : Station Term �
         packet = λ drb count text k. mapped top s (with_packet_taken drb count) s.preps None (λ c. refl) (λ c. refl)
             (λ c P k. k)
             (λ c k. k) pb pa s.context tt h a;
-        by_s1 = λ at count k p e. let f = found at p e in came top s s.context count s.next None None p _ (omega arith) (λ n e. absurd (none_some e)) (tt, tt, tt) f.0 f.1;
-        within = λ at count origin k p e. let f = found at p e in came top s s.context count s.next None origin p None (omega arith) (λ n e. absurd (none_some e)) tt f.0 f.1;
-        by_x2 = λ at count number k p e. let f = found at p e in let d : number ≡ s.next = k.0 in came top s s.context count (number + 1) (Some number) _ p _ (omega arith) (λ n e. drawn number n d e) (tt, (λ e. (omega arith, λ g. refl)), refl) f.0 f.1;
+        by_s1 = λ at count k p e.
+            let f = found at p e in
+            came top s s.context count s.next None None p _ (omega arith) (λ n e. absurd (none_some e))
+            (tt, tt, tt) f.0 f.1;
+        within = λ at count origin k p e.
+            let f = found at p e in
+            came top s s.context count s.next None origin p None (omega arith) (λ n e. absurd (none_some e)) tt f.0 f.1;
+        by_x2 = λ at count number k p e.
+            let f = found at p e in
+            let d : number ≡ s.next = k.0 in
+            came top s s.context count (number + 1) (Some number) _ p _ (omega arith) (λ n e. drawn number n d e)
+            (tt, (λ e. (omega arith, λ g. refl)), refl) f.0 f.1;
       }
 
   -- an attempt that is given up
@@ -268,17 +313,63 @@ module _ (top : ℕ → ℕ) (same : Term → Term → Bool) (s : Station Term �
   act_kept act =
       record {
         nothing = λ answer. unchanged;
-        by_x2 = λ number target cell k c e. let d : number ≡ s.next = k.number_is in of_context c e (started_by_x2 (term_reading_by same) number target cell (Some c) s) (λ h a. changed top s c _ (number + 1) (s.preps) _ refl refl (λ P k. (k.0, tt, base_number P c.key.pair c.key.kenb c.key.number k.0 k.1, k.1)) (λ k. (tt, k.0)) (omega arith) (pb) (pa) (base_number (AtMost (top c.conn)) c.key.pair c.key.kenb c.key.number h.0 h.1, tt, tt) h a);
-        by_s1 = λ number target cell k c e. let d : number ≡ s.next = k.number_is in of_context c e (started_by_s1 number target cell (Some c) s) (λ h a. changed top s c _ (number + 1) (s.preps) _ refl refl (λ P k. (k.0, k.1, tt, tt)) (λ k. (k.0, tt)) (omega arith) (pb) (pa) (tt, tt, tt) h a);
-        within = λ number air cell k c e. of_context c e (started_within (term_reading_by same) number air cell (Some c) s) (λ h a. let star = base_number (AtMost (top c.conn)) c.key.pair c.key.kenb c.key.number h.0 h.1 in changed top s c _ (air + 1) _ None refl refl (λ P k. (k.0, tt, base_number P c.key.pair c.key.kenb c.key.number k.0 k.1, k.1)) (λ k. (tt, k.0)) (above_next air k.air_is) (all_append (PrepBelow top) s.preps _ pb (star, tt)) (all_append HasNoPair s.preps _ pa (refl, tt)) tt h a);
-        commanded = λ order count k c e. of_context c e (commands order count (Some c) s) (λ h a. changed top s c _ (s.next) (s.preps) _ refl refl (λ P k. (k.0, k.1, commanded_so (λ o. OfPair P (star_in o)) order (λ a m. tt) (λ a m. m) (λ a m. tt) c.attempt k.2, commanded_so (λ o. OfPair P (spent_in o)) order (λ a m. tt) (λ a m. m) (λ a m. tt) c.attempt k.3)) (λ k. (k.0, commanded_so (λ o. OfPair (IsAbove c.key.number) (spent_in o)) order (λ a m. tt) (λ a m. m) (λ a m. tt) c.attempt k.1)) (omega arith) (pb) (pa) (tt, tt, tt) h a);
-        changed = λ renewal count k c e. of_context c e (commands_change renewal count (Some c) s) (λ h a. changed top s c _ (s.next) (s.preps) _ refl refl (λ P k. k) (λ k. k) (omega arith) (pb) (pa) (tt, tt, tt) h a);
+        by_x2 = λ number target cell k c e.
+            let d : number ≡ s.next = k.number_is in
+            of_context c e (started_by_x2 (term_reading_by same) number target cell (Some c) s) (λ h a. changed top s c
+            _ (number + 1) (s.preps) _ refl refl
+            (λ P k. (k.0, tt, base_number P c.key.pair c.key.kenb c.key.number k.0 k.1, k.1)) (λ k. (tt, k.0))
+            (omega arith) (pb) (pa)
+            (base_number (AtMost (top c.conn)) c.key.pair c.key.kenb c.key.number h.0 h.1, tt, tt) h a);
+        by_s1 = λ number target cell k c e.
+            let d : number ≡ s.next = k.number_is in
+            of_context c e (started_by_s1 number target cell (Some c) s) (λ h a. changed top s c _ (number + 1)
+            (s.preps) _ refl refl (λ P k. (k.0, k.1, tt, tt)) (λ k. (k.0, tt)) (omega arith) (pb) (pa)
+            (tt, tt, tt) h a);
+        within = λ number air cell k c e.
+            of_context c e (started_within (term_reading_by same) number air cell (Some c) s) (λ h a.
+            let star = base_number (AtMost (top c.conn)) c.key.pair c.key.kenb c.key.number h.0 h.1 in
+            changed top s c _ (air + 1) _ None refl refl
+            (λ P k. (k.0, tt, base_number P c.key.pair c.key.kenb c.key.number k.0 k.1, k.1)) (λ k. (tt, k.0))
+            (above_next air k.air_is) (all_append (PrepBelow top) s.preps _ pb (star, tt))
+            (all_append HasNoPair s.preps _ pa (refl, tt)) tt h a);
+        commanded = λ order count k c e. of_context c e (commands order count (Some c) s) (λ h a. changed top s c _
+            (s.next) (s.preps) _ refl refl
+            (λ P k. (
+              k.0,
+              k.1,
+              commanded_so (λ o. OfPair P (star_in o)) order (λ a m. tt) (λ a m. m) (λ a m. tt) c.attempt k.2,
+              commanded_so (λ o. OfPair P (spent_in o)) order (λ a m. tt) (λ a m. m) (λ a m. tt) c.attempt k.3,
+            ))
+            (λ k. (
+              k.0,
+              commanded_so (λ o. OfPair (IsAbove c.key.number) (spent_in o)) order (λ a m. tt) (λ a m. m)
+                  (λ a m. tt) c.attempt k.1,
+            ))
+            (omega arith) (pb) (pa) (tt, tt, tt) h a);
+        changed = λ renewal count k c e.
+            of_context c e (commands_change renewal count (Some c) s) (λ h a. changed top s c _ (s.next) (s.preps) _
+            refl refl (λ P k. k) (λ k. k) (omega arith) (pb) (pa) (tt, tt, tt) h a);
         cancelled_x2 = λ conn number target k. given_up_kept (s.preps) _ (pb) (pa) (tt, tt, tt);
         cancelled_s1 = λ conn number cell k. given_up_kept (s.preps) _ (pb) (pa) (tt, tt, tt);
-        cancelled_within = λ number k. given_up_kept (without s.id number s.preps) None (all_filter (PrepBelow top) (λ p. not (is_of s.id number p)) s.preps pb) (all_filter HasNoPair (λ p. not (is_of s.id number p)) s.preps pa) tt;
-        asked = λ number k c e. let d : number ≡ s.next = k.number_is in of_context c e (asks_again number (Some c) s) (λ h a. record { below = (h, pb); above = (a, pa); same = refl; rises = omega arith; moves = Renewed (λ n f. drawn number n d f); sends = (tt, (λ f. (omega arith, λ g. refl)), refl) });
-        packet = λ drb count text k c e. of_context c e (sends_packet drb count text (Some c) s) (λ h a. changed top s c _ (s.next) (s.preps) _ refl refl (λ P k. k) (λ k. k) (omega arith) (pb) (pa) (tt, tt, tt) h a);
-        text = λ srb count text k c e. of_context c e (sends_rrc srb count text (Some c) s) (λ h a. changed top s c _ (s.next) (s.preps) _ refl refl (λ P k. k) (λ k. k) (omega arith) (pb) (pa) (tt, tt, tt) h a);
+        cancelled_within = λ number k.
+            given_up_kept (without s.id number s.preps) None
+            (all_filter (PrepBelow top) (λ p. not (is_of s.id number p)) s.preps pb)
+            (all_filter HasNoPair (λ p. not (is_of s.id number p)) s.preps pa) tt;
+        asked = λ number k c e.
+            let d : number ≡ s.next = k.number_is in
+            of_context c e (asks_again number (Some c) s) (λ h a. record {
+              below = (h, pb);
+              above = (a, pa);
+              same = refl;
+              rises = omega arith;
+              moves = Renewed (λ n f. drawn number n d f);
+              sends = (tt, (λ f. (omega arith, λ g. refl)), refl);
+            });
+        packet = λ drb count text k c e.
+            of_context c e (sends_packet drb count text (Some c) s) (λ h a. changed top s c _ (s.next) (s.preps) _ refl
+            refl (λ P k. k) (λ k. k) (omega arith) (pb) (pa) (tt, tt, tt) h a);
+        text = λ srb count text k c e. of_context c e (sends_rrc srb count text (Some c) s) (λ h a. changed top s c _
+            (s.next) (s.preps) _ refl refl (λ P k. k) (λ k. k) (omega arith) (pb) (pa) (tt, tt, tt) h a);
         skipped = λ on n k. mapped top s (with_skipped on n) s.preps None (λ c. refl) (λ c. refl)
             (λ c P k. k)
             (λ c k. k) pb pa s.context tt h a;

@@ -38,6 +38,7 @@ use Rattle.lte_properties.proofs.ChainNumbers.Station.{OwnRequest, SentOk}
 use Rattle.lte_properties.proofs.ChainNumbers.Core.{CoreKept, CoreStepKept, Plainly, each_weaker, core_auth_kept, core_act_kept, core_nas_kept, core_unread_kept, core_record_kept, silent_kept}
 use Rattle.lte_properties.proofs.ChainNumbers.Needs.{StepKept, act_step_kept, air_step_kept, record_step_kept, unread_step_kept, phone_does_plain}
 use Rattle.lte_machine.proofs.Routing.{address_on, Found, Turns, happens_by}
+use Rattle.lte_machine.proofs.Worlds.{TheWorld}
 
 -- a station's request is no other station's
 other_flies : (u : Station Term ℕ) (id : ℕ) (x : Outgoing Term ℕ) → (u.id ≡ id → ⊥) → OwnRequest id x → InFlight u x
@@ -106,10 +107,9 @@ FitsAll w x = (s : Station Term ℕ) → AllOf (InFlight s) w.sent → InFlight 
 is_not : (a b : ℕ) → (a == b) ≡ false → a ≡ b → ⊥
 is_not a b e f = grind (arith, nat_tests)
 
-module _ (same : Term → Term → Bool) (root : ℕ → List ℕ → Term) (octets : Outgoing Term ℕ → List ℕ) (sender : Option (Outgoing Term ℕ) → Option (KeyUse Term)) (opener : Opening Term → List ℕ → Option (Outgoing Term ℕ) → Outcome) where
-  abbrev TheWorld : Type 0
-  TheWorld = World Term ℕ (Outgoing Term ℕ)
-
+module _ (same : Term → Term → Bool) (root : ℕ → List ℕ → Term) (octets : Outgoing Term ℕ → List ℕ)
+    (sender : Option (Outgoing Term ℕ) → Option (KeyUse Term))
+    (opener : Opening Term → List ℕ → Option (Outgoing Term ℕ) → Outcome) where
   abbrev m : Machine Term ℕ (Outgoing Term ℕ)
   m = machine_by same root octets sender opener
 
@@ -124,7 +124,8 @@ module _ (same : Term → Term → Bool) (root : ℕ → List ℕ → Term) (oct
     flight = flight_one d.1.sent w (all_each (λ s. OfSome (InFlight s) d.1.sent) p.1 w.stations) h.flight;
   }
 
-  core_after_holds : (top : ℕ → ℕ) (A : Station Term ℕ → Type 0) (w : TheWorld) (d : Core Term ℕ × Reply Term ℕ) → CoreKept top A d.0 d.1.sent → AllOf A w.stations →
+  core_after_holds : (top : ℕ → ℕ) (A : Station Term ℕ → Type 0) (w : TheWorld) (d : Core Term ℕ × Reply Term ℕ) →
+      CoreKept top A d.0 d.1.sent → AllOf A w.stations →
       Holds top w → Holds (noted d.0.link top) (core_after m w d).0
   core_after_holds top A w d k a h = record {
     core = k.core;
@@ -157,7 +158,9 @@ module _ (same : Term → Term → Bool) (root : ℕ → List ℕ → Term) (oct
     above = all_put StationAbove StationAbove id d.0 w.stations k.above (λ u n b. b) h.above;
     sent = all_one (RecordBelow top) d.1.sent w.sent h.sent (sent_below top d.0 d.1.sent k.sends);
     flight = all_put (λ u. AllOf (InFlight u) w.sent) (λ u. AllOf (InFlight u) (with_one d.1.sent w.sent)) id d.0 w.stations
-        (all_one (InFlight d.0) d.1.sent w.sent (all_map (InFlight s) (InFlight d.0) (flight_moves s d.0 k.same k.rises k.moves) w.sent f) (sent_flies top d.0 d.1.sent k.sends))
+        (all_one (InFlight d.0) d.1.sent w.sent
+        (all_map (InFlight s) (InFlight d.0) (flight_moves s d.0 k.same k.rises k.moves) w.sent f)
+        (sent_flies top d.0 d.1.sent k.sends))
         (λ u n b. all_one (InFlight u) d.1.sent w.sent b (sent_elsewhere top d.0 u d.1.sent (λ g. is_not u.id id n (g ∙ k.same ∙ e)) k.sends))
         h.flight;
   }
@@ -176,8 +179,10 @@ module _ (same : Term → Term → Bool) (root : ℕ → List ℕ → Term) (oct
   abbrev IsAt : (ℕ → ℕ) → TheWorld → Station Term ℕ → Type 0
   IsAt top w s = StationBelow top s × StationAbove s × AllOf (InFlight s) w.sent
 
-  station_turn_holds : (top : ℕ → ℕ) (w : TheWorld) (id : ℕ) (input : StationInput Term ℕ) (came : Option (Outgoing Term ℕ)) (s : Station Term ℕ) → Found w (IsAt top w) id s →
-      ((outcome : Outcome) → StepKept top s (station_step (term_reading_by same) s input outcome)) → Holds top w → Now top (turn_of m w id input came (Some s)).0
+  station_turn_holds : (top : ℕ → ℕ) (w : TheWorld) (id : ℕ) (input : StationInput Term ℕ)
+      (came : Option (Outgoing Term ℕ)) (s : Station Term ℕ) → Found w (IsAt top w) id s →
+      ((outcome : Outcome) → StepKept top s (station_step (term_reading_by same) s input outcome)) → Holds top w →
+      Now top (turn_of m w id input came (Some s)).0
   station_turn_holds top w id input came s f step h =
       let outcome = opener (station_opens (term_reading_by same) s input) (station_pdu_in input) came in
       let d = station_step (term_reading_by same) s input outcome in
@@ -187,7 +192,8 @@ module _ (same : Term → Term → Bool) (root : ℕ → List ℕ → Term) (oct
   abbrev CameOk : (ℕ → ℕ) → TheWorld → Address → Option (Outgoing Term ℕ) → Type 0
   CameOk top w to came = OfSome (λ x. (address_of x ≡ to) × RecordBelow top x × FitsAll w x) came
 
-  station_record_holds : (top : ℕ → ℕ) (w : TheWorld) (on : Interface) (id : ℕ) (came : Option (Outgoing Term ℕ)) → CameOk top w (address_on on id) came → (s : Station Term ℕ) → Found w (IsAt top w) id s →
+  station_record_holds : (top : ℕ → ℕ) (w : TheWorld) (on : Interface) (id : ℕ) (came : Option (Outgoing Term ℕ)) →
+      CameOk top w (address_on on id) came → (s : Station Term ℕ) → Found w (IsAt top w) id s →
       Holds top w → Now top (turn_of m w id (StationRecord on (content_in m came)) came (Some s)).0
   station_record_holds top w on id None c s f h =
       station_turn_holds top w id (StationRecord on (Err RecFault.Short)) None s f (unread_step_kept top same s f.holds.0 f.holds.1 on RecFault.Short) h
@@ -195,7 +201,9 @@ module _ (same : Term → Term → Bool) (root : ℕ → List ℕ → Term) (oct
       station_turn_holds top w id (StationRecord on (content_of x)) (Some x) s f
       (λ outcome. record_step_kept top same s f.holds.0 f.holds.1 on x outcome (c.0 ∙ ap (address_on on) (sym f.own)) c.1 (c.2 s f.holds.2)) h
 
-  phone_turn_holds : (top : ℕ → ℕ) (w : TheWorld) (input : PhoneInput Term) (came : Option (Outgoing Term ℕ)) → Holds top w → Now top (phone_turn m w input came).0
+  phone_turn_holds : (top : ℕ → ℕ) (w : TheWorld) (input : PhoneInput Term) (came : Option (Outgoing Term ℕ))
+      → Holds top w
+      → Now top (phone_turn m w input came).0
   phone_turn_holds top w input came h =
       let outcome = opener (phone_opens (term_reading_by same) w.phone input) (phone_pdu_in input) came in
       let d = phone_step (term_reading_by same) w.phone input outcome in
@@ -212,7 +220,10 @@ module _ (same : Term → Term → Bool) (root : ℕ → List ℕ → Term) (oct
   each : (w : TheWorld) → AllOf (λ s. ⊤) w.stations
   each w = all_each (λ s. ⊤) (λ s. tt) w.stations
 
-  core_record_holds : (top : ℕ → ℕ) (w : TheWorld) (came : Option (Outgoing Term ℕ)) → CameOk top w Address.CoreS1 came → Holds top w → Now top (core_turn m w (CoreRecord (content_in m came)) came).0
+  core_record_holds : (top : ℕ → ℕ) (w : TheWorld) (came : Option (Outgoing Term ℕ))
+      → CameOk top w Address.CoreS1 came
+      → Holds top w
+      → Now top (core_turn m w (CoreRecord (content_in m came)) came).0
   core_record_holds top w None c h =
       core_turn_holds top w (λ u. ⊤) (CoreRecord (Err RecFault.Short)) None (core_unread_kept top same w.core h.core (λ u. ⊤) RecFault.Short) (each w) h
   core_record_holds top w (Some x) c h =
@@ -247,7 +258,9 @@ module _ (same : Term → Term → Bool) (root : ℕ → List ℕ → Term) (oct
     core_nas = λ pdu came is. core_nas_holds top w pdu came h;
     core_record = λ pdu came is. core_record_holds top w came is h;
     station_acts = λ id act is s f. station_turn_holds top w id (StationActs act) None s f (act_step_kept top same s f.holds.0 f.holds.1 act) h;
-    station_air = λ id air bearer pdu came is s f. station_turn_holds top w id (AirPdu air bearer pdu) came s f (air_step_kept top same s f.holds.0 f.holds.1 air bearer pdu) h;
+    station_air = λ id air bearer pdu came is s f.
+        station_turn_holds top w id (AirPdu air bearer pdu) came s f
+        (air_step_kept top same s f.holds.0 f.holds.1 air bearer pdu) h;
     station_record = λ on id pdu came is s f. station_record_holds top w on id came is s f h;
     none = λ answer. by_world_holds top w answer h;
   }
@@ -256,9 +269,12 @@ module _ (same : Term → Term → Bool) (root : ℕ → List ℕ → Term) (oct
   pub happens_holds : (top : ℕ → ℕ) (w : TheWorld) (e : Event) → Holds top w → Now top (happens m w e).0
   happens_holds top w e h =
       happens_by (turns top w h) (λ to pdu. tt)
-      (all_both (RecordBelow top) (FitsAll w) (λ x. (address_of x ≡ address_of x) × RecordBelow top x × FitsAll w x) (λ x b f. (refl, b, f)) w.sent h.sent (each_of InFlight w.sent))
+      (all_both (RecordBelow top) (FitsAll w) (λ x. (address_of x ≡ address_of x) × RecordBelow top x × FitsAll w x)
+      (λ x b f. (refl, b, f)) w.sent h.sent (each_of InFlight w.sent))
       (all_both (StationBelow top) (λ s. StationAbove s × AllOf (InFlight s) w.sent) (IsAt top w) (λ s b a. (b, a.0, a.1)) w.stations h.below
-      (all_both StationAbove (λ s. AllOf (InFlight s) w.sent) (λ s. StationAbove s × AllOf (InFlight s) w.sent) (λ s a f. (a, f)) w.stations h.above h.flight)) e tt
+      (all_both StationAbove (λ s. AllOf (InFlight s) w.sent) (λ s. StationAbove s × AllOf (InFlight s) w.sent)
+      (λ s a f. (a, f)) w.stations h.above h.flight))
+      e tt
 
   -- every run keeps it
   pub run_holds : (top : ℕ → ℕ) (w : TheWorld) (es : List Event) → Holds top w → Holds (core_numbers m w top es) (run m w es)
@@ -291,18 +307,22 @@ first_holds setup = record {
 }
 
 -- every run of any machine over terms
-pub chain_numbers_hold_by : (same : Term → Term → Bool) (root : ℕ → List ℕ → Term) (octets : Outgoing Term ℕ → List ℕ) (sender : Option (Outgoing Term ℕ) → Option (KeyUse Term)) (opener : Opening Term → List ℕ → Option (Outgoing Term ℕ) → Outcome) (setup : Setup) (events : List Event) →
+pub chain_numbers_hold_by : (same : Term → Term → Bool) (root : ℕ → List ℕ → Term) (octets : Outgoing Term ℕ → List ℕ)
+    (sender : Option (Outgoing Term ℕ) → Option (KeyUse Term))
+    (opener : Opening Term → List ℕ → Option (Outgoing Term ℕ) → Outcome) (setup : Setup) (events : List Event) →
     ChainNumbersHold (machine_by same root octets sender opener) setup events
 chain_numbers_hold_by same root octets sender opener setup events =
     run_holds same root octets sender opener (λ conn. 0) (first_world setup) events (first_holds setup)
 
 -- every run of the written machine, whichever test says that two keys are one, and where octets open by themselves
-pub chain_numbers_hold : (same : Term → Term → Bool) (c : Ciphers Term) (between : Fields → Option (NumberedKey Term ℕ) → List ℕ) (setup : Setup) (events : List Event) →
+pub chain_numbers_hold : (same : Term → Term → Bool) (c : Ciphers Term)
+    (between : Fields → Option (NumberedKey Term ℕ) → List ℕ) (setup : Setup) (events : List Event) →
     ChainNumbersHold (machine_over same c between) setup events
 chain_numbers_hold same c between setup events =
     chain_numbers_hold_by same Root (octets_of c between) sender_of (open_by_uses same c) setup events
 
-pub chain_numbers_hold_in_octets : (same : Term → Term → Bool) (c : Ciphers Term) (between : Fields → Option (NumberedKey Term ℕ) → List ℕ) (setup : Setup) (events : List Event) →
+pub chain_numbers_hold_in_octets : (same : Term → Term → Bool) (c : Ciphers Term)
+    (between : Fields → Option (NumberedKey Term ℕ) → List ℕ) (setup : Setup) (events : List Event) →
     ChainNumbersHold (opening_by_octets same c between) setup events
 chain_numbers_hold_in_octets same c between setup events =
     chain_numbers_hold_by same Root (octets_of c between) sender_of (λ opening pdu came. open_octets c opening pdu) setup events

@@ -54,11 +54,20 @@ value_at (u ∷ us) zero v e = by_some e
 value_at (u ∷ us) (suc i) v e = value_at us i v e
 
 -- uses whose octets are one are one, where their keys are
-one_use : (u v : KeyUse Term) (x : KeyUse (List ℕ)) → map_use value_of u ≡ x → map_use value_of v ≡ x → (value_of u.key ≡ value_of v.key → u.key ≡ v.key) → u ≡ v
+one_use : (u v : KeyUse Term) (x : KeyUse (List ℕ))
+    → map_use value_of u ≡ x
+    → map_use value_of v ≡ x
+    → (value_of u.key ≡ value_of v.key → u.key ≡ v.key)
+    → u ≡ v
 one_use u v x e f same =
     let g : map_use value_of u ≡ map_use value_of v = e ∙ sym f in
     let key : u.key ≡ v.key = same (ap (λ y. y.key) g) in
-    λ k. record { key = key k; count = ap (λ (y : KeyUse (List ℕ)). y.count) g k; bearer = ap (λ (y : KeyUse (List ℕ)). y.bearer) g k; dir = ap (λ (y : KeyUse (List ℕ)). y.dir) g k }
+    λ k. record {
+      key = key k;
+      count = ap (λ (y : KeyUse (List ℕ)). y.count) g k;
+      bearer = ap (λ (y : KeyUse (List ℕ)). y.bearer) g k;
+      dir = ap (λ (y : KeyUse (List ℕ)). y.dir) g k;
+    }
 
 -- in octets too no use stands twice, where keys of one value are one
 pub no_value_twice : (us : List (KeyUse Term)) → NoUseTwice us → ValuesApart us → NoUseTwice (map (map_use value_of) us)

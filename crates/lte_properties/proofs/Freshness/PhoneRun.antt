@@ -37,7 +37,10 @@ order_append [] x h k = (tt, tt)
 order_append (y ∷ xs) x h k = (all_append (λ z. IsBefore y.key z.key) xs (x ∷ []) h.0 (k.0, tt), order_append xs x h.1 k.1)
 
 -- one more key, if there is one
-order_one : (o : Option (Took Term ℕ)) (xs : List (Took Term ℕ)) → TookInOrder xs → IfSome o (λ x. AllOf (λ y. IsBefore y.key x.key) xs) → TookInOrder (with_one o xs)
+order_one : (o : Option (Took Term ℕ)) (xs : List (Took Term ℕ))
+    → TookInOrder xs
+    → IfSome o (λ x. AllOf (λ y. IsBefore y.key x.key) xs)
+    → TookInOrder (with_one o xs)
 order_one None xs h k = h
 order_one (Some x) xs h k = order_append xs x h k
 
@@ -81,7 +84,8 @@ module _ (same : Term → Term → Bool) (itself : IsReflexive same) (octets : O
     phone_turn_order : (input : PhoneInput Term) (came : Option (Outgoing Term ℕ)) → IsTurn input → PhoneFresh (phone_turn m w input came).0
     phone_turn_order input came t =
         let d = phone_step (term_reading_by same) w.phone input (opener (phone_opens (term_reading_by same) w.phone input) (phone_pdu_in input) came) in
-        let k = turn_keeps same itself h.roots h.taken w.phone input (opener (phone_opens (term_reading_by same) w.phone input) (phone_pdu_in input) came) t h.phone in
+        let k = turn_keeps same itself h.roots h.taken w.phone input
+        (opener (phone_opens (term_reading_by same) w.phone input) (phone_pdu_in input) came) t h.phone in
         record {
           roots = h.roots;
           taken = k.new;
@@ -101,7 +105,8 @@ module _ (same : Term → Term → Bool) (itself : IsReflexive same) (octets : O
         record { roots = h.roots; taken = h.taken; counted = roots_kept w.history d.1.derived ∙ h.counted; phone = h.phone; took = h.took; order = h.order }
 
     -- nor does one of a station
-    station_turn_order : (id : ℕ) (input : StationInput Term ℕ) (came : Option (Outgoing Term ℕ)) (s : Station Term ℕ) → PhoneFresh (turn_of m w id input came (Some s)).0
+    station_turn_order : (id : ℕ) (input : StationInput Term ℕ) (came : Option (Outgoing Term ℕ)) (s : Station Term ℕ)
+        → PhoneFresh (turn_of m w id input came (Some s)).0
     station_turn_order id input came s =
         let d = station_step (term_reading_by same) s input (opener (station_opens (term_reading_by same) s input) (station_pdu_in input) came) in
         record { roots = h.roots; taken = h.taken; counted = roots_kept w.history d.1.derived ∙ h.counted; phone = h.phone; took = h.took; order = h.order }
@@ -121,7 +126,8 @@ module _ (same : Term → Term → Bool) (itself : IsReflexive same) (octets : O
     -- an event
     pub happens_order : (e : Event) → PhoneFresh (happens m w e).0
     happens_order =
-        happens_each m w (λ done a. PhoneFresh done.0) auth_order phone_turn_order core_turn_order (λ id input came s there own. station_turn_order id input came s)
+        happens_each m w (λ done a. PhoneFresh done.0) auth_order phone_turn_order core_turn_order
+        (λ id input came s there own. station_turn_order id input came s)
         (λ answer. record { roots = h.roots; taken = h.taken; counted = h.counted; phone = h.phone; took = h.took; order = h.order })
 
   -- a run

@@ -78,7 +78,9 @@ module _ (roots : ℕ) (root : Term) (new : authentication_of root ≡ roots) wh
   radio_more taken partial mark (Connected l) h = h
 
   -- the phone stands, with its new partial context
-  pub phone_more : (taken : Homes) (ksi : ℕ) (s : Phone Term ℕ) → PhoneStands roots taken s → PhoneStands (roots + 1) taken (record s { partial = Some (record { ksi = ksi; root = root }) })
+  pub phone_more : (taken : Homes) (ksi : ℕ) (s : Phone Term ℕ)
+      → PhoneStands roots taken s
+      → PhoneStands (roots + 1) taken (record s { partial = Some (record { ksi = ksi; root = root }) })
   phone_more taken ksi s h = (
     (omega arith, context_older (partial_root s.partial) (context_root s.context) h.0.1),
     h.1,
@@ -100,10 +102,13 @@ module _ (roots : ℕ) (root : Term) (new : authentication_of root ≡ roots) wh
   )
 
   -- uplink uses stand
-  up_more : (taken : Homes) (ksi : ℕ) (s : Phone Term ℕ) (u : KeyUse Term) → UpUse roots taken s u → UpUse (roots + 1) taken (record s { partial = Some (record { ksi = ksi; root = root }) }) u
+  up_more : (taken : Homes) (ksi : ℕ) (s : Phone Term ℕ) (u : KeyUse Term)
+      → UpUse roots taken s u
+      → UpUse (roots + 1) taken (record s { partial = Some (record { ksi = ksi; root = root }) }) u
   up_more taken ksi s u h =
       on_key (λ t type. (IsNas type → NasUp roots s.partial s.context t u.count) × (IsAs type → AsUp taken s.radio t type u.count u.bearer))
-      (λ t type. (IsNas type → NasUp (roots + 1) (Some (record { ksi = ksi; root = root })) s.context t u.count) × (IsAs type → AsUp taken s.radio t type u.count u.bearer))
+      (λ t type. (IsNas type → NasUp (roots + 1) (Some (record { ksi = ksi; root = root })) s.context t u.count)
+      × (IsAs type → AsUp taken s.radio t type u.count u.bearer))
       (λ t type x. (λ n. let y = x.0 n in (let z = y.0 in omega arith, not_new roots t root y.0 new, y.2), x.1)) u.key h
 
   -- and the core's
@@ -117,7 +122,9 @@ module _ (roots : ℕ) (root : Term) (new : authentication_of root ≡ roots) wh
 -- WHAT A STATION ACCEPTS
 
 -- it expects uplink
-starting_up : (count : ℕ) (o : Option (Context Term ℕ)) (outcome : Outcome) (u : KeyUse Term) → srb_accepted (starting_expects count o) outcome ≡ Some u → u.dir ≡ Up
+starting_up : (count : ℕ) (o : Option (Context Term ℕ)) (outcome : Outcome) (u : KeyUse Term)
+    → srb_accepted (starting_expects count o) outcome ≡ Some u
+    → u.dir ≡ Up
 starting_up count None outcome u e = absurd (none_some e)
 starting_up count (Some c) (Opened text) u e = sym (ap (λ (v : KeyUse Term). v.dir) (by_some e))
 starting_up count (Some c) (Differs wanted got) u e = absurd (none_some e)
@@ -130,7 +137,9 @@ signalling_up front outcome u None f g e = g e
 signalling_up front outcome u (Some c) f g e = f c e
 
 -- so does a preparation
-prepared_up : (count : ℕ) (o : Option (Prep Term ℕ)) (outcome : Outcome) (u : KeyUse Term) → srb_accepted (prepared_expects count o) outcome ≡ Some u → u.dir ≡ Up
+prepared_up : (count : ℕ) (o : Option (Prep Term ℕ)) (outcome : Outcome) (u : KeyUse Term)
+    → srb_accepted (prepared_expects count o) outcome ≡ Some u
+    → u.dir ≡ Up
 prepared_up count None outcome u e = absurd (none_some e)
 prepared_up count (Some p) (Opened text) u e = sym (ap (λ (v : KeyUse Term). v.dir) (by_some e))
 prepared_up count (Some p) (Differs wanted got) u e = absurd (none_some e)
@@ -140,7 +149,8 @@ accepts_up : (s : Station Term ℕ) (front : AirFront) (outcome : Outcome) (u : 
 accepts_up s (AirSettled row) outcome u e = absurd (none_some e)
 accepts_up s (OnStarting count) outcome u e = starting_up count s.context outcome u e
 accepts_up s (OnSignalling srb count) (Opened text) u e =
-    signalling_up (signalling_expects srb count) (Opened text) u s.context (λ c f. sym (ap (λ (v : KeyUse Term). v.dir) (by_some f))) (λ f. absurd (none_some f)) e
+    signalling_up (signalling_expects srb count) (Opened text) u s.context
+    (λ c f. sym (ap (λ (v : KeyUse Term). v.dir) (by_some f))) (λ f. absurd (none_some f)) e
 accepts_up s (OnSignalling srb count) (Differs wanted got) u e =
     signalling_up (signalling_expects srb count) (Differs wanted got) u s.context (λ c f. absurd (none_some f)) (λ f. absurd (none_some f)) e
 accepts_up s (OnUser drb count) outcome u e =
@@ -158,7 +168,8 @@ air_number (at.StationAir station air bearer) = air
 air_number other = 0
 
 -- a sealed record that goes to a station and air address is under a KeNB that the phone took there
-sealed_there : (taken given : Homes) (station air : ℕ) (bearer : Bearer) (u : KeyUse Term) (x : Outgoing Term ℕ) → address_of x ≡ at.StationAir station air bearer →
+sealed_there : (taken given : Homes) (station air : ℕ) (bearer : Bearer) (u : KeyUse Term) (x : Outgoing Term ℕ) →
+    address_of x ≡ at.StationAir station air bearer →
     integrity_of x ≡ Some u → RecordStands taken given x → OnKey (λ t type. taken t ≡ Some (home_at station air)) u.key
 sealed_there taken given station air bearer u (SealedRrc Up station' air' srb v e text) f g h =
     let a : home_at station' air' ≡ home_at station air = λ j. home_at (ap air_station f j) (ap air_number f j) in
@@ -176,7 +187,8 @@ abbrev Came : Homes → Homes → Address → Option (Outgoing Term ℕ) → Typ
 Came taken given to came = OfSome (λ x. (address_of x ≡ to) × RecordStands taken given x) came
 
 -- what came so is under a KeNB that the phone took there
-came_there : (taken given : Homes) (station air : ℕ) (bearer : Bearer) (u : KeyUse Term) (came : Option (Outgoing Term ℕ)) → Came taken given (at.StationAir station air bearer) came →
+came_there : (taken given : Homes) (station air : ℕ) (bearer : Bearer) (u : KeyUse Term)
+    (came : Option (Outgoing Term ℕ)) → Came taken given (at.StationAir station air bearer) came →
     sender_of came ≡ Some u → OnKey (λ t type. taken t ≡ Some (home_at station air)) u.key
 came_there taken given station air bearer u None h e = absurd (none_some e)
 came_there taken given station air bearer u (Some x) h e = sealed_there taken given station air bearer u x h.0 e h.1
@@ -192,7 +204,9 @@ goes_here OnS1 id = on_s1 id
 goes_here OnX2 id = on_x2 id
 
 -- a step of the phone needs nothing of what it opens
-pub turn_keeps : (same : Term → Term → Bool) → IsReflexive same → (roots : ℕ) (taken : Homes) (s : Phone Term ℕ) (input : PhoneInput Term) (outcome : Outcome) → IsTurn input → PhoneStands roots taken s →
+pub turn_keeps : (same : Term → Term → Bool) → IsReflexive same →
+    (roots : ℕ) (taken : Homes) (s : Phone Term ℕ) (input : PhoneInput Term) (outcome : Outcome) → IsTurn input →
+    PhoneStands roots taken s →
     let d = phone_step (term_reading_by same) s input outcome in phone_nas.PhoneKeeps roots taken s d.0 d.1.sent d.1.took
 turn_keeps same itself roots taken s (PhoneAuth ksi root) outcome t h = absurd t
 turn_keeps same itself roots taken s (PhoneActs act) outcome t h = phone.act_keeps roots taken same (act_row (plain_phone (term_reading_by same) s) act) s h
@@ -247,7 +261,8 @@ module _ (same : Term → Term → Bool) (itself : IsReflexive same) (octets : O
           (station.act_keeps h.taken h.given same s f.holds.0 act _ (station_act_has r s act))
 
       -- a record that comes to a station
-      record_turn : (interface : Interface) (id : ℕ) (read : Result (Content Term ℕ) RecFault) → ReadStands h.given (address_on interface id) read → (came : Option (Outgoing Term ℕ)) →
+      record_turn : (interface : Interface) (id : ℕ) (read : Result (Content Term ℕ) RecFault) →
+          ReadStands h.given (address_on interface id) read → (came : Option (Outgoing Term ℕ)) →
           (s : Station Term ℕ) → Found w Stands id s → Fresh (turn_of m w id (StationRecord interface read) came (Some s)).0
       record_turn interface id (Err fault) b came s f =
           let outcome = opener (station_opens r s (StationRecord interface (Err fault))) [] came in
@@ -257,11 +272,16 @@ module _ (same : Term → Term → Bool) (itself : IsReflexive same) (octets : O
           let outcome = opener (station_opens r s (StationRecord interface (Ok content))) [] came in
           station_fresh m w (λ o. refl) h id s (station_step r s (StationRecord interface (Ok content)) outcome) f.own f.holds.1
           (station.record_keeps h.taken h.given same _ content.key s
-          (record_needs h.given s (address_on interface id) (subst (GoesHere (address_on interface id)) (sym f.own) (goes_here interface id)) r interface content.fields content.key b) f.holds.0)
+          (record_needs h.given s (address_on interface id)
+          (subst (GoesHere (address_on interface id)) (sym f.own) (goes_here interface id)) r interface
+          content.fields content.key b)
+          f.holds.0)
 
       -- a PDU that comes to a station: here alone it matters that what is accepted was sealed so
       air_turn : (id air : ℕ) (bearer : Bearer) (pdu : List ℕ) (came : Option (Outgoing Term ℕ)) → Came h.taken h.given (at.StationAir id air bearer) came →
-          (s : Station Term ℕ) → Found w Stands id s → SealedAsAccepted m (attempts_at m (AirPdu air bearer pdu) came (Some s)) → Fresh (turn_of m w id (AirPdu air bearer pdu) came (Some s)).0
+          (s : Station Term ℕ) → Found w Stands id s →
+          SealedAsAccepted m (attempts_at m (AirPdu air bearer pdu) came (Some s)) →
+          Fresh (turn_of m w id (AirPdu air bearer pdu) came (Some s)).0
       air_turn id air bearer pdu came c s f honest =
           let outcome = opener (station_opens r s (AirPdu air bearer pdu)) pdu came in
           station_fresh m w (λ o. refl) h id s (station_step r s (AirPdu air bearer pdu) outcome) f.own f.holds.1
@@ -292,10 +312,18 @@ module _ (same : Term → Term → Bool) (itself : IsReflexive same) (octets : O
           phone = phone_more h.roots root h.counted h.taken ksi w.phone h.phone;
           core = core_more h.roots root h.counted h.given ksi caps w.core h.core;
           stations = h.stations;
-          up = all_map (λ u. u.dir ≡ Up → UpUse h.roots h.taken w.phone u) (λ u. u.dir ≡ Up → UpUse (h.roots + 1) h.taken (record w.phone { partial = Some (record { ksi = ksi; root = root }) }) u)
+          up =
+              all_map (λ u. u.dir ≡ Up → UpUse h.roots h.taken w.phone u) (λ u. u.dir ≡ Up
+              → UpUse (h.roots + 1) h.taken (record w.phone { partial = Some (record { ksi = ksi; root = root }) }) u)
               (λ u x e. up_more h.roots root h.counted h.taken ksi w.phone u (x e)) w.uses h.up;
           nas = all_map (λ u. u.dir ≡ Down → CoreUse h.roots w.core u)
-              (λ u. u.dir ≡ Down → CoreUse (h.roots + 1) (record w.core { latest = caps; partial = Some (record { ksi = ksi; root = root; caps = caps; send = 0 }); procedure = None }) u)
+              (λ u. u.dir ≡ Down
+              → CoreUse (h.roots + 1) (record w.core {
+                latest = caps;
+                partial = Some (record { ksi = ksi; root = root; caps = caps; send = 0 });
+                procedure = None;
+              })
+              u)
               (λ u x e. nas_more h.roots root h.counted ksi caps w.core u (x e)) w.uses h.nas;
           down = h.down;
           sent = h.sent;
@@ -332,7 +360,9 @@ module _ (same : Term → Term → Bool) (itself : IsReflexive same) (octets : O
     happens_fresh e honest h =
         happens_by (turns h) (λ to pdu. tt)
         (all_map (RecordStands h.taken h.given) (λ x. (address_of x ≡ address_of x) × RecordStands h.taken h.given x) (λ x k. (refl, k)) w.sent h.sent)
-        (all_both (StationStands h.taken h.given) (λ s. AllOf (λ u. u.dir ≡ Down → StationUse h.taken h.given s u) w.uses) (Stands h) (λ s x y. (x, y)) w.stations h.stations h.down)
+        (all_both (StationStands h.taken h.given)
+        (λ s. AllOf (λ u. u.dir ≡ Down → StationUse h.taken h.given s u) w.uses) (Stands h) (λ s x y. (x, y))
+        w.stations h.stations h.down)
         e tt honest
 
   -- RUNS

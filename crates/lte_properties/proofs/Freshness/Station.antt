@@ -62,7 +62,8 @@ module _ (taken given : Homes) where
   context_later s t l (Some c) (Some d) h k = subst₂ (Sits t) (sym h.0) (sym h.1) (sits_later s t l c.key.kenb c.keys k)
 
   -- and its next COUNTs are above
-  ahead_later : (o n : Option (Context Term ℕ)) → ContextStays o n → (k : Term) (type count bearer : ℕ) → ContextAhead o k type count bearer → ContextAhead n k type count bearer
+  ahead_later : (o n : Option (Context Term ℕ)) → ContextStays o n → (k : Term) (type count bearer : ℕ)
+      → ContextAhead o k type count bearer → ContextAhead n k type count bearer
   ahead_later o None h k type count bearer u = tt
   ahead_later None (Some d) h k type count bearer u = absurd h
   ahead_later (Some c) (Some d) h k type count bearer u = λ e. below_stays type bearer c.bearers d.bearers count h.2 (u (e ∙ h.0))
@@ -148,7 +149,9 @@ module _ (taken given : Homes) where
     packet_keeps drb text e h =
         let used : (drb_counts drb c.bearers).send < send_on true (bearer5_of (of_drb drb)) b =
         subst (λ x. (drb_counts drb c.bearers).send < send_on true (bearer5_of (of_drb drb)) x) (sym e) (drb_is_used drb c.bearers) in
-        let k = subst (λ (keys : AsKeys Term). NewAt taken given (record s { context = Some c }) (record s { context = Some (record c { bearers = b; attempt = attempt }) }) (drb_use Down keys.up_enc drb (drb_counts drb c.bearers).send))
+        let k = subst (λ (keys : AsKeys Term). NewAt taken given (record s { context = Some c })
+        (record s { context = Some (record c { bearers = b; attempt = attempt }) })
+        (drb_use Down keys.up_enc drb (drb_counts drb c.bearers).send))
         (sym h.0.1) (new_use 5 (identity_of c.keys.algs.eea) _ (bearer5_of (of_drb drb)) (omega arith) h used (drb_is_next drb c.bearers)) in
         changes (record s { context = Some c }) s.next _ _ (omega arith)
         (refl, refl, subst (Rise c.bearers) (sym e) (drb_sent_rises drb c.bearers)) h (k, tt) (tt, tt) tt
@@ -242,16 +245,19 @@ module _ (taken given : Homes) where
       let d = pair_taken conn origin key s in StationKeeps taken given s d.0 d.1.sent
   pair_keeps conn origin None s h = still s h
   pair_keeps conn None (Some pair) s h =
-      changes s s.next (option_map (with_pair pair) s.context) None (omega arith) (stays_map (with_pair pair) (λ c. (refl, refl, rise_same c.bearers)) s.context) h tt tt tt
+      changes s s.next (option_map (with_pair pair) s.context) None (omega arith)
+      (stays_map (with_pair pair) (λ c. (refl, refl, rise_same c.bearers)) s.context) h tt tt tt
   pair_keeps conn (Some o) (Some pair) s h =
       changes s s.next (option_map (with_pair pair) s.context) _ (omega arith) (stays_map (with_pair pair) (λ c. (refl, refl, rise_same c.bearers)) s.context) h tt tt tt
 
   -- a preparation that is added waits at an air address that was not drawn before
-  waits_apart : (s : Station Term ℕ) (p : Prep Term ℕ) (preps : List (Prep Term ℕ)) → s.next ≤ p.air → (air : ℕ) → air < s.next → NoneWaits air preps → NoneWaits air (preps ++ p ∷ [])
+  waits_apart : (s : Station Term ℕ) (p : Prep Term ℕ) (preps : List (Prep Term ℕ)) → s.next ≤ p.air → (air : ℕ)
+      → air < s.next → NoneWaits air preps → NoneWaits air (preps ++ p ∷ [])
   waits_apart s p preps le air lt h = all_append (λ q. q.air ≡ air → ⊥) preps (p ∷ []) h ((λ e. absurd (omega arith)), tt)
 
   -- a preparation is added
-  admitted_keeps : (w : Admitted) (p : Prep Term ℕ) (sent : Option (Outgoing Term ℕ)) (s : Station Term ℕ) → s.last ≤ w.conn → w.air ≡ s.next → p.air ≡ w.air → is_star p.key.kenb ≡ true →
+  admitted_keeps : (w : Admitted) (p : Prep Term ℕ) (sent : Option (Outgoing Term ℕ)) (s : Station Term ℕ) →
+      s.last ≤ w.conn → w.air ≡ s.next → p.air ≡ w.air → is_star p.key.kenb ≡ true →
       AsKeysOf p.key.kenb p.keys → StationStands taken given s →
       AllOf (NewAt taken given s (with_admitted w p s)) (uses_in sent) → AllApart (uses_in sent) → IfSome sent (RecordStands taken given) →
       StationKeeps taken given s (with_admitted w p s) sent
@@ -261,7 +267,9 @@ module _ (taken given : Homes) where
         same = refl;
         next = omega arith;
         last = last;
-        free = λ a lt f. waits_apart s p (drop_below w.conn s.preps) (omega arith) a lt (all_filter (λ q. q.air ≡ a → ⊥) (λ (q : Prep Term ℕ). nat_le w.conn q.conn) s.preps f);
+        free = λ a lt f.
+            waits_apart s p (drop_below w.conn s.preps) (omega arith) a lt
+            (all_filter (λ q. q.air ≡ a → ⊥) (λ (q : Prep Term ℕ). nat_le w.conn q.conn) s.preps f);
       })
       (stays_same s.context)
       (all_append (PrepStands (w.air + 1)) (drop_below w.conn s.preps) (p ∷ [])
@@ -270,14 +278,18 @@ module _ (taken given : Homes) where
       h uses apart sends
 
   -- by a Handover Request on S1
-  by_s1_keeps : (same : Term → Term → Bool) (w : Admitted) (key : Option (NumberedKey Term ℕ)) (s : Station Term ℕ) → (s.last ≤ w.conn) × (w.air ≡ s.next) → StationStands taken given s →
+  by_s1_keeps : (same : Term → Term → Bool) (w : Admitted) (key : Option (NumberedKey Term ℕ)) (s : Station Term ℕ) →
+      (s.last ≤ w.conn) × (w.air ≡ s.next) → StationStands taken given s →
       let d = prepared_by_s1 (term_reading_by same) w key s in StationKeeps taken given s d.0 d.1.sent
   by_s1_keeps same w None s n h = still s h
   by_s1_keeps same w (Some pair) s n h =
-      admitted_keeps w (admitted_prep (term_reading_by same) w By.S1 (star_line (term_reading_by same) pair w.cell.pci w.cell.earfcn)) _ s n.0 n.1 refl refl refl h tt tt tt
+      admitted_keeps w (admitted_prep (term_reading_by same) w By.S1
+      (star_line (term_reading_by same) pair w.cell.pci w.cell.earfcn))
+      _ s n.0 n.1 refl refl refl h tt tt tt
 
   -- by one on X2
-  by_x2_keeps : (same : Term → Term → Bool) (w : Admitted) (key : Option (NumberedKey Term ℕ)) (s : Station Term ℕ) → RecordNeeds given s (PreparedByX2 w) key → StationStands taken given s →
+  by_x2_keeps : (same : Term → Term → Bool) (w : Admitted) (key : Option (NumberedKey Term ℕ)) (s : Station Term ℕ) →
+      RecordNeeds given s (PreparedByX2 w) key → StationStands taken given s →
       let d = prepared_by_x2 (term_reading_by same) w key s in StationKeeps taken given s d.0 d.1.sent
   by_x2_keeps same w None s n h = still s h
   by_x2_keeps same w (Some star) s n h = admitted_keeps w (admitted_prep (term_reading_by same) w By.X2 star) _ s n.0 n.1 refl n.2 refl h tt tt tt
@@ -311,7 +323,8 @@ module _ (taken given : Homes) where
       (λ a f. all_filter (λ q. q.air ≡ a → ⊥) (λ p. not (is_of source attempt p)) s.preps f) h
 
   -- a row of a record
-  pub record_keeps : (same : Term → Term → Bool) (row : RecordRow) (key : Option (NumberedKey Term ℕ)) (s : Station Term ℕ) → RecordNeeds given s row key → StationStands taken given s →
+  pub record_keeps : (same : Term → Term → Bool) (row : RecordRow) (key : Option (NumberedKey Term ℕ))
+      (s : Station Term ℕ) → RecordNeeds given s row key → StationStands taken given s →
       let d = record_does (term_reading_by same) row key s in StationKeeps taken given s d.0 d.1.sent
   record_keeps same (RecordRefused answer) key s n h = still s h
   record_keeps same (ContextGiven conn cell caps algs air) key s n h = given_keeps same conn cell caps algs air key s n h
@@ -337,8 +350,14 @@ module _ (taken given : Homes) where
     by_found : (o : Option (Prep Term ℕ)) → at_air air s.preps ≡ o → OfSome (λ p. PrepStands s.next p × (is_at air p ≡ true)) o → OfSome (WaitsAt s air) o
     by_found None e k = tt
     by_found (Some p) e k =
-        let at : p.air ≡ air = let x = k.1 in grind (arith, nat_tests) in
-        (k.0, at, λ none. let g = subst (OfSome (λ (q : Prep Term ℕ). (q.air ≡ air → ⊥) × (is_at air q ≡ true))) e (all_find (λ (q : Prep Term ℕ). q.air ≡ air → ⊥) (is_at air) s.preps none) in g.0 at)
+        let at : p.air ≡ air = let x = k.1 in grind (arith, nat_tests) in (
+          k.0,
+          at,
+          λ none.
+              let g = subst (OfSome (λ (q : Prep Term ℕ). (q.air ≡ air → ⊥) × (is_at air q ≡ true))) e
+              (all_find (λ (q : Prep Term ℕ). q.air ≡ air → ⊥) (is_at air) s.preps none) in
+              g.0 at,
+        )
 
   -- its context is new: nobody waits there any more
   arrives : (s : Station Term ℕ) (air next count : ℕ) (outstanding : Option ℕ) (origin : Option Origin) (p : Prep Term ℕ) (sent : Option (Outgoing Term ℕ)) →
@@ -369,7 +388,9 @@ module _ (taken given : Homes) where
     taken_is : (at : ℕ) (p : Prep Term ℕ) → at_air at s.preps ≡ Some p → TakenHere taken s.id at (at_air at s.preps) → taken p.key.kenb ≡ Some (home_at s.id at)
     taken_is at p e k = subst (TakenHere taken s.id at) e k
 
-    air_cases : (air : ℕ) (on : Which) (pdu : List ℕ) (outcome : Outcome) → AirCases (term_reading_by same) s (λ row. AirHas (term_reading_by same) s air on pdu outcome row × AirNeeds taken s row) Keeps
+    air_cases : (air : ℕ) (on : Which) (pdu : List ℕ) (outcome : Outcome)
+        → AirCases (term_reading_by same) s
+        (λ row. AirHas (term_reading_by same) s air on pdu outcome row × AirNeeds taken s row) Keeps
     air_cases air on pdu outcome =
         record {
           nothing = λ answer. still s h;
@@ -378,29 +399,39 @@ module _ (taken given : Homes) where
           packet = λ drb count text k. mapped s (with_packet_taken drb count) (λ c. (refl, refl, drb_taken_rises drb count c.bearers)) h;
           by_s1 = λ at count k p e. arrives s at s.next count None None p _ (omega arith) (waits at p e) (taken_is at p e k.1) tt tt tt;
           within = λ at count origin k p e. arrives s at s.next count None origin p None (omega arith) (waits at p e) (taken_is at p e k.1) tt tt tt;
-          by_x2 = λ at count number k p e. let d : number ≡ s.next = k.0.0 in arrives s at (number + 1) count (Some number) _ p _ (omega arith) (waits at p e) (taken_is at p e k.1) tt tt tt;
+          by_x2 = λ at count number k p e.
+              let d : number ≡ s.next = k.0.0 in
+              arrives s at (number + 1) count (Some number) _ p _ (omega arith) (waits at p e)
+              (taken_is at p e k.1) tt tt tt;
         }
 
     -- a row of a PDU
-    pub air_keeps : (air : ℕ) (on : Which) (pdu : List ℕ) (outcome : Outcome) (row : AirRow) → AirHas (term_reading_by same) s air on pdu outcome row → AirNeeds taken s row →
+    pub air_keeps : (air : ℕ) (on : Which) (pdu : List ℕ) (outcome : Outcome) (row : AirRow) →
+        AirHas (term_reading_by same) s air on pdu outcome row → AirNeeds taken s row →
         Keeps (air_does (term_reading_by same) row s)
     air_keeps air on pdu outcome row f n =
-        air_case (term_reading_by same) s Keeps (λ row. AirHas (term_reading_by same) s air on pdu outcome row × AirNeeds taken s row) (air_cases air on pdu outcome) row (f, n)
+        air_case (term_reading_by same) s Keeps
+        (λ row. AirHas (term_reading_by same) s air on pdu outcome row × AirNeeds taken s row)
+        (air_cases air on pdu outcome) row (f, n)
 
     -- rows by an act
 
     -- with the context that the station has
     of_context : (c : Context Term ℕ) → s.context ≡ Some c → (f : Station Term ℕ → Station Term ℕ × Reply Term ℕ) →
-        (StationStands taken given (record s { context = Some c }) → let t = record s { context = Some c } in StationKeeps taken given t (f t).0 (f t).1.sent) → Keeps (f s)
+        (StationStands taken given (record s { context = Some c }) →
+        let t = record s { context = Some c } in StationKeeps taken given t (f t).0 (f t).1.sent) → Keeps (f s)
     of_context c e f k =
-        subst (λ o. let t = record s { context = o } in StationKeeps taken given t (f t).0 (f t).1.sent) (sym e) (k (subst (λ o. StationStands taken given (record s { context = o })) e h))
+        subst (λ o. let t = record s { context = o } in StationKeeps taken given t (f t).0 (f t).1.sent) (sym e)
+        (k (subst (λ o. StationStands taken given (record s { context = o })) e h))
 
     one_context : (b c : Context Term ℕ) → s.context ≡ Some b → s.context ≡ Some c → b ≡ c
     one_context b c e f = by_some (sym e ∙ f)
 
     -- within the station: one more preparation, at the air address drawn
-    within_start_keeps : (number air : ℕ) (cell : Place) (c : Context Term ℕ) → number ≡ s.next → air ≡ s.next + 1 → StationStands taken given (record s { context = Some c }) →
-        let d = started_within (term_reading_by same) number air cell (Some c) (record s { context = Some c }) in StationKeeps taken given (record s { context = Some c }) d.0 d.1.sent
+    within_start_keeps : (number air : ℕ) (cell : Place) (c : Context Term ℕ) → number ≡ s.next → air ≡ s.next + 1 →
+        StationStands taken given (record s { context = Some c }) →
+        let d = started_within (term_reading_by same) number air cell (Some c) (record s { context = Some c }) in
+        StationKeeps taken given (record s { context = Some c }) d.0 d.1.sent
     within_start_keeps number air cell c d e h =
         let p = own_prep (term_reading_by same) c.conn s.id number air cell c (opened (term_reading_by same) c.key cell).star in
         let le : s.next ≤ air = omega arith in
@@ -414,17 +445,51 @@ module _ (taken given : Homes) where
     act_cases act =
         record {
           nothing = λ answer. still s h;
-          by_x2 = λ number target cell k c e. let d : number ≡ s.next = k.number_is in of_context c e (started_by_x2 (term_reading_by same) number target cell (Some c)) (λ h. changes (record s { context = Some c }) (number + 1) _ _ (omega arith) (refl, refl, rise_same c.bearers) h tt tt refl);
-          by_s1 = λ number target cell k c e. let d : number ≡ s.next = k.number_is in of_context c e (started_by_s1 number target cell (Some c)) (λ h. changes (record s { context = Some c }) (number + 1) _ _ (omega arith) (refl, refl, rise_same c.bearers) h tt tt tt);
-          within = λ number air cell k c e. of_context c e (started_within (term_reading_by same) number air cell (Some c)) (λ h. within_start_keeps number air cell c k.starts.number_is k.air_is h);
-          commanded = λ order count k c e. of_context c e (commands order count (Some c)) (λ h. subst (λ n. let d = commands order n (Some c) (record s { context = Some c }) in StationKeeps taken given (record s { context = Some c }) d.0 d.1.sent) (sym (k.count_is ∙ ap (λ x. x.bearers.srb1.send) (one_context k.context c k.serving e))) (rrc_keeps s c (srb_sent Signalling1 c.bearers) (option_map (commanded order) c.attempt) Signalling1 (order_text order) refl h));
-          changed = λ renewal count k c e. of_context c e (commands_change renewal count (Some c)) (λ h. subst (λ n. let d = commands_change renewal n (Some c) (record s { context = Some c }) in StationKeeps taken given (record s { context = Some c }) d.0 d.1.sent) (sym (k.count_is ∙ ap (λ x. x.bearers.srb1.send) (one_context k.context c k.serving e))) (rrc_keeps s c (srb_sent Signalling1 c.bearers) c.attempt Signalling1 (change_text s.id renewal) refl h));
+          by_x2 = λ number target cell k c e.
+              let d : number ≡ s.next = k.number_is in
+              of_context c e (started_by_x2 (term_reading_by same) number target cell (Some c)) (λ h. changes
+              (record s { context = Some c }) (number + 1) _ _ (omega arith)
+              (refl, refl, rise_same c.bearers) h tt tt refl);
+          by_s1 = λ number target cell k c e.
+              let d : number ≡ s.next = k.number_is in
+              of_context c e (started_by_s1 number target cell (Some c)) (λ h. changes (record s { context = Some c })
+              (number + 1) _ _ (omega arith) (refl, refl, rise_same c.bearers) h tt tt tt);
+          within = λ number air cell k c e.
+              of_context c e (started_within (term_reading_by same) number air cell (Some c))
+              (λ h. within_start_keeps number air cell c k.starts.number_is k.air_is h);
+          commanded = λ order count k c e. of_context c e (commands order count (Some c)) (λ h. subst
+              (λ n.
+              let d = commands order n (Some c) (record s { context = Some c }) in
+              StationKeeps taken given (record s { context = Some c }) d.0 d.1.sent)
+              (sym (k.count_is ∙ ap (λ x. x.bearers.srb1.send) (one_context k.context c k.serving e)))
+              (rrc_keeps s c (srb_sent Signalling1 c.bearers) (option_map (commanded order) c.attempt) Signalling1
+              (order_text order) refl h));
+          changed = λ renewal count k c e.
+              of_context c e (commands_change renewal count (Some c)) (λ h. subst
+              (λ n.
+              let d = commands_change renewal n (Some c) (record s { context = Some c }) in
+              StationKeeps taken given (record s { context = Some c }) d.0 d.1.sent)
+              (sym (k.count_is ∙ ap (λ x. x.bearers.srb1.send) (one_context k.context c k.serving e)))
+              (rrc_keeps s c (srb_sent Signalling1 c.bearers) c.attempt Signalling1 (change_text s.id renewal) refl h));
           cancelled_x2 = λ conn number target k. changes s s.next (option_map given_up s.context) _ (omega arith) (stays_map given_up gives_up s.context) h tt tt tt;
           cancelled_s1 = λ conn number cell k. changes s s.next (option_map given_up s.context) _ (omega arith) (stays_map given_up gives_up s.context) h tt tt tt;
           cancelled_within = λ number k. filtered s (option_map given_up s.context) s.id number (stays_map given_up gives_up s.context) h;
-          asked = λ number k c e. let d : number ≡ s.next = k.number_is in of_context c e (asks_again number (Some c)) (λ h. changes (record s { context = Some c }) (number + 1) _ _ (omega arith) (refl, refl, rise_same c.bearers) h tt tt tt);
-          packet = λ drb count text k c e. of_context c e (sends_packet drb count text (Some c)) (λ h. subst (λ n. let d = sends_packet drb n text (Some c) (record s { context = Some c }) in StationKeeps taken given (record s { context = Some c }) d.0 d.1.sent) (sym (k.count_is ∙ ap (λ x. (drb_counts drb x.bearers).send) (one_context k.context c k.serving e))) (packet_keeps s c (drb_sent drb c.bearers) c.attempt drb text refl h));
-          text = λ srb count text k c e. of_context c e (sends_rrc srb count text (Some c)) (λ h. subst (λ n. let d = sends_rrc srb n text (Some c) (record s { context = Some c }) in StationKeeps taken given (record s { context = Some c }) d.0 d.1.sent) (sym (k.count_is ∙ ap (λ x. (srb_counts srb x.bearers).send) (one_context k.context c k.serving e))) (rrc_keeps s c (srb_sent srb c.bearers) c.attempt srb (spelling_of (RrcData text)) refl h));
+          asked = λ number k c e.
+              let d : number ≡ s.next = k.number_is in
+              of_context c e (asks_again number (Some c)) (λ h. changes (record s { context = Some c }) (number + 1) _ _
+              (omega arith) (refl, refl, rise_same c.bearers) h tt tt tt);
+          packet = λ drb count text k c e. of_context c e (sends_packet drb count text (Some c)) (λ h. subst
+              (λ n.
+              let d = sends_packet drb n text (Some c) (record s { context = Some c }) in
+              StationKeeps taken given (record s { context = Some c }) d.0 d.1.sent)
+              (sym (k.count_is ∙ ap (λ x. (drb_counts drb x.bearers).send) (one_context k.context c k.serving e)))
+              (packet_keeps s c (drb_sent drb c.bearers) c.attempt drb text refl h));
+          text = λ srb count text k c e. of_context c e (sends_rrc srb count text (Some c)) (λ h. subst
+              (λ n.
+              let d = sends_rrc srb n text (Some c) (record s { context = Some c }) in
+              StationKeeps taken given (record s { context = Some c }) d.0 d.1.sent)
+              (sym (k.count_is ∙ ap (λ x. (srb_counts srb x.bearers).send) (one_context k.context c k.serving e)))
+              (rrc_keeps s c (srb_sent srb c.bearers) c.attempt srb (spelling_of (RrcData text)) refl h));
           skipped = λ on n k. mapped s (with_skipped on n) (λ c. (refl, refl, left_out_rises on n c.bearers)) h;
         }
 

@@ -52,7 +52,8 @@ module _ (taken : Homes) (s : Station Term ℕ) (air : ℕ) where
     only_first Q None k = tt
     only_first Q (Some p) k = k.0
 
-  module _ (r : Reading Term ℕ) (on : Which) (pdu : List ℕ) (outcome : Outcome) (h : AllOf (PrepStands s.next) s.preps) (accepts : OfTaken (air_expects (air_front (plain_station r s) air on pdu) s) outcome) where
+  module _ (r : Reading Term ℕ) (on : Which) (pdu : List ℕ) (outcome : Outcome) (h : AllOf (PrepStands s.next) s.preps)
+      (accepts : OfTaken (air_expects (air_front (plain_station r s) air on pdu) s) outcome) where
     -- a completion is of a key that was taken here
     completes_needs : (at count : ℕ) (by : By) → Completes r s air on pdu outcome at count by → TakenHere taken s.id at (at_air at s.preps)
     completes_needs at count by f =
@@ -97,12 +98,14 @@ on_x2 id station e = cc
 module _ (given : Homes) (s : Station Term ℕ) (to : Address) (here : GoesHere to s.id) where
   -- an Initial Context
   context_needs : (conn : ℕ) (cell : Place) (caps : Caps) (algs : Algs) (air : ℕ) (k : NumberedKey Term ℕ) →
-      BetweenStands given to (InitialContext conn cell caps) (Some k) → s.last < conn → air ≡ s.next → RecordNeeds given s (ContextGiven conn cell caps algs air) (Some k)
+      BetweenStands given to (InitialContext conn cell caps) (Some k) → s.last < conn → air ≡ s.next →
+      RecordNeeds given s (ContextGiven conn cell caps algs air) (Some k)
   context_needs conn cell caps algs air k b newer drawn =
       (newer, drawn, b.2 ∙ ap (λ x. Some (home_at x conn)) (sym (here b.0 b.1)), b.3)
 
   -- each row
-  fits_needs : (r : Reading Term ℕ) (on : Interface) (fields : Fields) (key : Option (NumberedKey Term ℕ)) (row : RecordRow) → BetweenStands given to fields key → RecordHas r s on fields row →
+  fits_needs : (r : Reading Term ℕ) (on : Interface) (fields : Fields) (key : Option (NumberedKey Term ℕ))
+      (row : RecordRow) → BetweenStands given to fields key → RecordHas r s on fields row →
       RecordNeeds given s row key
   fits_needs r on fields None (ContextGiven conn cell caps algs air) b f = tt
   fits_needs r on fields (Some k) (ContextGiven conn cell caps algs air) b f =

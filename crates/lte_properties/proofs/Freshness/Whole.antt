@@ -62,7 +62,9 @@ first_fresh setup = record {
 -- ALL RUNS
 
 -- in every run in which stations and core accept what was sealed so
-pub no_use_twice_ever : (same : Term → Term → Bool) → IsReflexive same → (octets : Outgoing Term ℕ → List ℕ) (sender : Option (Outgoing Term ℕ) → Option (KeyUse Term))
+pub no_use_twice_ever : (same : Term → Term → Bool)
+    → IsReflexive same
+    → (octets : Outgoing Term ℕ → List ℕ) (sender : Option (Outgoing Term ℕ) → Option (KeyUse Term))
     (opener : Opening Term → List ℕ → Option (Outgoing Term ℕ) → Outcome) (setup : Setup) (es : List Event) →
     AllSentUnder (machine_by same Root octets sender opener) (first_world setup) es →
     NoUseTwice (run (machine_by same Root octets sender opener) (first_world setup) es).uses
@@ -121,7 +123,8 @@ module _ (c : Ciphers Term) where
   sealed_so v e pdu (Some (Between to fields key)) u h = absurd (none_foreign v e pdu u h)
 
   -- a machine that opens PDUs of SRBs by the terms of their uses; how it opens anything else is open
-  module _ (same : Term → Term → Bool) (itself : IsReflexive same) (octets : Outgoing Term ℕ → List ℕ) (sender : Option (Outgoing Term ℕ) → Option (KeyUse Term))
+  module _ (same : Term → Term → Bool) (itself : IsReflexive same) (octets : Outgoing Term ℕ → List ℕ)
+      (sender : Option (Outgoing Term ℕ) → Option (KeyUse Term))
       (opener : Opening Term → List ℕ → Option (Outgoing Term ℕ) → Outcome)
       (by_terms : (v : KeyUse Term) (e : Option (Ciphering Term)) (pdu : List ℕ) (came : Option (Outgoing Term ℕ)) →
       opener (OpensSrb v e) pdu came ≡ open_by_uses same_term c (OpensSrb v e) pdu came) where

@@ -68,7 +68,8 @@ module _ (taken taken' given given' : Homes) (f : HomesStay taken taken') (g : H
   -- each record stands
   pub record_grows : (x : Outgoing Term ℕ) → RecordStands taken given x → RecordStands taken' given' x
   record_grows (SealedRrc Up station air srb u e text) h =
-      on_key (λ t type. taken t ≡ Some (home_at station air)) (λ t type. taken' t ≡ Some (home_at station air)) (λ t type k. f t (home_at station air) k) u.key h
+      on_key (λ t type. taken t ≡ Some (home_at station air)) (λ t type. taken' t ≡ Some (home_at station air))
+      (λ t type k. f t (home_at station air) k) u.key h
   record_grows (SealedRrc Down station air srb u e text) h = tt
   record_grows (Between to fields key) h = between_grows to fields key h
   record_grows (SealedNas dir header u e text) h = tt
@@ -82,7 +83,8 @@ module _ (m : Machine Term ℕ (Outgoing Term ℕ)) (w : World Term ℕ (Outgoin
     -- older uplink uses stand
     up_stays : (u : KeyUse Term) → UpUse h.roots h.taken w.phone u → UpUse h.roots k.new d.0 u
     up_stays u x =
-        on_key (λ t type. (IsNas type → NasUp h.roots w.phone.partial w.phone.context t u.count) × (IsAs type → AsUp h.taken w.phone.radio t type u.count u.bearer))
+        on_key (λ t type. (IsNas type → NasUp h.roots w.phone.partial w.phone.context t u.count)
+        × (IsAs type → AsUp h.taken w.phone.radio t type u.count u.bearer))
         (λ t type. (IsNas type → NasUp h.roots d.0.partial d.0.context t u.count) × (IsAs type → AsUp k.new d.0.radio t type u.count u.bearer))
         (λ t type y. (λ n. k.nas t u.count (y.0 n), λ a. k.link t type u.count u.bearer (y.1 a))) u.key x
 
@@ -95,18 +97,22 @@ module _ (m : Machine Term ℕ (Outgoing Term ℕ)) (w : World Term ℕ (Outgoin
       counted = roots_kept w.history d.1.derived ∙ h.counted;
       phone = k.stands;
       core = h.core;
-      stations = all_map (StationStands h.taken h.given) (StationStands k.new h.given) (station_grows h.taken k.new h.given h.given k.grows (λ t x e. e)) w.stations h.stations;
+      stations =
+          all_map (StationStands h.taken h.given) (StationStands k.new h.given)
+          (station_grows h.taken k.new h.given h.given k.grows (λ t x e. e)) w.stations h.stations;
       up = all_append (λ u. u.dir ≡ Up → UpUse h.roots k.new d.0 u) w.uses (uses_in d.1.sent)
           (all_map (λ u. u.dir ≡ Up → UpUse h.roots h.taken w.phone u) (λ u. u.dir ≡ Up → UpUse h.roots k.new d.0 u) (λ u x e. up_stays u (x e)) w.uses h.up)
           (all_map (NewUp h.roots h.taken k.new w.phone d.0) (λ u. u.dir ≡ Up → UpUse h.roots k.new d.0 u) (λ u x e. x.1) (uses_in d.1.sent) k.uses);
       nas = all_append (λ u. u.dir ≡ Down → CoreUse h.roots w.core u) w.uses (uses_in d.1.sent) h.nas
-          (all_map (NewUp h.roots h.taken k.new w.phone d.0) (λ u. u.dir ≡ Down → CoreUse h.roots w.core u) (λ u x e. absurd (up_is_not_down x.0 e)) (uses_in d.1.sent) k.uses);
+          (all_map (NewUp h.roots h.taken k.new w.phone d.0) (λ u. u.dir ≡ Down → CoreUse h.roots w.core u)
+          (λ u x e. absurd (up_is_not_down x.0 e)) (uses_in d.1.sent) k.uses);
       down = all_map (λ s. AllOf (λ u. u.dir ≡ Down → StationUse h.taken h.given s u) w.uses)
           (λ s. AllOf (λ u. u.dir ≡ Down → StationUse k.new h.given s u) (w.uses ++ uses_in d.1.sent))
           (λ s x. all_append (λ u. u.dir ≡ Down → StationUse k.new h.given s u) w.uses (uses_in d.1.sent)
           (all_map (λ u. u.dir ≡ Down → StationUse h.taken h.given s u) (λ u. u.dir ≡ Down → StationUse k.new h.given s u)
           (λ u y e. use_grows h.taken k.new h.given h.given k.grows (λ t z i. i) s u (y e)) w.uses x)
-          (all_map (NewUp h.roots h.taken k.new w.phone d.0) (λ u. u.dir ≡ Down → StationUse k.new h.given s u) (λ u y e. absurd (up_is_not_down y.0 e)) (uses_in d.1.sent) k.uses))
+          (all_map (NewUp h.roots h.taken k.new w.phone d.0) (λ u. u.dir ≡ Down → StationUse k.new h.given s u)
+          (λ u y e. absurd (up_is_not_down y.0 e)) (uses_in d.1.sent) k.uses))
           w.stations h.down;
       sent = subst (λ o. AllOf (RecordStands k.new h.given) (with_one o w.sent)) (sym (keep d.1.sent))
           (all_one (RecordStands k.new h.given) d.1.sent w.sent
@@ -127,7 +133,8 @@ module _ (m : Machine Term ℕ (Outgoing Term ℕ)) (w : World Term ℕ (Outgoin
     -- older uses of the core stand
     nas_stays : (u : KeyUse Term) → CoreUse h.roots w.core u → CoreUse h.roots d.0 u
     nas_stays u x =
-        on_key (λ t type. IsNas type → NasDown h.roots w.core.partial w.core.context t u.count) (λ t type. IsNas type → NasDown h.roots d.0.partial d.0.context t u.count)
+        on_key (λ t type. IsNas type → NasDown h.roots w.core.partial w.core.context t u.count)
+        (λ t type. IsNas type → NasDown h.roots d.0.partial d.0.context t u.count)
         (λ t type y n. k.nas t u.count (y n)) u.key x
 
     -- a key of NAS is no station's
@@ -144,9 +151,12 @@ module _ (m : Machine Term ℕ (Outgoing Term ℕ)) (w : World Term ℕ (Outgoin
       counted = roots_kept w.history d.1.derived ∙ h.counted;
       phone = h.phone;
       core = k.stands;
-      stations = all_map (StationStands h.taken h.given) (StationStands h.taken k.new) (station_grows h.taken h.taken h.given k.new (λ t x e. e) k.grows) w.stations h.stations;
+      stations =
+          all_map (StationStands h.taken h.given) (StationStands h.taken k.new)
+          (station_grows h.taken h.taken h.given k.new (λ t x e. e) k.grows) w.stations h.stations;
       up = all_append (λ u. u.dir ≡ Up → UpUse h.roots h.taken w.phone u) w.uses (uses_in d.1.sent) h.up
-          (all_map (NewDown h.roots w.core d.0) (λ u. u.dir ≡ Up → UpUse h.roots h.taken w.phone u) (λ u x e. absurd (up_is_not_down e x.0)) (uses_in d.1.sent) k.uses);
+          (all_map (NewDown h.roots w.core d.0) (λ u. u.dir ≡ Up → UpUse h.roots h.taken w.phone u)
+          (λ u x e. absurd (up_is_not_down e x.0)) (uses_in d.1.sent) k.uses);
       nas = all_append (λ u. u.dir ≡ Down → CoreUse h.roots d.0 u) w.uses (uses_in d.1.sent)
           (all_map (λ u. u.dir ≡ Down → CoreUse h.roots w.core u) (λ u. u.dir ≡ Down → CoreUse h.roots d.0 u) (λ u x e. nas_stays u (x e)) w.uses h.nas)
           (all_map (NewDown h.roots w.core d.0) (λ u. u.dir ≡ Down → CoreUse h.roots d.0 u) (λ u x e. x.2) (uses_in d.1.sent) k.uses);
@@ -155,7 +165,8 @@ module _ (m : Machine Term ℕ (Outgoing Term ℕ)) (w : World Term ℕ (Outgoin
           (λ s x. all_append (λ u. u.dir ≡ Down → StationUse h.taken k.new s u) w.uses (uses_in d.1.sent)
           (all_map (λ u. u.dir ≡ Down → StationUse h.taken h.given s u) (λ u. u.dir ≡ Down → StationUse h.taken k.new s u)
           (λ u y e. use_grows h.taken h.taken h.given k.new (λ t z i. i) k.grows s u (y e)) w.uses x)
-          (all_map (NewDown h.roots w.core d.0) (λ u. u.dir ≡ Down → StationUse h.taken k.new s u) (λ u y e. nas_is_elsewhere s u y.1) (uses_in d.1.sent) k.uses))
+          (all_map (NewDown h.roots w.core d.0) (λ u. u.dir ≡ Down → StationUse h.taken k.new s u)
+          (λ u y e. nas_is_elsewhere s u y.1) (uses_in d.1.sent) k.uses))
           w.stations h.down;
       sent = subst (λ o. AllOf (RecordStands h.taken k.new) (with_one o w.sent)) (sym (keep d.1.sent))
           (all_one (RecordStands h.taken k.new) d.1.sent w.sent
@@ -174,13 +185,15 @@ module _ (m : Machine Term ℕ (Outgoing Term ℕ)) (w : World Term ℕ (Outgoin
     -- older uses of the station stand
     down_stays : (u : KeyUse Term) → StationUse h.taken h.given s u → StationUse h.taken h.given d.0 u
     down_stays u x =
-        on_key (λ t type. IsAs type → AsDown h.taken h.given s t type u.count u.bearer) (λ t type. IsAs type → AsDown h.taken h.given d.0 t type u.count u.bearer)
+        on_key (λ t type. IsAs type → AsDown h.taken h.given s t type u.count u.bearer)
+        (λ t type. IsAs type → AsDown h.taken h.given d.0 t type u.count u.bearer)
         (λ t type y a. k.old t type u.count u.bearer (y a)) u.key x
 
     -- a use of a station is not of NAS
     own_is_not_nas : (u : KeyUse Term) → IsOwn h.taken h.given s.id u → CoreUse h.roots w.core u
     own_is_not_nas u x =
-        on_key (λ t type. IsAs type × ((p : Home) × (home h.taken h.given t ≡ Some p) × (p.station ≡ s.id))) (λ t type. IsNas type → NasDown h.roots w.core.partial w.core.context t u.count)
+        on_key (λ t type. IsAs type × ((p : Home) × (home h.taken h.given t ≡ Some p) × (p.station ≡ s.id)))
+        (λ t type. IsNas type → NasDown h.roots w.core.partial w.core.context t u.count)
         (λ t type y n. let z = y.0 in absurd (omega arith)) u.key x
 
     -- another station has another number
@@ -196,9 +209,15 @@ module _ (m : Machine Term ℕ (Outgoing Term ℕ)) (w : World Term ℕ (Outgoin
         absurd (other t e (sym g ∙ (sym (ap (λ (q : Home). q.station) same) ∙ x.0.2)))
 
     -- so a new use stands beside another station
-    other_use : (t : Station Term ℕ) → (t.id == id) ≡ false → StationStands h.taken h.given t → (u : KeyUse Term) → IsOwn h.taken h.given s.id u → StationUse h.taken h.given t u
+    other_use : (t : Station Term ℕ)
+        → (t.id == id) ≡ false
+        → StationStands h.taken h.given t
+        → (u : KeyUse Term)
+        → IsOwn h.taken h.given s.id u
+        → StationUse h.taken h.given t u
     other_use t e x u y =
-        on_key (λ r type. IsAs type × ((p : Home) × (home h.taken h.given r ≡ Some p) × (p.station ≡ s.id))) (λ r type. IsAs type → AsDown h.taken h.given t r type u.count u.bearer)
+        on_key (λ r type. IsAs type × ((p : Home) × (home h.taken h.given r ≡ Some p) × (p.station ≡ s.id)))
+        (λ r type. IsAs type → AsDown h.taken h.given t r type u.count u.bearer)
         (λ r type z a. (z.1.0, z.1.1, λ i. absurd (other t e (sym z.1.2 ∙ i)), other_ahead t e t.context x.0 r type u.count u.bearer z.1.0 z.1.1 z.1.2)) u.key y
 
     -- what holds of each station
@@ -216,16 +235,21 @@ module _ (m : Machine Term ℕ (Outgoing Term ℕ)) (w : World Term ℕ (Outgoin
       core = h.core;
       stations = all_put (StationStands h.taken h.given) (StationStands h.taken h.given) id d.0 w.stations k.stands (λ t e x. x) h.stations;
       up = all_append (λ u. u.dir ≡ Up → UpUse h.roots h.taken w.phone u) w.uses (uses_in d.1.sent) h.up
-          (all_map (NewAt h.taken h.given s d.0) (λ u. u.dir ≡ Up → UpUse h.roots h.taken w.phone u) (λ u x e. absurd (up_is_not_down e x.0)) (uses_in d.1.sent) k.uses);
+          (all_map (NewAt h.taken h.given s d.0) (λ u. u.dir ≡ Up → UpUse h.roots h.taken w.phone u)
+          (λ u x e. absurd (up_is_not_down e x.0)) (uses_in d.1.sent) k.uses);
       nas = all_append (λ u. u.dir ≡ Down → CoreUse h.roots w.core u) w.uses (uses_in d.1.sent) h.nas
           (all_map (NewAt h.taken h.given s d.0) (λ u. u.dir ≡ Down → CoreUse h.roots w.core u) (λ u x e. own_is_not_nas u x.1) (uses_in d.1.sent) k.uses);
       down = all_put Both (λ t. AllOf (λ u. u.dir ≡ Down → StationUse h.taken h.given t u) (w.uses ++ uses_in d.1.sent)) id d.0 w.stations
           (all_append (λ u. u.dir ≡ Down → StationUse h.taken h.given d.0 u) w.uses (uses_in d.1.sent)
-          (all_map (λ u. u.dir ≡ Down → StationUse h.taken h.given s u) (λ u. u.dir ≡ Down → StationUse h.taken h.given d.0 u) (λ u x e. down_stays u (x e)) w.uses own)
+          (all_map (λ u. u.dir ≡ Down → StationUse h.taken h.given s u)
+          (λ u. u.dir ≡ Down → StationUse h.taken h.given d.0 u) (λ u x e. down_stays u (x e)) w.uses own)
           (all_map (NewAt h.taken h.given s d.0) (λ u. u.dir ≡ Down → StationUse h.taken h.given d.0 u) (λ u x e. x.2) (uses_in d.1.sent) k.uses))
           (λ t e x. all_append (λ u. u.dir ≡ Down → StationUse h.taken h.given t u) w.uses (uses_in d.1.sent) x.1
-          (all_map (NewAt h.taken h.given s d.0) (λ u. u.dir ≡ Down → StationUse h.taken h.given t u) (λ u y i. other_use t e x.0 u y.1) (uses_in d.1.sent) k.uses))
-          (all_both (StationStands h.taken h.given) (λ t. AllOf (λ u. u.dir ≡ Down → StationUse h.taken h.given t u) w.uses) Both (λ t x y. (x, y)) w.stations h.stations h.down);
+          (all_map (NewAt h.taken h.given s d.0) (λ u. u.dir ≡ Down → StationUse h.taken h.given t u)
+          (λ u y i. other_use t e x.0 u y.1) (uses_in d.1.sent) k.uses))
+          (all_both (StationStands h.taken h.given)
+          (λ t. AllOf (λ u. u.dir ≡ Down → StationUse h.taken h.given t u) w.uses) Both (λ t x y. (x, y)) w.stations
+          h.stations h.down);
       sent = subst (λ o. AllOf (RecordStands h.taken h.given) (with_one o w.sent)) (sym (keep d.1.sent))
           (all_one (RecordStands h.taken h.given) d.1.sent w.sent h.sent (some_of (RecordStands h.taken h.given) d.1.sent k.sends));
       took = h.took;

@@ -30,6 +30,7 @@ use Rattle.lte_machine.proofs.KnownLists.{AllOut, station_more}
 use Rattle.lte_machine.proofs.KnownLadder.{outs_more}
 use Rattle.lte_machine.proofs.KnownStation.{station_does_keeps}
 use Rattle.lte_machine.proofs.Routing.{found_in, happens_each}
+use Rattle.lte_machine.proofs.Worlds.{TheWorld}
 use Rattle.lte_properties.specs.ChainBelow.{AllOf}
 use Rattle.lte_properties.specs.ChainHolds.{machine_by, run}
 use Rattle.lte_properties.specs.Separation.{IsStationOf, HeldBy, WasHeld, AllHeld, OwnHeld}
@@ -48,7 +49,9 @@ here_held holder (d ∷ ds) t (inl e) = inl (sym e)
 here_held holder (d ∷ ds) t (inr h) = inr (here_held holder ds t h)
 
 -- each key derived is held then
-derived_held : (holder : Holder) (received : Option Term) (ds : List (Derivation Term)) (t : Term) → Member t (keys_of (map Of ds)) → WasHeld (holds holder received ds) t
+derived_held : (holder : Holder) (received : Option Term) (ds : List (Derivation Term)) (t : Term)
+    → Member t (keys_of (map Of ds))
+    → WasHeld (holds holder received ds) t
 derived_held holder None ds t h = here_held holder ds t h
 derived_held holder (Some key) ds t h = inr (here_held holder ds t h)
 
@@ -58,14 +61,19 @@ Own id held t = HeldBy (λ i. i ≡ id) held t
 
 own_derived : (id : ℕ) (ds : List (Derivation Term)) → AllOut (Own id (Heres (AtStation id) ds)) ds
 own_derived id [] = tt
-own_derived id (d ∷ ds) = (inl (refl, refl), outs_more (Own id (Heres (AtStation id) ds)) (Own id (Heres (AtStation id) (d ∷ ds))) (λ t h. inr h) ds (own_derived id ds))
+own_derived id (d ∷ ds) = (
+  inl (refl, refl),
+  outs_more (Own id (Heres (AtStation id) ds)) (Own id (Heres (AtStation id) (d ∷ ds))) (λ t h. inr h) ds
+      (own_derived id ds),
+)
 
 own_outs : (id : ℕ) (received : Option Term) (ds : List (Derivation Term)) → AllOut (Own id (holds (AtStation id) received ds)) ds
 own_outs id None ds = own_derived id ds
 own_outs id (Some key) ds = outs_more (Own id (Heres (AtStation id) ds)) (Own id (holds (AtStation id) (Some key) ds)) (λ t h. inr h) ds (own_derived id ds)
 
 -- and so is the key that it received
-own_received : (id : ℕ) (ds : List (Derivation Term)) (o : Option (NumberedKey Term ℕ)) → PairKnown (Own id (holds (AtStation id) (option_map (λ x. x.key) o) ds)) o
+own_received : (id : ℕ) (ds : List (Derivation Term)) (o : Option (NumberedKey Term ℕ))
+    → PairKnown (Own id (holds (AtStation id) (option_map (λ x. x.key) o) ds)) o
 own_received id ds None = tt
 own_received id ds (Some pair) = inl (refl, refl)
 
@@ -94,7 +102,9 @@ pub record HeldAll (w : World Term ℕ (Outgoing Term ℕ)) : Type 0 where
   pub own : OwnHeld w
 
 -- the keys of a longer history
-all_longer : (w : World Term ℕ (Outgoing Term ℕ)) (ms : List (RowOrigin Term)) (more : List (Holding Term)) → AllHeld w → ((t : Term) → Member t (keys_of ms) → WasHeld more t)
+all_longer : (w : World Term ℕ (Outgoing Term ℕ)) (ms : List (RowOrigin Term)) (more : List (Holding Term))
+    → AllHeld w
+    → ((t : Term) → Member t (keys_of ms) → WasHeld more t)
     → (t : Term) → Member t (keys_of (w.history ++ ms)) → WasHeld (w.held ++ more) t
 all_longer w ms more h f t k = by (member_either t (keys_of w.history) (keys_of ms) (subst (Member t) (map-append row_key w.history ms) k))
   where
@@ -102,18 +112,23 @@ all_longer w ms more h f t k = by (member_either t (keys_of w.history) (keys_of 
     by (inl m) = any_before (λ e. e.key ≡ t) w.held more (h t m)
     by (inr m) = any_behind (λ e. e.key ≡ t) w.held more (f t m)
 
-module _ (same : Term → Term → Bool) (root : ℕ → List ℕ → Term) (octets : Outgoing Term ℕ → List ℕ) (sender : Option (Outgoing Term ℕ) → Option (KeyUse Term)) (opener : Opening Term → List ℕ → Option (Outgoing Term ℕ) → Outcome) where
-  abbrev TheWorld : Type 0
-  TheWorld = World Term ℕ (Outgoing Term ℕ)
-
+module _ (same : Term → Term → Bool) (root : ℕ → List ℕ → Term) (octets : Outgoing Term ℕ → List ℕ)
+    (sender : Option (Outgoing Term ℕ) → Option (KeyUse Term))
+    (opener : Opening Term → List ℕ → Option (Outgoing Term ℕ) → Outcome) where
   abbrev m : Machine Term ℕ (Outgoing Term ℕ)
   m = machine_by same root octets sender opener
 
   -- after a step of phone or core: what was held, and what it gave out
-  beside : (w u : TheWorld) (holder : Holder) (reply : Reply Term ℕ) → u.history ≡ w.history ++ map Of reply.derived → u.held ≡ w.held ++ holds holder reply.received reply.derived → u.stations ≡ w.stations
+  beside : (w u : TheWorld) (holder : Holder) (reply : Reply Term ℕ)
+      → u.history ≡ w.history ++ map Of reply.derived
+      → u.held ≡ w.held ++ holds holder reply.received reply.derived
+      → u.stations ≡ w.stations
       → HeldAll w → HeldAll u
   beside w u holder reply e f g h = record {
-    all = λ t k. subst (λ x. WasHeld x t) (sym f) (all_longer w (map Of reply.derived) (holds holder reply.received reply.derived) h.all (derived_held holder reply.received reply.derived) t
+    all = λ t k.
+        subst (λ x. WasHeld x t) (sym f)
+        (all_longer w (map Of reply.derived) (holds holder reply.received reply.derived) h.all
+        (derived_held holder reply.received reply.derived) t
         (subst (λ x. Member t (keys_of x)) e k));
     own = subst (λ x. AllOf (λ s. StationKnown (Own s.id x) s) u.stations) (sym f)
         (subst (λ x. AllOf (λ s. StationKnown (Own s.id (w.held ++ holds holder reply.received reply.derived)) s) x) (sym g)
@@ -139,7 +154,9 @@ module _ (same : Term → Term → Bool) (root : ℕ → List ℕ → Term) (oct
 
   -- A STATION'S STEP
 
-  stepped : (w : TheWorld) (id : ℕ) (input : StationInput Term ℕ) (s : Station Term ℕ) (outcome : Outcome) → s.id ≡ id → Numbered s (station_step (term_reading_by same) s input outcome)
+  stepped : (w : TheWorld) (id : ℕ) (input : StationInput Term ℕ) (s : Station Term ℕ) (outcome : Outcome)
+      → s.id ≡ id
+      → Numbered s (station_step (term_reading_by same) s input outcome)
       → StationKnown (Own s.id w.held) s → HeldAll w → HeldAll (station_after m w id (station_step (term_reading_by same) s input outcome)).0
   stepped w id input s outcome e n k h =
       let d = station_step (term_reading_by same) s input outcome in
@@ -158,7 +175,8 @@ module _ (same : Term → Term → Bool) (root : ℕ → List ℕ → Term) (oct
             (λ u no o. own_later w.held more u o) h.own;
       }
 
-  station_held : (w : TheWorld) (id : ℕ) (input : StationInput Term ℕ) (came : Option (Outgoing Term ℕ)) (s : Station Term ℕ) → s.id ≡ id → StationKnown (Own s.id w.held) s → HeldAll w →
+  station_held : (w : TheWorld) (id : ℕ) (input : StationInput Term ℕ) (came : Option (Outgoing Term ℕ))
+      (s : Station Term ℕ) → s.id ≡ id → StationKnown (Own s.id w.held) s → HeldAll w →
       HeldAll (turn_of m w id input came (Some s)).0
   station_held w id input came s own k h =
       let outcome = opener (station_opens (term_reading_by same) s input) (station_pdu_in input) came in
@@ -171,7 +189,11 @@ module _ (same : Term → Term → Bool) (root : ℕ → List ℕ → Term) (oct
       let both : List (Holding Term) = record { holder = AtPhone; key = key } ∷ record { holder = AtCore; key = key } ∷ [] in
       record { all = λ t k. all_longer w (OfRoot key ∷ []) both h.all (root_held key both refl) t k; own = own_all w.held both w.stations h.own }
     where
-      root_held : (key : Term) (both : List (Holding Term)) → both ≡ record { holder = AtPhone; key = key } ∷ record { holder = AtCore; key = key } ∷ [] → (t : Term) → Member t (key ∷ []) → WasHeld both t
+      root_held : (key : Term) (both : List (Holding Term))
+          → both ≡ record { holder = AtPhone; key = key } ∷ record { holder = AtCore; key = key } ∷ []
+          → (t : Term)
+          → Member t (key ∷ [])
+          → WasHeld both t
       root_held key both e t (inl f) = subst (λ x. WasHeld x t) (sym e) (inl (sym f))
       root_held key both e t (inr f) = absurd f
 

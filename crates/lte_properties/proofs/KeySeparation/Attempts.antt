@@ -26,6 +26,7 @@ use Rattle.lte_machine.proofs.AirFacts.{AirHas}
 use Rattle.lte_machine.proofs.StationActFacts.{StationActHas}
 use Rattle.lte_machine.proofs.StationCases.{RecordCases, AirCases, ActCases, step_case}
 use Rattle.lte_machine.proofs.Routing.{found_in, happens_each}
+use Rattle.lte_machine.proofs.Worlds.{TheWorld}
 use Rattle.lte_properties.proofs.ChainNumbers.Lists.{OfSome, all_one, all_put}
 
 -- ROWS
@@ -39,11 +40,19 @@ pub record Numbered (s : Station Term ℕ) (d : Station Term ℕ × Reply Term �
 module _ (same : Term → Term → Bool) (s : Station Term ℕ) where
   -- nothing is drawn
   quiet : (t : Station Term ℕ) (reply : Reply Term ℕ) → t.id ≡ s.id → t.next ≡ s.next → reply.tried ≡ None → Numbered s (t, reply)
-  quiet t reply e f g = record { same = e; rises = subst (λ n. s.next ≤ n) (sym f) (omega arith); draws = subst (OfSome (λ a. (a.station ≡ s.id) × (s.next ≤ a.attempt) × (a.attempt < t.next))) (sym g) tt }
+  quiet t reply e f g = record {
+    same = e;
+    rises = subst (λ n. s.next ≤ n) (sym f) (omega arith);
+    draws = subst (OfSome (λ a. (a.station ≡ s.id) × (s.next ≤ a.attempt) × (a.attempt < t.next))) (sym g) tt;
+  }
 
   -- a number is drawn for something else
   drawn : (t : Station Term ℕ) (reply : Reply Term ℕ) → t.id ≡ s.id → s.next ≤ t.next → reply.tried ≡ None → Numbered s (t, reply)
-  drawn t reply e f g = record { same = e; rises = f; draws = subst (OfSome (λ a. (a.station ≡ s.id) × (s.next ≤ a.attempt) × (a.attempt < t.next))) (sym g) tt }
+  drawn t reply e f g = record {
+    same = e;
+    rises = f;
+    draws = subst (OfSome (λ a. (a.station ≡ s.id) × (s.next ≤ a.attempt) × (a.attempt < t.next))) (sym g) tt;
+  }
 
   one_on : (n : ℕ) → n ≡ s.next → s.next ≤ n + 1
   one_on n e = omega arith
@@ -51,7 +60,8 @@ module _ (same : Term → Term → Bool) (s : Station Term ℕ) where
   two_on : (n : ℕ) → n ≡ s.next + 1 → s.next ≤ n + 1
   two_on n e = omega arith
 
-  record_numbered : (on : Interface) (fields : Fields) → RecordCases (term_reading_by same) s (λ row key. RecordHas (term_reading_by same) s on fields row) (Numbered s)
+  record_numbered : (on : Interface) (fields : Fields)
+      → RecordCases (term_reading_by same) s (λ row key. RecordHas (term_reading_by same) s on fields row) (Numbered s)
   record_numbered on fields =
       record {
         nothing = λ answer. quiet _ _ refl refl refl;
@@ -67,7 +77,8 @@ module _ (same : Term → Term → Bool) (s : Station Term ℕ) where
         renewed = λ conn number air count c e kenb k. drawn _ _ refl (two_on air k.air_is) refl;
       }
 
-  air_numbered : (air : ℕ) (on : Which) (pdu : List ℕ) (outcome : Outcome) → AirCases (term_reading_by same) s (AirHas (term_reading_by same) s air on pdu outcome) (Numbered s)
+  air_numbered : (air : ℕ) (on : Which) (pdu : List ℕ) (outcome : Outcome)
+      → AirCases (term_reading_by same) s (AirHas (term_reading_by same) s air on pdu outcome) (Numbered s)
   air_numbered air on pdu outcome =
       record {
         nothing = λ answer. quiet _ _ refl refl refl;
@@ -83,9 +94,16 @@ module _ (same : Term → Term → Bool) (s : Station Term ℕ) where
   act_numbered act =
       record {
         nothing = λ answer. quiet _ _ refl refl refl;
-        by_x2 = λ number target cell k c e. let f : number ≡ s.next = k.number_is in record { same = refl; rises = one_on number f; draws = (refl, omega arith, omega arith) };
-        by_s1 = λ number target cell k c e. let f : number ≡ s.next = k.number_is in record { same = refl; rises = one_on number f; draws = (refl, omega arith, omega arith) };
-        within = λ number air cell k c e. let f : number ≡ s.next = k.starts.number_is in let x : air ≡ s.next + 1 = k.air_is in record { same = refl; rises = two_on air x; draws = (refl, omega arith, omega arith) };
+        by_x2 = λ number target cell k c e.
+            let f : number ≡ s.next = k.number_is in
+            record { same = refl; rises = one_on number f; draws = (refl, omega arith, omega arith) };
+        by_s1 = λ number target cell k c e.
+            let f : number ≡ s.next = k.number_is in
+            record { same = refl; rises = one_on number f; draws = (refl, omega arith, omega arith) };
+        within = λ number air cell k c e.
+            let f : number ≡ s.next = k.starts.number_is in
+            let x : air ≡ s.next + 1 = k.air_is in
+            record { same = refl; rises = two_on air x; draws = (refl, omega arith, omega arith) };
         commanded = λ order count k c e. quiet _ _ refl refl refl;
         changed = λ renewal count k c e. quiet _ _ refl refl refl;
         cancelled_x2 = λ conn number target k. quiet _ _ refl refl refl;
@@ -99,7 +117,11 @@ module _ (same : Term → Term → Bool) (s : Station Term ℕ) where
 
   -- a step
   told : (t : Station Term ℕ) (a b : Reply Term ℕ) → a.tried ≡ b.tried → Numbered s (t, a) → Numbered s (t, b)
-  told t a b e h = record { same = h.same; rises = h.rises; draws = subst (OfSome (λ a. (a.station ≡ s.id) × (s.next ≤ a.attempt) × (a.attempt < t.next))) e h.draws }
+  told t a b e h = record {
+    same = h.same;
+    rises = h.rises;
+    draws = subst (OfSome (λ a. (a.station ≡ s.id) × (s.next ≤ a.attempt) × (a.attempt < t.next))) e h.draws;
+  }
 
   pub step_numbered : (input : StationInput Term ℕ) (outcome : Outcome) → Numbered s (station_step (term_reading_by same) s input outcome)
   step_numbered input outcome =
@@ -136,31 +158,49 @@ module _ (s : Station Term ℕ) (d : Station Term ℕ × Reply Term ℕ) (n : Nu
   new_drawn None h = tt
   new_drawn (Some e) h = λ k. h.2
 
-  elsewhere : (u : Station Term ℕ) → (u.id ≡ s.id → ⊥) → (o : Option (Tried Term ℕ)) → OfSome (λ e. (e.station ≡ s.id) × (s.next ≤ e.attempt) × (e.attempt < d.0.next)) o → OfSome (IsDrawn u) o
+  elsewhere : (u : Station Term ℕ)
+      → (u.id ≡ s.id → ⊥)
+      → (o : Option (Tried Term ℕ))
+      → OfSome (λ e. (e.station ≡ s.id) × (s.next ≤ e.attempt) × (e.attempt < d.0.next)) o
+      → OfSome (IsDrawn u) o
   elsewhere u f None h = tt
   elsewhere u f (Some e) h = λ k. absurd (f (sym k ∙ h.0))
 
-  none_such : (one : Tried Term ℕ) → one.station ≡ s.id → s.next ≤ one.attempt → (es : List (Tried Term ℕ)) → AllOf (IsDrawn s) es → AllOf (λ e. Differs e one) es
+  none_such : (one : Tried Term ℕ)
+      → one.station ≡ s.id
+      → s.next ≤ one.attempt
+      → (es : List (Tried Term ℕ))
+      → AllOf (IsDrawn s) es
+      → AllOf (λ e. Differs e one) es
   none_such one a b [] h = tt
   none_such one a b (e ∷ es) h = ((λ i j. below e.attempt one.attempt (h.0 (i ∙ a)) b j), none_such one a b es h.1) where
     below : (m k : ℕ) → m < s.next → s.next ≤ k → m ≡ k → ⊥
     below m k lt le i = omega arith
 
-  new_differs : (es : List (Tried Term ℕ)) → AllOf (IsDrawn s) es → AttemptsDiffer es → (o : Option (Tried Term ℕ)) → OfSome (λ e. (e.station ≡ s.id) × (s.next ≤ e.attempt) × (e.attempt < d.0.next)) o → AttemptsDiffer (with_one o es)
+  new_differs : (es : List (Tried Term ℕ))
+      → AllOf (IsDrawn s) es
+      → AttemptsDiffer es
+      → (o : Option (Tried Term ℕ))
+      → OfSome (λ e. (e.station ≡ s.id) × (s.next ≤ e.attempt) × (e.attempt < d.0.next)) o
+      → AttemptsDiffer (with_one o es)
   new_differs es h k None l = k
   new_differs es h k (Some one) l = differ_one one es (none_such one l.0 l.1 es h) k
 
 is_not : (a b : ℕ) → (a == b) ≡ false → a ≡ b → ⊥
 is_not a b e f = grind (arith, nat_tests)
 
-module _ (same : Term → Term → Bool) (root : ℕ → List ℕ → Term) (octets : Outgoing Term ℕ → List ℕ) (sender : Option (Outgoing Term ℕ) → Option (KeyUse Term)) (opener : Opening Term → List ℕ → Option (Outgoing Term ℕ) → Outcome) where
-  abbrev TheWorld : Type 0
-  TheWorld = World Term ℕ (Outgoing Term ℕ)
-
+module _ (same : Term → Term → Bool) (root : ℕ → List ℕ → Term) (octets : Outgoing Term ℕ → List ℕ)
+    (sender : Option (Outgoing Term ℕ) → Option (KeyUse Term))
+    (opener : Opening Term → List ℕ → Option (Outgoing Term ℕ) → Outcome) where
   abbrev m : Machine Term ℕ (Outgoing Term ℕ)
   m = machine_by same root octets sender opener
 
-  station_after_apart : (w : TheWorld) (id : ℕ) (s : Station Term ℕ) (d : Station Term ℕ × Reply Term ℕ) → s.id ≡ id → Numbered s d → AllOf (IsDrawn s) w.tried → Apart w → Apart (station_after m w id d).0
+  station_after_apart : (w : TheWorld) (id : ℕ) (s : Station Term ℕ) (d : Station Term ℕ × Reply Term ℕ)
+      → s.id ≡ id
+      → Numbered s d
+      → AllOf (IsDrawn s) w.tried
+      → Apart w
+      → Apart (station_after m w id d).0
   station_after_apart w id s d e n f h = record {
     drawn = all_put (λ u. AllOf (IsDrawn u) w.tried) (λ u. AllOf (IsDrawn u) (with_one d.1.tried w.tried)) id d.0 w.stations
         (all_one (IsDrawn d.0) d.1.tried w.tried (later_all s d n w.tried f) (new_drawn s d n d.1.tried n.draws))
@@ -168,7 +208,8 @@ module _ (same : Term → Term → Bool) (root : ℕ → List ℕ → Term) (oct
     differ = new_differs s d n w.tried f h.differ d.1.tried n.draws;
   }
 
-  station_turn_apart : (w : TheWorld) (id : ℕ) (input : StationInput Term ℕ) (came : Option (Outgoing Term ℕ)) (s : Station Term ℕ) → s.id ≡ id → AllOf (IsDrawn s) w.tried → Apart w →
+  station_turn_apart : (w : TheWorld) (id : ℕ) (input : StationInput Term ℕ) (came : Option (Outgoing Term ℕ))
+      (s : Station Term ℕ) → s.id ≡ id → AllOf (IsDrawn s) w.tried → Apart w →
       Apart (turn_of m w id input came (Some s)).0
   station_turn_apart w id input came s own f h =
       let outcome = opener (station_opens (term_reading_by same) s input) (station_pdu_in input) came in

@@ -101,7 +101,8 @@ below_partial_same None t u e h = tt
 below_partial_same (Some q) t u e h = subst (λ n. n < root_number q.root) (sym e) h
 
 -- the order sees authentication and COUNT alone
-pub past_same : (roots : ℕ) (p : Option (CorePartial Term)) (c : Option (CoreContext Term)) (tr : Option ℕ) (t u : Term) → root_number u ≡ root_number t → count_of u ≡ count_of t →
+pub past_same : (roots : ℕ) (p : Option (CorePartial Term)) (c : Option (CoreContext Term))
+    (tr : Option ℕ) (t u : Term) → root_number u ≡ root_number t → count_of u ≡ count_of t →
     Past roots p c tr t → Past roots p c tr u
 past_same roots p c tr t u e f h = (subst (λ n. n < roots) (sym e) h.0, below_partial_same p t u e h.1, context c h.2) where
   context : (c : Option (CoreContext Term)) → BelowContext c tr t → BelowContext c tr u

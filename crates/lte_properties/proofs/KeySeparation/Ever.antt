@@ -23,7 +23,9 @@ use Rattle.lte_properties.proofs.KeySeparation.Attempts.{run_apart, first_apart}
 use Rattle.lte_properties.proofs.KeySeparation.Shared.{shared_apart}
 
 -- of any machine over terms whose roots are numbered, with any opener
-module _ (same : Term → Term → Bool) (octets : Outgoing Term ℕ → List ℕ) (sender : Option (Outgoing Term ℕ) → Option (KeyUse Term)) (opener : Opening Term → List ℕ → Option (Outgoing Term ℕ) → Outcome) (setup : Setup) (events : List Event) where
+module _ (same : Term → Term → Bool) (octets : Outgoing Term ℕ → List ℕ)
+    (sender : Option (Outgoing Term ℕ) → Option (KeyUse Term))
+    (opener : Opening Term → List ℕ → Option (Outgoing Term ℕ) → Outcome) (setup : Setup) (events : List Event) where
   abbrev last_world : World Term ℕ (Outgoing Term ℕ)
   last_world = run (machine_by same Root octets sender opener) (first_world setup) events
 
@@ -37,7 +39,10 @@ module _ (same : Term → Term → Bool) (octets : Outgoing Term ℕ → List �
   separation_holds_by = separates setup.cells last_world run_holders run_all_held
 
   pub giving_holds_by : GivingHolds (machine_by same Root octets sender opener) setup events
-  giving_holds_by = (made_from setup.cells last_world run_holders, (run_apart same Root octets sender opener (first_world setup) events (first_apart setup)).differ)
+  giving_holds_by = (
+    made_from setup.cells last_world run_holders,
+    (run_apart same Root octets sender opener (first_world setup) events (first_apart setup)).differ,
+  )
 
   -- where phone and stations agree at each obeyed command
   pub sharing_holds_by : ObeysAgreement last_world → SharedApart setup.cells last_world

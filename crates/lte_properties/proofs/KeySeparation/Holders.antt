@@ -85,7 +85,10 @@ module _ (x : Option (Outgoing Term ℕ)) (xs : List (Outgoing Term ℕ)) where
     by (inr k) (inr l) = given_by t a b k l
 
   -- a step that gives nothing leaves the core as it was
-  pub core_stays : (roots : ℕ) (s : Core Term ℕ) → ((t : Term) (a : ℕ) → GivesIn x t a → ⊥) → CoreOk roots (GivenTo xs) s → CoreOk roots (GivenTo (with_one x xs)) s
+  pub core_stays : (roots : ℕ) (s : Core Term ℕ)
+      → ((t : Term) (a : ℕ) → GivesIn x t a → ⊥)
+      → CoreOk roots (GivenTo xs) s
+      → CoreOk roots (GivenTo (with_one x xs)) s
   core_stays roots s none h = record {
     partial = h.partial;
     context = h.context;
@@ -119,7 +122,9 @@ module _ (sites : List Site) (w : World Term ℕ (Outgoing Term ℕ)) (x : Optio
   pub stations_grow : (ss : List (Station Term ℕ)) → AllOf (StationOk Old sites) ss → AllOf (StationOk New sites) ss
   stations_grow ss h = all_map (StationOk Old sites) (StationOk New sites) (station_ok_grows Old New grows sites) ss h
 
-  pub flying_grow : AllOf (FlyOk Old sites w.tried) w.sent → OfSome (FlyOk New sites (with_one one w.tried)) x → AllOf (FlyOk New sites (with_one one w.tried)) (with_one x w.sent)
+  pub flying_grow : AllOf (FlyOk Old sites w.tried) w.sent
+      → OfSome (FlyOk New sites (with_one one w.tried)) x
+      → AllOf (FlyOk New sites (with_one one w.tried)) (with_one x w.sent)
   flying_grow h k =
       all_one (FlyOk New sites (with_one one w.tried)) x w.sent
       (all_map (FlyOk Old sites w.tried) (FlyOk New sites (with_one one w.tried)) (fly_grows Old New grows sites w.tried one) w.sent h) k
@@ -132,7 +137,10 @@ module _ (sites : List Site) (w : World Term ℕ (Outgoing Term ℕ)) (x : Optio
   pub tried_grow : AllOf (TriedOk Old) w.tried → OfSome (TriedOk New) one → AllOf (TriedOk New) (with_one one w.tried)
   tried_grow h k = all_one (TriedOk New) one w.tried (all_map (TriedOk Old) (TriedOk New) (tried_ok_grows Old New grows sites) w.tried h) k
 
-  pub made_grow : (made : Option (Made Term ℕ)) → AllOf (MadeOk Old sites w.tried) w.made → OfSome (MadeOk New sites (with_one one w.tried)) made → AllOf (MadeOk New sites (with_one one w.tried)) (with_one made w.made)
+  pub made_grow : (made : Option (Made Term ℕ))
+      → AllOf (MadeOk Old sites w.tried) w.made
+      → OfSome (MadeOk New sites (with_one one w.tried)) made
+      → AllOf (MadeOk New sites (with_one one w.tried)) (with_one made w.made)
   made_grow made h k =
       all_one (MadeOk New sites (with_one one w.tried)) made w.made
       (all_map (MadeOk Old sites w.tried) (MadeOk New sites (with_one one w.tried)) (made_ok_grows Old New grows sites w.tried one) w.made h) k
@@ -176,7 +184,8 @@ module _ (G : Gifts) (sites : List Site) (tried : List (Tried Term ℕ)) (same :
   own : (cell : Place) → OwnPlace s.cells s.id cell → OwnPlace sites s.id cell
   own cell = subst (λ l. OwnPlace l s.id cell) h.cells
 
-  row_needs : (fields : Fields) (key : NumberedKey Term ℕ) → May G sites s.id key.key × OwnCell sites s.id key.key → FieldsOk tried fields (Some key) → (on : Interface) (row : RecordRow) → RecordHas r s on fields row →
+  row_needs : (fields : Fields) (key : NumberedKey Term ℕ) → May G sites s.id key.key × OwnCell sites s.id key.key →
+      FieldsOk tried fields (Some key) → (on : Interface) (row : RecordRow) → RecordHas r s on fields row →
       RecordNeeds G sites tried s.id row key
   row_needs fields key m f on (RecordRefused answer) c = tt
   row_needs fields key m f on (ContextGiven conn cell caps algs air) c = (m.0, subst (λ g. FieldsOk tried g (Some key)) c.fields_is f, own cell c.own)

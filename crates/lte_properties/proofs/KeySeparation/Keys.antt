@@ -75,7 +75,9 @@ pub given_new : (o : Option (Outgoing Term ℕ)) (xs : List (Outgoing Term ℕ))
 given_new None xs t id h = absurd h
 given_new (Some x) xs t id h = any_new (Gives t id) x xs h
 
-pub given_split : (o : Option (Outgoing Term ℕ)) (xs : List (Outgoing Term ℕ)) (t : Term) (id : ℕ) → GivenTo (with_one o xs) t id → GivenTo xs t id ⊎ GivesIn o t id
+pub given_split : (o : Option (Outgoing Term ℕ)) (xs : List (Outgoing Term ℕ)) (t : Term) (id : ℕ)
+    → GivenTo (with_one o xs) t id
+    → GivenTo xs t id ⊎ GivesIn o t id
 given_split None xs t id h = inl h
 given_split (Some x) xs t id h = last (any_split (Gives t id) xs (x ∷ []) h) where
   last : GivenTo xs t id ⊎ AnyOf (Gives t id) (x ∷ []) → GivenTo xs t id ⊎ Gives t id x
@@ -151,7 +153,10 @@ module _ (G : Gifts) (sites : List Site) (id : ℕ) where
   may_star (Alg t type i) pci earfcn h = h
 
   -- may go to the station of the cell
-  pub may_go : (t : Term) (cell : Place) (target : ℕ) → station_of cell sites ≡ Some target → May G sites id t → May G sites target (Star t cell.pci cell.earfcn)
+  pub may_go : (t : Term) (cell : Place) (target : ℕ)
+      → station_of cell sites ≡ Some target
+      → May G sites id t
+      → May G sites target (Star t cell.pci cell.earfcn)
   may_go (Root r octets) cell target e h = h
   may_go (Kenb r n) cell target e h = (h.0, inr e)
   may_go (Nh r t) cell target e h = (h.0, h.1, inr e)
@@ -325,7 +330,12 @@ module _ (G H : Gifts) (le : (t : Term) (a : ℕ) → G t a → H t a) (sites : 
   holder_may_grows (AtStation id) t h = may_hold_grows G sites id H le t h
 
   pub station_ok_grows : (s : Station Term ℕ) → StationOk G sites s → StationOk H sites s
-  station_ok_grows s h = record { cells = h.cells; keys = station_has_map (May G sites s.id) (May H sites s.id) (may_grows G sites s.id H le) (OwnPlace sites s.id) s h.keys }
+  station_ok_grows s h = record {
+    cells = h.cells;
+    keys =
+        station_has_map (May G sites s.id) (May H sites s.id) (may_grows G sites s.id H le)
+        (OwnPlace sites s.id) s h.keys;
+  }
 
   pub base_grows : (id : ℕ) (t : Term) → BaseGiven G id t → BaseGiven H id t
   base_grows id (Root r octets) h = h
@@ -361,15 +371,18 @@ module _ (G H : Gifts) (le : (t : Term) (a : ℕ) → G t a → H t a) (sites : 
     fields_grow (ContextRelease conn) key h = h
     fields_grow (PathSwitchRequest conn station number cell caps) key h = h
     fields_grow (PathSwitchAnswer conn number) key h = h
-    fields_grow (HandoverRequired conn station attempt cell) key h = any_old (λ e. (e.station ≡ station) × (e.attempt ≡ attempt) × (e.kind ≡ ByTarget)) one tried h
-    fields_grow (HandoverRequest conn source attempt cell caps) key h = any_old (λ e. (e.station ≡ source) × (e.attempt ≡ attempt) × (e.kind ≡ ByTarget)) one tried h
+    fields_grow (HandoverRequired conn station attempt cell) key h =
+        any_old (λ e. (e.station ≡ station) × (e.attempt ≡ attempt) × (e.kind ≡ ByTarget)) one tried h
+    fields_grow (HandoverRequest conn source attempt cell caps) key h =
+        any_old (λ e. (e.station ≡ source) × (e.attempt ≡ attempt) × (e.kind ≡ ByTarget)) one tried h
     fields_grow (HandoverRequestAck conn source attempt cell ncc algs air) key h = h
     fields_grow (HandoverCommand conn attempt cell ncc algs air) key h = h
     fields_grow (HandoverNotify conn station cell) key h = h
     fields_grow (HandoverCancel conn source attempt cell) key h = h
     fields_grow (ContextModification conn next) key h = h
     fields_grow (X2Request conn source attempt cell caps) None h = h
-    fields_grow (X2Request conn source attempt cell caps) (Some key) h = any_old (λ e. (e.station ≡ source) × (e.attempt ≡ attempt) × (e.kind ≡ BySource key)) one tried h
+    fields_grow (X2Request conn source attempt cell caps) (Some key) h =
+        any_old (λ e. (e.station ≡ source) × (e.attempt ≡ attempt) × (e.kind ≡ BySource key)) one tried h
     fields_grow (X2Ack conn attempt cell algs air) key h = h
     fields_grow (X2Cancel conn source attempt) key h = h
     fields_grow (X2Release conn attempt) key h = h
@@ -386,7 +399,8 @@ module _ (G H : Gifts) (le : (t : Term) (a : ℕ) → G t a → H t a) (sites : 
     made_from_grows m (ByChange before) h = base_grows m.station m.key h
     made_from_grows m (ByAttempt o) h =
         let Q = λ (e : Tried Term ℕ). (e.station ≡ o.source) × (e.attempt ≡ o.attempt) × MadeBy H m e.kind in
-        any_old Q one tried (any_map (λ e. (e.station ≡ o.source) × (e.attempt ≡ o.attempt) × MadeBy G m e.kind) Q (λ e k. (k.0, k.1, made_by_grows m e.kind k.2)) tried h)
+        any_old Q one tried (any_map (λ e. (e.station ≡ o.source) × (e.attempt ≡ o.attempt) × MadeBy G m e.kind) Q
+        (λ e k. (k.0, k.1, made_by_grows m e.kind k.2)) tried h)
 
     pub made_ok_grows : (m : Made Term ℕ) → MadeOk G sites tried m → MadeOk H sites (with_one one tried) m
     made_ok_grows m h = (made_from_grows m m.from h.0, h.1)

@@ -18,17 +18,22 @@ use Rattle.lte_properties.proofs.KeySeparation.All.{HeldAll}
 use Rattle.lte_properties.proofs.KeySeparation.Holders.{Holders}
 
 -- a key of a chain that a station may hold was given to it
-chain_given : (G : Gifts) (sites : List Site) (id : ℕ) (r : ℕ) (octets : List ℕ) (n i : ℕ) → MayHold G sites id (nh (Root r octets) n i) → G (nh (Root r octets) n i) id
+chain_given : (G : Gifts) (sites : List Site) (id : ℕ) (r : ℕ) (octets : List ℕ) (n i : ℕ)
+    → MayHold G sites id (nh (Root r octets) n i)
+    → G (nh (Root r octets) n i) id
 chain_given G sites id r octets n zero h = h.1
 chain_given G sites id r octets n (suc i) h = h.2
 
 -- and of a KeNB* of one either that key was, or the cell is its own
-star_given : (G : Gifts) (sites : List Site) (id : ℕ) (r : ℕ) (octets : List ℕ) (n i : ℕ) (cell : Place) → MayHold G sites id (Star (nh (Root r octets) n i) cell.pci cell.earfcn) →
+star_given : (G : Gifts) (sites : List Site) (id : ℕ) (r : ℕ) (octets : List ℕ) (n i : ℕ) (cell : Place) →
+    MayHold G sites id (Star (nh (Root r octets) n i) cell.pci cell.earfcn) →
     G (nh (Root r octets) n i) id ⊎ (station_of cell sites ≡ Some id)
 star_given G sites id r octets n zero cell h = h.1
 star_given G sites id r octets n (suc i) cell h = h.2
 
-base_given_is : (G : Gifts) (id : ℕ) (r : ℕ) (octets : List ℕ) (n i pci earfcn : ℕ) → BaseGiven G id (Star (nh (Root r octets) n i) pci earfcn) → G (nh (Root r octets) n i) id
+base_given_is : (G : Gifts) (id : ℕ) (r : ℕ) (octets : List ℕ) (n i pci earfcn : ℕ)
+    → BaseGiven G id (Star (nh (Root r octets) n i) pci earfcn)
+    → G (nh (Root r octets) n i) id
 base_given_is G id r octets n zero pci earfcn h = h
 base_given_is G id r octets n (suc i) pci earfcn h = h
 
@@ -75,7 +80,9 @@ module _ (sites : List Site) (w : World Term ℕ (Outgoing Term ℕ)) (h : Holde
     no_root = no_root (λ id. ⊤);
     once = h.once;
     separated = λ test r octets n i cell f d. neither_derives (Those test) r octets n i cell f d;
-    others = λ r octets n i cell d. neither_derives (AllBut sites w.sent (nh (Root r octets) n i) cell) r octets n i cell ((λ id g a. a.0 g), (λ id e a. a.1 e)) d;
+    others = λ r octets n i cell d.
+        neither_derives (AllBut sites w.sent (nh (Root r octets) n i) cell) r octets n i cell
+        ((λ id g a. a.0 g), (λ id e a. a.1 e)) d;
     well_formed = all_well_formed;
     holding = λ test t k. derivable_is (HeldBy (Those test) w.held) (no_root (Those test)) t (all_well_formed t k);
     all_held = a.all;
@@ -86,7 +93,8 @@ module _ (sites : List Site) (w : World Term ℕ (Outgoing Term ℕ)) (h : Holde
 
   -- KeNB* that the source made, or one that the target made
   given_at : (m : Made Term ℕ) (e : Tried Term ℕ) (source : ℕ) → e.station ≡ source → (kind : Handover Term ℕ) → e.kind ≡ kind → TriedOk G e → MadeBy G m kind →
-      (r : ℕ) (octets : List ℕ) (n i pci earfcn : ℕ) → m.key ≡ Star (nh (Root r octets) n i) pci earfcn → GivenAt w.sent (nh (Root r octets) n i) source m.station kind
+      (r : ℕ) (octets : List ℕ) (n i pci earfcn : ℕ) → m.key ≡ Star (nh (Root r octets) n i) pci earfcn →
+      GivenAt w.sent (nh (Root r octets) n i) source m.station kind
   given_at m e source s ByTarget g k b r octets n i pci earfcn is =
       base_given_is G m.station r octets n i pci earfcn (subst (BaseGiven G m.station) is b)
   given_at m e source s (BySource star) g k b r octets n i pci earfcn is =

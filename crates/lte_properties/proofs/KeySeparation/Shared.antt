@@ -25,7 +25,8 @@ at_station a b c d e = grind (arith, nat_tests)
 module _ (sites : List Site) (w : World Term ℕ (Outgoing Term ℕ)) (h : Holders sites w) where
   -- a station that has neither the key of the chain nor the cell is outside
   outside_cannot : (r : ℕ) (octets : List ℕ) (n i : ℕ) (cell : Place) (key : Term) (source target : ℕ) (kind : Handover Term ℕ) →
-      key ≡ Star (nh (Root r octets) n i) cell.pci cell.earfcn → station_of cell sites ≡ Some target → GivenAt w.sent (nh (Root r octets) n i) source target kind →
+      key ≡ Star (nh (Root r octets) n i) cell.pci cell.earfcn → station_of cell sites ≡ Some target →
+      GivenAt w.sent (nh (Root r octets) n i) source target kind →
       OutsideCannot w key source target kind
   outside_cannot r octets n i cell key source target (BySource star) e c g = λ test o d.
       neither_derives sites w h (Those test) r octets n i cell
@@ -37,13 +38,18 @@ module _ (sites : List Site) (w : World Term ℕ (Outgoing Term ℕ)) (h : Holde
       (subst (λ t. Derivable (HeldBy (Those test) w.held) t) e d)
 
   -- where the station made what the phone took at a handover command
-  shared_by : (source : ℕ) (x : Took Term ℕ) (m : Made Term ℕ) (o : Origin) → o.source ≡ source → MadeFrom (GivenTo w.sent) w.tried m (ByAttempt o) → m.station ≡ x.station →
-      (r : ℕ) (octets : List ℕ) (n i : ℕ) (cell : Place) → m.key ≡ Star (nh (Root r octets) n i) cell.pci cell.earfcn → x.key ≡ Star (nh (Root r octets) n i) cell.pci cell.earfcn →
+  shared_by : (source : ℕ) (x : Took Term ℕ) (m : Made Term ℕ) (o : Origin) → o.source ≡ source →
+      MadeFrom (GivenTo w.sent) w.tried m (ByAttempt o) → m.station ≡ x.station →
+      (r : ℕ) (octets : List ℕ) (n i : ℕ) (cell : Place) → m.key ≡ Star (nh (Root r octets) n i) cell.pci cell.earfcn →
+      x.key ≡ Star (nh (Root r octets) n i) cell.pci cell.earfcn →
       station_of cell sites ≡ Some x.station → SharedBy w (nh (Root r octets) n i) x.key source x.station (ByAttempt o)
   shared_by source x m o from k s r octets n i cell e is c = (
     from,
     any_map (λ t. (t.station ≡ o.source) × (t.attempt ≡ o.attempt) × GivenAt w.sent (nh (Root r octets) n i) o.source m.station t.kind)
-        (λ t. (t.station ≡ o.source) × (t.attempt ≡ o.attempt) × GivenAt w.sent (nh (Root r octets) n i) o.source x.station t.kind × OutsideCannot w x.key o.source x.station t.kind)
+        (λ t. (t.station ≡ o.source)
+        × (t.attempt ≡ o.attempt)
+        × GivenAt w.sent (nh (Root r octets) n i) o.source x.station t.kind
+        × OutsideCannot w x.key o.source x.station t.kind)
         (λ t q. let g = subst (λ a. GivenAt w.sent (nh (Root r octets) n i) o.source a t.kind) s q.2 in
         (q.0, q.1, g, outside_cannot r octets n i cell x.key o.source x.station t.kind is c g)) w.tried
         (as_given sites w h m (ByAttempt o) k r octets n i cell.pci cell.earfcn e),
@@ -51,24 +57,31 @@ module _ (sites : List Site) (w : World Term ℕ (Outgoing Term ℕ)) (h : Holde
 
   -- and at a key change
   renewed_by : (x : Took Term ℕ) (m : Made Term ℕ) (before : Term) → MadeFrom (GivenTo w.sent) w.tried m (ByChange before) → m.station ≡ x.station →
-      (r : ℕ) (octets : List ℕ) (n i : ℕ) (cell : Place) → m.key ≡ Star (nh (Root r octets) n i) cell.pci cell.earfcn → x.key ≡ Star (nh (Root r octets) n i) cell.pci cell.earfcn →
+      (r : ℕ) (octets : List ℕ) (n i : ℕ) (cell : Place) → m.key ≡ Star (nh (Root r octets) n i) cell.pci cell.earfcn →
+      x.key ≡ Star (nh (Root r octets) n i) cell.pci cell.earfcn →
       station_of cell sites ≡ Some x.station → RenewedBy w (nh (Root r octets) n i) x.key x.station
   renewed_by x m before k s r octets n i cell e is c =
       let g = subst (GivenTo w.sent (nh (Root r octets) n i)) s (as_given sites w h m (ByChange before) k r octets n i cell.pci cell.earfcn e) in
       (g, outside_cannot r octets n i cell x.key x.station x.station ByTarget is c g)
 
   -- what the phone took is what was made, of a key of a chain, for a cell of its station
-  module _ (x : Took Term ℕ) (m : Made Term ℕ) (own : MadeOk (GivenTo w.sent) sites w.tried m) (s : m.station ≡ x.station) (r : ℕ) (octets : List ℕ) (n i : ℕ) (cell : Place) (is : x.key ≡ Star (nh (Root r octets) n i) cell.pci cell.earfcn) where
+  module _ (x : Took Term ℕ) (m : Made Term ℕ) (own : MadeOk (GivenTo w.sent) sites w.tried m)
+      (s : m.station ≡ x.station) (r : ℕ) (octets : List ℕ) (n i : ℕ) (cell : Place)
+      (is : x.key ≡ Star (nh (Root r octets) n i) cell.pci cell.earfcn) where
     here : m.key ≡ Star (nh (Root r octets) n i) cell.pci cell.earfcn → station_of cell sites ≡ Some x.station
     here key = subst (λ a. station_of cell sites ≡ Some a) s (subst (OwnCell sites m.station) key own.1)
 
-    shared_between : (came : Came Term ℕ) → ObeysMade x came m → ahead m came < 8 → (station_of cell sites ≡ Some x.station) × SharedBetween w (nh (Root r octets) n i) x m came
+    shared_between : (came : Came Term ℕ)
+        → ObeysMade x came m
+        → ahead m came < 8
+        → (station_of cell sites ≡ Some x.station) × SharedBetween w (nh (Root r octets) n i) x m came
     shared_between Secured k lt = (here (sym k.0.0 ∙ is), tt)
     shared_between (Commanded before) k lt =
         let key = sym (k.near lt).0 ∙ is in (
           here key,
           subst (SharedBy w (nh (Root r octets) n i) x.key before.station x.station) (sym k.tried.1)
-              (shared_by before.station x m k.tried.0 k.tried.2 (subst (MadeFrom (GivenTo w.sent) w.tried m) k.tried.1 own.0) s r octets n i cell key is (here key)),
+              (shared_by before.station x m k.tried.0 k.tried.2
+              (subst (MadeFrom (GivenTo w.sent) w.tried m) k.tried.1 own.0) s r octets n i cell key is (here key)),
         )
     shared_between (Changed before root) k lt =
         let key = sym (k.near lt).0 ∙ is in

@@ -31,7 +31,10 @@ base_has P None kenb number h k = h
 base_has P (Some pair) kenb number h k = k
 
 -- the pair that came back, or a newer one
-pair_after_has : (P : Term → Type 0) (o : Option (NumberedKey Term ℕ)) (back : NumberedKey Term ℕ) → OfPairKey P o → P back.key → OfPairKey P (pair_after o back)
+pair_after_has : (P : Term → Type 0) (o : Option (NumberedKey Term ℕ)) (back : NumberedKey Term ℕ)
+    → OfPairKey P o
+    → P back.key
+    → OfPairKey P (pair_after o back)
 pair_after_has P None back h k = k
 pair_after_has P (Some newer) back h k = h
 
@@ -43,7 +46,8 @@ restored_has P key (Some back) n h k = (n, pair_after_has P key.pair back h k)
 given_up_has : (P : Term → Type 0) (C : Place → Type 0) (c : Context Term ℕ) → ContextHas P C c → ContextHas P C (given_up c)
 given_up_has P C c h = let k = restored_has P c.key (spent_in c.attempt) h.0 h.1 h.2 in (k.0, k.1, tt, h.3)
 
-context_map_has : (P : Term → Type 0) (C : Place → Type 0) (f : Context Term ℕ → Context Term ℕ) → ((c : Context Term ℕ) → ContextHas P C c → ContextHas P C (f c)) →
+context_map_has : (P : Term → Type 0) (C : Place → Type 0) (f : Context Term ℕ → Context Term ℕ) →
+    ((c : Context Term ℕ) → ContextHas P C c → ContextHas P C (f c)) →
     (o : Option (Context Term ℕ)) → OfSome (ContextHas P C) o → OfSome (ContextHas P C) (option_map f o)
 context_map_has P C f each None h = tt
 context_map_has P C f each (Some c) h = each c h
@@ -51,7 +55,9 @@ context_map_has P C f each (Some c) h = each c h
 -- WHAT A STEP KEEPS
 
 -- new station, what it sent, what it derived, the attempt that it opened, and what it made
-pub record StationKept (G : Gifts) (sites : List Site) (tried : List (Tried Term ℕ)) (id : ℕ) (t : Station Term ℕ) (sent : Option (Outgoing Term ℕ)) (derived : List (Derivation Term)) (one : Option (Tried Term ℕ)) (made : Option (Made Term ℕ)) : Type 0 where
+pub record StationKept (G : Gifts) (sites : List Site) (tried : List (Tried Term ℕ)) (id : ℕ) (t : Station Term ℕ)
+    (sent : Option (Outgoing Term ℕ)) (derived : List (Derivation Term)) (one : Option (Tried Term ℕ))
+    (made : Option (Made Term ℕ)) : Type 0 where
   pub same : t.id ≡ id
   pub cells : t.cells ≡ sites
   pub keys : StationHas (May G sites id) (OwnPlace sites id) t
@@ -115,7 +121,9 @@ module _ (G : Gifts) (sites : List Site) (tried : List (Tried Term ℕ)) (same :
   -- the context, if there is one, changes so
   mapped : (f : Context Term ℕ → Context Term ℕ) → ((c : Context Term ℕ) → ContextHas P C c → ContextHas P C (f c)) → StationHas P C s →
       StationKept G sites tried s.id (record s { context = option_map f s.context }) None [] None None
-  mapped f each h = quiet (record s { context = option_map f s.context }) refl refl (record { context = context_map_has P C f each s.context h.context; preps = h.preps })
+  mapped f each h =
+      quiet (record s { context = option_map f s.context }) refl refl
+      (record { context = context_map_has P C f each s.context h.context; preps = h.preps })
 
   -- BY A RECORD
 
@@ -146,7 +154,9 @@ module _ (G : Gifts) (sites : List Site) (tried : List (Tried Term ℕ)) (same :
         cells = cells;
         keys = record {
           context = h.context;
-          preps = all_append (PrepHas P C) (drop_below w.conn s.preps) _ (all_filter (PrepHas P C) (λ p. nat_le w.conn p.conn) s.preps h.preps) ((k, tt, n.2), tt);
+          preps =
+              all_append (PrepHas P C) (drop_below w.conn s.preps) _
+              (all_filter (PrepHas P C) (λ p. nat_le w.conn p.conn) s.preps h.preps) ((k, tt, n.2), tt);
         };
         outs = (k, (k, (k, (k, tt))));
         sends = (tt, tt);
@@ -154,7 +164,13 @@ module _ (G : Gifts) (sites : List Site) (tried : List (Tried Term ℕ)) (same :
         tries = tt;
         makes = (
           any_map (λ e. (e.station ≡ w.from.source) × (e.attempt ≡ w.from.attempt) × (e.kind ≡ ByTarget)) _
-              (λ e q. (q.0, q.1, subst (AdmittedBy w (record { key = Star key.key w.cell.pci w.cell.earfcn; number = key.number })) (sym q.2) (base_given G sites s.id key.key w.cell.pci w.cell.earfcn n.0))) tried n.1,
+              (λ e q. (
+                q.0,
+                q.1,
+                subst (AdmittedBy w (record { key = Star key.key w.cell.pci w.cell.earfcn; number = key.number }))
+                    (sym q.2) (base_given G sites s.id key.key w.cell.pci w.cell.earfcn n.0),
+              ))
+              tried n.1,
           n.2,
         );
       }
@@ -166,7 +182,9 @@ module _ (G : Gifts) (sites : List Site) (tried : List (Tried Term ℕ)) (same :
     cells = cells;
     keys = record {
       context = h.context;
-      preps = all_append (PrepHas P C) (drop_below w.conn s.preps) _ (all_filter (PrepHas P C) (λ p. nat_le w.conn p.conn) s.preps h.preps) ((n.0, tt, n.3), tt);
+      preps =
+          all_append (PrepHas P C) (drop_below w.conn s.preps) _
+          (all_filter (PrepHas P C) (λ p. nat_le w.conn p.conn) s.preps h.preps) ((n.0, tt, n.3), tt);
     };
     outs = (n.0, (n.0, (n.0, tt)));
     sends = (tt, tt);
@@ -215,12 +233,29 @@ module _ (G : Gifts) (sites : List Site) (tried : List (Tried Term ℕ)) (same :
           makes = (k.1, kenb_own kenb.key k.1);
         };
         released = λ key k. quiet (record s { context = None; preps = [] }) refl refl (record { context = tt; preps = tt });
-        taken = λ conn origin pair k. calm (record s { context = option_map (with_pair pair) s.context }) (source_release conn origin) refl refl (released_flies conn origin) (released_gives conn origin) (record { context = context_map_has P C (with_pair pair) (λ c m. (m.0, k, m.2, m.3)) s.context h.context; preps = h.preps });
+        taken = λ conn origin pair k.
+            calm (record s { context = option_map (with_pair pair) s.context }) (source_release conn origin) refl refl
+            (released_flies conn origin) (released_gives conn origin)
+            (record {
+              context = context_map_has P C (with_pair pair) (λ c m. (m.0, k, m.2, m.3)) s.context h.context;
+              preps = h.preps;
+            });
         by_s1 = λ w pair k. prepared_s1_kept w pair k h;
         by_x2 = λ w star k. prepared_x2_kept w star k h;
-        acked_s1 = λ ncc algs air key k. mapped (with_s1_ack ncc algs air) (λ c k. (k.0, k.1, s1_acked_so (λ o. OfPairKey P (spent_in o)) ncc algs air (λ start m. m) c.attempt k.2, k.3)) h;
-        acked_x2 = λ algs air key k. mapped (with_x2_ack algs air) (λ c k. (k.0, k.1, x2_acked_so (λ o. OfPairKey P (spent_in o)) algs air (λ start m. m) c.attempt k.2, k.3)) h;
-        cancelled = λ from key k. quiet (record s { preps = without from.source from.attempt s.preps }) refl refl (record { context = h.context; preps = all_filter (PrepHas P C) (λ p. not (is_of from.source from.attempt p)) s.preps h.preps });
+        acked_s1 = λ ncc algs air key k.
+            mapped (with_s1_ack ncc algs air)
+            (λ c k.
+            (k.0, k.1, s1_acked_so (λ o. OfPairKey P (spent_in o)) ncc algs air (λ start m. m) c.attempt k.2, k.3))
+            h;
+        acked_x2 = λ algs air key k.
+            mapped (with_x2_ack algs air)
+            (λ c k. (k.0, k.1, x2_acked_so (λ o. OfPairKey P (spent_in o)) algs air (λ start m. m) c.attempt k.2, k.3))
+            h;
+        cancelled = λ from key k.
+            quiet (record s { preps = without from.source from.attempt s.preps }) refl refl (record {
+              context = h.context;
+              preps = all_filter (PrepHas P C) (λ p. not (is_of from.source from.attempt p)) s.preps h.preps;
+            });
         left = λ key k. quiet (record s { context = None }) refl refl (record { context = tt; preps = h.preps });
         renewed = λ conn number air count c e kenb k. renewed_kept conn number air count c kenb k (here h c e);
       }
@@ -240,7 +275,9 @@ module _ (G : Gifts) (sites : List Site) (tried : List (Tried Term ℕ)) (same :
         packet = λ drb count text k. mapped (with_packet_taken drb count) (λ c k. k) h;
         by_s1 = λ at count k p e. let n = found h at p e in calm _ _ refl refl (tt, tt) (λ u a g. g) (record { context = (n.0, n.1, tt, n.2); preps = tt });
         within = λ at count origin k p e. let n = found h at p e in quiet _ refl refl (record { context = (n.0, n.1, tt, n.2); preps = tt });
-        by_x2 = λ at count number k p e. let n = found h at p e in calm _ _ refl refl (tt, tt) (λ u a g. g) (record { context = (n.0, n.1, tt, n.2); preps = tt });
+        by_x2 = λ at count number k p e.
+            let n = found h at p e in
+            calm _ _ refl refl (tt, tt) (λ u a g. g) (record { context = (n.0, n.1, tt, n.2); preps = tt });
       }
 
   pub air_kept : (row : AirRow) → StationHas P C s → After (air_does (term_reading_by same) row s)
@@ -248,7 +285,8 @@ module _ (G : Gifts) (sites : List Site) (tried : List (Tried Term ℕ)) (same :
 
   -- BY AN ACT
 
-  started_x2_kept : (number target : ℕ) (cell : Place) (context : Context Term ℕ) → station_of cell sites ≡ Some target → ContextHas P C context → StationHas P C s →
+  started_x2_kept : (number target : ℕ) (cell : Place) (context : Context Term ℕ) →
+      station_of cell sites ≡ Some target → ContextHas P C context → StationHas P C s →
       After (started_by_x2 (term_reading_by same) number target cell (Some context) s)
   started_x2_kept number target cell context e c h =
       let base = base_of context.key.pair context.key.kenb context.key.number in
@@ -259,20 +297,34 @@ module _ (G : Gifts) (sites : List Site) (tried : List (Tried Term ℕ)) (same :
         outs = (may_star G sites s.id base.key cell.pci cell.earfcn b, tt);
         sends = (
           (may_go G sites s.id base.key cell target e b, e),
-          any_new (λ t. (t.station ≡ s.id) × (t.attempt ≡ number) × (t.kind ≡ BySource (opened (term_reading_by same) context.key cell).star)) _ tried (refl, refl, refl),
+          any_new (λ t. (t.station ≡ s.id)
+              × (t.attempt ≡ number)
+              × (t.kind ≡ BySource (opened (term_reading_by same) context.key cell).star))
+              _ tried (refl, refl, refl),
         );
         gives = λ u a g. g;
         tries = base_given G sites s.id base.key cell.pci cell.earfcn b;
         makes = tt;
       }
 
-  started_within_kept : (number air : ℕ) (cell : Place) (context : Context Term ℕ) → station_of cell sites ≡ Some s.id → ContextHas P C context → StationHas P C s →
+  started_within_kept : (number air : ℕ) (cell : Place) (context : Context Term ℕ) → station_of cell sites ≡ Some s.id →
+      ContextHas P C context → StationHas P C s →
       After (started_within (term_reading_by same) number air cell (Some context) s)
   started_within_kept number air cell context e c h =
       let base = base_of context.key.pair context.key.kenb context.key.number in
       let b = base_has P context.key.pair context.key.kenb context.key.number c.0 c.1 in
       let k = may_star G sites s.id base.key cell.pci cell.earfcn b in
-      let made : Made Term ℕ = record { station = s.id; air = air; conn = context.conn; cell = cell; key = Star base.key cell.pci cell.earfcn; number = base.number; algs = context.algs; from = ByAttempt (record { source = s.id; attempt = number }) } in record {
+      let made : Made Term ℕ = record {
+        station = s.id;
+        air = air;
+        conn = context.conn;
+        cell = cell;
+        key = Star base.key cell.pci cell.earfcn;
+        number = base.number;
+        algs = context.algs;
+        from = ByAttempt (record { source = s.id; attempt = number });
+      } in
+      record {
         same = refl;
         cells = cells;
         keys = record { context = (c.0, tt, c.1, c.3); preps = all_append (PrepHas P C) s.preps _ h.preps ((k, tt, e), tt) };
@@ -303,11 +355,26 @@ module _ (G : Gifts) (sites : List Site) (tried : List (Tried Term ℕ)) (same :
           makes = tt;
         };
         within = λ number air cell k c e. started_within_kept number air cell c (goes cell s.id k.starts.site) (here h c e) h;
-        commanded = λ order count k c e. let m = here h c e in calm _ _ refl refl tt (λ u a g. g) (record { context = (m.0, m.1, commanded_so (λ o. OfPairKey P (spent_in o)) order (λ a m. tt) (λ a m. m) (λ a m. tt) c.attempt m.2, m.3); preps = h.preps });
+        commanded = λ order count k c e.
+            let m = here h c e in
+            calm _ _ refl refl tt (λ u a g. g) (record {
+              context = (
+                m.0,
+                m.1,
+                commanded_so (λ o. OfPairKey P (spent_in o)) order (λ a m. tt) (λ a m. m) (λ a m. tt) c.attempt m.2,
+                m.3,
+              );
+              preps = h.preps;
+            });
         changed = λ renewal count k c e. calm _ _ refl refl tt (λ u a g. g) (record { context = here h c e; preps = h.preps });
-        cancelled_x2 = λ conn number target k. calm _ _ refl refl (tt, tt) (λ u a g. g) (record { context = context_map_has P C given_up (given_up_has P C) s.context h.context; preps = h.preps });
-        cancelled_s1 = λ conn number cell k. calm _ _ refl refl (tt, tt) (λ u a g. g) (record { context = context_map_has P C given_up (given_up_has P C) s.context h.context; preps = h.preps });
-        cancelled_within = λ number k. quiet _ refl refl (record { context = context_map_has P C given_up (given_up_has P C) s.context h.context; preps = all_filter (PrepHas P C) (λ p. not (is_of s.id number p)) s.preps h.preps });
+        cancelled_x2 = λ conn number target k. calm _ _ refl refl (tt, tt) (λ u a g. g)
+            (record { context = context_map_has P C given_up (given_up_has P C) s.context h.context; preps = h.preps });
+        cancelled_s1 = λ conn number cell k. calm _ _ refl refl (tt, tt) (λ u a g. g)
+            (record { context = context_map_has P C given_up (given_up_has P C) s.context h.context; preps = h.preps });
+        cancelled_within = λ number k. quiet _ refl refl (record {
+          context = context_map_has P C given_up (given_up_has P C) s.context h.context;
+          preps = all_filter (PrepHas P C) (λ p. not (is_of s.id number p)) s.preps h.preps;
+        });
         asked = λ number k c e. calm _ _ refl refl (tt, tt) (λ u a g. g) (record { context = here h c e; preps = h.preps });
         packet = λ drb count text k c e. calm _ _ refl refl tt (λ u a g. g) (record { context = here h c e; preps = h.preps });
         text = λ srb count text k c e. calm _ _ refl refl tt (λ u a g. g) (record { context = here h c e; preps = h.preps });

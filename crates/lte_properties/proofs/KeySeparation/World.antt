@@ -35,6 +35,7 @@ use Rattle.lte_properties.proofs.ChainNumbers.Lists.{OfSome, all_append, all_put
 use Rattle.lte_properties.proofs.KeySeparation.Keys.{Gifts, May, MayHold, StationHas, StationOk, TriedOk, KeyGoes, FlyOk, MadeOk, HoldOk, step_held, holder_may_grows, station_ok_grows, tried_ok_grows, fly_grows, made_ok_grows, OwnPlace, GivesIn}
 use Rattle.lte_machine.proofs.Routing.{address_on, IsTurn, no_root, Found, Turns, happens_by}
 use Rattle.lte_machine.proofs.PhoneGives.{NotBetween, phone_gives}
+use Rattle.lte_machine.proofs.Worlds.{TheWorld}
 use Rattle.lte_properties.proofs.KeySeparation.Phone.{PhoneKept, keyless_flies, phone_kept}
 use Rattle.lte_properties.proofs.KeySeparation.Core as core
 use Rattle.lte_properties.proofs.KeySeparation.CoreKeeps.{CoreOk, CoreKept}
@@ -48,10 +49,9 @@ pub record Goes (sites : List Site) (w u : World Term ℕ (Outgoing Term ℕ)) :
   pub is : u.sent ≡ with_one sent w.sent
   pub fresh : (t : Term) (a b : ℕ) → GivenTo w.sent t a → GivesIn sent t b → ⊥
 
-module _ (sites : List Site) (same : Term → Term → Bool) (octets : Outgoing Term ℕ → List ℕ) (sender : Option (Outgoing Term ℕ) → Option (KeyUse Term)) (opener : Opening Term → List ℕ → Option (Outgoing Term ℕ) → Outcome) where
-  abbrev TheWorld : Type 0
-  TheWorld = World Term ℕ (Outgoing Term ℕ)
-
+module _ (sites : List Site) (same : Term → Term → Bool) (octets : Outgoing Term ℕ → List ℕ)
+    (sender : Option (Outgoing Term ℕ) → Option (KeyUse Term))
+    (opener : Opening Term → List ℕ → Option (Outgoing Term ℕ) → Outcome) where
   abbrev m : Machine Term ℕ (Outgoing Term ℕ)
   m = machine_by same Root octets sender opener
 
@@ -64,7 +64,9 @@ module _ (sites : List Site) (same : Term → Term → Bool) (octets : Outgoing 
         let none = keyless_gives d.1.sent keyless in record {
           holders = record {
             phone = k.ok;
-            core = subst (λ n. CoreOk n (GivenTo (with_one d.1.sent w.sent)) w.core) (sym (roots_kept w.history d.1.derived)) (core_stays d.1.sent w.sent (next_root w) w.core none h.core);
+            core =
+                subst (λ n. CoreOk n (GivenTo (with_one d.1.sent w.sent)) w.core)
+                (sym (roots_kept w.history d.1.derived)) (core_stays d.1.sent w.sent (next_root w) w.core none h.core);
             stations = stations_grow sites w d.1.sent None w.stations h.stations;
             flying = flying_grow sites w d.1.sent None h.flying (keyless_flies (GivenTo (with_one d.1.sent w.sent)) sites w.tried d.1.sent keyless);
             held = held_grow sites w d.1.sent None _ h.held
@@ -78,7 +80,10 @@ module _ (sites : List Site) (same : Term → Term → Bool) (octets : Outgoing 
           fresh = λ t a b g l. none t b l;
         }
 
-    core_after_goes : (d : Core Term ℕ × Reply Term ℕ) → OfSome IsWellFormed d.1.received → CoreKept (next_root w) w.sent sites w.tried d → Goes sites w (core_after m w d).0
+    core_after_goes : (d : Core Term ℕ × Reply Term ℕ)
+        → OfSome IsWellFormed d.1.received
+        → CoreKept (next_root w) w.sent sites w.tried d
+        → Goes sites w (core_after m w d).0
     core_after_goes d r k = record {
       holders = record {
         phone = h.phone;
@@ -95,17 +100,29 @@ module _ (sites : List Site) (same : Term → Term → Bool) (octets : Outgoing 
       fresh = λ t a b g l. k.fresh t a b g l;
     }
 
-    station_after_goes : (id : ℕ) (s : Station Term ℕ) (d : Station Term ℕ × Reply Term ℕ) → s.id ≡ id → StationStepped G sites w.tried s.id d → Goes sites w (station_after m w id d).0
+    station_after_goes : (id : ℕ) (s : Station Term ℕ) (d : Station Term ℕ × Reply Term ℕ)
+        → s.id ≡ id
+        → StationStepped G sites w.tried s.id d
+        → Goes sites w (station_after m w id d).0
     station_after_goes id s d e k =
         let after = GivenTo (with_one d.1.sent w.sent) in
         let le = grows sites w d.1.sent None in
-        let new : StationOk G sites d.0 = record { cells = k.0.cells; keys = subst (λ n. StationHas (May G sites n) (OwnPlace sites n) d.0) (sym k.0.same) k.0.keys } in record {
+        let new : StationOk G sites d.0 = record {
+          cells = k.0.cells;
+          keys = subst (λ n. StationHas (May G sites n) (OwnPlace sites n) d.0) (sym k.0.same) k.0.keys;
+        } in
+        record {
           holders = record {
             phone = h.phone;
-            core = subst (λ n. CoreOk n after w.core) (sym (roots_kept w.history d.1.derived)) (core_stays d.1.sent w.sent (next_root w) w.core k.0.gives h.core);
-            stations = all_put (StationOk G sites) (StationOk after sites) id d.0 w.stations (station_ok_grows G after le sites d.0 new) (λ u f g. station_ok_grows G after le sites u g) h.stations;
+            core =
+                subst (λ n. CoreOk n after w.core) (sym (roots_kept w.history d.1.derived))
+                (core_stays d.1.sent w.sent (next_root w) w.core k.0.gives h.core);
+            stations =
+                all_put (StationOk G sites) (StationOk after sites) id d.0 w.stations
+                (station_ok_grows G after le sites d.0 new) (λ u f g. station_ok_grows G after le sites u g) h.stations;
             flying = flying_grow sites w d.1.sent d.1.tried h.flying
-                (some_map (FlyOk G sites (with_one d.1.tried w.tried)) (FlyOk after sites (with_one d.1.tried w.tried)) (fly_grows G after le sites (with_one d.1.tried w.tried) None) d.1.sent k.0.sends);
+                (some_map (FlyOk G sites (with_one d.1.tried w.tried)) (FlyOk after sites (with_one d.1.tried w.tried))
+                (fly_grows G after le sites (with_one d.1.tried w.tried) None) d.1.sent k.0.sends);
             held = held_grow sites w d.1.sent None _ h.held
                 (step_held after sites (AtStation id) d.1.received d.1.derived
                 (some_map (MayHold G sites s.id) (MayHold after sites id) (λ t. here t) d.1.received k.1)
@@ -122,7 +139,9 @@ module _ (sites : List Site) (same : Term → Term → Bool) (octets : Outgoing 
         }
       where
         here : (t : Term) → MayHold G sites s.id t → MayHold (GivenTo (with_one d.1.sent w.sent)) sites id t
-        here t l = holder_may_grows G (GivenTo (with_one d.1.sent w.sent)) (grows sites w d.1.sent None) sites (AtStation id) t (subst (λ n. MayHold G sites n t) e l)
+        here t l =
+            holder_may_grows G (GivenTo (with_one d.1.sent w.sent)) (grows sites w d.1.sent None) sites (AtStation id) t
+            (subst (λ n. MayHold G sites n t) e l)
 
     by_world_goes : (answer : Answer) → Goes sites w (by_world m w answer).0
     by_world_goes answer = record {
@@ -144,7 +163,9 @@ module _ (sites : List Site) (same : Term → Term → Bool) (octets : Outgoing 
     -- AT A STATION
 
     station_goes : (id : ℕ) (input : StationInput Term ℕ) (came : Option (Outgoing Term ℕ)) (s : Station Term ℕ) → s.id ≡ id →
-        ((outcome : Outcome) → StationStepped G sites w.tried s.id (station_step (term_reading_by same) s input outcome)) → Goes sites w (turn_of m w id input came (Some s)).0
+        ((outcome : Outcome) →
+        StationStepped G sites w.tried s.id (station_step (term_reading_by same) s input outcome)) →
+        Goes sites w (turn_of m w id input came (Some s)).0
     station_goes id input came s e step =
         let outcome = opener (station_opens (term_reading_by same) s input) (station_pdu_in input) came in
         station_after_goes id s (station_step (term_reading_by same) s input outcome) e (step outcome)
@@ -153,9 +174,12 @@ module _ (sites : List Site) (same : Term → Term → Bool) (octets : Outgoing 
     abbrev CameOk : Address → Option (Outgoing Term ℕ) → Type 0
     CameOk to came = OfSome (λ x. (address_of x ≡ to) × FlyOk G sites w.tried x) came
 
-    station_record_goes : (on : Interface) (id : ℕ) (came : Option (Outgoing Term ℕ)) → CameOk (address_on on id) came → (s : Station Term ℕ) → Found w (StationOk G sites) id s →
+    station_record_goes : (on : Interface) (id : ℕ) (came : Option (Outgoing Term ℕ)) → CameOk (address_on on id) came →
+        (s : Station Term ℕ) → Found w (StationOk G sites) id s →
         Goes sites w (turn_of m w id (StationRecord on (content_in m came)) came (Some s)).0
-    station_record_goes on id None c s f = station_goes id (StationRecord on (Err RecFault.Short)) None s f.own (unread_stepped G sites w.tried same s f.holds on RecFault.Short)
+    station_record_goes on id None c s f =
+        station_goes id (StationRecord on (Err RecFault.Short)) None s f.own
+        (unread_stepped G sites w.tried same s f.holds on RecFault.Short)
     station_record_goes on id (Some x) c s f =
         station_goes id (StationRecord on (content_of x)) (Some x) s f.own
         (λ outcome. record_stepped G sites w.tried same s f.holds on x outcome (c.0 ∙ ap (address_on on) (sym f.own)) c.1)
@@ -175,7 +199,10 @@ module _ (sites : List Site) (same : Term → Term → Bool) (octets : Outgoing 
     abbrev Kept : CoreInput Term ℕ → Type 0
     Kept input = (outcome : Outcome) → CoreKept (next_root w) w.sent sites w.tried (core_step (term_reading_by same) w.core input outcome)
 
-    core_goes : (input : CoreInput Term ℕ) (came : Option (Outgoing Term ℕ)) → OfSome IsWellFormed (core_received input) → Kept input → Goes sites w (core_turn m w input came).0
+    core_goes : (input : CoreInput Term ℕ) (came : Option (Outgoing Term ℕ))
+        → OfSome IsWellFormed (core_received input)
+        → Kept input
+        → Goes sites w (core_turn m w input came).0
     core_goes input came r k =
         let outcome = opener (core_opens (term_reading_by same) w.core input) (core_pdu_in input) came in
         core_after_goes (core_step (term_reading_by same) w.core input outcome) r (k outcome)
@@ -195,10 +222,16 @@ module _ (sites : List Site) (same : Term → Term → Bool) (octets : Outgoing 
 
     core_record_goes : (came : Option (Outgoing Term ℕ)) → CameOk CoreS1 came → Goes sites w (core_turn m w (CoreRecord (content_in m came)) came).0
     core_record_goes None c = core_goes (CoreRecord (Err RecFault.Short)) None tt (read_kept (Err RecFault.Short) tt)
-    core_record_goes (Some (SealedNas dir header u e text)) c = core_goes (CoreRecord (Err RecFault.Short)) (Some (SealedNas dir header u e text)) tt (read_kept (Err RecFault.Short) tt)
+    core_record_goes (Some (SealedNas dir header u e text)) c =
+        core_goes (CoreRecord (Err RecFault.Short)) (Some (SealedNas dir header u e text)) tt
+        (read_kept (Err RecFault.Short) tt)
     core_record_goes (Some (PlainNas pdu)) c = core_goes (CoreRecord (Err RecFault.Short)) (Some (PlainNas pdu)) tt (read_kept (Err RecFault.Short) tt)
-    core_record_goes (Some (SealedRrc dir station air srb u e text)) c = core_goes (CoreRecord (Err RecFault.Short)) (Some (SealedRrc dir station air srb u e text)) tt (read_kept (Err RecFault.Short) tt)
-    core_record_goes (Some (UserPacket dir station air drb e text)) c = core_goes (CoreRecord (Err RecFault.Short)) (Some (UserPacket dir station air drb e text)) tt (read_kept (Err RecFault.Short) tt)
+    core_record_goes (Some (SealedRrc dir station air srb u e text)) c =
+        core_goes (CoreRecord (Err RecFault.Short)) (Some (SealedRrc dir station air srb u e text)) tt
+        (read_kept (Err RecFault.Short) tt)
+    core_record_goes (Some (UserPacket dir station air drb e text)) c =
+        core_goes (CoreRecord (Err RecFault.Short)) (Some (UserPacket dir station air drb e text)) tt
+        (read_kept (Err RecFault.Short) tt)
     core_record_goes (Some (Between to fields None)) c =
         core_goes (CoreRecord (content_of (Between to fields None))) (Some (Between to fields None)) tt (read_kept (content_of (Between to fields None)) c.1.1)
     core_record_goes (Some (Between to fields (Some key))) c = absurd (no_key_comes to key.key c.0 c.1.0)
@@ -209,7 +242,10 @@ module _ (sites : List Site) (same : Term → Term → Bool) (octets : Outgoing 
     authenticated_goes ksi key caps = record {
       holders = record {
         phone = (phone_kept same w.phone (OfAuth (Authenticated ksi)) (Some (Root (next_root w) key)) tt h.phone).ok;
-        core = subst (λ n. CoreOk n G (core_step (term_reading_by same) w.core (CoreAuth ksi (Root (next_root w) key) caps) (Opened [])).0) (sym (one_root_more w.history (Root (next_root w) key)))
+        core =
+            subst (λ n. CoreOk n G
+            (core_step (term_reading_by same) w.core (CoreAuth ksi (Root (next_root w) key) caps) (Opened [])).0)
+            (sym (one_root_more w.history (Root (next_root w) key)))
             (auth_kept (next_root w) G w.core ksi caps (Root (next_root w) key) tt refl h.core);
         stations = h.stations;
         flying = h.flying;
@@ -231,7 +267,9 @@ module _ (sites : List Site) (same : Term → Term → Bool) (octets : Outgoing 
       core_nas = λ pdu came is. core_goes (CoreNasPdu pdu) came tt (nas_kept pdu);
       core_record = λ pdu came is. core_record_goes came is;
       station_acts = λ id act is s f. station_goes id (StationActs act) None s f.own (act_stepped G sites w.tried same s f.holds act);
-      station_air = λ id air bearer pdu came is s f. station_goes id (AirPdu air bearer pdu) came s f.own (air_stepped G sites w.tried same s f.holds air bearer pdu);
+      station_air = λ id air bearer pdu came is s f.
+          station_goes id (AirPdu air bearer pdu) came s f.own
+          (air_stepped G sites w.tried same s f.holds air bearer pdu);
       station_record = λ on id pdu came is s f. station_record_goes on id came is s f;
       none = by_world_goes;
     }

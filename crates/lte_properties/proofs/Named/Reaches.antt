@@ -6,8 +6,8 @@ use Rattle.std.proofs.lemmas.Bool.{eq-eqb, or_left, or_right}
 use Rattle.std.proofs.lemmas.List.Elements.{recursion_from_All}
 use Rattle.alg_choice.specs.declared.caps.Caps.{Caps}
 use Rattle.annex_a_keys.specs.Cell.{Place}
-use Rattle.lte_events.specs.Conditions.{TakesInjected, CanHappen}
-use Rattle.lte_events.specs.Ranges.{has_station, IsSiteOf, IsSetup}
+use Rattle.lte_events.specs.Ranges.{has_station, TakesInjected, IsSiteOf, IsSetup}
+use Rattle.lte_events.specs.Scenario.{IsThere, CanHappen}
 use Rattle.lte_events.specs.declared.addresses.Address.{Address}
 use Rattle.lte_events.specs.declared.events.Event.{Event}
 use Rattle.lte_events.specs.declared.setups.Setup.{Setup}
@@ -15,7 +15,6 @@ use Rattle.lte_events.specs.declared.setups.StationSetup.{StationSetup}
 use Rattle.lte_events.specs.Site.{Site, is_site, station_of}
 use Rattle.key_model.specs.Term.{Term}
 use Rattle.lte_machine.specs.Opening.{Opening, Outcome}
-use Rattle.lte_machine.specs.Ranges as ranges
 use Rattle.lte_machine.specs.Run.{stations_of, first_world}
 use Rattle.lte_machine.specs.StationState.{Station, StationInput, StationActs, AirPdu, StationRecord, OnS1, OnX2}
 use Rattle.lte_machine.specs.Wire.{KeyUse, Outgoing, address_of}
@@ -34,23 +33,40 @@ Has setup id = IsTrue (has_station setup.stations id)
 -- THE FIRST WORLD
 
 -- the station of a cell of a setup is one of it
-pub site_has : (stations : List StationSetup) (sites : List Site) → ranges.AllOf (IsSiteOf stations) sites → (cell : Place) (id : ℕ) → station_of cell sites ≡ Some id → IsTrue (has_station stations id)
+pub site_has : (stations : List StationSetup) (sites : List Site)
+    → AllOf (IsSiteOf stations) sites
+    → (cell : Place) (id : ℕ)
+    → station_of cell sites ≡ Some id
+    → IsTrue (has_station stations id)
 site_has stations [] h cell id e = absurd cc
 site_has stations (site ∷ sites) h cell id e = by (is_site cell site) e (site_has stations sites h.1 cell id)
   where
-    by : (b : Bool) → option_map (λ s. s.station) (cond b (Some site) (find (is_site cell) sites)) ≡ Some id → (station_of cell sites ≡ Some id → IsTrue (has_station stations id)) → IsTrue (has_station stations id)
+    by : (b : Bool)
+        → option_map (λ s. s.station) (cond b (Some site) (find (is_site cell) sites)) ≡ Some id
+        → (station_of cell sites ≡ Some id → IsTrue (has_station stations id))
+        → IsTrue (has_station stations id)
     by true f rest = let one : site.station ≡ id = cc in subst (λ n. IsTrue (has_station stations n)) one h.0.1
     by false f rest = rest f
 
-first_stations : (setup : Setup) (ss : List StationSetup) → ((id : ℕ) → IsTrue (has_station ss id) → Has setup id) → AllOf (λ s. StationNamed (Has setup) setup.cells s) (stations_of {K = Term} {C = ℕ} setup.cells ss)
+first_stations : (setup : Setup) (ss : List StationSetup)
+    → ((id : ℕ) → IsTrue (has_station ss id) → Has setup id)
+    → AllOf (λ s. StationNamed (Has setup) setup.cells s) (stations_of {K = Term} {C = ℕ} setup.cells ss)
 first_stations setup [] f = tt
-first_stations setup (s ∷ ss) f = ((f s.id (or_left (s.id == s.id) (has_station ss s.id) (eq-eqb s.id s.id refl)), refl, tt, tt), first_stations setup ss (λ id i. f id (or_right (s.id == id) (has_station ss id) i)))
+first_stations setup (s ∷ ss) f = (
+  (f s.id (or_left (s.id == s.id) (has_station ss s.id) (eq-eqb s.id s.id refl)), refl, tt, tt),
+  first_stations setup ss (λ id i. f id (or_right (s.id == id) (has_station ss id) i)),
+)
 
-pub first_here : (cells : List Site) (ss : List StationSetup) (id : ℕ) → IsTrue (has_station ss id) → (s : Station Term ℕ) × (station_of_id id (stations_of {K = Term} {C = ℕ} cells ss) ≡ Some s)
+pub first_here : (cells : List Site) (ss : List StationSetup) (id : ℕ)
+    → IsTrue (has_station ss id)
+    → (s : Station Term ℕ) × (station_of_id id (stations_of {K = Term} {C = ℕ} cells ss) ≡ Some s)
 first_here cells [] id h = absurd cc
 first_here cells (x ∷ xs) id h = by (x.id == id) _ h (first_here cells xs id)
   where
-    by : (b : Bool) (t : Station Term ℕ) → IsTrue (b || has_station xs id) → (IsTrue (has_station xs id) → (s : Station Term ℕ) × (station_of_id id (stations_of {K = Term} {C = ℕ} cells xs) ≡ Some s))
+    by : (b : Bool) (t : Station Term ℕ)
+        → IsTrue (b || has_station xs id)
+        → (IsTrue (has_station xs id)
+        → (s : Station Term ℕ) × (station_of_id id (stations_of {K = Term} {C = ℕ} cells xs) ≡ Some s))
         → (s : Station Term ℕ) × (cond b (Some t) (station_of_id id (stations_of {K = Term} {C = ℕ} cells xs)) ≡ Some s)
     by true t h rest = (t, refl)
     by false t h rest = rest h
@@ -64,12 +80,18 @@ module _ (setup : Setup) (set : IsSetup setup) where
 
   -- EVERY EVENT
 
-  module _ (same : Term → Term → Bool) (root : ℕ → List ℕ → Term) (octets : Outgoing Term ℕ → List ℕ) (sender : Option (Outgoing Term ℕ) → Option (KeyUse Term)) (opener : Opening Term → List ℕ → Option (Outgoing Term ℕ) → Outcome)
-      (w : World Term ℕ (Outgoing Term ℕ)) (reach : AllReach setup w) (here : (id : ℕ) → Has setup id → (s : Station Term ℕ) × (station_of_id id w.stations ≡ Some s)) where
+  module _ (same : Term → Term → Bool) (root : ℕ → List ℕ → Term) (octets : Outgoing Term ℕ → List ℕ)
+      (sender : Option (Outgoing Term ℕ) → Option (KeyUse Term))
+      (opener : Opening Term → List ℕ → Option (Outgoing Term ℕ) → Outcome)
+      (w : World Term ℕ (Outgoing Term ℕ)) (reach : AllReach setup w)
+      (here : (id : ℕ) → Has setup id → (s : Station Term ℕ) × (station_of_id id w.stations ≡ Some s)) where
     abbrev m : Machine Term ℕ (Outgoing Term ℕ)
     m = machine_by same root octets sender opener
 
-    turn_reaches : (id : ℕ) (i : StationInput Term ℕ) (came : Option (Outgoing Term ℕ)) (o : Option (Station Term ℕ)) (s : Station Term ℕ) → o ≡ Some s → ReachesActor (turn_of m w id i came o).1
+    turn_reaches : (id : ℕ) (i : StationInput Term ℕ) (came : Option (Outgoing Term ℕ)) (o : Option (Station Term ℕ))
+        (s : Station Term ℕ)
+        → o ≡ Some s
+        → ReachesActor (turn_of m w id i came o).1
     turn_reaches id i came None s e = absurd cc
     turn_reaches id i came (Some t) s e = λ who. absurd cc
 
@@ -97,20 +119,20 @@ module _ (setup : Setup) (set : IsSetup setup) where
     auth_reaches ksi key caps None = λ who. absurd cc
     auth_reaches ksi key caps (Some row) = λ who e. absurd cc
 
-    may_come : (to : Address) → TakesInjected setup to → IsAmong (Has setup) to
-    may_come Address.PhoneNas h = tt
-    may_come (Address.Phone station air bearer) h = tt
-    may_come Address.CoreNas h = tt
-    may_come Address.CoreS1 h = tt
-    may_come (Address.StationAir station air bearer) h = h
-    may_come (Address.StationS1 station) h = absurd h
-    may_come (Address.StationX2 station) h = absurd h
+    may_come : (to : Address) → TakesInjected to → IsThere setup to → IsAmong (Has setup) to
+    may_come Address.PhoneNas takes there = tt
+    may_come (Address.Phone station air bearer) takes there = tt
+    may_come Address.CoreNas takes there = tt
+    may_come Address.CoreS1 takes there = tt
+    may_come (Address.StationAir station air bearer) takes there = there
+    may_come (Address.StationS1 station) takes there = absurd takes
+    may_come (Address.StationX2 station) takes there = absurd takes
 
     pub happens_reaches : (e : Event) → CanHappen setup e → ReachesActor (happens m w e).1
     happens_reaches (Event.Auth ksi key caps) can =
         let k = m.root (next_root w) key in auth_reaches ksi k caps (known_root m w k)
     happens_reaches (Event.Phone act) can = λ who. absurd cc
-    happens_reaches (Event.Station id act) can = station_reaches id (StationActs act) None can.0
+    happens_reaches (Event.Station id act) can = station_reaches id (StationActs act) None can.1.0
     happens_reaches (Event.Core act) can = λ who. absurd cc
     happens_reaches (Event.Deliver i) can = delivered_reaches (record_at i w.sent) (all_chosen (λ x. IsAmong (Has setup) (address_of x)) i w.sent reach)
-    happens_reaches (Event.Inject to pdu) can = injected_reaches to (may_come to can) pdu (position_from (is_sent m (class_of to) pdu) 0 w.sent)
+    happens_reaches (Event.Inject to pdu) can = injected_reaches to (may_come to can.0.0 can.1) pdu (position_from (is_sent m (class_of to) pdu) 0 w.sent)

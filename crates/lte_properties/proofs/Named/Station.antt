@@ -1,6 +1,6 @@
 -- A station names the stations of its state, of the record that came, and of its cells alone, in its state and in what it sends.
 use Rattle.std.proofs.Common.{◌≡◌, refl, sym, subst, ℕ, Bool, true, List, [], ◌∷◌, ◌++◌, Option, Some, None, option_map, Ok, Err}
-use Rattle.std.specs.Prelude.{filter, not, nat_le}
+use Rattle.std.specs.Prelude.{filter, not, nat_le, ⊤}
 use Rattle.annex_a_keys.specs.Cell.{Place}
 use Rattle.key_model.specs.Reading.{Reading, term_reading_by}
 use Rattle.key_model.specs.Term.{Term}
@@ -12,16 +12,14 @@ use Rattle.x2_handover.specs.Attempt.{X2Start}
 use Rattle.lte_events.specs.declared.acts.StationAct.{StationAct}
 use Rattle.lte_machine.specs.Bearers.{Which, which}
 use Rattle.lte_machine.specs.Opening.{Outcome}
-use Rattle.lte_machine.specs.Reply.{Origin, Reply, unseen}
+use Rattle.lte_machine.specs.Reply.{Origin, Reply, unseen, Made}
 use Rattle.lte_machine.specs.StationState.{Station, Context, X2State, X2Open, X2Ready, X2Commanded, Interface, StationInput, StationActs, AirPdu, StationRecord}
 use Rattle.lte_machine.specs.StationRows.{Admitted}
 use Rattle.lte_machine.specs.StationKeys.{given_up, with_security, with_rrc_taken, with_packet_taken, with_skipped}
 use Rattle.lte_machine.specs.StationRecords.{with_pair, with_s1_ack, with_x2_ack, source_release}
 use Rattle.lte_machine.specs.StationStep.{plain_station, station_step}
 use Rattle.lte_machine.specs.StationChoice.{record_row, air_front, air_row, act_row}
-use Rattle.lte_machine.specs.Reply.{Made}
 use Rattle.lte_events.specs.Site.{Site, station_of}
-use Rattle.std.specs.Prelude.{⊤}
 use Rattle.lte_properties.specs.ChainBelow.{AllOf}
 use Rattle.lte_properties.proofs.ChainNumbers.Lists.{OfSome, all_append, all_filter, all_find}
 use Rattle.lte_properties.proofs.Named.Facts.{OriginNamed, ByNamed, PrepNamed, X2Named, AttemptNamed, ContextNamed, StationNamed, FieldsNamed, SentNamed, InputNamed}
@@ -42,7 +40,9 @@ module _ (P : ℕ → Type 0) (cells : List Site) (sites : (cell : Place) (id : 
 
   -- CONTEXTS
 
-  with_named : (f : Context Term ℕ → Context Term ℕ) → ((c : Context Term ℕ) → ContextNamed P (Some c) → ContextNamed P (Some (f c))) → (o : Option (Context Term ℕ))
+  with_named : (f : Context Term ℕ → Context Term ℕ)
+      → ((c : Context Term ℕ) → ContextNamed P (Some c) → ContextNamed P (Some (f c)))
+      → (o : Option (Context Term ℕ))
       → ContextNamed P o → ContextNamed P (option_map f o)
   with_named f k None h = tt
   with_named f k (Some c) h = k c h
@@ -83,7 +83,8 @@ module _ (P : ℕ → Type 0) (cells : List Site) (sites : (cell : Place) (id : 
 
       admitted_preps : (w : Admitted) (p : Prep Term ℕ) → PrepNamed P p → AllOf (λ p. PrepNamed P p) (filter (λ q. nat_le w.conn q.conn) s.preps ++ p ∷ [])
       admitted_preps w p f =
-          all_append (λ p. PrepNamed P p) (filter (λ q. nat_le w.conn q.conn) s.preps) (p ∷ []) (all_filter (λ p. PrepNamed P p) (λ q. nat_le w.conn q.conn) s.preps h.3) (f, tt)
+          all_append (λ p. PrepNamed P p) (filter (λ q. nat_le w.conn q.conn) s.preps) (p ∷ [])
+          (all_filter (λ p. PrepNamed P p) (λ q. nat_le w.conn q.conn) s.preps h.3) (f, tt)
 
       record_named : (on : Interface) (fields : Fields) → FieldsNamed P fields → RecordCases r s (λ row key. RecordHas r s on fields row) (Done s)
       record_named on fields i =
@@ -91,12 +92,56 @@ module _ (P : ℕ → Type 0) (cells : List Site) (sites : (cell : Place) (id : 
             nothing = λ answer. (h, tt, tt, refl);
             given = λ conn cell caps algs air kenb k. ((h.0, h.1, (tt, tt), tt), tt, h.0, refl);
             released = λ key k. ((h.0, h.1, tt, tt), tt, tt, refl);
-            taken = λ conn origin pair k. ((h.0, h.1, with_named (with_pair pair) (λ c k. k) s.context h.2, h.3), released conn origin (subst (OriginNamed P) (sym k.origin_is) (here k.context k.serving).1), tt, refl);
-            by_s1 = λ w pair k. let f : P w.from.source = subst (FieldsNamed P) k.fields_is i in ((h.0, h.1, h.2, admitted_preps w _ (f, tt)), (tt, f), h.0, refl);
-            by_x2 = λ w star k. let f : P w.from.source = subst (FieldsNamed P) k.fields_is i in ((h.0, h.1, h.2, admitted_preps w _ (f, tt)), (f, tt), h.0, refl);
-            acked_s1 = λ ncc algs air key k. ((h.0, h.1, with_named (with_s1_ack ncc algs air) (λ c k. (s1_acked_so (λ o. AttemptNamed P o) ncc algs air (λ start m. tt) c.attempt k.0, k.1)) s.context h.2, h.3), tt, tt, refl);
-            acked_x2 = λ algs air key k. ((h.0, h.1, with_named (with_x2_ack algs air) (λ c k. (x2_acked_so (λ o. AttemptNamed P o) algs air (λ start m. m) c.attempt k.0, k.1)) s.context h.2, h.3), tt, tt, refl);
-            cancelled = λ from key k. ((h.0, h.1, h.2, all_filter (λ p. PrepNamed P p) (λ p. not (is_of from.source from.attempt p)) s.preps h.3), tt, tt, refl);
+            taken = λ conn origin pair k. (
+              (h.0, h.1, with_named (with_pair pair) (λ c k. k) s.context h.2, h.3),
+              released conn origin (subst (OriginNamed P) (sym k.origin_is) (here k.context k.serving).1),
+              tt,
+              refl,
+            );
+            by_s1 = λ w pair k.
+                let f : P w.from.source = subst (FieldsNamed P) k.fields_is i in
+                ((h.0, h.1, h.2, admitted_preps w _ (f, tt)), (tt, f), h.0, refl);
+            by_x2 = λ w star k.
+                let f : P w.from.source = subst (FieldsNamed P) k.fields_is i in
+                ((h.0, h.1, h.2, admitted_preps w _ (f, tt)), (f, tt), h.0, refl);
+            acked_s1 = λ ncc algs air key k. (
+              (
+                h.0,
+                h.1,
+                with_named (with_s1_ack ncc algs air)
+                    (λ c k.
+                    (s1_acked_so (λ o. AttemptNamed P o) ncc algs air (λ start m. tt) c.attempt k.0, k.1))
+                    s.context h.2,
+                h.3,
+              ),
+              tt,
+              tt,
+              refl,
+            );
+            acked_x2 = λ algs air key k. (
+              (
+                h.0,
+                h.1,
+                with_named (with_x2_ack algs air)
+                    (λ c k. (x2_acked_so (λ o. AttemptNamed P o) algs air (λ start m. m) c.attempt k.0, k.1))
+                    s.context h.2,
+                h.3,
+              ),
+              tt,
+              tt,
+              refl,
+            );
+            cancelled = λ from key k. (
+              (
+                h.0,
+                h.1,
+                h.2,
+                all_filter (λ p. PrepNamed P p) (λ p. not (is_of from.source from.attempt p)) s.preps h.3,
+              ),
+              tt,
+              tt,
+              refl,
+            );
             left = λ key k. ((h.0, h.1, tt, h.3), tt, tt, refl);
             renewed = λ conn number air count c e kenb k. let d = here c e in ((h.0, h.1, (tt, d.1), ((h.0, origin_within c.origin d.1), tt)), tt, h.0, refl);
           }
@@ -113,7 +158,17 @@ module _ (P : ℕ → Type 0) (cells : List Site) (sites : (cell : Place) (id : 
             opened = λ srb count text k. ((h.0, h.1, with_named (with_rrc_taken srb count) (λ c k. k) s.context h.2, h.3), tt, tt, refl);
             packet = λ drb count text k. ((h.0, h.1, with_named (with_packet_taken drb count) (λ c k. k) s.context h.2, h.3), tt, tt, refl);
             by_s1 = λ at count k p e. ((h.0, h.1, (tt, tt), tt), (tt, h.0), tt, refl);
-            within = λ at count origin k p e. ((h.0, h.1, (tt, subst (OriginNamed P) (sym k.1) (by_named air on pdu at (By.Intra k.0) count k.2.0)), tt), tt, tt, refl);
+            within = λ at count origin k p e. (
+              (
+                h.0,
+                h.1,
+                (tt, subst (OriginNamed P) (sym k.1) (by_named air on pdu at (By.Intra k.0) count k.2.0)),
+                tt,
+              ),
+              tt,
+              tt,
+              refl,
+            );
             by_x2 = λ at count number k p e. let f = found at p e in ((h.0, h.1, (tt, f.0), tt), (tt, h.0), tt, refl);
           }
 
@@ -126,14 +181,53 @@ module _ (P : ℕ → Type 0) (cells : List Site) (sites : (cell : Place) (id : 
       act_named act =
           record {
             nothing = λ answer. (h, tt, tt, refl);
-            by_x2 = λ number target cell k c e. let d = here c e in let f = sites cell target (subst (λ x. station_of cell x ≡ Some target) h.1 k.site) in ((h.0, h.1, (f, d.1), h.3), (f, h.0), tt, refl);
+            by_x2 = λ number target cell k c e.
+                let d = here c e in
+                let f = sites cell target (subst (λ x. station_of cell x ≡ Some target) h.1 k.site) in
+                ((h.0, h.1, (f, d.1), h.3), (f, h.0), tt, refl);
             by_s1 = λ number target cell k c e. let d = here c e in ((h.0, h.1, (tt, d.1), h.3), (tt, h.0), tt, refl);
-            within = λ number air cell k c e. let d = here c e in ((h.0, h.1, (tt, d.1), all_append (λ p. PrepNamed P p) s.preps _ h.3 ((h.0, origin_within c.origin d.1), tt)), tt, h.0, refl);
-            commanded = λ order count k c e. let d = here c e in ((h.0, h.1, (commanded_so (λ o. AttemptNamed P o) order (λ a m. tt) (λ a m. tt) (λ a m. tt) c.attempt d.0, d.1), h.3), tt, tt, refl);
+            within = λ number air cell k c e.
+                let d = here c e in (
+                  (
+                    h.0,
+                    h.1,
+                    (tt, d.1),
+                    all_append (λ p. PrepNamed P p) s.preps _ h.3 ((h.0, origin_within c.origin d.1), tt),
+                  ),
+                  tt,
+                  h.0,
+                  refl,
+                );
+            commanded = λ order count k c e.
+                let d = here c e in (
+                  (
+                    h.0,
+                    h.1,
+                    (
+                      commanded_so (λ o. AttemptNamed P o) order (λ a m. tt) (λ a m. tt)
+                          (λ a m. tt) c.attempt d.0,
+                      d.1,
+                    ),
+                    h.3,
+                  ),
+                  tt,
+                  tt,
+                  refl,
+                );
             changed = λ renewal count k c e. ((h.0, h.1, here c e, h.3), tt, tt, refl);
             cancelled_x2 = λ conn number target k. ((h.0, h.1, gave_up s.context h.2, h.3), (cancels_named act conn number target k, tt), tt, refl);
             cancelled_s1 = λ conn number cell k. ((h.0, h.1, gave_up s.context h.2, h.3), (tt, tt), tt, refl);
-            cancelled_within = λ number k. ((h.0, h.1, gave_up s.context h.2, all_filter (λ p. PrepNamed P p) (λ p. not (is_of s.id number p)) s.preps h.3), tt, tt, refl);
+            cancelled_within = λ number k. (
+              (
+                h.0,
+                h.1,
+                gave_up s.context h.2,
+                all_filter (λ p. PrepNamed P p) (λ p. not (is_of s.id number p)) s.preps h.3,
+              ),
+              tt,
+              tt,
+              refl,
+            );
             asked = λ number k c e. ((h.0, h.1, here c e, h.3), (tt, h.0), tt, refl);
             packet = λ drb count text k c e. ((h.0, h.1, here c e, h.3), tt, tt, refl);
             text = λ srb count text k c e. ((h.0, h.1, here c e, h.3), tt, tt, refl);
@@ -141,8 +235,13 @@ module _ (P : ℕ → Type 0) (cells : List Site) (sites : (cell : Place) (id : 
           }
 
     -- one step
-    pub station_step_named : (s : Station Term ℕ) (i : StationInput Term ℕ) (outcome : Outcome) → StationNamed P cells s → InputNamed P i → Done s (station_step r s i outcome)
-    station_step_named s (StationActs act) outcome h i = act_case r s (Done s) (StationActHas r s act) (act_named s h act) (act_row (plain_station r s) act) (station_act_has r s act)
+    pub station_step_named : (s : Station Term ℕ) (i : StationInput Term ℕ) (outcome : Outcome)
+        → StationNamed P cells s
+        → InputNamed P i
+        → Done s (station_step r s i outcome)
+    station_step_named s (StationActs act) outcome h i =
+        act_case r s (Done s) (StationActHas r s act) (act_named s h act) (act_row (plain_station r s) act)
+        (station_act_has r s act)
     station_step_named s (AirPdu air bearer pdu) outcome h i =
         air_case r s (Done s) (AirHas r s air (which bearer) pdu outcome) (air_named s h air (which bearer) pdu outcome)
         (air_row (plain_station r s) (air_front (plain_station r s) air (which bearer) pdu) outcome) (air_has r s air (which bearer) pdu outcome)

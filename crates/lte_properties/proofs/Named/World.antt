@@ -67,7 +67,9 @@ module _ (P : ℕ → Type 0) (cells : List Site) (sites : (cell : Place) (id : 
 
   -- EVERY EVENT
 
-  module _ (same : Term → Term → Bool) (root : ℕ → List ℕ → Term) (octets : Outgoing Term ℕ → List ℕ) (sender : Option (Outgoing Term ℕ) → Option (KeyUse Term)) (opener : Opening Term → List ℕ → Option (Outgoing Term ℕ) → Outcome) where
+  module _ (same : Term → Term → Bool) (root : ℕ → List ℕ → Term) (octets : Outgoing Term ℕ → List ℕ)
+      (sender : Option (Outgoing Term ℕ) → Option (KeyUse Term))
+      (opener : Opening Term → List ℕ → Option (Outgoing Term ℕ) → Outcome) where
     abbrev m : Machine Term ℕ (Outgoing Term ℕ)
     m = machine_by same root octets sender opener
 
@@ -81,7 +83,14 @@ module _ (P : ℕ → Type 0) (cells : List Site) (sites : (cell : Place) (id : 
           let outcome = m.opener (phone_opens m.reading w.phone i) (phone_pdu_in i) came in
           let row = phone_row (plain_phone m.reading w.phone) (front_of m.reading w.phone i) outcome in
           let d = phone_step m.reading w.phone i outcome in
-          record { core = h.core; stations = h.stations; sent = all_one (λ x. RecordNamed P x) d.1.sent w.sent h.sent (phone_sends d.1.sent (phone_gives same row (phone_root i) w.phone).0); made = h.made }
+          record {
+            core = h.core;
+            stations = h.stations;
+            sent =
+                all_one (λ x. RecordNamed P x) d.1.sent w.sent h.sent
+                (phone_sends d.1.sent (phone_gives same row (phone_root i) w.phone).0);
+            made = h.made;
+          }
 
       core_turn_named : (i : CoreInput Term ℕ) (came : Option (Outgoing Term ℕ)) → CoreInputNamed P i → AllNamed (core_turn m w i came).0
       core_turn_named i came f =
@@ -90,7 +99,10 @@ module _ (P : ℕ → Type 0) (cells : List Site) (sites : (cell : Place) (id : 
           let k = core_step_named P cells sites same w.core h.core i outcome f in
           record { core = k.0; stations = h.stations; sent = all_one (λ x. RecordNamed P x) d.1.sent w.sent h.sent (some_sent d.1.sent k.1); made = h.made }
 
-      station_turn_named : (id : ℕ) (i : StationInput Term ℕ) (came : Option (Outgoing Term ℕ)) (s : Station Term ℕ) → InputNamed P i → StationNamed P cells s → AllNamed (turn_of m w id i came (Some s)).0
+      station_turn_named : (id : ℕ) (i : StationInput Term ℕ) (came : Option (Outgoing Term ℕ)) (s : Station Term ℕ)
+          → InputNamed P i
+          → StationNamed P cells s
+          → AllNamed (turn_of m w id i came (Some s)).0
       station_turn_named id i came s f k =
           let outcome = m.opener (station_opens m.reading s i) (station_pdu_in i) came in
           let d = station_step m.reading s i outcome in
@@ -104,7 +116,14 @@ module _ (P : ℕ → Type 0) (cells : List Site) (sites : (cell : Place) (id : 
       turns : Turns m w (λ e. Unit {0}) (λ to pdu came. OfSome (λ x. RecordNamed P x) came) (λ s. StationNamed P cells s) (λ done a. AllNamed done.0)
       turns = record {
         auth = λ ksi key caps is new.
-            record { core = (core_step_named P cells sites same w.core h.core (CoreAuth ksi (m.root (next_root w) key) caps) (Opened []) tt).0; stations = h.stations; sent = h.sent; made = h.made };
+            record {
+              core =
+                  (core_step_named P cells sites same w.core h.core (CoreAuth ksi (m.root (next_root w) key) caps)
+                  (Opened []) tt).0;
+              stations = h.stations;
+              sent = h.sent;
+              made = h.made;
+            };
         phone = λ i came turn is. phone_turn_named i came;
         core_acts = λ act is. core_turn_named (CoreActs act) None tt;
         core_nas = λ pdu came is. core_turn_named (CoreNasPdu pdu) came tt;
@@ -138,6 +157,10 @@ module _ (P : ℕ → Type 0) (cells : List Site) (sites : (cell : Place) (id : 
     address_named (UserPacket Down station air drb e text) r a b = tt
     address_named (Between to fields key) r a b = r.0
 
-    pub addresses_named : (xs : List (Outgoing Term ℕ)) → AllOf (λ x. RecordNamed P x) xs → AllOf (SentOk (ghost k w)) xs → AllOf (AirOk (ghost k w)) xs → AllOf (λ x. IsAmong P (address_of x)) xs
+    pub addresses_named : (xs : List (Outgoing Term ℕ))
+        → AllOf (λ x. RecordNamed P x) xs
+        → AllOf (SentOk (ghost k w)) xs
+        → AllOf (AirOk (ghost k w)) xs
+        → AllOf (λ x. IsAmong P (address_of x)) xs
     addresses_named [] r a b = tt
     addresses_named (x ∷ xs) r a b = (address_named x r.0 a.0 b.0, addresses_named xs r.1 a.1 b.1)

@@ -2,6 +2,7 @@
 use Rattle.std.proofs.Common.{◌≡◌, ℕ, ◌≤◌, ◌<◌, Bool, List, length, drop, Option, Some, None, refl, ap, sym, subst, ◌∙◌, arith}
 use Rattle.std.specs.Prelude.{⊤, slice_index}
 use Rattle.rec_base.specs.declared.uses.Dir.{Dir}
+use Rattle.lte_events.specs.Ranges.{IsPhoneAct}
 use Rattle.lte_events.specs.declared.acts.PhoneAct.{PhoneAct}
 use Rattle.key_model.specs.HandoverTable.{NumberedKey}
 use Rattle.key_model.specs.Term.{Term}
@@ -15,7 +16,6 @@ use Rattle.lte_machine.proofs.PhoneCases as at_phone
 use Rattle.lte_machine.proofs.StationCases.{Any, record_case, air_case, act_case}
 use Rattle.lte_machine.specs.Bearers.{Srb, Drb, srb_counts, drb_counts}
 use Rattle.lte_machine.specs.Wire.{KeyUse, Ciphering, Outgoing, SealedNas, PlainNas, SealedRrc, UserPacket, Between}
-use Rattle.lte_machine.specs.Ranges.{IsPhoneAct}
 use Rattle.lte_machine.specs.Reply.{Origin, Made, Reply}
 use Rattle.lte_machine.specs.PhoneState.{Radio, Idle, Connecting, Connected, Phone}
 use Rattle.lte_machine.specs.PhoneRows as phone

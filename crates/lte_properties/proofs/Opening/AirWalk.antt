@@ -1,12 +1,12 @@
 -- What the choice of an act's row of a station established: where data are sent on the air, a COUNT is left.
 use Rattle.std.proofs.Common.{ℕ, ◌<◌, sym, subst}
+use Rattle.lte_events.specs.Ranges.{IsStationAct}
 use Rattle.lte_events.specs.declared.acts.StationAct.{StationAct}
 use Rattle.lte_events.specs.declared.acts.StationAct as station_acts
 use Rattle.key_model.specs.Term.{Term}
 use Rattle.key_model.specs.Reading.{Reading}
 use Rattle.pdcp_guard.specs.Counts.{count_limit}
 use Rattle.lte_machine.specs.Bearers.{srb_counts, drb_counts}
-use Rattle.lte_machine.specs.Ranges.{IsStationAct}
 use Rattle.lte_machine.specs.StationState.{Station}
 use Rattle.lte_machine.specs.StationRows as station
 use Rattle.lte_machine.specs.StationChoice.{act_row}

@@ -69,7 +69,10 @@ abbrev pub Fits : W → Outgoing Term ℕ → List ℕ → Type 0
 Fits w (UserPacket Down station air drb e text) sent =
     (length text ≤ 1500) × (e.under.count < count_limit) × (e.under.dir ≡ Down) × AtPhone w.phone.radio station air (λ keys. PacketUnder keys drb e)
 Fits w (UserPacket Up station air drb e text) sent =
-    (length text ≤ 1500) × (e.under.count < count_limit) × (e.under.dir ≡ Up) × AtContext (station_of_id station w.stations) air (λ keys. PacketUnder keys drb e)
+    (length text ≤ 1500)
+    × (e.under.count < count_limit)
+    × (e.under.dir ≡ Up)
+    × AtContext (station_of_id station w.stations) air (λ keys. PacketUnder keys drb e)
 Fits w (SealedRrc Down station air srb u e text) sent =
     (length sent ≤ 200) × (u.count < count_limit) × (u.dir ≡ Down) × AtPhone w.phone.radio station air (λ keys. RrcUnder keys srb u e)
 Fits w (SealedRrc Up station air srb u e text) sent =
@@ -84,14 +87,20 @@ Fits w other sent = ⊤
 abbrev LineOf : Line Term → List ℕ → Type 0
 LineOf line sent = (line.answer ≡ Done) × (line.opened ≡ Some sent)
 
-module _ (same : Term → Term → Bool) (root : ℕ → List ℕ → Term) (sender : Option (Outgoing Term ℕ) → Option (KeyUse Term)) (opener : Opening Term → List ℕ → Option (Outgoing Term ℕ) → Outcome) (c : Ciphers Term) (good : AreCiphers c) (back : OpensBack c opener) (between : Fields → Option (NumberedKey Term ℕ) → List ℕ) where
+module _ (same : Term → Term → Bool) (root : ℕ → List ℕ → Term)
+    (sender : Option (Outgoing Term ℕ) → Option (KeyUse Term))
+    (opener : Opening Term → List ℕ → Option (Outgoing Term ℕ) → Outcome) (c : Ciphers Term) (good : AreCiphers c)
+    (back : OpensBack c opener) (between : Fields → Option (NumberedKey Term ℕ) → List ℕ) where
   abbrev m : Machine Term ℕ (Outgoing Term ℕ)
   m = machine_by same root (octets_of c between) sender opener
 
   -- the opener under the keys of the receiver
   rrc_back : (keys : AsKeys Term) (srb : Srb) (u : KeyUse Term) (e : Option (Ciphering Term)) (text : List ℕ) (x : Outgoing Term ℕ) (pdu : List ℕ)
       → opener (OpensSrb u e) pdu (Some x) ≡ Opened text → RrcUnder keys srb u e
-      → opener (OpensSrb (srb_use u.dir keys.rrc_int srb u.count) (Some (ciphering_by keys.algs.eea (srb_use u.dir keys.rrc_enc srb u.count)))) pdu (Some x) ≡ Opened text
+      → opener (OpensSrb (srb_use u.dir keys.rrc_int srb u.count)
+      (Some (ciphering_by keys.algs.eea (srb_use u.dir keys.rrc_enc srb u.count))))
+      pdu (Some x)
+      ≡ Opened text
   rrc_back keys srb u e text x pdu opens under = (λ j. opener (OpensSrb (sym under.0 j) (sym under.1 j)) pdu (Some x)) ∙ opens
 
   packet_back : (keys : AsKeys Term) (drb : Drb) (e : Ciphering Term) (text : List ℕ) (x : Outgoing Term ℕ) (pdu : List ℕ)
@@ -106,7 +115,9 @@ module _ (same : Term → Term → Bool) (root : ℕ → List ℕ → Term) (sen
 
   -- AT THE PHONE
 
-  rrc_to_phone : (w : W) (station air : ℕ) (srb : Srb) (u : KeyUse Term) (e : Option (Ciphering Term)) (text sent : List ℕ) (radio : Radio Term ℕ) → w.phone.radio ≡ radio
+  rrc_to_phone : (w : W) (station air : ℕ) (srb : Srb) (u : KeyUse Term) (e : Option (Ciphering Term))
+      (text sent : List ℕ) (radio : Radio Term ℕ)
+      → w.phone.radio ≡ radio
       → text ≡ rrc_spelling (RrcData sent) → Fits w (SealedRrc Down station air srb u e text) sent → ConnectedAt radio station air (InSrb srb u.count)
       → LineOf (arrives m w (Address.Phone station air (of_srb srb)) (srb_octets c u e text) (Some (SealedRrc Down station air srb u e text))).1 sent
   rrc_to_phone w station air srb u e text sent Idle is packet fits ready = absurd ready
@@ -116,7 +127,9 @@ module _ (same : Term → Term → Bool) (root : ℕ → List ℕ → Term) (sen
       let pdu = srb_octets c u e text in
       phone_rrc_opens same opener pdu (Some x) text sent w.phone l station air srb u.count is ready.0 ready.1
       (srb_counted c good _ u e text ready.2 fits.1)
-      ((λ j. opener (OpensSrb (srb_use (sym fits.2 j) l.keys.rrc_int srb u.count) (Some (ciphering_by l.keys.algs.eea (srb_use (sym fits.2 j) l.keys.rrc_enc srb u.count)))) pdu (Some x))
+      ((λ j. opener (OpensSrb (srb_use (sym fits.2 j) l.keys.rrc_int srb u.count)
+      (Some (ciphering_by l.keys.algs.eea (srb_use (sym fits.2 j) l.keys.rrc_enc srb u.count))))
+      pdu (Some x))
       ∙ rrc_back l.keys srb u e text x pdu (back.srb u e pdu Down station air srb text) (fits.3 l is ready.0 ready.1))
       (ap read_rrc packet ∙ rrc_is_read (RrcData sent) fits.0)
 
@@ -145,13 +158,16 @@ module _ (same : Term → Term → Bool) (root : ℕ → List ℕ → Term) (sen
       phone_nas_opens same opener pdu (Some x) text sent w.phone k u.count is
       (header_down pdu 39 parts.3 (parts.0 ∙ ap (λ h. 16 * h + 7) fits.3) refl)
       (estimated k.receive _ u.count ready.1 parts.1 fits.1)
-      ((λ j. opener (OpensNas (nas_use (sym fits.2 j) k.keys.int u.count) (Some (ciphering_by k.keys.algs.eea (nas_use (sym fits.2 j) k.keys.enc u.count)))) pdu (Some x))
+      ((λ j. opener (OpensNas (nas_use (sym fits.2 j) k.keys.int u.count)
+      (Some (ciphering_by k.keys.algs.eea (nas_use (sym fits.2 j) k.keys.enc u.count))))
+      pdu (Some x))
       ∙ nas_back k.keys u e text x pdu (back.nas u e pdu Down header text) (fits.4 k is ready.0))
       (ap read_nas packet ∙ nas_is_read (NasData sent) fits.0)
 
   -- AT A STATION
 
-  rrc_to_context : (w : W) (station air : ℕ) (srb : Srb) (u : KeyUse Term) (e : Option (Ciphering Term)) (text sent : List ℕ) (s : Station Term ℕ) (o : Option (Context Term ℕ))
+  rrc_to_context : (w : W) (station air : ℕ) (srb : Srb) (u : KeyUse Term) (e : Option (Ciphering Term))
+      (text sent : List ℕ) (s : Station Term ℕ) (o : Option (Context Term ℕ))
       → station_of_id station w.stations ≡ Some s → s.context ≡ o
       → text ≡ rrc_spelling (RrcData sent) → Fits w (SealedRrc Up station air srb u e text) sent → HasActive o air (InSrbOf srb u.count)
       → LineOf (turn_of m w station (AirPdu air (of_srb srb) (srb_octets c u e text)) (Some (SealedRrc Up station air srb u e text)) (Some s)).1 sent
@@ -161,7 +177,9 @@ module _ (same : Term → Term → Bool) (root : ℕ → List ℕ → Term) (sen
       let pdu = srb_octets c u e text in
       station_rrc_opens same opener pdu (Some x) text sent s k air srb u.count is ready.0 ready.1
       (srb_counted c good _ u e text ready.2 fits.1)
-      ((λ j. opener (OpensSrb (srb_use (sym fits.2 j) k.keys.rrc_int srb u.count) (Some (ciphering_by k.keys.algs.eea (srb_use (sym fits.2 j) k.keys.rrc_enc srb u.count)))) pdu (Some x))
+      ((λ j. opener (OpensSrb (srb_use (sym fits.2 j) k.keys.rrc_int srb u.count)
+      (Some (ciphering_by k.keys.algs.eea (srb_use (sym fits.2 j) k.keys.rrc_enc srb u.count))))
+      pdu (Some x))
       ∙ rrc_back k.keys srb u e text x pdu (back.srb u e pdu Up station air srb text) (fits.3 s k here is ready.0))
       (ap read_rrc packet ∙ rrc_is_read (RrcData sent) fits.0)
 
@@ -184,14 +202,16 @@ module _ (same : Term → Term → Bool) (root : ℕ → List ℕ → Term) (sen
       → text ≡ rrc_spelling (RrcData sent) → Fits w (SealedRrc Up station air srb u e text) sent → ActiveAt o air (InSrbOf srb u.count)
       → LineOf (turn_of m w station (AirPdu air (of_srb srb) (srb_octets c u e text)) (Some (SealedRrc Up station air srb u e text)) o).1 sent
   rrc_to_station w station air srb u e text sent None is packet fits ready = absurd ready
-  rrc_to_station w station air srb u e text sent (Some s) is packet fits ready = rrc_to_context w station air srb u e text sent s s.context is refl packet fits ready
+  rrc_to_station w station air srb u e text sent (Some s) is packet fits ready =
+      rrc_to_context w station air srb u e text sent s s.context is refl packet fits ready
 
   packet_to_station : (w : W) (station air : ℕ) (drb : Drb) (e : Ciphering Term) (text sent : List ℕ) (o : Option (Station Term ℕ))
       → station_of_id station w.stations ≡ o
       → text ≡ sent → Fits w (UserPacket Up station air drb e text) sent → ActiveAt o air (InDrbOf drb e.under.count)
       → LineOf (turn_of m w station (AirPdu air (of_drb drb) (drb_octets c e text)) (Some (UserPacket Up station air drb e text)) o).1 sent
   packet_to_station w station air drb e text sent None is packet fits ready = absurd ready
-  packet_to_station w station air drb e text sent (Some s) is packet fits ready = packet_to_context w station air drb e text sent s s.context is refl packet fits ready
+  packet_to_station w station air drb e text sent (Some s) is packet fits ready =
+      packet_to_context w station air drb e text sent s s.context is refl packet fits ready
 
   -- AT THE CORE
 
@@ -206,17 +226,23 @@ module _ (same : Term → Term → Bool) (root : ℕ → List ℕ → Term) (sen
       core_nas_opens same opener pdu (Some x) text sent w.core k u.count is
       (header_up pdu 39 parts.3 (parts.0 ∙ ap (λ h. 16 * h + 7) fits.3) refl) parts.3
       (estimated k.nas.receive _ u.count ready.1 parts.1 fits.1)
-      ((λ j. opener (OpensNas (nas_use (sym fits.2 j) k.nas.keys.int u.count) (Some (ciphering_by k.nas.keys.algs.eea (nas_use (sym fits.2 j) k.nas.keys.enc u.count)))) pdu (Some x))
+      ((λ j. opener (OpensNas (nas_use (sym fits.2 j) k.nas.keys.int u.count)
+      (Some (ciphering_by k.nas.keys.algs.eea (nas_use (sym fits.2 j) k.nas.keys.enc u.count))))
+      pdu (Some x))
       ∙ nas_back k.nas.keys u e text x pdu (back.nas u e pdu Up header text) (fits.4 k is ready.0))
       (ap read_nas packet ∙ nas_is_read (NasData sent) fits.0)
 
   -- ANY PACKET
 
   delivered_opens : (w : W) (x : Outgoing Term ℕ) (sent : List ℕ) → IsPacket x sent → ReadyFor w x → Fits w x sent → LineOf (delivery m w (Some x)).1 sent
-  delivered_opens w (UserPacket Down station air drb e text) sent packet ready fits = packet_to_phone w station air drb e text sent w.phone.radio refl packet fits ready
-  delivered_opens w (UserPacket Up station air drb e text) sent packet ready fits = packet_to_station w station air drb e text sent (station_of_id station w.stations) refl packet fits ready
-  delivered_opens w (SealedRrc Down station air srb u e text) sent packet ready fits = rrc_to_phone w station air srb u e text sent w.phone.radio refl packet fits ready
-  delivered_opens w (SealedRrc Up station air srb u e text) sent packet ready fits = rrc_to_station w station air srb u e text sent (station_of_id station w.stations) refl packet fits ready
+  delivered_opens w (UserPacket Down station air drb e text) sent packet ready fits =
+      packet_to_phone w station air drb e text sent w.phone.radio refl packet fits ready
+  delivered_opens w (UserPacket Up station air drb e text) sent packet ready fits =
+      packet_to_station w station air drb e text sent (station_of_id station w.stations) refl packet fits ready
+  delivered_opens w (SealedRrc Down station air srb u e text) sent packet ready fits =
+      rrc_to_phone w station air srb u e text sent w.phone.radio refl packet fits ready
+  delivered_opens w (SealedRrc Up station air srb u e text) sent packet ready fits =
+      rrc_to_station w station air srb u e text sent (station_of_id station w.stations) refl packet fits ready
   delivered_opens w (SealedNas Down header u e text) sent packet ready fits = nas_to_phone w header u e text sent w.phone.context refl packet fits ready
   delivered_opens w (SealedNas Up header u e text) sent packet ready fits = nas_to_core w header u e text sent w.core.context refl packet fits ready
   delivered_opens w (PlainNas octets) sent packet ready fits = absurd packet
@@ -225,6 +251,7 @@ module _ (same : Term → Term → Bool) (root : ℕ → List ℕ → Term) (sen
   -- wherever the packets that were sent fit their receivers
   pub opens_where_fits : (w : W) → AllOf (λ x. (sent : List ℕ) → IsPacket x sent → Fits w x sent) w.sent → OpensToSent m w
   opens_where_fits w all i x sent is packet ready window =
-      let fits = subst (OfSome (λ y. (sent : List ℕ) → IsPacket y sent → Fits w y sent)) is (all_chosen (λ y. (sent : List ℕ) → IsPacket y sent → Fits w y sent) i w.sent all) in
+      let fits = subst (OfSome (λ y. (sent : List ℕ) → IsPacket y sent → Fits w y sent)) is
+      (all_chosen (λ y. (sent : List ℕ) → IsPacket y sent → Fits w y sent) i w.sent all) in
       let opens = delivered_opens w x sent packet (ready_for w x ready window) (fits sent packet) in
       (ap (λ o. (delivery m w o).1.answer) is ∙ opens.0, ap (λ o. (delivery m w o).1.opened) is ∙ opens.1)

@@ -18,7 +18,7 @@ Comes w x = IsReady w x × InWindow (next_for w x) (count_of x) (window_of x)
 -- the newest record after these events comes so
 abbrev NewestComes : RunState Term ℕ (Outgoing Term ℕ) → Type 0
 NewestComes (Running w) = OfSome (Comes w) (record_at (negsuc 0) w.sent)
-NewestComes (Stopped chance) = ⊥
+NewestComes (Stopped coincidence) = ⊥
 
 abbrev Ready : List Event → Type 0
 Ready events = NewestComes (replay (open_octets toy) machine start (opening ++ events))

@@ -17,11 +17,12 @@ use Rattle.lte_machine.specs.Wire.{KeyUse, Ciphering, ciphering_by, nas_use, Out
 use Rattle.lte_machine.specs.PhoneState.{NasContext, Radio}
 use Rattle.lte_machine.specs.StationState.{Station}
 use Rattle.lte_machine.specs.World.{next_root, station_of_id}
+use Rattle.lte_machine.proofs.Worlds.{TheWorld}
 use Rattle.lte_properties.specs.ChainBelow.{AllOf}
 use Rattle.lte_properties.specs.Packets.{IsPacket, UsesRootOf}
 use Rattle.lte_properties.proofs.ChainNumbers.Lists.{OfSome, all_find, all_both}
 use Rattle.lte_properties.proofs.Agreement.Ghost.{Ghost, StationOk}
-use Rattle.lte_properties.proofs.Agreement.World.{TheWorld, Conns, ghost, WorldOk}
+use Rattle.lte_properties.proofs.Agreement.World.{Conns, ghost, WorldOk}
 use Rattle.lte_properties.proofs.Opening.Delivered.{RrcUnder, PacketUnder, NasUnder, Fits, AtPhone, AtContext}
 use Rattle.lte_properties.proofs.Opening.Nas.{Choices, nas_keys, RootHas, ContextOk, PhoneContextOk, CoreContextOk, SealedSo, SealedOk, SentOk, one_choice}
 use Rattle.lte_properties.proofs.Opening.Air.{KeysAre, one_keys, RadioKeys, ContextKeys, AirOk, radio_keys, context_keys}
@@ -30,13 +31,22 @@ use Rattle.lte_properties.proofs.Opening.World.{PacketsOk}
 -- WHAT IS KNOWN OF PACKETS FITS THEIR RECEIVERS
 
 -- the keys of a connected phone at an address, and of a station's context, are those that packets there were sealed under
-at_phone : (g : Ghost) (radio : Radio Term ℕ) → RadioKeys g radio → (id air : ℕ) (keys : AsKeys Term) → KeysAre g id air keys → (P : AsKeys Term → Type 0) → P keys → AtPhone radio id air P
+at_phone : (g : Ghost) (radio : Radio Term ℕ)
+    → RadioKeys g radio
+    → (id air : ℕ) (keys : AsKeys Term)
+    → KeysAre g id air keys
+    → (P : AsKeys Term → Type 0)
+    → P keys
+    → AtPhone radio id air P
 at_phone g radio own id air keys sealed P h l is here there =
     let mine : KeysAre g l.station l.air l.keys = subst (RadioKeys g) is own in
     let at : KeysAre g id air l.keys = subst (λ n. KeysAre g n air l.keys) here (subst (λ n. KeysAre g l.station n l.keys) there mine) in
     subst P (one_keys g id air keys l.keys sealed at) h
 
-at_context : (cells : List Site) (g : Ghost) (ss : List (Station Term ℕ)) → AllOf (StationOk cells g) ss → (id air : ℕ) (keys : AsKeys Term) → KeysAre g id air keys
+at_context : (cells : List Site) (g : Ghost) (ss : List (Station Term ℕ))
+    → AllOf (StationOk cells g) ss
+    → (id air : ℕ) (keys : AsKeys Term)
+    → KeysAre g id air keys
     → (P : AsKeys Term → Type 0) → P keys → AtContext (station_of_id id ss) air P
 at_context cells g ss ok id air keys sealed P h s k found context there =
     let f = subst (OfSome (λ s. StationOk cells g s × ((s.id == id) ≡ true))) found (all_find (StationOk cells g) (λ s. s.id == id) ss ok) in
@@ -61,7 +71,9 @@ DataSealed g next dir header u e sent =
     (root : Term) × (algs : Algs) × RootHas g next root algs × (u ≡ nas_use dir (Alg root 2 eia2_identity) u.count)
     × (header ≡ 2) × (e ≡ Some (ciphering_by algs.eea (nas_use dir (nas_keys root algs).enc u.count))) × (u.count < nas_count_limit) × (length sent ≤ 200)
 
-data_sealed : (g : Choices) (next : ℕ) (dir : Dir) (header : ℕ) (u : KeyUse Term) (e : Option (Ciphering Term)) (text sent : List ℕ) → SealedOk g next dir header u e text
+data_sealed : (g : Choices) (next : ℕ) (dir : Dir) (header : ℕ) (u : KeyUse Term) (e : Option (Ciphering Term))
+    (text sent : List ℕ)
+    → SealedOk g next dir header u e text
     → text ≡ spelling_of (NasData sent) → DataSealed g next dir header u e sent
 unfolding spelling_of
 data_sealed g next dir header u e text sent k is = by_record k.2 (sym k.5 ∙ is) k.6
@@ -74,7 +86,9 @@ data_sealed g next dir header u e text sent k is = by_record k.2 (sym k.5 ∙ is
     by_record (NasData t) same so = (k.0, k.1, k.3, k.4, so.0, so.1, so.2, subst (λ x. length x ≤ 200) (ap (drop 1) same) so.3)
 
 -- the context in use of that KASME has the keys that the message was sealed under
-under_context : (g : Choices) (next : ℕ) (dir : Dir) (header : ℕ) (u : KeyUse Term) (e : Option (Ciphering Term)) (sent : List ℕ) → DataSealed g next dir header u e sent
+under_context : (g : Choices) (next : ℕ) (dir : Dir) (header : ℕ) (u : KeyUse Term)
+    (e : Option (Ciphering Term)) (sent : List ℕ)
+    → DataSealed g next dir header u e sent
     → (c : NasContext Term) → ContextOk g next c → UsesRootOf c u → NasUnder c.keys u e
 under_context g next dir header u e sent k c own uses =
     let root : k.0 ≡ c.root = root_of k.0 c.root (sym (ap (λ v. v.key) k.3) ∙ uses) in
@@ -90,8 +104,13 @@ under_context g next dir header u e sent k c own uses =
 
 module _ (cells : List Site) (k : Conns) (g : Choices) (w : TheWorld) (ok : WorldOk cells k w) (h : PacketsOk g k w) where
   packet_fits : (x : Outgoing Term ℕ) → SentOk g (next_root w) x → AirOk (ghost k w) x → (sent : List ℕ) → IsPacket x sent → Fits w x sent
-  packet_fits (UserPacket Down id air drb e text) nas sealed sent is =
-      (sealed.0, sealed.1, sealed.2, at_phone (ghost k w) w.phone.radio (radio_keys (ghost k w) w.phone.radio ok.radio) id air sealed.3 sealed.4 (λ keys. PacketUnder keys drb e) sealed.5)
+  packet_fits (UserPacket Down id air drb e text) nas sealed sent is = (
+    sealed.0,
+    sealed.1,
+    sealed.2,
+    at_phone (ghost k w) w.phone.radio (radio_keys (ghost k w) w.phone.radio ok.radio) id air sealed.3 sealed.4
+        (λ keys. PacketUnder keys drb e) sealed.5,
+  )
   packet_fits (UserPacket Up id air drb e text) nas sealed sent is =
       (sealed.0, sealed.1, sealed.2, at_context cells (ghost k w) w.stations ok.stations id air sealed.3 sealed.4 (λ keys. PacketUnder keys drb e) sealed.5)
   packet_fits (SealedRrc Down id air srb u e text) nas sealed sent is =
@@ -101,11 +120,25 @@ module _ (cells : List Site) (k : Conns) (g : Choices) (w : TheWorld) (ok : Worl
       let s = sealed sent is in
       (s.0, s.1, s.2, at_context cells (ghost k w) w.stations ok.stations id air s.3 s.4 (λ keys. RrcUnder keys srb u e) s.5)
   packet_fits (SealedNas Down header u e text) nas sealed sent is =
-      let s = data_sealed g (next_root w) Down header u e text sent nas is in
-      (s.7, s.6, ap (λ v. v.dir) s.3, s.4, λ c found uses. under_context g (next_root w) Down header u e sent s c (subst (PhoneContextOk g (next_root w)) found h.phone.1) uses)
+      let s = data_sealed g (next_root w) Down header u e text sent nas is in (
+        s.7,
+        s.6,
+        ap (λ v. v.dir) s.3,
+        s.4,
+        λ c found uses.
+            under_context g (next_root w) Down header u e sent s c
+            (subst (PhoneContextOk g (next_root w)) found h.phone.1) uses,
+      )
   packet_fits (SealedNas Up header u e text) nas sealed sent is =
-      let s = data_sealed g (next_root w) Up header u e text sent nas is in
-      (s.7, s.6, ap (λ v. v.dir) s.3, s.4, λ c found uses. under_context g (next_root w) Up header u e sent s c.nas (subst (CoreContextOk g (next_root w)) found h.core.2) uses)
+      let s = data_sealed g (next_root w) Up header u e text sent nas is in (
+        s.7,
+        s.6,
+        ap (λ v. v.dir) s.3,
+        s.4,
+        λ c found uses.
+            under_context g (next_root w) Up header u e sent s c.nas
+            (subst (CoreContextOk g (next_root w)) found h.core.2) uses,
+      )
   packet_fits (PlainNas octets) nas sealed sent is = absurd is
   packet_fits (Between to fields key) nas sealed sent is = absurd is
 

@@ -28,7 +28,11 @@ Heard None = ⊤
 Heard (Some c) = c.starting ≡ false → 1 ≤ c.bearers.srb1.receive
 
 -- a context that changes
-heard_with : (f : Context Term ℕ → Context Term ℕ) → ((c : Context Term ℕ) → Heard (Some c) → Heard (Some (f c))) → (o : Option (Context Term ℕ)) → Heard o → Heard (option_map f o)
+heard_with : (f : Context Term ℕ → Context Term ℕ)
+    → ((c : Context Term ℕ) → Heard (Some c) → Heard (Some (f c)))
+    → (o : Option (Context Term ℕ))
+    → Heard o
+    → Heard (option_map f o)
 heard_with f k None h = tt
 heard_with f k (Some c) h = k c h
 
@@ -37,7 +41,9 @@ above count = omega arith
 
 -- A STATION'S ROWS
 
-station_heard : (r : Reading Term ℕ) (row : StationRow) (key : Option (NumberedKey Term ℕ)) (s : Station Term ℕ) → Heard s.context → Heard (station_does r row key s).0.context
+station_heard : (r : Reading Term ℕ) (row : StationRow) (key : Option (NumberedKey Term ℕ)) (s : Station Term ℕ)
+    → Heard s.context
+    → Heard (station_does r row key s).0.context
 station_heard r row key s h =
     station_case r s (λ d. Heard d.0.context)
     (record {
@@ -88,11 +94,14 @@ AllHeard w = AllOf StationHeard w.stations
 
 module _ (m : Machine Term ℕ (Outgoing Term ℕ)) where
   module _ (w : World Term ℕ (Outgoing Term ℕ)) (h : AllHeard w) where
-    station_turn_heard : (id : ℕ) (input : StationInput Term ℕ) (came : Option (Outgoing Term ℕ)) (s : Station Term ℕ) → Heard s.context → AllHeard (turn_of m w id input came (Some s)).0
+    station_turn_heard : (id : ℕ) (input : StationInput Term ℕ) (came : Option (Outgoing Term ℕ)) (s : Station Term ℕ)
+        → Heard s.context
+        → AllHeard (turn_of m w id input came (Some s)).0
     station_turn_heard id input came s k =
         let outcome = m.opener (station_opens m.reading s input) (station_pdu_in input) came in
         let row = station_row_of m.reading s input outcome in
-        all_put StationHeard StationHeard id (station_does m.reading row (station_key input) s).0 w.stations (station_heard m.reading row (station_key input) s k) (λ t e old. old) h
+        all_put StationHeard StationHeard id (station_does m.reading row (station_key input) s).0 w.stations
+        (station_heard m.reading row (station_key input) s k) (λ t e old. old) h
 
     happens_heard : (e : Event) → AllHeard (happens m w e).0
     happens_heard =

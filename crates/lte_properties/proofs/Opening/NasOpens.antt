@@ -57,7 +57,8 @@ module _ (same : Term → Term → Bool) (g : Choices) (next : ℕ) (c : Ciphers
   CameDown pdu (Some other) = ⊥
 
   -- a message of header type 3 that reads as a command names the algorithms that were chosen
-  named : (header : ℕ) (u : KeyUse Term) (e : Option (Ciphering Term)) (text pdu : List ℕ) (root : Term) (algs : Algs) (x : NasRecord) (ksi : ℕ) (read : Algs) (caps : Caps)
+  named : (header : ℕ) (u : KeyUse Term) (e : Option (Ciphering Term)) (text pdu : List ℕ) (root : Term) (algs : Algs)
+      (x : NasRecord) (ksi : ℕ) (read : Algs) (caps : Caps)
       → nas_octets c header u e text ≡ pdu → text ≡ spelling_of x → SealedSo Down header u e root algs x
       → header_for_phone pdu ≡ Ok 3 → read_nas (sent_in pdu) ≡ Ok (SecurityModeCommand ksi read caps) → algs ≡ read
   named header u e text pdu root algs x ksi read caps octets spelled so type reads =
@@ -75,7 +76,10 @@ module _ (same : Term → Term → Bool) (g : Choices) (next : ℕ) (c : Ciphers
           same_ok : (a b : ℕ) → (let y : Result ℕ Answer = Ok a in let z : Result ℕ Answer = Ok b in y ≡ z) → a ≡ b
           same_ok a b e = cc
 
-      same_algs : (k l : ℕ) (a b : Algs) (d f : Caps) → (let y : Result NasRecord RecFault = Ok (SecurityModeCommand k a d) in let z : Result NasRecord RecFault = Ok (SecurityModeCommand l b f) in y ≡ z) → a ≡ b
+      same_algs : (k l : ℕ) (a b : Algs) (d f : Caps)
+          → (let y : Result NasRecord RecFault = Ok (SecurityModeCommand k a d) in
+          let z : Result NasRecord RecFault = Ok (SecurityModeCommand l b f) in y ≡ z)
+          → a ≡ b
       same_algs k l a b d f e = cc
 
       by_record : (x : NasRecord) → text ≡ spelling_of x → SealedSo Down header u e root algs x → algs ≡ read
@@ -96,7 +100,9 @@ module _ (same : Term → Term → Bool) (g : Choices) (next : ℕ) (c : Ciphers
     known derived = keys_of (history ++ map Of derived)
 
     -- the sender's KASME is the partial context's, and so are its algorithms
-    taken_of : (p : Partial Term) (ksi : ℕ) (algs : Algs) (caps : Caps) (o : Option (Outgoing Term ℕ)) → CameDown pdu o → SealedUnder (Alg p.root 2 eia2_identity) (sender_of o)
+    taken_of : (p : Partial Term) (ksi : ℕ) (algs : Algs) (caps : Caps) (o : Option (Outgoing Term ℕ))
+        → CameDown pdu o
+        → SealedUnder (Alg p.root 2 eia2_identity) (sender_of o)
         → header_for_phone pdu ≡ Ok 3 → read_nas (sent_in pdu) ≡ Ok (SecurityModeCommand ksi algs caps) → RootHas g next p.root algs
     taken_of p ksi algs caps None h under type reads = absurd under
     taken_of p ksi algs caps (Some (SealedNas Down header u e text)) h under type reads =
@@ -113,17 +119,33 @@ module _ (same : Term → Term → Bool) (g : Choices) (next : ℕ) (c : Ciphers
     taken_of p ksi algs caps (Some (UserPacket dir station air drb e text)) h under type reads = absurd h
     taken_of p ksi algs caps (Some (Between to fields key)) h under type reads = absurd under
 
-    taken_needs : (count : ℕ) (algs : Algs) (text : List ℕ) (ksi : ℕ) (caps : Caps) → header_for_phone pdu ≡ Ok 3 → read_nas (sent_in pdu) ≡ Ok (SecurityModeCommand ksi algs caps)
-        → (o : Option (Partial Term)) → SenderIs (known (keys.context_taken q algs count s o).1.derived) (keys.command_expects q count algs o) (sender_of came) (Opened text) → TakenNeeds same g next algs o
+    taken_needs : (count : ℕ) (algs : Algs) (text : List ℕ) (ksi : ℕ) (caps : Caps)
+        → header_for_phone pdu ≡ Ok 3
+        → read_nas (sent_in pdu) ≡ Ok (SecurityModeCommand ksi algs caps)
+        → (o : Option (Partial Term))
+        → SenderIs (known (keys.context_taken q algs count s o).1.derived) (keys.command_expects q count algs o)
+        (sender_of came) (Opened text)
+        → TakenNeeds same g next algs o
     taken_needs count algs text ksi caps type reads None h = tt
     taken_needs count algs text ksi caps type reads (Some p) h =
-        taken_of p ksi algs caps came is (h refl (known_last (Alg p.root 2 eia2_identity) history (keys.context_taken q algs count s (Some p)).1.derived (inr (inr (inl refl))))) type reads
+        taken_of p ksi algs caps came is
+        (h refl (known_last (Alg p.root 2 eia2_identity) history
+        (keys.context_taken q algs count s (Some p)).1.derived (inr (inr (inl refl)))))
+        type reads
 
-    connected_needs : (count : ℕ) (algs : Algs) (text : List ℕ) (ksi : ℕ) (caps : Caps) → header_for_phone pdu ≡ Ok 3 → read_nas (sent_in pdu) ≡ Ok (SecurityModeCommand ksi algs caps)
-        → (o : Option (Partial Term)) → SenderIs (known (keys.context_taken_connected q algs count s o).1.derived) (keys.command_expects q count algs o) (sender_of came) (Opened text) → TakenNeeds same g next algs o
+    connected_needs : (count : ℕ) (algs : Algs) (text : List ℕ) (ksi : ℕ) (caps : Caps)
+        → header_for_phone pdu ≡ Ok 3
+        → read_nas (sent_in pdu) ≡ Ok (SecurityModeCommand ksi algs caps)
+        → (o : Option (Partial Term))
+        → SenderIs (known (keys.context_taken_connected q algs count s o).1.derived)
+        (keys.command_expects q count algs o) (sender_of came) (Opened text)
+        → TakenNeeds same g next algs o
     connected_needs count algs text ksi caps type reads None h = tt
     connected_needs count algs text ksi caps type reads (Some p) h =
-        taken_of p ksi algs caps came is (h refl (known_last (Alg p.root 2 eia2_identity) history (keys.context_taken_connected q algs count s (Some p)).1.derived (inr (inl refl)))) type reads
+        taken_of p ksi algs caps came is
+        (h refl (known_last (Alg p.root 2 eia2_identity) history
+        (keys.context_taken_connected q algs count s (Some p)).1.derived (inr (inl refl))))
+        type reads
 
     taken_done : (algs : Algs) (count : ℕ) (o : Option (Partial Term)) → (keys.context_taken q algs count s o).1.answer ≡ Done
     taken_done algs count None = refl
@@ -137,11 +159,14 @@ module _ (same : Term → Term → Bool) (g : Choices) (next : ℕ) (c : Ciphers
       -- a row is granted where its step, if it is done, took a message of the key's sender
       abbrev Granted : phone.NasRow → Type 0
       Granted row =
-          ((keys.nas_does q row s).1.answer ≡ Done → SenderIs (known (keys.nas_does q row s).1.derived) (keys.nas_expects q (phone_nas q s pdu) s) (sender_of came) outcome)
+          ((keys.nas_does q row s).1.answer ≡ Done
+          → SenderIs (known (keys.nas_does q row s).1.derived) (keys.nas_expects q (phone_nas q s pdu) s)
+          (sender_of came) outcome)
           → NasNeeds same g next s.partial row
 
       at_command : (derived : List (Derivation Term)) (algs : Algs) (count : ℕ) → (f : TakesContext q s pdu outcome algs count)
-          → SenderIs (known derived) (keys.nas_expects q (phone_nas q s pdu) s) (sender_of came) outcome → SenderIs (known derived) (keys.command_expects q count algs s.partial) (sender_of came) (Opened f.text)
+          → SenderIs (known derived) (keys.nas_expects q (phone_nas q s pdu) s) (sender_of came) outcome
+          → SenderIs (known derived) (keys.command_expects q count algs s.partial) (sender_of came) (Opened f.text)
       at_command derived algs count f h =
           subst (λ x. SenderIs (known derived) (keys.nas_expects q x s) (sender_of came) (Opened f.text)) f.front
           (subst (λ o. SenderIs (known derived) (keys.nas_expects q (phone_nas q s pdu) s) (sender_of came) o) f.opened h)
@@ -151,10 +176,12 @@ module _ (same : Term → Term → Bool) (g : Choices) (next : ℕ) (c : Ciphers
       row_needs (phone.RejectedPlain answer cause) f h = tt
       row_needs (phone.RejectedUnder answer cause) f h = tt
       row_needs (phone.ContextTaken algs count) f h =
-          taken_needs count algs f.text f.by.partial.ksi f.caps f.by.header_is f.by.reads s.partial (at_command _ algs count f (h (taken_done algs count s.partial)))
+          taken_needs count algs f.text f.by.partial.ksi f.caps f.by.header_is f.by.reads s.partial
+          (at_command _ algs count f (h (taken_done algs count s.partial)))
       row_needs (phone.ContextTakenConnected algs count) f h =
           let x = f.0 in
-          connected_needs count algs x.text x.by.partial.ksi x.caps x.by.header_is x.by.reads s.partial (at_command _ algs count x (h (connected_done algs count s.partial)))
+          connected_needs count algs x.text x.by.partial.ksi x.caps x.by.header_is x.by.reads s.partial
+          (at_command _ algs count x (h (connected_done algs count s.partial)))
       row_needs (phone.NasOpened count text) f h = tt
 
       -- the row of a message: where a command is taken, its algorithms are those chosen for its KASME

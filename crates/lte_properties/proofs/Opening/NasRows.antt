@@ -7,6 +7,7 @@ use Rattle.alg_choice.specs.Choice.{choice_of}
 use Rattle.alg_choice.specs.declared.algs.Algs.{Algs}
 use Rattle.alg_choice.specs.declared.algs.Eea.{Eea}
 use Rattle.alg_choice.specs.declared.caps.Caps.{Caps}
+use Rattle.lte_events.specs.Ranges.{IsCoreAct, IsPhoneAct}
 use Rattle.lte_events.specs.declared.acts.CoreAct.{CoreAct}
 use Rattle.key_model.specs.Term.{Term}
 use Rattle.key_model.specs.Reading.{Reading, term_reading_by}
@@ -24,7 +25,6 @@ use Rattle.lte_machine.specs.CoreState.{Core, CorePartial}
 use Rattle.lte_machine.specs.CoreRows as core
 use Rattle.lte_machine.specs.CoreRows.{CoreRow}
 use Rattle.lte_machine.specs.CoreKeys.{CoreDone, core_does}
-use Rattle.lte_machine.specs.Ranges.{IsCoreAct, IsPhoneAct}
 use Rattle.lte_machine.proofs.CoreCases as at_core
 use Rattle.lte_machine.proofs.PhoneCases as at_phone
 use Rattle.lte_machine.proofs.ActFacts.{ActHas, Starts, Sends}

@@ -31,7 +31,7 @@ use Rattle.lte_properties.proofs.Agreement.Ghost.{StationOk, SentOk}
 use Rattle.lte_properties.proofs.Agreement.Opener.{octets_tell}
 use Rattle.lte_properties.proofs.Agreement.PhoneWalk.{CameDown}
 use Rattle.lte_properties.proofs.Agreement.StationOpens.{CameUp}
-use Rattle.lte_properties.proofs.Agreement.World.{TheWorld, Conns, ghost, WorldOk}
+use Rattle.lte_properties.proofs.Agreement.World.{Conns, ghost, WorldOk}
 use Rattle.lte_properties.proofs.Opening.Heard.{Heard, AllHeard}
 use Rattle.lte_properties.proofs.Opening.Nas as nas
 use Rattle.lte_properties.proofs.Opening.Nas.{Choices}
@@ -41,9 +41,13 @@ use Rattle.lte_properties.proofs.Opening.SecondNas as second_nas
 use Rattle.lte_properties.proofs.Opening.SecondNas.{phone_nas_never, core_nas_never}
 use Rattle.lte_properties.proofs.Opening.World.{PacketsOk}
 use Rattle.lte_machine.proofs.CipherLaws.{AreCiphers}
+use Rattle.lte_machine.proofs.Worlds.{TheWorld}
 
-module _ (same : Term → Term → Bool) (sender : Option (Outgoing Term ℕ) → Option (KeyUse Term)) (opener : Opening Term → List ℕ → Option (Outgoing Term ℕ) → Outcome) (c : Ciphers Term) (good : AreCiphers c) (between : Fields → Option (NumberedKey Term ℕ) → List ℕ) (cells : List Site)
-    (g : Choices) (k : Conns) (w : TheWorld) (ok : WorldOk cells k w) (packets : PacketsOk g k w) (heard : AllHeard w) (new : NewKenb w.took w.phone.radio) where
+module _ (same : Term → Term → Bool) (sender : Option (Outgoing Term ℕ) → Option (KeyUse Term))
+    (opener : Opening Term → List ℕ → Option (Outgoing Term ℕ) → Outcome) (c : Ciphers Term) (good : AreCiphers c)
+    (between : Fields → Option (NumberedKey Term ℕ) → List ℕ) (cells : List Site)
+    (g : Choices) (k : Conns) (w : TheWorld) (ok : WorldOk cells k w) (packets : PacketsOk g k w) (heard : AllHeard w)
+    (new : NewKenb w.took w.phone.radio) where
   abbrev m : Machine Term ℕ (Outgoing Term ℕ)
   m = machine_by same Root (octets_of c between) sender opener
 
@@ -63,18 +67,31 @@ module _ (same : Term → Term → Bool) (sender : Option (Outgoing Term ℕ) �
   abbrev IsAt : Station Term ℕ → Type 0
   IsAt s = StationOk cells (ghost k w) s × Heard s.context
 
-  starts : (id : ℕ) (s : Station Term ℕ) → station_of_id id w.stations ≡ Some s → (line : Line Term) → line.who ≡ Who.Station id → (o : Option (Context Term ℕ)) → s.context ≡ o → Starts o → IsStarting w line
+  starts : (id : ℕ) (s : Station Term ℕ)
+      → station_of_id id w.stations ≡ Some s
+      → (line : Line Term)
+      → line.who ≡ Who.Station id
+      → (o : Option (Context Term ℕ))
+      → s.context ≡ o
+      → Starts o
+      → IsStarting w line
   starts id s there line who None is h = absurd h
   starts id s there line who (Some d) is h = record { id = id; who = who; station = s; there = there; context = d; serves = is; starting = h }
 
-  station_second : (id air : ℕ) (bearer : Bearer) (pdu : List ℕ) (came : Option (Outgoing Term ℕ)) → CameTo (Address.StationAir id air bearer) pdu came → (s : Station Term ℕ) → Found w IsAt id s
+  station_second : (id air : ℕ) (bearer : Bearer) (pdu : List ℕ) (came : Option (Outgoing Term ℕ))
+      → CameTo (Address.StationAir id air bearer) pdu came
+      → (s : Station Term ℕ)
+      → Found w IsAt id s
       → SecondOf (attempts_at m (AirPdu air bearer pdu) came (Some s)) (turn_of m w id (AirPdu air bearer pdu) came (Some s)).1
   station_second id air bearer pdu came h s f = λ e.
       starts id s f.there (turn_of m w id (AirPdu air bearer pdu) came (Some s)).1 refl s.context refl
       (station_air_second same cells (ghost k w) s f.holds.0 f.holds.1 air came (subst (λ n. CameUp (ghost k w) n air came) (sym f.own) h) s.context refl
       (at_air air (plain_station (term_reading_by same) s).preps) (which bearer) pdu e)
 
-  phone_second : (input : PhoneInput Term) (came : Option (Outgoing Term ℕ)) → IsTurn input → PhoneGets (λ e. ⊤) CameTo input came → SecondOf (phone_attempts m w input came) (phone_turn m w input came).1
+  phone_second : (input : PhoneInput Term) (came : Option (Outgoing Term ℕ))
+      → IsTurn input
+      → PhoneGets (λ e. ⊤) CameTo input came
+      → SecondOf (phone_attempts m w input came) (phone_turn m w input came).1
   phone_second (PhoneAuth ksi root) came turn h = absurd turn
   phone_second (PhoneActs act) came turn h = λ e. absurd cc
   phone_second (PhoneNasPdu pdu) came turn h = λ e. absurd (phone_nas_never g (next_root w) same c good w.phone packets.phone pdu came h e)
@@ -118,8 +135,14 @@ module _ (same : Term → Term → Bool) (sender : Option (Outgoing Term ℕ) �
   sent_came (SealedNas Down header i e text) a n = (refl, n)
   sent_came (SealedNas Up header i e text) a n = (refl, n)
   sent_came (PlainNas octets) a n = tt
-  sent_came (SealedRrc Down station air srb i e text) a n =
-      (refl, refl, which_srb srb, a, (λ none. ap (λ f. unciphered_text (octets_of c between (SealedRrc Down station air srb i f text))) none ∙ (octets_tell c good between).text Down station air srb i text))
+  sent_came (SealedRrc Down station air srb i e text) a n = (
+    refl,
+    refl,
+    which_srb srb,
+    a,
+    (λ none. ap (λ f. unciphered_text (octets_of c between (SealedRrc Down station air srb i f text))) none
+        ∙ (octets_tell c good between).text Down station air srb i text),
+  )
   sent_came (SealedRrc Up station air srb i e text) a n = (refl, refl, a)
   sent_came (UserPacket Down station air drb e text) a n = tt
   sent_came (UserPacket Up station air drb e text) a n = tt
@@ -128,5 +151,6 @@ module _ (same : Term → Term → Bool) (sender : Option (Outgoing Term ℕ) �
   -- every event
   pub second_at : SecondAtStarting m w
   second_at e =
-      happens_by turns none_came (all_both (SentOk (ghost k w)) (nas.SentOk g (next_root w)) (λ x. CameTo (m.address x) (m.octets x) (Some x)) sent_came w.sent ok.sent packets.nas)
+      happens_by turns none_came (all_both (SentOk (ghost k w)) (nas.SentOk g (next_root w))
+      (λ x. CameTo (m.address x) (m.octets x) (Some x)) sent_came w.sent ok.sent packets.nas)
       (all_both (StationOk cells (ghost k w)) (λ s. Heard s.context) IsAt (λ s a b. (a, b)) w.stations ok.stations heard) e tt

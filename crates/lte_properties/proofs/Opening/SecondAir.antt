@@ -40,7 +40,8 @@ use Rattle.lte_properties.proofs.Opening.SecondNas.{Never, never_srb}
 
 -- THE PHONE
 
-module _ (same : Term → Term → Bool) (g : Ghost) (s : Phone Term ℕ) (station air : ℕ) (pdu : List ℕ) (on : Which) (came : Option (Outgoing Term ℕ)) (came_ok : CameDown g station air on pdu came) where
+module _ (same : Term → Term → Bool) (g : Ghost) (s : Phone Term ℕ) (station air : ℕ) (pdu : List ℕ) (on : Which)
+    (came : Option (Outgoing Term ℕ)) (came_ok : CameDown g station air on pdu came) where
   abbrev q : Reading Term ℕ
   q = term_reading_by same
 
@@ -56,13 +57,20 @@ module _ (same : Term → Term → Bool) (g : Ghost) (s : Phone Term ℕ) (stati
   waits w never count algs (Some (SealedRrc Down st a srb i f text)) h =
       let u = srb_use Down (keys_of w.kenb algs).rrc_int Signalling1 count in
       never_srb u i None f Down st a srb text
-      (λ e. sym (no_cipher f (plain_here same g s station air pdu on (Some (SealedRrc Down st a srb i f text)) h w never u algs refl text (Some (SealedRrc Down st a srb i f text)) h (e, λ x. refl))))
+      (λ e. sym (no_cipher f (plain_here same g s station air pdu on (Some (SealedRrc Down st a srb i f text)) h w never
+      u algs refl text (Some (SealedRrc Down st a srb i f text)) h (e, λ x. refl))))
   waits w never count algs (Some (PlainNas octets)) h = λ e. absurd cc
   waits w never count algs (Some (UserPacket dir st a drb e text)) h = λ e. absurd cc
   waits w never count algs (Some (Between to fields key)) h = λ e. absurd cc
 
   -- a record under the keys of its connection is ciphered under them
-  ciphers : (l : Link Term ℕ) → LinkIs g l → l.station ≡ station → l.air ≡ air → (srb : Srb) (count : ℕ) → on ≡ OnSrb srb → (srb_counts srb l.bearers).receive ≤ count
+  ciphers : (l : Link Term ℕ)
+      → LinkIs g l
+      → l.station ≡ station
+      → l.air ≡ air
+      → (srb : Srb) (count : ℕ)
+      → on ≡ OnSrb srb
+      → (srb_counts srb l.bearers).receive ≤ count
       → (x : Option (Outgoing Term ℕ)) → CameDown g station air on pdu x → Never (signalling_expects {C = ℕ} srb count (Connected l)) x
   ciphers l h is_s is_a srb count is_on low None k = λ e. absurd cc
   ciphers l h is_s is_a srb count is_on low (Some (SealedNas dir header i f text)) k = absurd k
@@ -72,7 +80,8 @@ module _ (same : Term → Term → Bool) (g : Ghost) (s : Phone Term ℕ) (stati
       let cipher = Some (srb_ciphering Down l.keys srb count) in
       never_srb u i cipher None Down st a sr text
       (λ e. absurd (no_first
-      (ciphered_here same g s station air pdu on (Some (SealedRrc Down st a sr i None text)) k l h is_s is_a srb count is_on low text (Some (SealedRrc Down st a sr i None text)) k (e, λ x. refl))))
+      (ciphered_here same g s station air pdu on (Some (SealedRrc Down st a sr i None text)) k l h is_s is_a srb count
+      is_on low text (Some (SealedRrc Down st a sr i None text)) k (e, λ x. refl))))
     where
       no_first : false ≡ true → ⊥
       no_first e = cc
@@ -96,7 +105,8 @@ module _ (same : Term → Term → Bool) (g : Ghost) (s : Phone Term ℕ) (stati
   front_never : RadioOk g s.radio → NewKenb g.took s.radio → (front : AirFront) → FrontHas q s station air on pdu front → NeverAt front
   front_never ok never (AirSettled row) f = λ e. absurd cc
   front_never ok never (AtStart count algs named st a) f =
-      subst (λ radio. Never (start_expects q count algs radio) came) (sym f.waits) (waits f.waiting (subst (NewKenb g.took) f.waits never) count algs came came_ok)
+      subst (λ radio. Never (start_expects q count algs radio) came) (sym f.waits)
+      (waits f.waiting (subst (NewKenb g.took) f.waits never) count algs came came_ok)
   front_never ok never (AtSignalling srb count own) f =
       let here = f.here in
       subst (λ radio. Never (signalling_expects {C = ℕ} srb count radio) came) (sym here.connected)
@@ -121,7 +131,9 @@ one_bearer Signalling1 Signalling2 e = absurd (omega (arith, e))
 one_bearer Signalling2 Signalling1 e = absurd (omega (arith, e))
 
 -- a record of the phone under this integrity use: of that bearer and COUNT, and ciphered under these keys, where it is
-module _ (g : Ghost) (id air : ℕ) (keys : AsKeys Term) (kenb : Term) (m : Made Term ℕ) (are : keys ≡ keys_of kenb m.algs) (there : made_at g.made id air ≡ Some m) (srb sr : Srb) (count : ℕ) (i : KeyUse Term)
+module _ (g : Ghost) (id air : ℕ) (keys : AsKeys Term) (kenb : Term) (m : Made Term ℕ)
+    (are : keys ≡ keys_of kenb m.algs) (there : made_at g.made id air ≡ Some m) (srb sr : Srb) (count : ℕ)
+    (i : KeyUse Term)
     (is : srb_use Up keys.rrc_int srb count ≡ i) where
   srbs : (f : Option (Ciphering Term)) → UpOk g id air sr i f → srb ≡ sr
   srbs f up = one_bearer srb sr (ap (λ v. v.bearer) is ∙ ap (λ v. v.bearer) up.4.2)
@@ -137,12 +149,19 @@ module _ (g : Ghost) (id air : ℕ) (keys : AsKeys Term) (kenb : Term) (m : Made
       let all : keys ≡ keys_of up.0 up.4.0.algs = are ∙ (λ j. keys_of (same_kenb (Some f) up j) (same_made (Some f) up j).algs) in
       (λ j. Some (srb_ciphering Up (all j) (srbs (Some f) up j) (ap (λ v. v.count) is j))) ∙ ap Some (sym up.4.3)
 
-module _ (same : Term → Term → Bool) (cells : List Site) (g : Ghost) (s : Station Term ℕ) (ok : StationOk cells g s) (heard : Heard s.context) (air : ℕ) (came : Option (Outgoing Term ℕ)) (came_ok : CameUp g s.id air came) where
+module _ (same : Term → Term → Bool) (cells : List Site) (g : Ghost) (s : Station Term ℕ) (ok : StationOk cells g s)
+    (heard : Heard s.context) (air : ℕ) (came : Option (Outgoing Term ℕ)) (came_ok : CameUp g s.id air came) where
   abbrev Second : st.AirFront → Type 0
   Second front = sender_at (stk.air_expects front s) came ≡ CipheredElse → Starts s.context
 
   -- an active context: the record is ciphered under its keys, and the first one was taken
-  active_never : (c : Context Term ℕ) → CtxOk g s.id (Some c) → Heard (Some c) → c.starting ≡ false → c.air ≡ air → (srb : Srb) (count : ℕ) → (srb_counts srb c.bearers).receive ≤ count
+  active_never : (c : Context Term ℕ)
+      → CtxOk g s.id (Some c)
+      → Heard (Some c)
+      → c.starting ≡ false
+      → c.air ≡ air
+      → (srb : Srb) (count : ℕ)
+      → (srb_counts srb c.bearers).receive ≤ count
       → (x : Option (Outgoing Term ℕ)) → CameUp g s.id air x → Never (stk.signalling_expects {C = ℕ} srb count (Some c)) x
   active_never c k listened active there srb count low None h = λ e. absurd cc
   active_never c k listened active there srb count low (Some (SealedNas dir header i f text)) h = absurd h
@@ -169,7 +188,12 @@ module _ (same : Term → Term → Bool) (cells : List Site) (g : Ghost) (s : St
   active_never c k listened active there srb count low (Some (Between to fields key)) h = λ e. absurd cc
 
   -- a preparation: no setup made it, so that the phone came with a ciphered record
-  prepared_never : (p : Prep Term ℕ) → PrepOk g s.id p → p.air ≡ air → (count : ℕ) (x : Option (Outgoing Term ℕ)) → CameUp g s.id air x → Never (stk.prepared_expects {C = ℕ} count (Some p)) x
+  prepared_never : (p : Prep Term ℕ)
+      → PrepOk g s.id p
+      → p.air ≡ air
+      → (count : ℕ) (x : Option (Outgoing Term ℕ))
+      → CameUp g s.id air x
+      → Never (stk.prepared_expects {C = ℕ} count (Some p)) x
   prepared_never p k there count None h = λ e. absurd cc
   prepared_never p k there count (Some (SealedNas dir header i f text)) h = absurd h
   prepared_never p k there count (Some (SealedRrc Down st a sr i f text)) h = absurd h
@@ -189,10 +213,14 @@ module _ (same : Term → Term → Bool) (cells : List Site) (g : Ghost) (s : St
   prepared_never p k there count (Some (UserPacket dir st a drb e text)) h = λ e. absurd cc
   prepared_never p k there count (Some (Between to fields key)) h = λ e. absurd cc
 
-  found_prep : (count : ℕ) (o : Option (Prep Term ℕ)) → at_air air s.preps ≡ o → sender_at (stk.prepared_expects {C = ℕ} count o) came ≡ CipheredElse → Starts s.context
+  found_prep : (count : ℕ) (o : Option (Prep Term ℕ))
+      → at_air air s.preps ≡ o
+      → sender_at (stk.prepared_expects {C = ℕ} count o) came ≡ CipheredElse
+      → Starts s.context
   found_prep count None is = λ e. absurd cc
   found_prep count (Some p) is = λ e.
-      absurd (prepared_never p (all_found (PrepOk g s.id) (is_at air) s.preps p ok.1 is) (eqb-true p.air air (found_holds (is_at air) s.preps p is)) count came came_ok e)
+      absurd (prepared_never p (all_found (PrepOk g s.id) (is_at air) s.preps p ok.1 is)
+      (eqb-true p.air air (found_holds (is_at air) s.preps p is)) count came came_ok e)
 
   counted_prepared : (by : By) (count : Result ℕ PdcpFault) → Second (st.counted (st.OnPrepared air by) count)
   counted_prepared by (Err fault) = λ e. absurd cc

@@ -57,7 +57,9 @@ never_srb u i e f dir station air srb text h second =
     let k = judged_second (same_uses same_term u i) (same_ciphering same_term e f) text second in not_same e f k.1 (h (one_use u i k.0))
 
 -- the header type of a message for the phone is the sender's
-phone_header : (c : Ciphers Term) (header : ℕ) (i : KeyUse Term) (e : Option (Ciphering Term)) (text : List ℕ) (h : ℕ) → header_for_phone (nas_octets c header i e text) ≡ Ok h → h ≡ header
+phone_header : (c : Ciphers Term) (header : ℕ) (i : KeyUse Term) (e : Option (Ciphering Term)) (text : List ℕ) (h : ℕ)
+    → header_for_phone (nas_octets c header i e text) ≡ Ok h
+    → h ≡ header
 unfolding nas_octets header_for_phone
 phone_header c header i e text h is =
     by_test (λ (r : Result ℕ Answer). r ≡ Ok h → h ≡ header) (length (nas_octets c header i e text) == 0) _ _
@@ -91,7 +93,10 @@ module _ (g : Choices) (next : ℕ) where
       abbrev NeverAt : choice.NasFront → Type 0
       NeverAt front = Never (keys.nas_expects q front s) came
 
-      header_is : (header h : ℕ) (i : KeyUse Term) (f : Option (Ciphering Term)) (text : List ℕ) → nas_octets c header i f text ≡ pdu → header_for_phone pdu ≡ Ok h → h ≡ header
+      header_is : (header h : ℕ) (i : KeyUse Term) (f : Option (Ciphering Term)) (text : List ℕ)
+          → nas_octets c header i f text ≡ pdu
+          → header_for_phone pdu ≡ Ok h
+          → h ≡ header
       header_is header h i f text octets type = phone_header c header i f text h (ap header_for_phone octets ∙ type)
 
       message_never : (count header : ℕ) → header_for_phone pdu ≡ Ok header → (o : Option (NasContext Term)) → PhoneContextOk g next o
@@ -141,11 +146,15 @@ module _ (g : Choices) (next : ℕ) where
     CameUp pdu (Some (SealedRrc dir station air srb u e text)) = ⊥
     CameUp pdu other = Unit {0}
 
-    module _ (between : Fields → Option (NumberedKey Term ℕ) → List ℕ) (s : Core Term ℕ) (own : CoreOk g next s) (pdu : List ℕ) (came : Option (Outgoing Term ℕ)) (is : CameUp pdu came) where
+    module _ (between : Fields → Option (NumberedKey Term ℕ) → List ℕ) (s : Core Term ℕ) (own : CoreOk g next s)
+        (pdu : List ℕ) (came : Option (Outgoing Term ℕ)) (is : CameUp pdu came) where
       abbrev NeverCore : core_choice.CoreNasFront → Type 0
       NeverCore front = Never (core_keys.core_nas_expects front s) came
 
-      core_header_is : (header h : ℕ) (i : KeyUse Term) (f : Option (Ciphering Term)) (text : List ℕ) → nas_octets c header i f text ≡ pdu → core_header pdu ≡ Ok h → h ≡ header
+      core_header_is : (header h : ℕ) (i : KeyUse Term) (f : Option (Ciphering Term)) (text : List ℕ)
+          → nas_octets c header i f text ≡ pdu
+          → core_header pdu ≡ Ok h
+          → h ≡ header
       core_header_is header h i f text octets type = plain_header c between Up header i f text h (ap core_header octets ∙ type)
 
       complete_never : (count : ℕ) → core_header pdu ≡ Ok 4 → (partial : Option (CorePartial Term)) (o : Option (Keys Term)) → ProcedureOk g next partial o

@@ -26,6 +26,7 @@ use Rattle.lte_machine.proofs.LadderRun.{one_use}
 use Rattle.lte_machine.proofs.MixedRun.{happens_same}
 use Rattle.lte_machine.proofs.StillRun.{goes_on}
 use Rattle.lte_machine.proofs.Routing.{IsTurn, PhoneGets, Turns, happens_by, happens_each}
+use Rattle.lte_machine.proofs.Worlds.{TheWorld}
 use Rattle.lte_properties.proofs.Agreement.Openings.{Along}
 use Rattle.lte_properties.proofs.Opening.Openings.{SenderIs, SameRoot}
 
@@ -37,7 +38,8 @@ module _ (m : Machine Term ℕ (Outgoing Term ℕ)) (w : World Term ℕ (Outgoin
 
   happens_grows : (e : Event) → ReportsStay (happens m w e)
   happens_grows =
-      happens_each m w (λ done a. ReportsStay done) (λ ksi octets caps t h. still_in w.history _ t h) (λ input came turn t h. still_in w.history _ t h) (λ input came t h. still_in w.history _ t h)
+      happens_each m w (λ done a. ReportsStay done) (λ ksi octets caps t h. still_in w.history _ t h)
+      (λ input came turn t h. still_in w.history _ t h) (λ input came t h. still_in w.history _ t h)
       (λ id input came s there own t h. still_in w.history _ t h) (λ answer t h. h)
 
   -- WHAT COMES WAS SENT UNDER REPORTED KEYS
@@ -45,7 +47,10 @@ module _ (m : Machine Term ℕ (Outgoing Term ℕ)) (w : World Term ℕ (Outgoin
   abbrev CameKnown : Option (Outgoing Term ℕ) → Type 0
   CameKnown came = OfSome (SentKnown (IsReported w)) came
 
-  phone_came : (input : PhoneInput Term) (came : Option (Outgoing Term ℕ)) → IsTurn input → PhoneGets (λ e. Unit {0}) (λ to pdu o. CameKnown o) input came → CameKnown came
+  phone_came : (input : PhoneInput Term) (came : Option (Outgoing Term ℕ))
+      → IsTurn input
+      → PhoneGets (λ e. Unit {0}) (λ to pdu o. CameKnown o) input came
+      → CameKnown came
   phone_came (PhoneAuth ksi root) came turn is = absurd turn
   phone_came (PhoneActs act) None turn is = tt
   phone_came (PhoneActs act) (Some x) turn is = absurd is
@@ -82,11 +87,13 @@ module _ (c : Ciphers Term) (ts : List Term) (own : OneValueOneTerm ts) where
   under_one_key u i e (Opened text) f = λ down here. f here
   under_one_key u i e (Differs wanted got) f = tt
 
-  foreign_differs : (u : KeyUse Term) (e : Option (Ciphering Term)) (pdu : List ℕ) → open_foreign c (OpensNas u e) pdu ≡ Differs (nas_wanted c u pdu) (mac_in pdu)
+  foreign_differs : (u : KeyUse Term) (e : Option (Ciphering Term)) (pdu : List ℕ)
+      → open_foreign c (OpensNas u e) pdu ≡ Differs (nas_wanted c u pdu) (mac_in pdu)
   unfolding open_foreign
   foreign_differs u e pdu = refl
 
-  foreign : (u : KeyUse Term) (e : Option (Ciphering Term)) (pdu : List ℕ) (sender : Option (KeyUse Term)) → SenderIs ts (OpensNas u e) sender (open_foreign c (OpensNas u e) pdu)
+  foreign : (u : KeyUse Term) (e : Option (Ciphering Term)) (pdu : List ℕ) (sender : Option (KeyUse Term))
+      → SenderIs ts (OpensNas u e) sender (open_foreign c (OpensNas u e) pdu)
   foreign u e pdu sender = subst (SenderIs ts (OpensNas u e) sender) (sym (foreign_differs u e pdu)) tt
 
   judged_so : (u i : KeyUse Term) (e : Option (Ciphering Term)) (pdu : List ℕ) (a b : Bool) (text : List ℕ) → same_uses same_value u i ≡ a → InTs i.key
@@ -105,7 +112,9 @@ module _ (c : Ciphers Term) (ts : List Term) (own : OneValueOneTerm ts) where
   nas_sender_is u e pdu (Some (UserPacket dir station air drb f text)) h = foreign u e pdu None
   nas_sender_is u e pdu (Some (Between to fields key)) h = foreign u e pdu None
 
-  sender_is : (o : Opening Term) (pdu : List ℕ) (came : Option (Outgoing Term ℕ)) → OfSome (SentKnown InTs) came → SenderIs ts o (sender_of came) (by_terms c o pdu came)
+  sender_is : (o : Opening Term) (pdu : List ℕ) (came : Option (Outgoing Term ℕ))
+      → OfSome (SentKnown InTs) came
+      → SenderIs ts o (sender_of came) (by_terms c o pdu came)
   sender_is OpensNothing pdu came h = tt
   sender_is (OpensNas u e) pdu came h = nas_sender_is u e pdu came h
   sender_is (OpensSrb u e) pdu came h = tt
@@ -114,16 +123,17 @@ module _ (c : Ciphers Term) (ts : List Term) (own : OneValueOneTerm ts) where
 -- ALONG A RUN
 
 module _ (c : Ciphers Term) (between : Fields → Option (NumberedKey Term ℕ) → List ℕ) where
-  abbrev TheWorld : Type 0
-  TheWorld = World Term ℕ (Outgoing Term ℕ)
-
   abbrev written : Machine Term ℕ (Outgoing Term ℕ)
   written = machine_over same_value c between
 
   abbrev no_clash : TheWorld → Type 0
   no_clash w = (ladder_of same_value w.history).clash ≡ None
 
-  one_root : (w : TheWorld) (e : Event) → Grounds w → Grounds (happens (mixed c between) w e).0 → no_clash (happens (mixed c between) w e).0 → SameRoot (mixed c between) w e
+  one_root : (w : TheWorld) (e : Event)
+      → Grounds w
+      → Grounds (happens (mixed c between) w e).0
+      → no_clash (happens (mixed c between) w e).0
+      → SameRoot (mixed c between) w e
   one_root w e g h calm done =
       let u = (happens (mixed c between) w e).0 in
       let a = attempted (mixed c between) w e in

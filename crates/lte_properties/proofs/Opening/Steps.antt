@@ -110,7 +110,9 @@ module _ (same : Term → Term → Bool) (opener : Opener) (pdu : List ℕ) (cam
       → l.station ≡ station → l.air ≡ air → srb_count (srb_counts srb l.bearers).receive pdu ≡ Ok count
       → opener (OpensSrb (srb_use Down l.keys.rrc_int srb count) (Some (srb_ciphering Down l.keys srb count))) pdu came ≡ Opened text
       → read_rrc text ≡ Ok (RrcData sent)
-      → DoneWith (phone_step r s (PhoneAirPdu station air (of_srb srb) pdu) (opener (phone_opens r s (PhoneAirPdu station air (of_srb srb) pdu)) pdu came)).1 sent
+      → DoneWith (phone_step r s (PhoneAirPdu station air (of_srb srb) pdu)
+      (opener (phone_opens r s (PhoneAirPdu station air (of_srb srb) pdu)) pdu came)).1
+      sent
   phone_rrc_opens s l station air srb count radio here there counts opens reads =
       let own = r.ncc l.chain.number in
       let at = at_phone.air_front s.caps station air pdu (which (of_srb srb)) (map_radio unseen r.ncc s.radio) in
@@ -132,7 +134,9 @@ module _ (same : Term → Term → Bool) (opener : Opener) (pdu : List ℕ) (cam
   pub phone_packet_opens : (s : Phone Term ℕ) (l : Link Term ℕ) (station air : ℕ) (drb : Drb) (count : ℕ) → s.radio ≡ Connected l
       → l.station ≡ station → l.air ≡ air → drb_count (drb_counts drb l.bearers).receive pdu ≡ Ok count
       → opener (OpensDrb (drb_ciphering Down l.keys drb count)) pdu came ≡ Opened text → text ≡ sent → length text ≤ 1500
-      → DoneWith (phone_step r s (PhoneAirPdu station air (of_drb drb) pdu) (opener (phone_opens r s (PhoneAirPdu station air (of_drb drb) pdu)) pdu came)).1 sent
+      → DoneWith (phone_step r s (PhoneAirPdu station air (of_drb drb) pdu)
+      (opener (phone_opens r s (PhoneAirPdu station air (of_drb drb) pdu)) pdu came)).1
+      sent
   phone_packet_opens s l station air drb count radio here there counts opens is short =
       let at = at_phone.air_front s.caps station air pdu (which (of_drb drb)) (map_radio unseen r.ncc s.radio) in
       let front : at ≡ at_phone.AtPacket drb count =
@@ -154,7 +158,10 @@ module _ (same : Term → Term → Bool) (opener : Opener) (pdu : List ℕ) (cam
       → at_station.air_front (plain_station r s) air on pdu ≡ at_station.active_front k.bearers on pdu
   active_front_is s k air on context there active =
       ap (λ o. at_station.air_front_by (option_map (station_state.map_context unseen r.ncc) o) (at_air air (plain_station r s).preps) air on pdu) context
-      ∙ ap (λ b. if b then at_station.context_front k.starting k.bearers on pdu else at_station.prepared_front (at_air air (plain_station r s).preps) air on pdu) (is_one k.air air there)
+      ∙ ap (λ b.
+      if b then at_station.context_front k.starting k.bearers on pdu
+      else at_station.prepared_front (at_air air (plain_station r s).preps) air on pdu)
+      (is_one k.air air there)
       ∙ ap (λ b. at_station.context_front b k.bearers on pdu) active
 
   -- a station on an RRC text
@@ -217,6 +224,7 @@ module _ (same : Term → Term → Bool) (opener : Opener) (pdu : List ℕ) (cam
       let out : outcome ≡ Opened text = ap (λ p. opener p pdu came) expects ∙ opens in
       let row : at_core.core_nas_row plain.procedure plain.next plain.link at outcome ≡ core_rows.NasOpened count sent =
       (λ j. at_core.core_nas_row plain.procedure plain.next plain.link (front j) (out j)) ∙ ap (at_core.protected_row plain.procedure count) reads in
-      let reply : (by_core.core_does_nas r (at_core.core_nas_row plain.procedure plain.next plain.link at outcome) s).1 ≡ (by_core.nas_opened count sent (Some c) s).1 =
+      let reply : (by_core.core_does_nas r (at_core.core_nas_row plain.procedure plain.next plain.link at outcome) s).1
+      ≡ (by_core.nas_opened count sent (Some c) s).1 =
       ap (λ k. (by_core.core_does_nas r k s).1) row ∙ ap (λ o. (by_core.nas_opened count sent o s).1) context in
       (ap (λ y. y.answer) reply, ap (λ y. y.opened) reply)

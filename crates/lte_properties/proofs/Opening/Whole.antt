@@ -16,8 +16,6 @@ use Rattle.s1x2_rec.specs.Fields.{Fields}
 use Rattle.lte_machine.specs.Wire.{KeyUse, Outgoing, SealedNas, PlainNas, SealedRrc, UserPacket, Between, address_of}
 use Rattle.lte_machine.specs.Ciphers.{Ciphers, octets_of}
 use Rattle.lte_machine.specs.Opening.{Opening, Outcome}
-use Rattle.lte_machine.specs.Ranges.{IsEvent, IsSetup}
-use Rattle.lte_machine.specs.Ranges as ranges
 use Rattle.lte_machine.specs.PhoneState.{PhoneInput, PhoneAuth, PhoneActs, PhoneNasPdu, PhoneAirPdu}
 use Rattle.lte_machine.specs.PhoneStep.{phone_opens}
 use Rattle.lte_machine.specs.PhoneRows as phone
@@ -41,11 +39,11 @@ use Rattle.lte_properties.proofs.ChainNumbers.World.{happens_holds, first_holds}
 use Rattle.lte_properties.proofs.Agreement.Ghost.{Ghost, StationOk}
 use Rattle.lte_properties.proofs.Agreement.Later.{Later}
 use Rattle.lte_properties.proofs.Agreement.Told.{SiteOk}
-use Rattle.lte_properties.proofs.Agreement.World.{TheWorld, Conns, ghost, WorldOk, Settled}
+use Rattle.lte_properties.proofs.Agreement.World.{Conns, ghost, WorldOk, Settled}
 use Rattle.lte_properties.proofs.Agreement.Events.{happens_goes}
 use Rattle.lte_properties.proofs.Agreement.Holds.{cells_of, no_conns, first_ok}
 use Rattle.lte_properties.proofs.Agreement.Opener.{octets_tell}
-use Rattle.lte_properties.proofs.Agreement.Whole.{honest_along, settled_from_first, calm_over}
+use Rattle.lte_properties.proofs.Agreement.Whole.{honest_along, settled_from_first, calm_over, new_kenb}
 use Rattle.lte_properties.proofs.Opening.Opens.{OpensBack}
 use Rattle.lte_properties.proofs.SameKeys.{IsReflexive}
 use Rattle.lte_properties.proofs.Opening.Delivered.{opens_where_fits}
@@ -58,16 +56,18 @@ use Rattle.lte_properties.proofs.Opening.World.{PacketsOk, Keeps, chosen_at, cho
 use Rattle.lte_properties.proofs.Opening.Fits.{packets_fit}
 use Rattle.lte_properties.specs.SecondCase.{SecondAtStarting}
 use Rattle.lte_properties.proofs.Freshness.PhoneRun.{phone_always_in_order}
-use Rattle.lte_properties.proofs.Agreement.Whole.{new_kenb}
 use Rattle.lte_properties.proofs.Opening.Heard.{always_heard}
 use Rattle.lte_properties.proofs.Opening.Second.{second_at}
-use Rattle.lte_events.specs.Ranges.{has_station}
+use Rattle.lte_events.specs.Ranges.{has_station, IsEvent, IsSetup}
 use Rattle.lte_properties.specs.Reach.{AllReach}
 use Rattle.lte_properties.proofs.Named.Reaches.{sites, first_named}
 use Rattle.lte_properties.proofs.Named.World.{run_named, addresses_named}
 use Rattle.lte_machine.proofs.CipherLaws.{AreCiphers}
+use Rattle.lte_machine.proofs.Worlds.{TheWorld}
 
-module _ (same : Term → Term → Bool) (sender : Option (Outgoing Term ℕ) → Option (KeyUse Term)) (opener : Opening Term → List ℕ → Option (Outgoing Term ℕ) → Outcome) (c : Ciphers Term) (good : AreCiphers c) (between : Fields → Option (NumberedKey Term ℕ) → List ℕ) (cells : List Site) where
+module _ (same : Term → Term → Bool) (sender : Option (Outgoing Term ℕ) → Option (KeyUse Term))
+    (opener : Opening Term → List ℕ → Option (Outgoing Term ℕ) → Outcome) (c : Ciphers Term) (good : AreCiphers c)
+    (between : Fields → Option (NumberedKey Term ℕ) → List ℕ) (cells : List Site) where
   abbrev q : Reading Term ℕ
   q = term_reading_by same
 
@@ -93,7 +93,8 @@ module _ (same : Term → Term → Bool) (sender : Option (Outgoing Term ℕ) �
   -- AN AUTHENTICATION
 
   authenticated_keeps : (g : Choices) (k d : Conns) (w : TheWorld) (ksi : ℕ) (octets : List ℕ) (caps : Caps) → ksi ≤ 6 → PacketsOk g k w
-      → Later (ghost k w) (ghost d (authenticated m w ksi (Root (next_root w) octets) caps).0) → Keeps d (authenticated m w ksi (Root (next_root w) octets) caps).0
+      → Later (ghost k w) (ghost d (authenticated m w ksi (Root (next_root w) octets) caps).0)
+      → Keeps d (authenticated m w ksi (Root (next_root w) octets) caps).0
   authenticated_keeps g k d w ksi octets caps fits h later =
       let n = next_root w in
       let root = Root n octets in
@@ -105,8 +106,13 @@ module _ (same : Term → Term → Bool) (sender : Option (Outgoing Term ℕ) �
       let more : More g n g' (next_root u) = (omega arith, λ i below. chosen_below g n algs i below) in (
         g',
         record {
-          core = (core_auth_goes same g' (next_root u) ksi caps (Some root) w.core (core_more g g' n (next_root u) more w.core h.core) (fits, (n, octets, refl, low, chosen_there g n algs))).0;
-          phone = (phone_goes same g' (next_root u) (phone.OfAuth (phone.Authenticated ksi)) (Some root) w.phone (phone_more g g' n (next_root u) more w.phone h.phone) (n, octets, refl, low, tt)).0;
+          core =
+              (core_auth_goes same g' (next_root u) ksi caps (Some root) w.core
+              (core_more g g' n (next_root u) more w.core h.core)
+              (fits, (n, octets, refl, low, chosen_there g n algs))).0;
+          phone =
+              (phone_goes same g' (next_root u) (phone.OfAuth (phone.Authenticated ksi)) (Some root) w.phone
+              (phone_more g g' n (next_root u) more w.phone h.phone) (n, octets, refl, low, tt)).0;
           nas = nas_after g g' n (next_root u) more w.sent h.nas;
           air = air_after (ghost k w) (ghost d u) later w.sent h.air;
         },
@@ -129,7 +135,10 @@ module _ (same : Term → Term → Bool) (sender : Option (Outgoing Term ℕ) �
         (done.1.answer ≡ Done → SenderIs (keys_of done.0.history) a.opening (sender_of a.came) (opener a.opening a.octets a.came))
         → Later (ghost k w) (ghost d done.0) → Keeps d done.0
 
-    phone_keeps : (input : PhoneInput Term) (came : Option (Outgoing Term ℕ)) → IsTurn input → PhoneGets IsEvent (CameTo g w) input came → Left (phone_turn m w input came) (phone_attempts m w input came)
+    phone_keeps : (input : PhoneInput Term) (came : Option (Outgoing Term ℕ))
+        → IsTurn input
+        → PhoneGets IsEvent (CameTo g w) input came
+        → Left (phone_turn m w input came) (phone_attempts m w input came)
     phone_keeps (PhoneAuth ksi key) came turn is one later = absurd turn
     phone_keeps (PhoneActs act) (Some x) turn is one later = absurd is
     phone_keeps (PhoneActs act) None turn is one later =
@@ -137,7 +146,9 @@ module _ (same : Term → Term → Bool) (sender : Option (Outgoing Term ℕ) �
         (act, phone_act_has q w.phone act, is) (act, phone_act_has q w.phone act, is) later
     phone_keeps (PhoneNasPdu pdu) came turn is one later =
         phone_turn_keeps same sender opener c good between cells g k d w (PhoneNasPdu pdu) came ok h
-        (nas_pdu_needs same g (next_root w) c good w.phone pdu came (is refl) w.history (opener (phone_opens q w.phone (PhoneNasPdu pdu)) pdu came) one) tt later
+        (nas_pdu_needs same g (next_root w) c good w.phone pdu came (is refl) w.history
+        (opener (phone_opens q w.phone (PhoneNasPdu pdu)) pdu came) one)
+        tt later
     phone_keeps (PhoneAirPdu station air bearer pdu) came turn is one later =
         phone_turn_keeps same sender opener c good between cells g k d w (PhoneAirPdu station air bearer pdu) came ok h tt tt later
 
@@ -145,9 +156,13 @@ module _ (same : Term → Term → Bool) (sender : Option (Outgoing Term ℕ) �
     turns = record {
       auth = λ ksi octets caps is new one later. authenticated_keeps g k d w ksi octets caps is.0 h later;
       phone = phone_keeps;
-      core_acts = λ act is one later. core_turn_keeps same sender opener c good between cells g k d w (CoreActs act) None h tt (act, act_has q w.core act, is) later;
+      core_acts = λ act is one later.
+          core_turn_keeps same sender opener c good between cells g k d w (CoreActs act) None h tt
+          (act, act_has q w.core act, is) later;
       core_nas = λ pdu came is one later. core_turn_keeps same sender opener c good between cells g k d w (CoreNasPdu pdu) came h tt tt later;
-      core_record = λ pdu came is one later. core_turn_keeps same sender opener c good between cells g k d w (CoreRecord (content_in m came)) came h tt tt later;
+      core_record = λ pdu came is one later.
+          core_turn_keeps same sender opener c good between cells g k d w
+          (CoreRecord (content_in m came)) came h tt tt later;
       station_acts = λ id act is s f one later.
           station_turn_keeps same sender opener c good between cells g k d w id (StationActs act) None s h (λ o. station_act_needs q s act is) f.holds later;
       station_air = λ id air bearer pdu came is s f one later.
@@ -161,7 +176,9 @@ module _ (same : Term → Term → Bool) (sender : Option (Outgoing Term ℕ) �
       → Later (ghost k w) (ghost d (happens m w e).0) → Keeps d (happens m w e).0
   happens_keeps g k d w e is ok h one later =
       happens_by (turns g k d w ok h) (λ to pdu e. tt)
-      (all_map (SentOk g (next_root w)) (λ x. CameTo g w (address_of x) (octets_of c between x) (Some x)) (sent_came g w) w.sent h.nas) ok.stations e is one later
+      (all_map (SentOk g (next_root w)) (λ x. CameTo g w (address_of x) (octets_of c between x) (Some x))
+      (sent_came g w) w.sent h.nas)
+      ok.stations e is one later
 
   -- EVERY RUN
 
@@ -169,26 +186,36 @@ module _ (same : Term → Term → Bool) (sender : Option (Outgoing Term ℕ) �
   abbrev pub Stands : TheWorld → Type 0
   Stands w = (k : Conns) × WorldOk cells k w × Keeps k w
 
-  pub run_stands : AllOf SiteOk cells → (top : ℕ → ℕ) (w : TheWorld) (es : List Event) → Holds top w → Stands w → ranges.AllOf IsEvent es
+  pub run_stands : AllOf SiteOk cells → (top : ℕ → ℕ) (w : TheWorld) (es : List Event) → Holds top w → Stands w → AllOf IsEvent es
       → Along (λ v e. Settled v) m w es → Along (Honest m) m w es → Along (Calm m) m w es → Along (SameRoot m) m w es → Stands (run m w es)
   run_stands sites top w [] holds h is settled honest calm one = h
   run_stands sites top w (e ∷ es) holds h is settled honest calm one =
       let u = (happens m w e).0 in
-      let step = happens_goes same Root (octets_of c between) sender opener (octets_tell c good between) cells sites h.0 w e is.0 h.1 settled.0 holds.above holds.flight honest.0 calm.0 in
+      let step = happens_goes same Root (octets_of c between) sender opener (octets_tell c good between) cells sites h.0
+      w e is.0 h.1 settled.0 holds.above holds.flight honest.0 calm.0 in
       let keeps = happens_keeps h.2.0 h.0 step.0 w e is.0 h.1 h.2.1 one.0 step.1 in
       run_stands sites (noted u.core.link top) u es (happens_holds same Root (octets_of c between) sender opener top w e holds) (step.0, step.2, keeps)
       is.1 settled.1 honest.1 calm.1 one.1
 
 -- before the first event nothing was sent
 pub first_stands : (setup : Setup) → IsSetup setup → (k : Conns) × WorldOk setup.cells k (first_world setup) × Keeps k (first_world setup)
-first_stands setup is =
-    (no_conns setup, first_ok setup is, ((λ n. choice_of [] (record { eea = 0; eia = 0 })), record { core = (tt, refl, tt); phone = (tt, tt); nas = tt; air = tt }))
+first_stands setup is = (
+  no_conns setup,
+  first_ok setup is,
+  (
+    (λ n. choice_of [] (record { eea = 0; eia = 0 })),
+    record { core = (tt, refl, tt); phone = (tt, tt); nas = tt; air = tt },
+  ),
+)
 
 -- of a machine whose opener compares the uses of SRB records as terms, and whose NAS messages come of the KASME under which they
 -- are accepted
-module _ (same : Term → Term → Bool) (itself : IsReflexive same) (c : Ciphers Term) (good : AreCiphers c) (between : Fields → Option (NumberedKey Term ℕ) → List ℕ) (opener : Opening Term → List ℕ → Option (Outgoing Term ℕ) → Outcome) (by_terms : OpensByTerms c opener)
-    (setup : Setup) (is : IsSetup setup) (events : List Event) (are : ranges.AllOf IsEvent events)
-    (one : Along (SameRoot (record (machine_over same c between) { opener = opener })) (record (machine_over same c between) { opener = opener }) (first_world setup) events) where
+module _ (same : Term → Term → Bool) (itself : IsReflexive same) (c : Ciphers Term) (good : AreCiphers c)
+    (between : Fields → Option (NumberedKey Term ℕ) → List ℕ)
+    (opener : Opening Term → List ℕ → Option (Outgoing Term ℕ) → Outcome) (by_terms : OpensByTerms c opener)
+    (setup : Setup) (is : IsSetup setup) (events : List Event) (are : AllOf IsEvent events)
+    (one : Along (SameRoot (record (machine_over same c between) { opener = opener }))
+    (record (machine_over same c between) { opener = opener }) (first_world setup) events) where
   abbrev over : Machine Term ℕ (Outgoing Term ℕ)
   over = record (machine_over same c between) { opener = opener }
 
@@ -198,17 +225,23 @@ module _ (same : Term → Term → Bool) (itself : IsReflexive same) (c : Cipher
   -- both invariants hold in every world of a run
   stands : Stands same sender_of opener c good between setup.cells last
   stands =
-      run_stands same sender_of opener c good between setup.cells (cells_of setup is) (λ conn. 0) (first_world setup) events (first_holds setup) (first_stands setup is) are
+      run_stands same sender_of opener c good between setup.cells (cells_of setup is) (λ conn. 0) (first_world setup)
+      events (first_holds setup) (first_stands setup is) are
       (settled_from_first same itself (octets_of c between) sender_of opener setup is events are)
       (honest_along same Root (octets_of c between) sender_of opener c by_terms (first_world setup) events)
       (calm_over same itself c good between opener by_terms setup is events are) one
 
   -- an opener that opens what comes under the uses it was sealed with opens packets to what was sent
-  pub packets_open : (back : Opening Term → List ℕ → Option (Outgoing Term ℕ) → Outcome) → OpensBack c back → OpensToSent (record (machine_over same c between) { opener = back }) last
-  packets_open back opens = opens_where_fits same Root sender_of back c good opens between last (packets_fit setup.cells stands.0 stands.2.0 last stands.1 stands.2.1)
+  pub packets_open : (back : Opening Term → List ℕ → Option (Outgoing Term ℕ) → Outcome)
+      → OpensBack c back
+      → OpensToSent (record (machine_over same c between) { opener = back }) last
+  packets_open back opens =
+      opens_where_fits same Root sender_of back c good opens between last
+      (packets_fit setup.cells stands.0 stands.2.0 last stands.1 stands.2.1)
 
   -- the second case of opening comes at a starting station alone, by whatever opener
-  pub second_case : (back : Opening Term → List ℕ → Option (Outgoing Term ℕ) → Outcome) → SecondAtStarting (record (machine_over same c between) { opener = back }) last
+  pub second_case : (back : Opening Term → List ℕ → Option (Outgoing Term ℕ) → Outcome)
+      → SecondAtStarting (record (machine_over same c between) { opener = back }) last
   second_case back =
       second_at same sender_of back c good between setup.cells stands.2.0 stands.0 last stands.1 stands.2.1 (always_heard over setup events)
       (new_kenb last.phone.radio last.took (phone_always_in_order same itself (octets_of c between) sender_of opener setup events).1)
@@ -217,6 +250,8 @@ module _ (same : Term → Term → Bool) (itself : IsReflexive same) (c : Cipher
   pub all_reach : AllReach setup last
   all_reach =
       addresses_named (λ id. IsTrue (has_station setup.stations id)) setup.cells (sites setup is) stands.0 last
-      (run_named (λ id. IsTrue (has_station setup.stations id)) setup.cells (sites setup is) same Root (octets_of c between) sender_of opener (first_world setup) events (first_named setup is))
-      last.sent (run_named (λ id. IsTrue (has_station setup.stations id)) setup.cells (sites setup is) same Root (octets_of c between) sender_of opener (first_world setup) events (first_named setup is)).sent
+      (run_named (λ id. IsTrue (has_station setup.stations id)) setup.cells (sites setup is) same Root
+      (octets_of c between) sender_of opener (first_world setup) events (first_named setup is))
+      last.sent (run_named (λ id. IsTrue (has_station setup.stations id)) setup.cells (sites setup is) same Root
+      (octets_of c between) sender_of opener (first_world setup) events (first_named setup is)).sent
       stands.1.sent stands.2.1.air

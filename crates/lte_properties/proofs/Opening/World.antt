@@ -35,13 +35,14 @@ use Rattle.lte_properties.specs.ChainHolds.{machine_by}
 use Rattle.lte_properties.proofs.ChainNumbers.Lists.{OfSome, all_one, all_map, roots_kept}
 use Rattle.lte_properties.proofs.Agreement.Ghost.{Ghost, StationOk}
 use Rattle.lte_properties.proofs.Agreement.Later.{Later}
-use Rattle.lte_properties.proofs.Agreement.World.{TheWorld, Conns, ghost, WorldOk}
+use Rattle.lte_properties.proofs.Agreement.World.{Conns, ghost, WorldOk}
 use Rattle.lte_properties.proofs.Opening.Nas.{Choices, PhoneOk, CoreOk, SentOk, OutOk, More, phone_more, core_more, sent_more}
 use Rattle.lte_properties.proofs.Opening.NasRows.{RowNeeds, CoreRowNeeds, NoAuth, phone_goes, core_goes}
 use Rattle.lte_properties.proofs.Opening.Air.{AirOk, FromStation, StationNeeds, FromPhone, PhoneNeeds, air_later, radio_keys, context_keys, station_sends, phone_sends}
 use Rattle.lte_machine.proofs.CipherLaws.{AreCiphers}
 use Rattle.lte_machine.proofs.CoreCases.{NasCases, nas_case, RecordCases, record_case, ActCases, act_case}
 use Rattle.lte_machine.proofs.Tests.{Anything}
+use Rattle.lte_machine.proofs.Worlds.{TheWorld}
 
 -- what is known of packets in a world: the NAS keys of core and phone, and how each record that was sent is sealed
 pub record PacketsOk (g : Choices) (k : Conns) (w : TheWorld) : Type 0 where
@@ -164,7 +165,9 @@ module _ (same : Term → Term → Bool) where
 
 -- THE STEP OF EACH ACTOR
 
-module _ (same : Term → Term → Bool) (sender : Option (Outgoing Term ℕ) → Option (KeyUse Term)) (opener : Opening Term → List ℕ → Option (Outgoing Term ℕ) → Outcome) (c : Ciphers Term) (good : AreCiphers c) (between : Fields → Option (NumberedKey Term ℕ) → List ℕ) (cells : List Site) where
+module _ (same : Term → Term → Bool) (sender : Option (Outgoing Term ℕ) → Option (KeyUse Term))
+    (opener : Opening Term → List ℕ → Option (Outgoing Term ℕ) → Outcome) (c : Ciphers Term) (good : AreCiphers c)
+    (between : Fields → Option (NumberedKey Term ℕ) → List ℕ) (cells : List Site) where
   abbrev q : Reading Term ℕ
   q = term_reading_by same
 
@@ -188,9 +191,14 @@ module _ (same : Term → Term → Bool) (sender : Option (Outgoing Term ℕ) �
         record {
           core = core_more g g (next_root w) (next_root u) more w.core h.core;
           phone = phone_more g g (next_root w) (next_root u) more done.0 own;
-          nas = all_one (SentOk g (next_root u)) done.1.sent w.sent (all_map (SentOk g (next_root w)) (SentOk g (next_root u)) (sent_more g g (next_root w) (next_root u) more) w.sent h.nas)
+          nas =
+              all_one (SentOk g (next_root u)) done.1.sent w.sent
+              (all_map (SentOk g (next_root w)) (SentOk g (next_root u))
+              (sent_more g g (next_root w) (next_root u) more) w.sent h.nas)
               (some_more g g (next_root w) (next_root u) more done.1.sent (out_nas g (next_root w) done.1.sent out));
-          air = all_one (AirOk (ghost d u)) done.1.sent w.sent (all_map (AirOk (ghost k w)) (AirOk (ghost d u)) (air_later (ghost k w) (ghost d u) later) w.sent h.air)
+          air =
+              all_one (AirOk (ghost d u)) done.1.sent w.sent
+              (all_map (AirOk (ghost k w)) (AirOk (ghost d u)) (air_later (ghost k w) (ghost d u) later) w.sent h.air)
               (some_later (ghost k w) (ghost d u) later done.1.sent air);
         },
       )
@@ -205,9 +213,14 @@ module _ (same : Term → Term → Bool) (sender : Option (Outgoing Term ℕ) �
         record {
           core = core_more g g (next_root w) (next_root u) more done.0 own;
           phone = phone_more g g (next_root w) (next_root u) more w.phone h.phone;
-          nas = all_one (SentOk g (next_root u)) done.1.sent w.sent (all_map (SentOk g (next_root w)) (SentOk g (next_root u)) (sent_more g g (next_root w) (next_root u) more) w.sent h.nas)
+          nas =
+              all_one (SentOk g (next_root u)) done.1.sent w.sent
+              (all_map (SentOk g (next_root w)) (SentOk g (next_root u))
+              (sent_more g g (next_root w) (next_root u) more) w.sent h.nas)
               (some_more g g (next_root w) (next_root u) more done.1.sent (out_nas g (next_root w) done.1.sent out));
-          air = all_one (AirOk (ghost d u)) done.1.sent w.sent (all_map (AirOk (ghost k w)) (AirOk (ghost d u)) (air_later (ghost k w) (ghost d u) later) w.sent h.air)
+          air =
+              all_one (AirOk (ghost d u)) done.1.sent w.sent
+              (all_map (AirOk (ghost k w)) (AirOk (ghost d u)) (air_later (ghost k w) (ghost d u) later) w.sent h.air)
               (some_later (ghost k w) (ghost d u) later done.1.sent air);
         },
       )
@@ -222,9 +235,14 @@ module _ (same : Term → Term → Bool) (sender : Option (Outgoing Term ℕ) �
         record {
           core = core_more g g (next_root w) (next_root u) more w.core h.core;
           phone = phone_more g g (next_root w) (next_root u) more w.phone h.phone;
-          nas = all_one (SentOk g (next_root u)) done.1.sent w.sent (all_map (SentOk g (next_root w)) (SentOk g (next_root u)) (sent_more g g (next_root w) (next_root u) more) w.sent h.nas)
+          nas =
+              all_one (SentOk g (next_root u)) done.1.sent w.sent
+              (all_map (SentOk g (next_root w)) (SentOk g (next_root u))
+              (sent_more g g (next_root w) (next_root u) more) w.sent h.nas)
               (station_nas g (next_root u) (ghost k w) done.1.sent from);
-          air = all_one (AirOk (ghost d u)) done.1.sent w.sent (all_map (AirOk (ghost k w)) (AirOk (ghost d u)) (air_later (ghost k w) (ghost d u) later) w.sent h.air)
+          air =
+              all_one (AirOk (ghost d u)) done.1.sent w.sent
+              (all_map (AirOk (ghost k w)) (AirOk (ghost d u)) (air_later (ghost k w) (ghost d u) later) w.sent h.air)
               (some_later (ghost k w) (ghost d u) later done.1.sent (station_air (ghost k w) done.1.sent from));
         },
       )
@@ -247,7 +265,10 @@ module _ (same : Term → Term → Bool) (sender : Option (Outgoing Term ℕ) �
   row_at_phone w input came =
       phone_row (plain_phone q w.phone) (front_of q w.phone input) (opener (phone_opens q w.phone input) (phone_pdu_in input) came)
 
-  pub phone_turn_keeps : (g : Choices) (k d : Conns) (w : TheWorld) (input : PhoneInput Term) (came : Option (Outgoing Term ℕ)) → WorldOk cells k w → PacketsOk g k w
+  pub phone_turn_keeps : (g : Choices) (k d : Conns) (w : TheWorld) (input : PhoneInput Term)
+      (came : Option (Outgoing Term ℕ))
+      → WorldOk cells k w
+      → PacketsOk g k w
       → RowNeeds same g (next_root w) w.phone (phone_root input) (row_at_phone w input came) → PhoneNeeds same (ghost k w) w.phone (row_at_phone w input came)
       → Later (ghost k w) (ghost d (phone_turn m w input came).0) → Keeps d (phone_turn m w input came).0
   phone_turn_keeps g k d w input came ok h needs sends later =
@@ -269,10 +290,14 @@ module _ (same : Term → Term → Bool) (sender : Option (Outgoing Term ℕ) �
       core_after_keeps g k d w (core_step q w.core input (opener (core_opens q w.core input) (core_pdu_in input) came)) h goes.0 goes.1
       (core_air (ghost k w) _ (core_sends same row (core_root input) w.core)) later
 
-  pub station_turn_keeps : (g : Choices) (k d : Conns) (w : TheWorld) (id : ℕ) (input : StationInput Term ℕ) (came : Option (Outgoing Term ℕ)) (s : Station Term ℕ) → PacketsOk g k w
+  pub station_turn_keeps : (g : Choices) (k d : Conns) (w : TheWorld) (id : ℕ) (input : StationInput Term ℕ)
+      (came : Option (Outgoing Term ℕ)) (s : Station Term ℕ)
+      → PacketsOk g k w
       → ((outcome : Outcome) → StationNeeds (station_row_of q s input outcome)) → StationOk cells (ghost k w) s
       → Later (ghost k w) (ghost d (turn_of m w id input came (Some s)).0) → Keeps d (turn_of m w id input came (Some s)).0
   station_turn_keeps g k d w id input came s h needs ok later =
       let outcome = opener (station_opens q s input) (station_pdu_in input) came in
       station_after_keeps g k d w id (station_step q s input outcome) h
-      (station_sends same (ghost k w) s (context_keys (ghost k w) s.id s.context ok.0) (station_row_of q s input outcome) (station_key input) (needs outcome)) later
+      (station_sends same (ghost k w) s (context_keys (ghost k w) s.id s.context ok.0)
+      (station_row_of q s input outcome) (station_key input) (needs outcome))
+      later

@@ -1,5 +1,7 @@
-use super::*;
-use scenario_file::generate;
+use crate::scenarios::event_at;
+use crate::values::{same, same_at};
+use scenario_file::{generate, read};
+use std::test::Fail;
 
 // The scenario of seed 94 as another program wrote it down: 50 steps, with a turn of each kind. The last handover over
 // X2 but one is without the answer to its path switch, and the last would be.

@@ -8,4 +8,5 @@ returns-in-Err-clause-went g c = λ written behind parts.
 
 pub returns-clause-went : goal.returns-clause-went
 returns-clause-went g c = λ written behind parts.
-    receive_differs written c.args.peer _ _ c.args.reply.now c.receive.new.buf c.differs.result _ _ c.requires.room (search rules) (search rules) parts c.differs.ensures c.in-Ok.ensures.taken c.in-Ok.ensures.full
+    receive_differs written c.args.peer _ _ c.args.reply.now c.receive.new.buf c.differs.result _ _ c.requires.room
+    (search rules) (search rules) parts c.differs.ensures c.in-Ok.ensures.taken c.in-Ok.ensures.full

@@ -31,7 +31,7 @@ returns-in-Err-clause-memory g c = λ is.
     inr (c.start_all-count.ensures.memory (subst P (sym c.in-Err.is) is))
 
 pub set_up_all-requires-clause-seeds : goal.set_up_all-requires-clause-seeds
-set_up_all-requires-clause-seeds g c = seeds_good c.args.setup.now c.requires.ready.begins.can c.requires.cells
+set_up_all-requires-clause-seeds g c = seeds_good c.args.setup.now c.requires.is_scenario.can_start c.requires.cells
 
 pub returns-in-Err-set_up_all-clause-went : goal.returns-in-Err-set_up_all-clause-went
 returns-in-Err-set_up_all-clause-went g c =
@@ -46,12 +46,15 @@ returns-in-Err-set_up_all-clause-went g c =
 pub returns-in-Err-set_up_all-clause-running : goal.returns-in-Err-set_up_all-clause-running
 returns-in-Err-set_up_all-clause-running g c =
     all_run_went {A = Unit {0}} _ (set_ups 0 (seeds_of c.args.setup.now)) (Err c.in-Err-set_up_all.fault)
-    (outside None (g.P.Peers.told c.start_all-count.new.peers)) (outside None (g.P.Peers.told c.set_up_all.new.peers)) c.start_all-count.ensures.running (c.in-Err-set_up_all.ensures.went None)
+    (outside None (g.P.Peers.told c.start_all-count.new.peers)) (outside None (g.P.Peers.told c.set_up_all.new.peers))
+    c.start_all-count.ensures.running (c.in-Err-set_up_all.ensures.went None)
 
 pub returns-in-Err-set_up_all-clause-count : goal.returns-in-Err-set_up_all-clause-count
 returns-in-Err-set_up_all-clause-count g c =
     started_went {A = Unit {0}} _ (set_ups 0 (seeds_of c.args.setup.now)) (Err c.in-Err-set_up_all.fault)
-    (outside None (g.P.Peers.told c.start_all-count.new.peers)) (outside None (g.P.Peers.told c.set_up_all.new.peers)) (set_ups_start 0 (seeds_of c.args.setup.now)) c.start_all-count.ensures.count (c.in-Err-set_up_all.ensures.went None)
+    (outside None (g.P.Peers.told c.start_all-count.new.peers)) (outside None (g.P.Peers.told c.set_up_all.new.peers))
+    (set_ups_start 0 (seeds_of c.args.setup.now)) c.start_all-count.ensures.count
+    (c.in-Err-set_up_all.ensures.went None)
 
 pub returns-in-Err-set_up_all-clause-write_cause : goal.returns-in-Err-set_up_all-clause-write_cause
 returns-in-Err-set_up_all-clause-write_cause g c = λ is. absurd (c.in-Err-set_up_all.ensures.no_write is)
@@ -83,13 +86,16 @@ returns-clause-memory g c = λ is. inl (c.run_all.ensures.memory is)
 pub returns-clause-running : goal.returns-clause-running
 returns-clause-running g c =
     plan_runs (events_plan c.args.setup.now 0 (Running (first_world c.args.setup.now)) c.args.events.now.items) _ c.run_all.result
-    (outside (g.W.Edge.told c.args.out.now).written (g.P.Peers.told c.set_up_all.new.peers)) (outside (g.W.Edge.told c.run_all.new.out).written (g.P.Peers.told c.run_all.new.peers))
+    (outside (g.W.Edge.told c.args.out.now).written (g.P.Peers.told c.set_up_all.new.peers))
+    (outside (g.W.Edge.told c.run_all.new.out).written (g.P.Peers.told c.run_all.new.peers))
     (all_run_did _ (calls (set_ups 0 (seeds_of c.args.setup.now))) _ _ c.start_all-count.ensures.running (c.in-Ok-set_up_all.ensures.went None).did)
     c.run_all.ensures.went
 
 pub returns-clause-count : goal.returns-clause-count
 returns-clause-count g c =
     events_count c.args.setup.now c.args.events.now.items _ (Running (first_world c.args.setup.now)) c.run_all.result
-    (outside (g.W.Edge.told c.args.out.now).written (g.P.Peers.told c.set_up_all.new.peers)) (outside (g.W.Edge.told c.run_all.new.out).written (g.P.Peers.told c.run_all.new.peers))
-    (started_did _ (calls (set_ups 0 (seeds_of c.args.setup.now))) _ _ (set_ups_start 0 (seeds_of c.args.setup.now)) c.start_all-count.ensures.count (c.in-Ok-set_up_all.ensures.went None).did)
+    (outside (g.W.Edge.told c.args.out.now).written (g.P.Peers.told c.set_up_all.new.peers))
+    (outside (g.W.Edge.told c.run_all.new.out).written (g.P.Peers.told c.run_all.new.peers))
+    (started_did _ (calls (set_ups 0 (seeds_of c.args.setup.now))) _ _ (set_ups_start 0 (seeds_of c.args.setup.now))
+    c.start_all-count.ensures.count (c.in-Ok-set_up_all.ensures.went None).did)
     c.run_all.ensures.went

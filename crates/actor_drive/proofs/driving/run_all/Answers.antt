@@ -18,7 +18,7 @@ happen-requires-clause-can g c =
     let events = c.args.events.now.items in
     let i = c.loop-number.number in
     let e = c.at-event.result in
-    can_take e c.requires.ready c.loop-number.invariant.took (slice_get_within events i e c.at-event.ensures) (item_at events i e c.at-event.ensures)
+    can_take e c.requires.is_scenario c.loop-number.invariant.took (slice_get_within events i e c.at-event.ensures) (item_at events i e c.at-event.ensures)
 
 pub returns-in-Err-clause-went : goal.returns-in-Err-clause-went
 returns-in-Err-clause-went g c =
@@ -53,7 +53,10 @@ loop-number-preserved g c =
     record {
       plan = subst (λ r. PlanGoing whole (events_plan c.args.setup.now (i + 1) r (drop (i + 1) c.args.events.now.items)) o y) (sym takes.run)
           (plan_on whole p rest c.in-Ok.field-0 o x y going c.in-Ok.ensures.went);
-      took = one_taken e so_far.took (plain_of c.args.setup.now (length v.journal) (told_of (run_of v) e) (replies_at (run_of v) e) c.in-Ok.ensures.went.1) takes;
+      took =
+          one_taken e so_far.took (plain_of c.args.setup.now (length v.journal) (told_of (run_of v) e)
+          (replies_at (run_of v) e) c.in-Ok.ensures.went.1)
+          takes;
       running = plan_runs p _ c.happen.result x y so_far.running c.happen.ensures.went;
       no_peer_fault = search rules;
       no_fault = search rules;
@@ -77,4 +80,5 @@ returns-in-Ok-write_end-clause-went g c =
     let y : Outside = outside (g.W.Edge.told c.write_end.new.out).written (g.P.Peers.told c.loop-number.peers) in
     plan_goes {A = Unit {0}} whole left (Ok c.in-Ok-write_end.field-0) o x y so_far.plan
     (end_done (Unit {0}) c.args.setup.now c.args.events.now.items c.loop-number.number (length c.loop-number.world.journal) (run_of c.loop-number.world)
-    (g.W.Edge.told c.loop-number.out) (g.W.Edge.told c.write_end.new.out) (g.P.Peers.told c.loop-number.peers) (search rules) so_far.took.count c.in-Ok-write_end.ensures.written c.in-Ok-write_end.field-0)
+    (g.W.Edge.told c.loop-number.out) (g.W.Edge.told c.write_end.new.out) (g.P.Peers.told c.loop-number.peers)
+    (search rules) so_far.took.count c.in-Ok-write_end.ensures.written c.in-Ok-write_end.field-0)

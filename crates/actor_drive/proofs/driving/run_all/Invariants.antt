@@ -12,7 +12,8 @@ use Rattle.actor_drive.proofs.driving.run_all.Given as goal
 
 abbrev pub invariant-loop-number : goal.invariant-loop-number
 invariant-loop-number g l = record {
-  plan : PlanGoing (events_plan l.fn.setup 0 (Running (first_world l.fn.setup)) l.events.items) (events_plan l.fn.setup l.number (run_of l.world) (drop l.number l.events.items))
+  plan : PlanGoing (events_plan l.fn.setup 0 (Running (first_world l.fn.setup)) l.events.items)
+      (events_plan l.fn.setup l.number (run_of l.world) (drop l.number l.events.items))
       (outside (g.W.Edge.told l.initial.out).written (g.P.Peers.told l.initial.peers)) (outside (g.W.Edge.told l.out).written (g.P.Peers.told l.peers));
   took : Took l.fn.setup l.number l.world;
   running : AllRun (length (roles_of l.fn.setup)) (g.P.Peers.told l.peers);

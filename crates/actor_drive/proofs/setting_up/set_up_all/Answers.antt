@@ -13,7 +13,8 @@ pub returns-in-Err-clause-went : goal.returns-in-Err-clause-went
 returns-in-Err-clause-went g c = λ written.
     going_cut (set_ups 0 (seeds_of c.args.setup.now)) _ _ _ c.in-Err.fault _ _ _
     (c.loop-peer.invariant.0 written)
-    (set_ups_next (seeds_of c.args.setup.now) c.loop-peer.peer c.seed_at.result c.setup_frame-frame.result _ c.seed_at.ensures c.setup_frame-frame.ensures.spelled c.loop-peer.invariant.3)
+    (set_ups_next (seeds_of c.args.setup.now) c.loop-peer.peer c.seed_at.result c.setup_frame-frame.result _
+    c.seed_at.ensures c.setup_frame-frame.ensures.spelled c.loop-peer.invariant.3)
     (c.in-Err.ensures.went written)
 
 pub loop-peer-preserved : goal.loop-peer-preserved
@@ -21,7 +22,8 @@ loop-peer-preserved g c = (
   λ written.
       going_on (set_ups 0 (seeds_of c.args.setup.now)) _ _ _ _ _ _
       (c.loop-peer.invariant.0 written)
-      (set_ups_next (seeds_of c.args.setup.now) c.loop-peer.peer c.seed_at.result c.setup_frame-frame.result _ c.seed_at.ensures c.setup_frame-frame.ensures.spelled c.loop-peer.invariant.3)
+      (set_ups_next (seeds_of c.args.setup.now) c.loop-peer.peer c.seed_at.result c.setup_frame-frame.result _
+      c.seed_at.ensures c.setup_frame-frame.ensures.spelled c.loop-peer.invariant.3)
       (c.in-Ok.ensures.went written),
   all_run_did _ _ _ _ c.loop-peer.invariant.1 (c.in-Ok.ensures.went None).did,
   search rules,

@@ -30,7 +30,9 @@ returns-in-Err-clause-went g c = λ written.
     slice_get_read c.args.replies.now _ c.loop-input.input-index p refl (search rules) c.loop-input-item.is in
     going_cut (replied c.args.setup.now c.args.step c.args.replies.now) _ _ _ c.in-Err.fault _ _ _
     (c.loop-input.invariant.0 written)
-    (replied_next c.args.setup.now c.args.step c.args.replies.now c.loop-input.input-index p.0 p.1 c.peer_of.result c.actor_frame-frame.result c.reply_frame-reply.result at c.peer_of.ensures c.actor_frame-frame.ensures.spelled c.reply_frame-reply.ensures)
+    (replied_next c.args.setup.now c.args.step c.args.replies.now c.loop-input.input-index p.0 p.1 c.peer_of.result
+    c.actor_frame-frame.result c.reply_frame-reply.result at c.peer_of.ensures c.actor_frame-frame.ensures.spelled
+    c.reply_frame-reply.ensures)
     (c.in-Err.ensures.went written)
 
 pub loop-input-preserved : goal.loop-input-preserved
@@ -41,7 +43,9 @@ loop-input-preserved g c =
       λ written.
           going_on (replied c.args.setup.now c.args.step c.args.replies.now) _ _ _ _ _ _
           (c.loop-input.invariant.0 written)
-          (replied_next c.args.setup.now c.args.step c.args.replies.now c.loop-input.input-index p.0 p.1 c.peer_of.result c.actor_frame-frame.result c.reply_frame-reply.result at c.peer_of.ensures c.actor_frame-frame.ensures.spelled c.reply_frame-reply.ensures)
+          (replied_next c.args.setup.now c.args.step c.args.replies.now c.loop-input.input-index p.0 p.1
+          c.peer_of.result c.actor_frame-frame.result c.reply_frame-reply.result at c.peer_of.ensures
+          c.actor_frame-frame.ensures.spelled c.reply_frame-reply.ensures)
           (c.in-Ok.ensures.went written),
       all_run_did _ _ _ _ c.loop-input.invariant.1 (c.in-Ok.ensures.went None).did,
       search rules,

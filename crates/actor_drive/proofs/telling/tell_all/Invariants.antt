@@ -6,6 +6,8 @@ use Rattle.actor_drive.proofs.telling.tell_all.Given as goal
 
 abbrev pub invariant-loop-input : goal.invariant-loop-input
 invariant-loop-input g l =
-    ((written : Option (List ℕ)) → Going (replied l.setup l.step l.replies) (replied l.setup l.step (drop l.input-index l.replies)) (outside written (g.P.Peers.told l.initial.peers)) (outside written (g.P.Peers.told l.peers)))
+    ((written : Option (List ℕ))
+    → Going (replied l.setup l.step l.replies) (replied l.setup l.step (drop l.input-index l.replies))
+    (outside written (g.P.Peers.told l.initial.peers)) (outside written (g.P.Peers.told l.peers)))
     × AllRun (length (roles_of l.setup)) (g.P.Peers.told l.peers)
     × (g.P.Peers.faults l.peers ≡ g.P.Peers.faults l.initial.peers)

@@ -9,4 +9,5 @@ returns-clause-read g c =
     let head = c.read_fill.new.buf in
     let all : take c.in-Ok.count head ≡ head = take_all c.in-Ok.count head (omega arith) in
     let first = subst (Gives (g.S.Edge.told c.args.src.now).left (g.S.Edge.told c.read_fill.new.src).left) all c.in-Ok.ensures.octets in
-    joined _ _ _ _ _ _ head c.length_of-size.result first (omega arith) (sym c.length_of-size.ensures.value) c.length_of-size.ensures.octets (omega arith) c.read_body.ensures.read
+    joined _ _ _ _ _ _ head c.length_of-size.result first (omega arith) (sym c.length_of-size.ensures.value)
+    c.length_of-size.ensures.octets (omega arith) c.read_body.ensures.read

@@ -13,7 +13,9 @@ loop-i-preserved c =
     let site : Site = record { station = c.at-station.result.0; cell = c.at-station.result.1 } in
     let once = c.append-in-loop-i.ensures in
     let size : length c.append-in-loop-i.new.self ≡ length c.loop-i.out + 1 = ap length once ∙ length-append c.loop-i.out (site.station ∷ []) in (
-      put_more c.args.out.now (length cells ∷ flat_map site_octets (take i cells)) (length cells ∷ flat_map site_octets (take (i + 1) cells)) c.loop-i.out c.append-in-loop-i.new.self c.put_cell.new.out (site.station ∷ []) (cell_octets site.cell)
+      put_more c.args.out.now (length cells ∷ flat_map site_octets (take i cells))
+          (length cells ∷ flat_map site_octets (take (i + 1) cells)) c.loop-i.out c.append-in-loop-i.new.self
+          c.put_cell.new.out (site.station ∷ []) (cell_octets site.cell)
           c.loop-i.invariant.0 once c.put_cell.ensures.octets (ap (λ t. length cells ∷ t) (flat_map-at site_octets cells i site c.at-station.ensures.value)),
       omega (arith, c.put_cell.ensures.count),
       c.loop-i.invariant.2,

@@ -33,7 +33,8 @@ returns-in-Err-write_all-clause-session g c =
     (search rules)
     c.read_frame.ensures.written
     c.turn-reply.ensures
-    (subst (λ (xs : List ℕ). GrowsByProperPrefix mid.written new.written xs) (c.as_slice.ensures.value ∙ c.reply_frame.ensures) c.in-Err-write_all.ensures.prefix)
+    (subst (λ (xs : List ℕ). GrowsByProperPrefix mid.written new.written xs)
+    (c.as_slice.ensures.value ∙ c.reply_frame.ensures) c.in-Err-write_all.ensures.prefix)
     c.write_all.ensures.left
     (c.write_all.ensures.ended ∙ c.in-Ok.ensures.ended)
     c.in-Err-write_all.ensures.cause

@@ -12,12 +12,15 @@ write_text-requires-clause-lines g c = text_is _ _ _ c.first_line.ensures.text (
 pub returns-in-Ok : goal.returns-in-Ok
 returns-in-Ok g c =
     let rows = c.args.ladder.now.rows in
-    both_written c.write_rest.result (first_line (length rows)) (row_lines rows (exact_mark rows) 0 (length rows) ++ last_line) c.requires.out_ready (c.in-Ok.ensures _ c.first_line.ensures.text) c.write_rest.ensures
+    both_written c.write_rest.result (first_line (length rows))
+    (row_lines rows (exact_mark rows) 0 (length rows) ++ last_line) c.requires.out_ready
+    (c.in-Ok.ensures _ c.first_line.ensures.text) c.write_rest.ensures
 
 pub returns-in-Err : goal.returns-in-Err
 returns-in-Err g c =
     let rows = c.args.ladder.now.rows in
-    first_cut (first_line (length rows)) (row_lines rows (exact_mark rows) 0 (length rows) ++ last_line) c.requires.out_ready (c.in-Err.ensures _ c.first_line.ensures.text)
+    first_cut (first_line (length rows)) (row_lines rows (exact_mark rows) 0 (length rows) ++ last_line)
+    c.requires.out_ready (c.in-Err.ensures _ c.first_line.ensures.text)
 
 pub write_rest-requires-clause-out_ready : goal.write_rest-requires-clause-out_ready
 write_rest-requires-clause-out_ready g c = (c.in-Ok.ensures _ c.first_line.ensures.text).used.ready

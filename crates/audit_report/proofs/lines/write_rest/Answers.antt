@@ -15,7 +15,11 @@ pub returns-in-Ok : goal.returns-in-Ok
 returns-in-Ok g c =
     let rows = c.args.ladder.now.rows in
     both_written c.write_lines.result (row_lines rows (exact_mark rows) 0 (length rows)) last_line c.requires.out_ready c.in-Ok.ensures
-    (subst (λ octets. WritesText octets c.write_lines.result (g.W.Edge.told c.write_rows.new.out) (g.W.Edge.told c.write_lines.new.out)) c.last_line.ensures c.write_lines.ensures)
+    (subst (λ octets. WritesText octets c.write_lines.result (g.W.Edge.told c.write_rows.new.out)
+    (g.W.Edge.told c.write_lines.new.out))
+    c.last_line.ensures c.write_lines.ensures)
 
 pub returns-in-Err : goal.returns-in-Err
-returns-in-Err g c = let rows = c.args.ladder.now.rows in first_cut (row_lines rows (exact_mark rows) 0 (length rows)) last_line c.requires.out_ready c.in-Err.ensures
+returns-in-Err g c =
+    let rows = c.args.ladder.now.rows in
+    first_cut (row_lines rows (exact_mark rows) 0 (length rows)) last_line c.requires.out_ready c.in-Err.ensures

@@ -19,17 +19,25 @@ pub write_text-requires-clause-out_ready : goal.write_text-requires-clause-out_r
 write_text-requires-clause-out_ready g c = c.loop-k.invariant.used.ready
 
 pub write_text-requires-clause-lines : goal.write_text-requires-clause-lines
-write_text-requires-clause-lines g c = text_is _ _ _ c.row_line.ensures.text (is_lines _ (row_ends c.args.ladder.now.rows (exact_mark c.args.ladder.now.rows) c.loop-k.k))
+write_text-requires-clause-lines g c =
+    text_is _ _ _ c.row_line.ensures.text
+    (is_lines _ (row_ends c.args.ladder.now.rows (exact_mark c.args.ladder.now.rows) c.loop-k.k))
 
 pub loop-k-preserved : goal.loop-k-preserved
 loop-k-preserved g c =
     let rows = c.args.ladder.now.rows in
-    more_written c.loop-k.invariant (row_more rows (exact_mark rows) c.loop-k.k (length rows) (omega (arith, c.loop-k-test.true, c.len-k-end.ensures.len))) (c.in-Ok.ensures _ c.row_line.ensures.text)
+    more_written c.loop-k.invariant
+    (row_more rows (exact_mark rows) c.loop-k.k (length rows)
+    (omega (arith, c.loop-k-test.true, c.len-k-end.ensures.len)))
+    (c.in-Ok.ensures _ c.row_line.ensures.text)
 
 pub returns-in-Err : goal.returns-in-Err
 returns-in-Err g c =
     let rows = c.args.ladder.now.rows in
-    cut_written c.loop-k.invariant (row_more rows (exact_mark rows) c.loop-k.k (length rows) (omega (arith, c.loop-k-test.true, c.len-k-end.ensures.len))) (c.in-Err.ensures _ c.row_line.ensures.text)
+    cut_written c.loop-k.invariant
+    (row_more rows (exact_mark rows) c.loop-k.k (length rows)
+    (omega (arith, c.loop-k-test.true, c.len-k-end.ensures.len)))
+    (c.in-Err.ensures _ c.row_line.ensures.text)
 
 pub returns : goal.returns
 returns g c =

@@ -4,35 +4,41 @@ use Rattle.core_relocation.specs.Report.{answer_report}
 use Rattle.lte_world.specs.Whole.{told_of}
 use Rattle.run_report.proofs.Shown.{shown_in}
 use Rattle.core_relocation.specs.Holder.{acting, away, station_in}
-use Rattle.core_relocation.proofs.Applied.{chance_told}
+use Rattle.core_relocation.proofs.Applied.{coincidence_told}
 use Rattle.edge_io.proofs.Ending.{is_lines, text_is}
 use Rattle.core_relocation.proofs.Ends.{two_ends}
 use Rattle.core_relocation.proofs.reports.write_answer.Goals as goal
 
-pub write_chance-requires-clause-string : goal.write_chance-requires-clause-string
-write_chance-requires-clause-string g c =
+pub write_coincidence-requires-clause-string : goal.write_coincidence-requires-clause-string
+write_coincidence-requires-clause-string g c =
     let v = c.args.two.now in
     let e = c.args.event.now in
-    shown_in v.world e c.in-Err-Chance.proof c.apply.ensures.ranges.0 c.apply.ensures.ranges.1 c.requires.runs c.requires.can.can c.requires.can.fits
-    (chance_told (away v.cores (station_in v.senders e) e) (acting v.cores (station_in v.senders e)) (length v.events) (told_of v.world e) c.in-Err-Chance.field-0 c.in-Err-Chance.proof c.in-Err-Chance.field-0-is c.in-Err-Chance.ensures.says)
+    shown_in v.world e c.in-Err-Coincidence.proof c.apply.ensures.ranges.0 c.apply.ensures.ranges.1 c.requires.runs c.requires.can.can.0
+    (coincidence_told (away v.cores (station_in v.senders e) e) (acting v.cores (station_in v.senders e))
+    (length v.events) (told_of v.world e) c.in-Err-Coincidence.field-0 c.in-Err-Coincidence.proof
+    c.in-Err-Coincidence.field-0-is c.in-Err-Coincidence.ensures.says)
 
 pub write_text-requires-clause-lines : goal.write_text-requires-clause-lines
 write_text-requires-clause-lines g c = text_is _ _ _ c.two_text.ensures.text (is_lines _ (two_ends c.len-step.result c.in-Ok.line))
 
 pub returns-in-Ok-write_text-clause-report : goal.returns-in-Ok-write_text-clause-report
 returns-in-Ok-write_text-clause-report g c =
-    one_piece (λ j. answer_report (sym (c.len-step.ensures ∙ ap length c.events.ensures) j) (sym (c.in-Ok.ensures.written c.requires.runs (λ same. cc)) j)) (c.in-Ok-write_text.ensures _ c.two_text.ensures.text)
+    one_piece (λ j. answer_report (sym (c.len-step.ensures ∙ ap length c.events.ensures) j)
+    (sym (c.in-Ok.ensures.written c.requires.runs (λ same. cc)) j))
+    (c.in-Ok-write_text.ensures _ c.two_text.ensures.text)
 
 pub returns-in-Err-clause-report : goal.returns-in-Err-clause-report
 returns-in-Err-clause-report g c =
-    one_cut (λ j. answer_report (sym (c.len-step.ensures ∙ ap length c.events.ensures) j) (sym (c.in-Ok.ensures.written c.requires.runs (λ same. cc)) j)) c.requires.out_ready (c.in-Err.ensures _ c.two_text.ensures.text)
+    one_cut (λ j. answer_report (sym (c.len-step.ensures ∙ ap length c.events.ensures) j)
+    (sym (c.in-Ok.ensures.written c.requires.runs (λ same. cc)) j))
+    c.requires.out_ready (c.in-Err.ensures _ c.two_text.ensures.text)
 
-pub returns-in-Ok-write_chance-clause-report : goal.returns-in-Ok-write_chance-clause-report
-returns-in-Ok-write_chance-clause-report g c =
-    let told = ap Err (sym c.in-Err-Chance.field-0-is) ∙ c.in-Err-Chance.ensures.written c.requires.runs (λ same. cc) in
-    one_piece (λ j. answer_report (sym (c.len-step.ensures ∙ ap length c.events.ensures) j) (sym told j)) c.in-Ok-write_chance.ensures
+pub returns-in-Ok-write_coincidence-clause-report : goal.returns-in-Ok-write_coincidence-clause-report
+returns-in-Ok-write_coincidence-clause-report g c =
+    let told = ap Err (sym c.in-Err-Coincidence.field-0-is) ∙ c.in-Err-Coincidence.ensures.written c.requires.runs (λ same. cc) in
+    one_piece (λ j. answer_report (sym (c.len-step.ensures ∙ ap length c.events.ensures) j) (sym told j)) c.in-Ok-write_coincidence.ensures
 
-pub returns-in-Err-write_chance-clause-report : goal.returns-in-Err-write_chance-clause-report
-returns-in-Err-write_chance-clause-report g c =
-    let told = ap Err (sym c.in-Err-Chance.field-0-is) ∙ c.in-Err-Chance.ensures.written c.requires.runs (λ same. cc) in
-    one_cut (λ j. answer_report (sym (c.len-step.ensures ∙ ap length c.events.ensures) j) (sym told j)) c.requires.out_ready c.in-Err-write_chance.ensures
+pub returns-in-Err-write_coincidence-clause-report : goal.returns-in-Err-write_coincidence-clause-report
+returns-in-Err-write_coincidence-clause-report g c =
+    let told = ap Err (sym c.in-Err-Coincidence.field-0-is) ∙ c.in-Err-Coincidence.ensures.written c.requires.runs (λ same. cc) in
+    one_cut (λ j. answer_report (sym (c.len-step.ensures ∙ ap length c.events.ensures) j) (sym told j)) c.requires.out_ready c.in-Err-write_coincidence.ensures

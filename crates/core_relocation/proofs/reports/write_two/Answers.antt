@@ -22,8 +22,12 @@ loop-number-preserved g c =
     let takes = c.write_answer.ensures.takes (c.in-Ok-false.is ∙ ap Ok flag) in
     record {
       report = more_reported so_far.report
-          (follows c.args.setup.now c.args.core_of.now c.args.events.now.items c.loop-number.two so_far.setup so_far.core_of c.loop-number.number so_far.events c.at-event.result c.at-event.ensures) flag c.in-Ok-false.ensures.report;
-      events = taken_more c.args.setup.now c.args.core_of.now c.args.events.now.items c.loop-number.two so_far.setup so_far.core_of c.loop-number.number so_far.events c.at-event.result c.at-event.ensures _ takes.events;
+          (follows c.args.setup.now c.args.core_of.now c.args.events.now.items c.loop-number.two so_far.setup
+          so_far.core_of c.loop-number.number so_far.events c.at-event.result c.at-event.ensures)
+          flag c.in-Ok-false.ensures.report;
+      events =
+          taken_more c.args.setup.now c.args.core_of.now c.args.events.now.items c.loop-number.two so_far.setup
+          so_far.core_of c.loop-number.number so_far.events c.at-event.result c.at-event.ensures _ takes.events;
       setup = takes.setup ∙ so_far.setup;
       core_of = takes.core_of ∙ so_far.core_of;
       runs = takes.runs;
@@ -34,13 +38,17 @@ returns-in-Ok-true g c =
     let so_far = c.loop-number.invariant in
     let flag : c.in-Ok-true.field-0 ≡ true = search (rules, c.in-Ok-true.field-0-test) in
     coincidence_reported so_far.report
-    (follows c.args.setup.now c.args.core_of.now c.args.events.now.items c.loop-number.two so_far.setup so_far.core_of c.loop-number.number so_far.events c.at-event.result c.at-event.ensures) flag c.in-Ok-true.ensures.report
+    (follows c.args.setup.now c.args.core_of.now c.args.events.now.items c.loop-number.two so_far.setup so_far.core_of
+    c.loop-number.number so_far.events c.at-event.result c.at-event.ensures)
+    flag c.in-Ok-true.ensures.report
 
 pub returns-in-Err-write_answer : goal.returns-in-Err-write_answer
 returns-in-Err-write_answer g c =
     let so_far = c.loop-number.invariant in
     cut_reported so_far.report
-    (follows c.args.setup.now c.args.core_of.now c.args.events.now.items c.loop-number.two so_far.setup so_far.core_of c.loop-number.number so_far.events c.at-event.result c.at-event.ensures) c.in-Err-write_answer.ensures.report
+    (follows c.args.setup.now c.args.core_of.now c.args.events.now.items c.loop-number.two so_far.setup so_far.core_of
+    c.loop-number.number so_far.events c.at-event.result c.at-event.ensures)
+    c.in-Err-write_answer.ensures.report
 
 pub write_end-requires-clause-out_ready : goal.write_end-requires-clause-out_ready
 write_end-requires-clause-out_ready g c = c.loop-number.invariant.report.text.used.ready
@@ -49,12 +57,16 @@ pub returns-in-Ok-write_end : goal.returns-in-Ok-write_end
 returns-in-Ok-write_end g c =
     let so_far = c.loop-number.invariant in
     end_reported so_far.report
-    (ends c.args.setup.now c.args.core_of.now c.args.events.now.items c.loop-number.two so_far.setup so_far.core_of c.loop-number.number so_far.events c.world.result.now c.world.ensures.value (c.world.ensures.journal so_far.runs) (c.world.ensures.run so_far.runs) (search rules) (search rules))
+    (ends c.args.setup.now c.args.core_of.now c.args.events.now.items c.loop-number.two so_far.setup so_far.core_of
+    c.loop-number.number so_far.events c.world.result.now c.world.ensures.value
+    (c.world.ensures.journal so_far.runs) (c.world.ensures.run so_far.runs) (search rules) (search rules))
     c.in-Ok-write_end.ensures
 
 pub returns : goal.returns
 returns g c =
     let so_far = c.loop-number.invariant in
     end_cut so_far.report
-    (ends c.args.setup.now c.args.core_of.now c.args.events.now.items c.loop-number.two so_far.setup so_far.core_of c.loop-number.number so_far.events c.world.result.now c.world.ensures.value (c.world.ensures.journal so_far.runs) (c.world.ensures.run so_far.runs) (search rules) (search rules))
+    (ends c.args.setup.now c.args.core_of.now c.args.events.now.items c.loop-number.two so_far.setup so_far.core_of
+    c.loop-number.number so_far.events c.world.result.now c.world.ensures.value
+    (c.world.ensures.journal so_far.runs) (c.world.ensures.run so_far.runs) (search rules) (search rules))
     c.in-Err-write_end.ensures

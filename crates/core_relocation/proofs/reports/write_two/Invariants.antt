@@ -7,7 +7,8 @@ use Rattle.core_relocation.proofs.reports.write_two.Given as goal
 
 abbrev pub invariant-loop-number : goal.invariant-loop-number
 invariant-loop-number g l = record {
-  report : ReportPartly (two_report_of l.fn.setup l.fn.core_of l.events.items) (rest_at l.fn.setup l.fn.core_of l.events.items l.number) (g.W.Edge.told l.initial.out) (g.W.Edge.told l.out);
+  report : ReportPartly (two_report_of l.fn.setup l.fn.core_of l.events.items)
+      (rest_at l.fn.setup l.fn.core_of l.events.items l.number) (g.W.Edge.told l.initial.out) (g.W.Edge.told l.out);
   events : l.two.events ≡ take l.number l.events.items;
   setup : l.two.world.setup ≡ l.fn.setup;
   core_of : l.two.cores.core_of ≡ l.fn.core_of;

@@ -12,4 +12,5 @@ returns-then-is_err-clause-left g c =
 
 pub returns-then-is_err-clause-not_past : goal.returns-then-is_err-clause-not_past
 returns-then-is_err-clause-not_past g c = λ other.
-    loses_within c.args.limit _ _ _ c.pieces.octets.items _ (omega (arith, length-take c.in-Ok.count c.read.new.buf)) c.pieces.invariant.1 c.in-Ok.ensures.octets
+    loses_within c.args.limit _ _ _ c.pieces.octets.items _ (omega (arith, length-take c.in-Ok.count c.read.new.buf))
+    c.pieces.invariant.1 c.in-Ok.ensures.octets

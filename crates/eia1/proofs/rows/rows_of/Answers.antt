@@ -22,7 +22,9 @@ loop-j-preserved c =
     record {
       long = length-set rows j c.row_of.result ∙ long;
       power = c.times_x-power.ensures
-          ∙ ap times_x (c.times_x-in-loop-j-2.ensures ∙ ap times_x (c.times_x-in-loop-j.ensures ∙ ap times_x (c.times_x.ensures ∙ ap times_x c.loop-j.invariant.power)))
+          ∙ ap times_x (c.times_x-in-loop-j-2.ensures
+          ∙ ap times_x
+          (c.times_x-in-loop-j.ensures ∙ ap times_x (c.times_x.ensures ∙ ap times_x c.loop-j.invariant.power)))
           ∙ ap (times_power p) next;
       rows = λ k h. ap (λ r. slice_index_or (slice_set rows j r) k []) row
           ∙ fill_by_more entry rows j [] (omega arith) c.loop-j.invariant.rows k h;

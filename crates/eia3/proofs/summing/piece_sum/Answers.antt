@@ -12,7 +12,14 @@ loop-i-preserved c =
     λ z h.
     let i = c.loop-i.i in
     let fit : AreOctets c.args.piece.now = λ k. let octet = c.type_inv.piece k in search rules in
-    rw (c.word_sum-sum.ensures, c.number_in.ensures, h.first i (omega arith), c.word_behind.ensures z h, c.loop-i.invariant z h) (sums_word z c.args.piece.now i fit)
+    rw (
+      c.word_sum-sum.ensures,
+      c.number_in.ensures,
+      h.first i (omega arith),
+      c.word_behind.ensures z h,
+      c.loop-i.invariant z h,
+    )
+    (sums_word z c.args.piece.now i fit)
 
 pub returns : goal.returns
 returns c = λ z h. c.loop-i.invariant z h ∙ sums_past z c.args.piece.now (32 * c.loop-i.i) (omega arith)

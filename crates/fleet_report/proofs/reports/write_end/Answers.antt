@@ -17,7 +17,12 @@ write_line-requires-clause-ends g c = if_ok _ (λ t. EndsLine t.items) c.end.res
 
 pub write_rows-requires : goal.write_rows-requires
 write_rows-requires g c =
-    let line = if_ok _ (λ t. t.items ≡ end_text (length c.args.world.now.journal) c.records.result (length c.ladder-ladder.result.now.rows)) c.end.result (λ t e. e ∙ (λ j. end_text ((c.len-events.ensures ∙ ap length c.journal.ensures) j) c.records.result (c.len-rows.ensures.len j))) c.end.ensures.text in
+    let line = if_ok _ (λ t.
+    t.items ≡ end_text (length c.args.world.now.journal) c.records.result (length c.ladder-ladder.result.now.rows))
+    c.end.result (λ t e. e
+    ∙ (λ j.
+    end_text ((c.len-events.ensures ∙ ap length c.journal.ensures) j) c.records.result (c.len-rows.ensures.len j)))
+    c.end.ensures.text in
     (c.in-Ok.ensures _ line).used.ready
 
 pub returns-in-Ok : goal.returns-in-Ok
@@ -26,10 +31,15 @@ returns-in-Ok g c =
     let p = c.args.phone in
     let rows = c.ladder-ladder.result.now.rows in
     let first = end_text (length v.journal) c.records.result (length rows) in
-    let line = if_ok _ (λ t. t.items ≡ first) c.end.result (λ t e. e ∙ (λ j. end_text ((c.len-events.ensures ∙ ap length c.journal.ensures) j) c.records.result (c.len-rows.ensures.len j))) c.end.ensures.text in
+    let line = if_ok _ (λ t. t.items ≡ first) c.end.result
+    (λ t e. e
+    ∙ (λ j.
+    end_text ((c.len-events.ensures ∙ ap length c.journal.ensures) j) c.records.result (c.len-rows.ensures.len j)))
+    c.end.ensures.text in
     subst (λ t. WritesText t c.write_rows.result (g.W.Edge.told c.args.out.now) (g.W.Edge.told c.write_rows.new.out))
     (sym (end_is p (length v.journal) c.records.result rows (run_of v) c.requires.goes_on c.ladder-ladder.ensures c.records.ensures))
-    (both_written c.write_rows.result (phone_text p first) (texts (row_outputs p rows 0 rows)) c.requires.out_ready (c.in-Ok.ensures first line) c.write_rows.ensures)
+    (both_written c.write_rows.result (phone_text p first) (texts (row_outputs p rows 0 rows)) c.requires.out_ready
+    (c.in-Ok.ensures first line) c.write_rows.ensures)
 
 pub returns-in-Err : goal.returns-in-Err
 returns-in-Err g c =
@@ -37,7 +47,11 @@ returns-in-Err g c =
     let p = c.args.phone in
     let rows = c.ladder-ladder.result.now.rows in
     let first = end_text (length v.journal) c.records.result (length rows) in
-    let line = if_ok _ (λ t. t.items ≡ first) c.end.result (λ t e. e ∙ (λ j. end_text ((c.len-events.ensures ∙ ap length c.journal.ensures) j) c.records.result (c.len-rows.ensures.len j))) c.end.ensures.text in
+    let line = if_ok _ (λ t. t.items ≡ first) c.end.result
+    (λ t e. e
+    ∙ (λ j.
+    end_text ((c.len-events.ensures ∙ ap length c.journal.ensures) j) c.records.result (c.len-rows.ensures.len j)))
+    c.end.ensures.text in
     subst (λ t. WritesText {A = Unit {0}} t (Err c.in-Err.fault) (g.W.Edge.told c.args.out.now) (g.W.Edge.told c.write_line.new.out))
     (sym (end_is p (length v.journal) c.records.result rows (run_of v) c.requires.goes_on c.ladder-ladder.ensures c.records.ensures))
     (first_cut (phone_text p first) (texts (row_outputs p rows 0 rows)) c.requires.out_ready (c.in-Err.ensures first line))

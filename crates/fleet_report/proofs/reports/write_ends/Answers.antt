@@ -32,7 +32,9 @@ loop-phone-preserved g c =
     let low : p < length (owns_in v) = omega (arith, c.loop-phone-test.true, c.requires.phones, many) in
     let sound = c.world.ensures.sound c.requires.goes_on in
     more_written c.loop-phone.invariant (end_next v.setup (owns_in v) p low)
-    (subst (λ t. WritesText {A = Unit {0}} t (Ok c.in-Ok.field-0) (g.W.Edge.told c.loop-phone.out) (g.W.Edge.told c.write_end.new.out)) (text_is v p c.world.result.now (c.world.ensures.own c.requires.goes_on) sound.0 sound.1) c.in-Ok.ensures)
+    (subst (λ t. WritesText {A = Unit {0}} t (Ok c.in-Ok.field-0) (g.W.Edge.told c.loop-phone.out)
+    (g.W.Edge.told c.write_end.new.out))
+    (text_is v p c.world.result.now (c.world.ensures.own c.requires.goes_on) sound.0 sound.1) c.in-Ok.ensures)
 
 pub returns-in-Err : goal.returns-in-Err
 returns-in-Err g c =
@@ -42,7 +44,9 @@ returns-in-Err g c =
     let low : p < length (owns_in v) = omega (arith, c.loop-phone-test.true, c.requires.phones, many) in
     let sound = c.world.ensures.sound c.requires.goes_on in
     cut_written c.loop-phone.invariant (end_next v.setup (owns_in v) p low)
-    (subst (λ t. WritesText {A = Unit {0}} t (Err c.in-Err.fault) (g.W.Edge.told c.loop-phone.out) (g.W.Edge.told c.write_end.new.out)) (text_is v p c.world.result.now (c.world.ensures.own c.requires.goes_on) sound.0 sound.1) c.in-Err.ensures)
+    (subst (λ t. WritesText {A = Unit {0}} t (Err c.in-Err.fault) (g.W.Edge.told c.loop-phone.out)
+    (g.W.Edge.told c.write_end.new.out))
+    (text_is v p c.world.result.now (c.world.ensures.own c.requires.goes_on) sound.0 sound.1) c.in-Err.ensures)
 
 pub returns : goal.returns
 returns g c =

@@ -13,7 +13,9 @@ use Rattle.run_report.proofs.Partly.{one_piece, one_cut}
 use Rattle.fleet_report.proofs.reports.write_event.Goals as goal
 
 pub write_text-requires-clause-lines : goal.write_text-requires-clause-lines
-write_text-requires-clause-lines g c = if_ok _ (λ t. are_lines t.items ≡ true) c.told_text.result (λ t is. ap are_lines (is 0) ∙ told_is c.len-step.result 0 c.in-Ok.told) c.told_text.ensures.text
+write_text-requires-clause-lines g c =
+    if_ok _ (λ t. are_lines t.items ≡ true) c.told_text.result
+    (λ t is. ap are_lines (is 0) ∙ told_is c.len-step.result 0 c.in-Ok.told) c.told_text.ensures.text
 
 pub write_fault-requires-clause-shown : goal.write_fault-requires-clause-shown
 write_fault-requires-clause-shown g c =
@@ -26,9 +28,17 @@ returns-in-Ok-write_text-clause-report g c =
     let v = c.args.fleet.now in
     let own = length (own_at (owns_in v) c.args.phone) in
     let text = output_text (answer_output (length v.journal) own (Ok c.in-Ok.told)) in
-    let line = if_ok _ (λ t. t.items ≡ text) c.told_text.result (λ t is. is own ∙ ap (λ n. output_text (answer_output n own (Ok c.in-Ok.told))) (c.len-step.ensures ∙ ap length c.journal.ensures.journal)) c.told_text.ensures.text in
+    let line = if_ok _ (λ t. t.items ≡ text) c.told_text.result
+    (λ t is. is own
+    ∙ ap (λ n. output_text (answer_output n own (Ok c.in-Ok.told)))
+    (c.len-step.ensures ∙ ap length c.journal.ensures.journal))
+    c.told_text.ensures.text in
     let answered = sym (c.in-Ok.ensures.says (λ same. cc)) in
-    one_piece (λ j. record { text = output_text (answer_output (length v.journal) own (answered j)); coincides = ends_it (answered j) }) (c.in-Ok-write_text.ensures text line)
+    one_piece (λ j. record {
+      text = output_text (answer_output (length v.journal) own (answered j));
+      coincides = ends_it (answered j);
+    })
+    (c.in-Ok-write_text.ensures text line)
 
 pub returns-in-Err-write_text-clause-report : goal.returns-in-Err-write_text-clause-report
 unfolding event_report
@@ -36,9 +46,17 @@ returns-in-Err-write_text-clause-report g c =
     let v = c.args.fleet.now in
     let own = length (own_at (owns_in v) c.args.phone) in
     let text = output_text (answer_output (length v.journal) own (Ok c.in-Ok.told)) in
-    let line = if_ok _ (λ t. t.items ≡ text) c.told_text.result (λ t is. is own ∙ ap (λ n. output_text (answer_output n own (Ok c.in-Ok.told))) (c.len-step.ensures ∙ ap length c.journal.ensures.journal)) c.told_text.ensures.text in
+    let line = if_ok _ (λ t. t.items ≡ text) c.told_text.result
+    (λ t is. is own
+    ∙ ap (λ n. output_text (answer_output n own (Ok c.in-Ok.told)))
+    (c.len-step.ensures ∙ ap length c.journal.ensures.journal))
+    c.told_text.ensures.text in
     let answered = sym (c.in-Ok.ensures.says (λ same. cc)) in
-    one_cut (λ j. record { text = output_text (answer_output (length v.journal) own (answered j)); coincides = ends_it (answered j) }) c.requires.out_ready (c.in-Err-write_text.ensures text line)
+    one_cut (λ j. record {
+      text = output_text (answer_output (length v.journal) own (answered j));
+      coincides = ends_it (answered j);
+    })
+    c.requires.out_ready (c.in-Err-write_text.ensures text line)
 
 pub returns-in-Err-clause-report : goal.returns-in-Err-clause-report
 unfolding event_report
@@ -51,9 +69,21 @@ returns-in-Err-clause-report g c =
     let before = g.W.Edge.told c.args.out.now in
     let after = g.W.Edge.told c.write_fault.new.out in
     let written = fault_reported v p e c.in-Err.fault c.len-step.result c.len-own.result c.write_fault.result before after
-    c.in-Err.ensures.says c.write_fault.ensures.report (λ is. let m = c.write_fault.ensures.memory is in (m.0, ap g.W.Edge.told m.1)) (λ is. c.in-Err.ensures.refused c.requires.goes_on (ap Err is)) c.requires.out_ready in
-    subst (λ n. WritesReport (record { text = output_text (answer_output (length v.journal) n (answer_of v p e)); coincides = ends_it (answer_of v p e) }) c.write_fault.result before after) own
-    (subst (λ n. WritesReport (record { text = output_text (answer_output n c.len-own.result (answer_of v p e)); coincides = ends_it (answer_of v p e) }) c.write_fault.result before after) steps written)
+    c.in-Err.ensures.says c.write_fault.ensures.report
+    (λ is. let m = c.write_fault.ensures.memory is in (m.0, ap g.W.Edge.told m.1))
+    (λ is. c.in-Err.ensures.refused c.requires.goes_on (ap Err is)) c.requires.out_ready in
+    subst (λ n. WritesReport (record {
+      text = output_text (answer_output (length v.journal) n (answer_of v p e));
+      coincides = ends_it (answer_of v p e);
+    })
+    c.write_fault.result before after)
+    own
+    (subst (λ n. WritesReport (record {
+      text = output_text (answer_output n c.len-own.result (answer_of v p e));
+      coincides = ends_it (answer_of v p e);
+    })
+    c.write_fault.result before after)
+    steps written)
 
 pub returns-in-Err-clause-takes : goal.returns-in-Err-clause-takes
 returns-in-Err-clause-takes g c is = never_false _ c.write_fault.result c.write_fault.ensures.ends is

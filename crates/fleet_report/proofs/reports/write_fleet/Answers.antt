@@ -13,13 +13,20 @@ write_event-requires-clause-out_ready g c = c.loop-number.invariant.report.text.
 pub write_event-requires-clause-can : goal.write_event-requires-clause-can
 write_event-requires-clause-can g c =
     let so_far = c.loop-number.invariant in
-    can_take c.args.setup.now c.loop-number.fleet c.args.phones c.args.events.now.items c.loop-number.number c.at-step.result so_far.setup so_far.phones so_far.count (slice_get_within c.args.events.now.items c.loop-number.number c.at-step.result c.at-step.ensures) (sym (get_or_from_slice_get c.args.events.now.items c.loop-number.number c.at-step.result c.at-step.result c.at-step.ensures)) c.requires.ready c.requires.of_phones
+    can_take c.args.setup.now c.loop-number.fleet c.args.phones c.args.events.now.items c.loop-number.number
+    c.at-step.result so_far.setup so_far.phones so_far.count
+    (slice_get_within c.args.events.now.items c.loop-number.number c.at-step.result c.at-step.ensures)
+    (sym (get_or_from_slice_get c.args.events.now.items c.loop-number.number c.at-step.result c.at-step.result
+    c.at-step.ensures))
+    c.requires.is_scenario c.requires.of_phones
 
 pub loop-number-init : goal.loop-number-init
 loop-number-init g c =
     let begins = c.in-Ok.ensures.begins in
     record {
-      report = none_reported (g.W.Edge.told c.args.out.now) c.requires.out_ready (first_is c.args.setup.now c.args.phones c.in-Ok.fleet c.args.events.now.items begins);
+      report =
+          none_reported (g.W.Edge.told c.args.out.now) c.requires.out_ready
+          (first_is c.args.setup.now c.args.phones c.in-Ok.fleet c.args.events.now.items begins);
       setup = ap (λ (v : Fleeted). v.setup) begins;
       over = ap (λ (v : Fleeted). v.over) begins;
       count = ap (λ (v : Fleeted). length v.journal) begins;
@@ -35,11 +42,20 @@ loop-number-preserved g c =
     let x = c.at-step.result in
     let flag : c.in-Ok-false.field-0 ≡ false = search (rules, c.in-Ok-false.field-0-test) in
     let takes = c.write_event.ensures.takes (c.in-Ok-false.is ∙ ap Ok flag) in
-    let next = event_next v events i x so_far.over so_far.count (slice_get_within c.args.events.now.items c.loop-number.number c.at-step.result c.at-step.ensures) (sym (get_or_from_slice_get c.args.events.now.items c.loop-number.number c.at-step.result c.at-step.result c.at-step.ensures)) in
+    let next = event_next v events i x so_far.over so_far.count
+    (slice_get_within c.args.events.now.items c.loop-number.number c.at-step.result c.at-step.ensures)
+    (sym (get_or_from_slice_get c.args.events.now.items c.loop-number.number c.at-step.result c.at-step.result
+    c.at-step.ensures)) in
     let more = more_reported so_far.report next flag c.in-Ok-false.ensures.report in
     record {
-      report = subst (λ r. ReportPartly (fleet_report_of c.args.setup.now c.args.phones events) r (g.W.Edge.told c.args.out.now) (g.W.Edge.told c.write_event.new.out))
-          (behind_is v events i x so_far.over so_far.count (slice_get_within c.args.events.now.items c.loop-number.number c.at-step.result c.at-step.ensures) (sym (get_or_from_slice_get c.args.events.now.items c.loop-number.number c.at-step.result c.at-step.result c.at-step.ensures)) c.write_event.new.fleet takes) more;
+      report = subst (λ r. ReportPartly (fleet_report_of c.args.setup.now c.args.phones events) r
+          (g.W.Edge.told c.args.out.now) (g.W.Edge.told c.write_event.new.out))
+          (behind_is v events i x so_far.over so_far.count
+          (slice_get_within c.args.events.now.items c.loop-number.number c.at-step.result c.at-step.ensures)
+          (sym (get_or_from_slice_get c.args.events.now.items c.loop-number.number c.at-step.result c.at-step.result
+          c.at-step.ensures))
+          c.write_event.new.fleet takes)
+          more;
       setup = takes.setup ∙ so_far.setup;
       over = takes.over;
       count = ap length takes.journal ∙ length-append v.journal _ ∙ ap (λ n. n + 1) so_far.count;
@@ -50,20 +66,26 @@ pub returns-in-Ok-true : goal.returns-in-Ok-true
 returns-in-Ok-true g c =
     let so_far = c.loop-number.invariant in
     let flag : c.in-Ok-true.field-0 ≡ true = search (rules, c.in-Ok-true.field-0-test) in
-    let next = event_next c.loop-number.fleet c.args.events.now.items c.loop-number.number c.at-step.result so_far.over so_far.count (slice_get_within c.args.events.now.items c.loop-number.number c.at-step.result c.at-step.ensures) (sym (get_or_from_slice_get c.args.events.now.items c.loop-number.number c.at-step.result c.at-step.result c.at-step.ensures)) in
+    let next = event_next c.loop-number.fleet c.args.events.now.items c.loop-number.number c.at-step.result so_far.over
+    so_far.count (slice_get_within c.args.events.now.items c.loop-number.number c.at-step.result c.at-step.ensures)
+    (sym (get_or_from_slice_get c.args.events.now.items c.loop-number.number c.at-step.result c.at-step.result
+    c.at-step.ensures)) in
     coincidence_reported so_far.report next flag c.in-Ok-true.ensures.report
 
 pub returns-in-Err-write_event : goal.returns-in-Err-write_event
 returns-in-Err-write_event g c =
     let so_far = c.loop-number.invariant in
-    let next = event_next c.loop-number.fleet c.args.events.now.items c.loop-number.number c.at-step.result so_far.over so_far.count (slice_get_within c.args.events.now.items c.loop-number.number c.at-step.result c.at-step.ensures) (sym (get_or_from_slice_get c.args.events.now.items c.loop-number.number c.at-step.result c.at-step.result c.at-step.ensures)) in
+    let next = event_next c.loop-number.fleet c.args.events.now.items c.loop-number.number c.at-step.result so_far.over
+    so_far.count (slice_get_within c.args.events.now.items c.loop-number.number c.at-step.result c.at-step.ensures)
+    (sym (get_or_from_slice_get c.args.events.now.items c.loop-number.number c.at-step.result c.at-step.result
+    c.at-step.ensures)) in
     cut_reported so_far.report next c.in-Err-write_event.ensures.report
 
 pub write_ends-requires-clause-out_ready : goal.write_ends-requires-clause-out_ready
 write_ends-requires-clause-out_ready g c = c.loop-number.invariant.report.text.used.ready
 
 pub write_ends-requires-clause-few : goal.write_ends-requires-clause-few
-write_ends-requires-clause-few g c = let so_far = c.loop-number.invariant in omega (arith, so_far.count, c.requires.ready.few)
+write_ends-requires-clause-few g c = let so_far = c.loop-number.invariant in omega (arith, so_far.count, c.requires.is_scenario.few)
 
 pub returns-in-Ok-write_ends : goal.returns-in-Ok-write_ends
 returns-in-Ok-write_ends g c =

@@ -6,7 +6,8 @@ use Rattle.fleet_report.proofs.Looping.{left_of}
 
 abbrev pub invariant-loop-number : goal.invariant-loop-number
 invariant-loop-number g l = record {
-  report : ReportPartly (fleet_report_of l.fn.setup l.fn.phones l.events.items) (left_of l.fleet l.events.items l.number) (g.W.Edge.told l.initial.out) (g.W.Edge.told l.out);
+  report : ReportPartly (fleet_report_of l.fn.setup l.fn.phones l.events.items)
+      (left_of l.fleet l.events.items l.number) (g.W.Edge.told l.initial.out) (g.W.Edge.told l.out);
   setup : l.fleet.setup ≡ l.fn.setup;
   over : l.fleet.over ≡ None;
   count : length l.fleet.journal ≡ l.number;

@@ -40,7 +40,8 @@ returns-in-Err g c =
 pub returns : goal.returns
 returns g c =
     let rows = c.args.ladder.now.rows in
-    all_written c.loop-number.invariant (rows_past c.args.phone rows c.loop-number.number (omega (arith, c.loop-number-test.false, c.len-number-end.ensures.len)))
+    all_written c.loop-number.invariant (rows_past c.args.phone rows c.loop-number.number
+    (omega (arith, c.loop-number-test.false, c.len-number-end.ensures.len)))
 
 pub write_line-requires-clause-ends : goal.write_line-requires-clause-ends
 write_line-requires-clause-ends g c =

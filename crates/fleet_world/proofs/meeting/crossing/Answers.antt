@@ -1,7 +1,6 @@
-use Rattle.std.proofs.Common.{◌≡◌, ◌+◌, ℕ, sym, ap, subst, ◌∙◌, ◌∷◌, drop, Option, Some, None}
+use Rattle.std.proofs.Common.{◌≡◌, ◌+◌, ℕ, sym, ap, subst, ◌∙◌, ◌∷◌, drop, Some, None}
 use Rattle.std.specs.Option.{option_map}
 use Rattle.key_terms.specs.declared.row.Row.{Row}
-use Rattle.key_terms.specs.declared.row.LadderRow.{LadderRow}
 use Rattle.fleet_world.specs.Answers.{cross_of}
 use Rattle.fleet_world.specs.Meeting.{met_or, meeting_from, row_among, ladder_at}
 use Rattle.fleet_world.specs.Worlds.{ladders_in, others_in}

@@ -1,4 +1,4 @@
-use Rattle.std.proofs.Common.{◌≡◌, sym, ◌∙◌, arith}
+use Rattle.std.proofs.Common.{sym, ◌∙◌, arith}
 use Rattle.fleet_world.specs.Meeting.{has_root}
 use Rattle.fleet_world.specs.Worlds.{others_in}
 use Rattle.fleet_world.proofs.Searching.{others_length, first_is, none_is}
@@ -15,4 +15,5 @@ pub returns : goal.returns
 returns c =
     let worlds = c.args.worlds.now in
     let many = others_length c.args.phone worlds in
-    sym (none_is (has_root c.args.octets.now) (others_in c.args.phone worlds) c.loop-number.number (omega (arith, many, c.loop-number-test.false)) c.loop-number.invariant)
+    sym (none_is (has_root c.args.octets.now) (others_in c.args.phone worlds) c.loop-number.number
+    (omega (arith, many, c.loop-number-test.false)) c.loop-number.invariant)

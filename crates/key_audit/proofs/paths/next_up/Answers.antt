@@ -12,4 +12,5 @@ returns-in-Root-clause-way c =
 
 pub returns-in-From-clause-way : goal.returns-in-From-clause-way
 returns-in-From-clause-way c =
-    way_next c.args.ladder.now.rows c.requires.ladder.made c.args.to c.args.row c.if-row-to.false (Some c.in-From.key.0) (ap key_in c.row.ensures.row ∙ ap key_of c.in-From.is)
+    way_next c.args.ladder.now.rows c.requires.ladder.made c.args.to c.args.row c.if-row-to.false (Some c.in-From.key.0)
+    (ap key_in c.row.ensures.row ∙ ap key_of c.in-From.is)

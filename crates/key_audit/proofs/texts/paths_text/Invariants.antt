@@ -5,4 +5,5 @@ use Rattle.key_audit.proofs.texts.paths_text.Given as goal
 
 abbrev pub invariant-loop-station : goal.invariant-loop-station
 invariant-loop-station l =
-    l.text.items ++ for_each (λ s. by_if l.ladder.rows l.k (mark_of s (Some l.marks)) s) (drop l.station stations) ≡ paths_text l.ladder.rows l.k (λ s. mark_of s (Some l.marks))
+    l.text.items ++ for_each (λ s. by_if l.ladder.rows l.k (mark_of s (Some l.marks)) s) (drop l.station stations)
+    ≡ paths_text l.ladder.rows l.k (λ s. mark_of s (Some l.marks))

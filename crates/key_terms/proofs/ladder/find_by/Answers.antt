@@ -10,11 +10,13 @@ returns-in-Some-clause-place c =
 pub returns-in_err-place-clause-place : goal.returns-in_err-place-clause-place
 returns-in_err-place-clause-place c =
     let none = sym c.number_of.ensures ∙ c.in_default.is in
-    let place = index_later c.args.index.now c.args.rows.now c.args.octets.now c.len-mark.result c.position_of.result c.requires.index none c.len-mark.ensures c.position_of.ensures.place in
+    let place = index_later c.args.index.now c.args.rows.now c.args.octets.now c.len-mark.result c.position_of.result
+    c.requires.index none c.len-mark.ensures c.position_of.ensures.place in
     c.from_residual.ensures ∙ sym (ap (option_map (λ j. c.len-mark.result + j)) c.in_err-place.was) ∙ place
 
 pub returns-clause-place : goal.returns-clause-place
 returns-clause-place c =
     let none = sym c.number_of.ensures ∙ c.in_default.is in
-    let place = index_later c.args.index.now c.args.rows.now c.args.octets.now c.len-mark.result c.position_of.result c.requires.index none c.len-mark.ensures c.position_of.ensures.place in
+    let place = index_later c.args.index.now c.args.rows.now c.args.octets.now c.len-mark.result c.position_of.result
+    c.requires.index none c.len-mark.ensures c.position_of.ensures.place in
     sym (ap (option_map (λ j. c.len-mark.result + j)) c.in_ok-place.was) ∙ place

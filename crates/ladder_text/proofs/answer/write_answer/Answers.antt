@@ -8,7 +8,9 @@ use Rattle.ladder_text.proofs.answer.write_answer.Goals as goal
 pub returns-in-Ok-clause-output : goal.returns-in-Ok-clause-output
 returns-in-Ok-clause-output g c =
     let reading = IfOk-at_ok _ c.in-Ok.ensures.read.0 c.read_lines.ensures.lines in
-    subst (λ o. Writes (output_of (reading_of c.args.text.now)) c.write_report.result (g.W.Edge.told o) (g.W.Edge.told c.write_report.new.out)) c.in-Ok.ensures.read.1
+    subst (λ o. Writes (output_of (reading_of c.args.text.now)) c.write_report.result (g.W.Edge.told o)
+    (g.W.Edge.told c.write_report.new.out))
+    c.in-Ok.ensures.read.1
     (lines_output c.args.text.now _ c.write_report.result _ _ (reading ∙ ap Ok (sym c.deref.ensures.value)) c.write_report.ensures.output)
 
 pub returns-in-Ok-clause-no_refusal : goal.returns-in-Ok-clause-no_refusal

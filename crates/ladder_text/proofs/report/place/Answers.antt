@@ -1,10 +1,7 @@
-use Rattle.std.proofs.Common.{◌≡◌, true, List, map, Result, sym, ap, subst}
+use Rattle.std.proofs.Common.{◌≡◌, true, List, map, sym, ap, subst}
 use Rattle.std.specs.Option.{is_some, IfSome}
-use Rattle.std.specs.Prelude.{IfErr}
-use Rattle.key_terms.specs.declared.ladder.LadderFault.{LadderFault}
 use Rattle.key_terms.specs.declared.row.Origin.TheVariants as origin
-use Rattle.key_terms.specs.declared.row.Row.{Row}
-use Rattle.key_terms.specs.Ladder.{HasRoot, RootRefused, AddRefused}
+use Rattle.key_terms.specs.Ladder.{HasRoot}
 use Rattle.ladder_text.specs.declared.line.LadderLine.{LadderLine}
 use Rattle.ladder_text.specs.Text.{meets}
 use Rattle.ladder_text.specs.Report.{KeyRow, octets_in}
@@ -17,7 +14,8 @@ pub returns-in-Root : goal.returns-in-Root
 returns-in-Root c =
     let ladder = c.args.ladder.now.rows in
     let root = c.root.ensures in
-    let both = λ (rows : List KeyRow) (line : LadderLine) (stand : StandsFor rows ladder) (met : meets (map (λ r. r.line) rows) line ≡ true) (asks : Asks rows line c.args.asked.now).
+    let both = λ (rows : List KeyRow) (line : LadderLine) (stand : StandsFor rows ladder)
+    (met : meets (map (λ r. r.line) rows) line ≡ true) (asks : Asks rows line c.args.asked.now).
     let is = subst (Asks rows line) c.in-Root.is asks in
     answered rows ladder c.root.new.self.rows line origin.Root c.in-Root.octets c.root.result stand c.requires.ladder (met_refers rows line met)
     (ap (origin_in rows) (sym is)) (ap (octets_in rows) (sym is)) root.new
@@ -27,9 +25,6 @@ returns-in-Root c =
       answer = λ rows line stand met asks. (both rows line stand met asks).0;
       rows = λ rows line stand met asks. (both rows line stand met asks).1;
       ladder = root.ladder;
-      no_memory = λ is.
-          let Refused : Result Row LadderFault → Type 0 = λ r. IfErr r (RootRefused ladder c.in-Root.octets) in
-          absurd (subst Refused is root.cause);
     }
 
 pub add-requires : goal.add-requires
@@ -51,7 +46,8 @@ returns-in-Derivation c =
     let ladder = c.args.ladder.now.rows in
     let made = c.in-Derivation.made in
     let add = c.add.ensures in
-    let both = λ (rows : List KeyRow) (line : LadderLine) (stand : StandsFor rows ladder) (met : meets (map (λ r. r.line) rows) line ≡ true) (asks : Asks rows line c.args.asked.now).
+    let both = λ (rows : List KeyRow) (line : LadderLine) (stand : StandsFor rows ladder)
+    (met : meets (map (λ r. r.line) rows) line ≡ true) (asks : Asks rows line c.args.asked.now).
     let needs = needs_met rows ladder line made stand.is c.requires.ladder met (subst (Asks rows line) c.in-Derivation.is asks).0 in
     answered rows ladder c.add.new.self.rows line _ made.out c.add.result stand c.requires.ladder (met_refers rows line met)
     needs.origin needs.octets add.new
@@ -61,7 +57,4 @@ returns-in-Derivation c =
       answer = λ rows line stand met asks. (both rows line stand met asks).0;
       rows = λ rows line stand met asks. (both rows line stand met asks).1;
       ladder = add.ladder;
-      no_memory = λ is.
-          let Refused : Result Row LadderFault → Type 0 = λ r. IfErr r (AddRefused ladder made) in
-          absurd (subst Refused is add.cause);
     }

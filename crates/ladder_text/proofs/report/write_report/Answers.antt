@@ -35,7 +35,8 @@ loop-index-preserved g c =
     let rows = printed.rows in
     let met = line_met lines i first mid ladder line printed within is in
     let place = place_in rows line in
-    let written = subst (λ s. TextAt s (ends_at place) (text_at place rows (i + 1) line) mid now) c.in-Done.is (c.write_line.ensures.line rows printed.stand met) in
+    let written = subst (λ s. TextAt s (ends_at place) (text_at place rows (i + 1) line) mid now) c.in-Done.is
+    (c.write_line.ensures.line rows printed.stand met) in
     let stand = c.write_line.ensures.rows rows printed.stand met in
     record {
       printed = next_printed lines i first mid now ladder c.write_line.new.ladder.rows line printed within is written stand;
@@ -64,7 +65,9 @@ returns-in_default g c =
     let rows = printed.rows in
     let met = line_met lines i first mid ladder line printed within is in
     record {
-      output = ended lines i first mid now ladder line c.write_line.result printed within is so_far.out.counts (c.write_line.ensures.line rows printed.stand met) c.in_default.not-Done;
+      output =
+          ended lines i first mid now ladder line c.write_line.result printed within is so_far.out.counts
+          (c.write_line.ensures.line rows printed.stand met) c.in_default.not-Done;
       memory = search rules;
       no_fault = search rules;
       out = search rules;

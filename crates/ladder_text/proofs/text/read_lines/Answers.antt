@@ -25,7 +25,9 @@ loop-rest-preserved c =
     let row : c.add.new.self ≡ with_row c.loop-rest.rows line = search rules in
     let met = next_meets lines words line next in
     record {
-      reading = reading_next c.args.text.now c.loop-rest.rest.now c.first_line.result.0.now c.first_line.result.1.now lines c.push.new.items.items line so_far.reading c.first_line.ensures.lines next put;
+      reading =
+          reading_next c.args.text.now c.loop-rest.rest.now c.first_line.result.0.now c.first_line.result.1.now lines
+          c.push.new.items.items line so_far.reading c.first_line.ensures.lines next put;
       rows = row ∙ ap (λ rows. with_row rows line) so_far.rows ∙ sym (rows_next [] lines line) ∙ ap rows_of (sym put);
       good = subst (AreGood []) (sym put) (good_next [] lines line so_far.good met.0);
       few = omega (arith, ap length put, length-append lines (line ∷ []), met.1);

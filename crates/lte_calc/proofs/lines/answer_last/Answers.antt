@@ -22,7 +22,10 @@ pub returns-in_default : goal.returns-in_default
 returns-in_default g c =
     let some : 0 < length c.args.line.now = search rules in
     record {
-      last = last_ended c.answer_line.result c.args.line.now c.args.good c.answer_line.new.good (g.W.Edge.told c.args.out.now) (g.W.Edge.told c.answer_line.new.out) some c.requires.short c.answer_line.ensures.at c.in_default.not-Done;
+      last =
+          last_ended c.answer_line.result c.args.line.now c.args.good c.answer_line.new.good
+          (g.W.Edge.told c.args.out.now) (g.W.Edge.told c.answer_line.new.out) some c.requires.short
+          c.answer_line.ensures.at c.in_default.not-Done;
       no_fault = search rules;
       memory = search rules;
       out = search rules;

@@ -21,7 +21,9 @@ lines-preserved g c =
     let few : end ≤ longest_line = search rules in
     let is : IsLine (take end rest) = (cut.0, omega (arith, few, length-take end rest)) in
     record {
-      so_far = one_more c.args.text.now rest _ (take end rest) c.args.good.now c.lines.good c.answer_line.new.good _ _ _ c.lines.invariant.so_far is cut.1 c.in-Done.ensures.at;
+      so_far =
+          one_more c.args.text.now rest _ (take end rest) c.args.good.now c.lines.good c.answer_line.new.good _ _ _
+          c.lines.invariant.so_far is cut.1 c.in-Done.ensures.at;
       no_fault = search rules;
       out = search rules;
     }
@@ -45,7 +47,10 @@ returns-in_default g c =
     record {
       answered = tt;
       begun = tt;
-      stopped = stopped_at c.answer_line.result c.args.text.now rest (take end rest) _ c.args.good.now c.lines.good c.answer_line.new.good _ _ _ c.lines.invariant.so_far c.lines.invariant.no_fault.writes is cut.1 c.answer_line.ensures.at c.in_default.not-Done;
+      stopped =
+          stopped_at c.answer_line.result c.args.text.now rest (take end rest) _ c.args.good.now c.lines.good
+          c.answer_line.new.good _ _ _ c.lines.invariant.so_far c.lines.invariant.no_fault.writes is cut.1
+          c.answer_line.ensures.at c.in_default.not-Done;
       no_fault = search rules;
       memory = search rules;
       out = search rules;

@@ -28,7 +28,9 @@ returns-then-count-eq0-clause-run g c =
     let came : Came (take c.in-Ok.count c.read.new.buf) mid now = record { gives = c.in-Ok.ensures.octets; most = c.in-Ok.ensures.most } in
     let nothing = subst (λ n. Came (take n c.read.new.buf) mid now) none came in
     let end : HasEnded now = search rules in
-    let last = subst (λ l. LastAt c.answer_last.result l c.pieces.good (g.W.Edge.told c.pieces.out) (g.W.Edge.told c.answer_last.new.out)) c.as_slice.ensures.value c.answer_last.ensures.last in
+    let last = subst (λ l.
+    LastAt c.answer_last.result l c.pieces.good (g.W.Edge.told c.pieces.out) (g.W.Edge.told c.answer_last.new.out))
+    c.as_slice.ensures.value c.answer_last.ensures.last in
     last_run c.answer_last.result held c.pieces.good (g.R.Edge.told c.args.input.now) now (g.W.Edge.told c.args.out.now) (g.W.Edge.told c.pieces.out) _
     (came_more held [] held c.pieces.good _ mid now _ _ c.pieces.invariant.midway nothing (sym (append-nil held)))
     c.pieces.invariant.no_write_fault.writes c.pieces.invariant.begun end last
@@ -41,8 +43,15 @@ returns-then-is_err-clause-run g c =
     let piece = take c.in-Ok.count c.read.new.buf in
     let came : Came piece mid now = record { gives = c.in-Ok.ensures.octets; most = c.in-Ok.ensures.most } in
     let small : c.in-Ok.count ≤ 4096 = search rules in
-    let few : length (held ++ piece) ≤ longest_line + 4096 = omega (arith, length-append held piece, length-take c.in-Ok.count c.read.new.buf, c.pieces.invariant.begun.1, small) in
-    memory_run (held ++ piece) c.pieces.good _ now _ _ (came_more held piece (held ++ piece) c.pieces.good _ mid now _ _ c.pieces.invariant.midway came refl) few
+    let few : length (held ++ piece) ≤ longest_line + 4096 = omega (
+      arith,
+      length-append held piece,
+      length-take c.in-Ok.count c.read.new.buf,
+      c.pieces.invariant.begun.1,
+      small,
+    ) in
+    memory_run (held ++ piece) c.pieces.good _ now _ _
+    (came_more held piece (held ++ piece) c.pieces.good _ mid now _ _ c.pieces.invariant.midway came refl) few
 
 pub returns-in-Err-answer_whole-clause-run : goal.returns-in-Err-answer_whole-clause-run
 returns-in-Err-answer_whole-clause-run g c =
@@ -53,9 +62,18 @@ returns-in-Err-answer_whole-clause-run g c =
     let after = c.extend_from_slice.new.items.items in
     let came : Came piece mid now = record { gives = c.in-Ok.ensures.octets; most = c.in-Ok.ensures.most } in
     let put : after ≡ held ++ piece = search rules in
-    let stopped = subst (λ t. StoppedIn c.in-Err-answer_whole.status t (g.W.Edge.told c.pieces.out) (g.W.Edge.told c.answer_whole.new.out)) c.as_slice-in-pieces.ensures.value c.in-Err-answer_whole.ensures.stopped in
+    let stopped = subst (λ t.
+    StoppedIn c.in-Err-answer_whole.status t (g.W.Edge.told c.pieces.out) (g.W.Edge.told c.answer_whole.new.out))
+    c.as_slice-in-pieces.ensures.value c.in-Err-answer_whole.ensures.stopped in
     let small : c.in-Ok.count ≤ 4096 = search rules in
-    let few : length after ≤ longest_line + 4096 = omega (arith, ap length put, length-append held piece, length-take c.in-Ok.count c.read.new.buf, c.pieces.invariant.begun.1, small) in
+    let few : length after ≤ longest_line + 4096 = omega (
+      arith,
+      ap length put,
+      length-append held piece,
+      length-take c.in-Ok.count c.read.new.buf,
+      c.pieces.invariant.begun.1,
+      small,
+    ) in
     stopped_run c.in-Err-answer_whole.status after c.pieces.good _ now _ _ _
     (came_more held piece after c.pieces.good _ mid now _ _ c.pieces.invariant.midway came put)
     few c.pieces.invariant.no_write_fault.writes stopped
@@ -70,9 +88,12 @@ returns-in-Err-begun-clause-run g c =
     let came : Came piece mid now = record { gives = c.in-Ok.ensures.octets; most = c.in-Ok.ensures.most } in
     let put : after ≡ held ++ piece = search rules in
     let begun = c.in-Ok-answer_whole.begun.now in
-    let answered = subst (λ t. AnsweredUpTo t begun c.pieces.good c.answer_whole.new.good (g.W.Edge.told c.pieces.out) (g.W.Edge.told c.answer_whole.new.out)) c.as_slice-in-pieces.ensures.value c.in-Ok-answer_whole.ensures.answered in
+    let answered = subst (λ t. AnsweredUpTo t begun c.pieces.good c.answer_whole.new.good (g.W.Edge.told c.pieces.out)
+    (g.W.Edge.told c.answer_whole.new.out))
+    c.as_slice-in-pieces.ensures.value c.in-Ok-answer_whole.ensures.answered in
     memory_run begun c.answer_whole.new.good _ now _ _
-    (answered_on after begun c.pieces.good c.answer_whole.new.good _ now _ _ _ (came_more held piece after c.pieces.good _ mid now _ _ c.pieces.invariant.midway came put) answered)
+    (answered_on after begun c.pieces.good c.answer_whole.new.good _ now _ _ _
+    (came_more held piece after c.pieces.good _ mid now _ _ c.pieces.invariant.midway came put) answered)
     (omega (arith, c.in-Ok-answer_whole.ensures.begun.1))
 
 pub pieces-preserved : goal.pieces-preserved
@@ -86,10 +107,16 @@ pieces-preserved g c =
     let put : after ≡ held ++ piece = search rules in
     let begun = c.in-Ok-answer_whole.begun.now in
     let kept = c.in-Ok-begun.ensures.items in
-    let answered = subst (λ t. AnsweredUpTo t begun c.pieces.good c.answer_whole.new.good (g.W.Edge.told c.pieces.out) (g.W.Edge.told c.answer_whole.new.out)) c.as_slice-in-pieces.ensures.value c.in-Ok-answer_whole.ensures.answered in
+    let answered = subst (λ t. AnsweredUpTo t begun c.pieces.good c.answer_whole.new.good (g.W.Edge.told c.pieces.out)
+    (g.W.Edge.told c.answer_whole.new.out))
+    c.as_slice-in-pieces.ensures.value c.in-Ok-answer_whole.ensures.answered in
     record {
-      midway = subst (λ b. Midway b c.answer_whole.new.good (g.R.Edge.told c.args.input.now) now (g.W.Edge.told c.args.out.now) (g.W.Edge.told c.answer_whole.new.out)) (sym kept)
-          (answered_on after begun c.pieces.good c.answer_whole.new.good _ now _ _ _ (came_more held piece after c.pieces.good _ mid now _ _ c.pieces.invariant.midway came put) answered);
+      midway =
+          subst (λ b. Midway b c.answer_whole.new.good (g.R.Edge.told c.args.input.now) now
+          (g.W.Edge.told c.args.out.now) (g.W.Edge.told c.answer_whole.new.out))
+          (sym kept)
+          (answered_on after begun c.pieces.good c.answer_whole.new.good _ now _ _ _
+          (came_more held piece after c.pieces.good _ mid now _ _ c.pieces.invariant.midway came put) answered);
       begun = subst IsLine (sym kept) c.in-Ok-answer_whole.ensures.begun;
       no_read_fault = search rules;
       no_write_fault = search rules;

@@ -7,4 +7,5 @@ use Rattle.lte_machine.proofs.ladder_rows.every_key_was_reported.Goals as goal
 
 pub returns : goal.returns
 returns call c setup events w is =
-    all_reported (under_keys value_of c) written_in_values (open_by_uses same_value (under_keys value_of c)) (open_octets (under_keys value_of c)) setup events w is
+    all_reported (under_keys value_of c) written_in_values (open_by_uses same_value (under_keys value_of c))
+    (open_octets (under_keys value_of c)) setup events w is

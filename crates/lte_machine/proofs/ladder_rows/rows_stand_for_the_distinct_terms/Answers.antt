@@ -7,8 +7,10 @@ use Rattle.lte_machine.proofs.ladder_rows.rows_stand_for_the_distinct_terms.Goal
 
 pub returns-clause-terms : goal.returns-clause-terms
 returns-clause-terms call c setup events w is =
-    ladder_always (under_keys value_of c) written_in_values (open_by_uses same_value (under_keys value_of c)) (open_octets (under_keys value_of c)) setup events w is
+    ladder_always (under_keys value_of c) written_in_values (open_by_uses same_value (under_keys value_of c))
+    (open_octets (under_keys value_of c)) setup events w is
 
 pub returns-clause-octets : goal.returns-clause-octets
 returns-clause-octets call c setup events w is =
-    octets_always (under_keys value_of c) written_in_values (open_by_uses same_value (under_keys value_of c)) (open_octets (under_keys value_of c)) setup events w is
+    octets_always (under_keys value_of c) written_in_values (open_by_uses same_value (under_keys value_of c))
+    (open_octets (under_keys value_of c)) setup events w is

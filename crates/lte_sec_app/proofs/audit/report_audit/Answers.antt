@@ -1,4 +1,4 @@
-use Rattle.std.proofs.Common.{refl, subst, sym, rules}
+use Rattle.std.proofs.Common.{refl, subst, sym}
 use Rattle.std.proofs.lemmas.Result.{IfOk-at_ok}
 use Rattle.audit_report.specs.AuditReport.{audit_report_of}
 use Rattle.scenario_file.specs.Reading.{reading_of}
@@ -17,8 +17,10 @@ returns-in-Ok-clause-holds g c =
     let events = c.in-Ok.scenario.events.items in
     subst (WhereRun (HasAudit c.args.octets.now)) (sym c.status_of.ensures.value)
     (audited c.args.octets.now setup events (IfOk-at_ok _ is read.scenario)
-    (headline_of setup events (IfOk-at_ok _ is read.can_start) (IfOk-at_ok _ is read.setup_fits) (IfOk-at_ok _ is read.can_happen) (IfOk-at_ok _ is read.events_fit))
-    c.write_audit.ensures.alone c.write_audit.result (λ ok. (c.write_audit.ensures.exact ok, c.write_audit.ensures.of_run ok)) c.write_audit.ensures.report.coincidence)
+    (headline_of setup events (IfOk-at_ok _ is read.is_scenario))
+    c.write_audit.ensures.alone c.write_audit.result
+    (λ ok. (c.write_audit.ensures.exact ok, c.write_audit.ensures.of_run ok))
+    c.write_audit.ensures.report.coincidence)
 
 pub returns-in-Err-clause-text : goal.returns-in-Err-clause-text
 returns-in-Err-clause-text g c =
@@ -27,4 +29,6 @@ returns-in-Err-clause-text g c =
 pub returns-in-Ok-clause-no_refusal : goal.returns-in-Ok-clause-no_refusal
 returns-in-Ok-clause-no_refusal g c memory refused =
     let s = c.in-Ok.scenario in
-    absurd (read_never_refused (λ r. (output_of r).ends) (reading_of c.args.octets.now) _ (audit_report_of s.setup s.events.items).coincides (IfOk-at_ok _ c.in-Ok.ensures.read.0 c.read.ensures.scenario) refl refused)
+    absurd (read_never_refused (λ r. (output_of r).ends) (reading_of c.args.octets.now) _
+    (audit_report_of s.setup s.events.items).coincides
+    (IfOk-at_ok _ c.in-Ok.ensures.read.0 c.read.ensures.scenario) refl refused)

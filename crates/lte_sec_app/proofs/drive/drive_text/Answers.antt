@@ -14,13 +14,14 @@ returns-in-Ok-clause-headline g c =
     let is = c.in-Ok.ensures.read.0 in
     let read = c.read.ensures in
     where_run c.drive_scenario.result (HasHeadline c.args.octets.now)
-    (has_headline c.args.octets.now c.in-Ok.scenario.setup c.in-Ok.scenario.events.items (IfOk-at_ok _ is read.scenario) (IfOk-at_ok _ is read.can_start)
-    (IfOk-at_ok _ is read.setup_fits) (IfOk-at_ok _ is read.can_happen) (IfOk-at_ok _ is read.events_fit))
+    (has_headline c.args.octets.now c.in-Ok.scenario.setup c.in-Ok.scenario.events.items (IfOk-at_ok _ is read.scenario) (IfOk-at_ok _ is read.is_scenario))
 
 pub returns-in-Ok-clause-no_refusal : goal.returns-in-Ok-clause-no_refusal
 returns-in-Ok-clause-no_refusal g c memory refused =
     let s = c.in-Ok.scenario in
-    absurd (read_never_refused (λ r. (output_of r).ends) (reading_of c.args.octets.now) _ (report_of s.setup s.events.items).coincides (IfOk-at_ok _ c.in-Ok.ensures.read.0 c.read.ensures.scenario) refl refused)
+    absurd (read_never_refused (λ r. (output_of r).ends) (reading_of c.args.octets.now) _
+    (report_of s.setup s.events.items).coincides
+    (IfOk-at_ok _ c.in-Ok.ensures.read.0 c.read.ensures.scenario) refl refused)
 
 pub returns-in-Err-clause-at : goal.returns-in-Err-clause-at
 returns-in-Err-clause-at g c =

@@ -1,5 +1,5 @@
 use Rattle.run_report.specs.Report.{report_of}
-use Rattle.std.proofs.Common.{refl, rules}
+use Rattle.std.proofs.Common.{refl}
 use Rattle.std.proofs.lemmas.Result.{IfOk-at_ok}
 use Rattle.scenario_file.specs.Reading.{reading_of}
 use Rattle.lte_sec_app.specs.Scenario.{output_of, HasHeadline}
@@ -13,8 +13,7 @@ returns-in-Ok-clause-headline g c =
     let is = c.in-Ok.ensures.read.0 in
     let read = c.read.ensures in
     where_run c.status_of.result (HasHeadline c.args.octets.now)
-    (has_headline c.args.octets.now c.in-Ok.scenario.setup c.in-Ok.scenario.events.items (IfOk-at_ok _ is read.scenario) (IfOk-at_ok _ is read.can_start)
-    (IfOk-at_ok _ is read.setup_fits) (IfOk-at_ok _ is read.can_happen) (IfOk-at_ok _ is read.events_fit))
+    (has_headline c.args.octets.now c.in-Ok.scenario.setup c.in-Ok.scenario.events.items (IfOk-at_ok _ is read.scenario) (IfOk-at_ok _ is read.is_scenario))
 
 pub returns-in-Err-clause-text : goal.returns-in-Err-clause-text
 returns-in-Err-clause-text g c =
@@ -23,4 +22,6 @@ returns-in-Err-clause-text g c =
 pub returns-in-Ok-clause-no_refusal : goal.returns-in-Ok-clause-no_refusal
 returns-in-Ok-clause-no_refusal g c memory refused =
     let s = c.in-Ok.scenario in
-    absurd (read_never_refused (λ r. (output_of r).ends) (reading_of c.args.octets.now) _ (report_of s.setup s.events.items).coincides (IfOk-at_ok _ c.in-Ok.ensures.read.0 c.read.ensures.scenario) refl refused)
+    absurd (read_never_refused (λ r. (output_of r).ends) (reading_of c.args.octets.now) _
+    (report_of s.setup s.events.items).coincides
+    (IfOk-at_ok _ c.in-Ok.ensures.read.0 c.read.ensures.scenario) refl refused)

@@ -7,7 +7,9 @@ use Rattle.net_bag.proofs.search.first_indexed.Goals as goal
 
 pub loop-candidate-init : goal.loop-candidate-init
 loop-candidate-init c =
-    begins c.args.index.now c.args.records.now.records c.args.class.now c.args.octets.now c.first-candidate.result c.requires (subst (λ d. IsFirstFrom c.args.index.now d 0 c.first-candidate.result) c.digest.ensures c.first-candidate.ensures)
+    begins c.args.index.now c.args.records.now.records c.args.class.now c.args.octets.now c.first-candidate.result
+    c.requires (subst (λ d. IsFirstFrom c.args.index.now d 0 c.first-candidate.result) c.digest.ensures
+    c.first-candidate.ensures)
 
 pub is_sent-requires : goal.is_sent-requires
 is_sent-requires c =
@@ -37,4 +39,5 @@ pub loop-candidate-preserved : goal.loop-candidate-preserved
 loop-candidate-preserved c =
     let here = subst (IsCandidate c.args.index.now c.args.records.now.records c.args.class.now c.args.octets.now) c.in-Some.is c.loop-candidate.invariant in
     let next = c.next-candidate.ensures (digest c.args.class.now c.args.octets.now) here.0 in
-    goes_on c.args.index.now c.args.records.now.records c.args.class.now c.args.octets.now c.in-Some.number c.next-candidate.result c.requires here (c.is_sent.ensures ∙ ap Some c.if-is_sent.false) next
+    goes_on c.args.index.now c.args.records.now.records c.args.class.now c.args.octets.now c.in-Some.number
+    c.next-candidate.result c.requires here (c.is_sent.ensures ∙ ap Some c.if-is_sent.false) next

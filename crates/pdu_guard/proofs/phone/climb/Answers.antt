@@ -3,4 +3,4 @@ use Rattle.key_model.specs.Reading.{octet_reading}
 use Rattle.pdu_guard.proofs.phone.climb.Goals as goal
 
 pub loop-preserved : goal.loop-preserved
-loop-preserved c = rw (add-one c.loop.counter) (c.nh_next-nh.ensures.value ∙ ap (octet_reading.nh c.args.root.now) c.loop.invariant)
+loop-preserved c = rw (add-one c.loop.counter) (c.nh_next-nh.ensures.value ∙ ap (octet_reading.nh c.keyed-kasme.result) c.loop.invariant)

@@ -4,4 +4,5 @@ use Rattle.rec_base.proofs.fields.same_from_number.Goals as goal
 
 pub returns : goal.returns
 returns c =
-    same_from_number_of _ _ c.requires.width (λ i. let octet = c.type_inv.a i in search rules) (λ i. let octet = c.type_inv.b i in search rules) c.requires.number
+    same_from_number_of _ _ c.requires.width (λ i. let octet = c.type_inv.a i in search rules)
+    (λ i. let octet = c.type_inv.b i in search rules) c.requires.number

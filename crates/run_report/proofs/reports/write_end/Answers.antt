@@ -19,7 +19,9 @@ pub write_text-requires-in-Ok-clause-lines : goal.write_text-requires-in-Ok-clau
 write_text-requires-in-Ok-clause-lines g c = text_is _ _ _ c.ladder_text.ensures.text (ladder_is _)
 
 pub write_text-requires-in-Ok-clause-out_ready : goal.write_text-requires-in-Ok-clause-out_ready
-write_text-requires-in-Ok-clause-out_ready g c = (c.in-Ok.ensures (end_text (length c.args.world.now.journal) c.records.result (length c.ladder.result.now.rows)) (search rules)).used.ready
+write_text-requires-in-Ok-clause-out_ready g c =
+    (c.in-Ok.ensures (end_text (length c.args.world.now.journal) c.records.result (length c.ladder.result.now.rows))
+    (search rules)).used.ready
 
 pub returns-in-Ok : goal.returns-in-Ok
 returns-in-Ok g c =
@@ -28,7 +30,8 @@ returns-in-Ok g c =
     let first = end_text (length v.journal) c.records.result (length rows) in
     subst (λ t. WritesText t c.write_text-in-Ok.result (g.W.Edge.told c.args.out.now) (g.W.Edge.told c.write_text-in-Ok.new.out))
     (sym (end_is (length v.journal) c.records.result rows (run_of v) c.requires.goes_on c.ladder.ensures c.records.ensures))
-    (both_written c.write_text-in-Ok.result first (ladder_text rows) c.requires.out_ready (c.in-Ok.ensures first (search rules)) (c.write_text-in-Ok.ensures (ladder_text rows) (search rules)))
+    (both_written c.write_text-in-Ok.result first (ladder_text rows) c.requires.out_ready
+    (c.in-Ok.ensures first (search rules)) (c.write_text-in-Ok.ensures (ladder_text rows) (search rules)))
 
 pub returns-in-Err : goal.returns-in-Err
 returns-in-Err g c =

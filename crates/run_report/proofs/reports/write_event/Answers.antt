@@ -5,7 +5,7 @@ use Rattle.run_report.specs.Counted.{Tells}
 use Rattle.run_report.specs.Events.{told_of, told_report}
 use Rattle.run_report.proofs.Ends.{line_ends}
 use Rattle.run_report.proofs.Partly.{one_piece, one_cut}
-use Rattle.run_report.proofs.Telling.{a_line, a_chance, can_show}
+use Rattle.run_report.proofs.Telling.{a_line, a_coincidence, can_show}
 use Rattle.run_report.proofs.reports.write_event.Goals as goal
 
 pub write_text-requires-clause-lines : goal.write_text-requires-clause-lines
@@ -21,19 +21,23 @@ returns-in-Err-clause-report g c =
     let told = told_of (run_of c.args.world.now) c.args.event.now in
     one_cut (a_line told c.in-Ok.told (length c.args.world.now.journal) c.in-Ok.ensures.tells) c.requires.out_ready (c.in-Err.ensures _ c.line.ensures.text)
 
-pub write_chance-requires-clause-string : goal.write_chance-requires-clause-string
-write_chance-requires-clause-string g c =
+pub write_coincidence-requires-clause-string : goal.write_coincidence-requires-clause-string
+write_coincidence-requires-clause-string g c =
     let told = told_of (run_of c.args.world.now) c.args.event.now in
-    can_show told c.in-Err-Chance.proof (subst (λ f. Tells told (Err f)) c.in-Err-Chance.field-0-is c.in-Err-Chance.ensures.tells)
+    can_show told c.in-Err-Coincidence.proof (subst (λ f. Tells told (Err f)) c.in-Err-Coincidence.field-0-is c.in-Err-Coincidence.ensures.tells)
 
-pub returns-in-Ok-write_chance-clause-report : goal.returns-in-Ok-write_chance-clause-report
-returns-in-Ok-write_chance-clause-report g c =
+pub returns-in-Ok-write_coincidence-clause-report : goal.returns-in-Ok-write_coincidence-clause-report
+returns-in-Ok-write_coincidence-clause-report g c =
     let told = told_of (run_of c.args.world.now) c.args.event.now in
-    let tells = subst (λ f. Tells told (Err f)) c.in-Err-Chance.field-0-is c.in-Err-Chance.ensures.tells in
-    one_piece (ap (λ step. told_report step told) (sym (c.len-step.ensures ∙ ap length c.journal.ensures)) ∙ a_chance told c.in-Err-Chance.proof c.len-step.result tells) c.in-Ok-write_chance.ensures
+    let tells = subst (λ f. Tells told (Err f)) c.in-Err-Coincidence.field-0-is c.in-Err-Coincidence.ensures.tells in
+    one_piece (ap (λ step. told_report step told) (sym (c.len-step.ensures ∙ ap length c.journal.ensures))
+    ∙ a_coincidence told c.in-Err-Coincidence.proof c.len-step.result tells)
+    c.in-Ok-write_coincidence.ensures
 
-pub returns-in-Err-write_chance-clause-report : goal.returns-in-Err-write_chance-clause-report
-returns-in-Err-write_chance-clause-report g c =
+pub returns-in-Err-write_coincidence-clause-report : goal.returns-in-Err-write_coincidence-clause-report
+returns-in-Err-write_coincidence-clause-report g c =
     let told = told_of (run_of c.args.world.now) c.args.event.now in
-    let tells = subst (λ f. Tells told (Err f)) c.in-Err-Chance.field-0-is c.in-Err-Chance.ensures.tells in
-    one_cut (ap (λ step. told_report step told) (sym (c.len-step.ensures ∙ ap length c.journal.ensures)) ∙ a_chance told c.in-Err-Chance.proof c.len-step.result tells) c.requires.out_ready c.in-Err-write_chance.ensures
+    let tells = subst (λ f. Tells told (Err f)) c.in-Err-Coincidence.field-0-is c.in-Err-Coincidence.ensures.tells in
+    one_cut (ap (λ step. told_report step told) (sym (c.len-step.ensures ∙ ap length c.journal.ensures))
+    ∙ a_coincidence told c.in-Err-Coincidence.proof c.len-step.result tells)
+    c.requires.out_ready c.in-Err-write_coincidence.ensures

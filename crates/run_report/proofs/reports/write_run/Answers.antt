@@ -12,7 +12,7 @@ loop-number-init g c =
     record {
       took = none_taken c.in-Ok.ensures.begins runs;
       report = none_reported (g.W.Edge.told c.args.out.now) c.requires.out_ready
-          (report_is c.requires.ready ∙ ap (λ run. report_from (length c.args.events.now.items) 0 run c.args.events.now.items) (sym runs));
+          (report_is c.requires.is_scenario ∙ ap (λ run. report_from (length c.args.events.now.items) 0 run c.args.events.now.items) (sym runs));
     }
 
 pub write_event-requires-clause-can : goal.write_event-requires-clause-can
@@ -20,7 +20,7 @@ write_event-requires-clause-can g c =
     let events = c.args.events.now.items in
     let i = c.loop-number.number in
     let e = c.at-event.result in
-    can_take e c.requires.ready c.loop-number.invariant.took (slice_get_within events i e c.at-event.ensures) (item_at events i e c.at-event.ensures)
+    can_take e c.requires.is_scenario c.loop-number.invariant.took (slice_get_within events i e c.at-event.ensures) (item_at events i e c.at-event.ensures)
 
 pub loop-number-preserved : goal.loop-number-preserved
 loop-number-preserved g c =
@@ -47,7 +47,9 @@ returns-in-Ok-true g c =
     let e = c.at-event.result in
     let left = left_at events i e (slice_get_within events i e c.at-event.ensures) (item_at events i e c.at-event.ensures) in
     let flag : c.in-Ok-true.field-0 ≡ true = search (rules, c.in-Ok-true.field-0-test) in
-    coincidence_reported so_far.report (report_more (length events) i (length v.journal) (run_of v) _ events e left so_far.took.count refl) flag c.in-Ok-true.ensures.report
+    coincidence_reported so_far.report
+    (report_more (length events) i (length v.journal) (run_of v) _ events e left so_far.took.count refl) flag
+    c.in-Ok-true.ensures.report
 
 pub returns-in-Err-write_event : goal.returns-in-Err-write_event
 returns-in-Err-write_event g c =
@@ -57,10 +59,12 @@ returns-in-Err-write_event g c =
     let v = c.loop-number.world in
     let e = c.at-event.result in
     let left = left_at events i e (slice_get_within events i e c.at-event.ensures) (item_at events i e c.at-event.ensures) in
-    cut_reported so_far.report (report_more (length events) i (length v.journal) (run_of v) _ events e left so_far.took.count refl) c.in-Err-write_event.ensures.report
+    cut_reported so_far.report
+    (report_more (length events) i (length v.journal) (run_of v) _ events e left so_far.took.count refl)
+    c.in-Err-write_event.ensures.report
 
 pub write_end-requires-clause-few : goal.write_end-requires-clause-few
-write_end-requires-clause-few g c = let took = c.loop-number.invariant.took in omega (arith, took.count, c.requires.ready.few)
+write_end-requires-clause-few g c = let took = c.loop-number.invariant.took in omega (arith, took.count, c.requires.is_scenario.few)
 
 pub returns-in-Ok-write_end : goal.returns-in-Ok-write_end
 returns-in-Ok-write_end g c =

@@ -9,5 +9,7 @@ use Rattle.run_report.proofs.reports.write_run.Given as goal
 abbrev pub invariant-loop-number : goal.invariant-loop-number
 invariant-loop-number g l = record {
   took : Took l.fn.setup l.number l.world;
-  report : ReportPartly (report_of l.fn.setup l.events.items) (report_from (length l.events.items) l.number (run_of l.world) (drop l.number l.events.items)) (g.W.Edge.told l.initial.out) (g.W.Edge.told l.out);
+  report : ReportPartly (report_of l.fn.setup l.events.items)
+      (report_from (length l.events.items) l.number (run_of l.world) (drop l.number l.events.items))
+      (g.W.Edge.told l.initial.out) (g.W.Edge.told l.out);
 }

@@ -17,10 +17,20 @@ pub write_text-requires-clause-lines : goal.write_text-requires-clause-lines
 write_text-requires-clause-lines g c = text_is _ _ _ c.summary_line.ensures.text (is_lines _ (figure_ends _ _ _))
 
 pub loop-figure-preserved : goal.loop-figure-preserved
-loop-figure-preserved g c = more_written c.loop-figure.invariant (figure_more c.args.tally.now c.args.rows c.loop-figure.figure-index c.all-figures.result _ c.all-figures.ensures c.loop-figure-test.true) (c.in-Ok.ensures _ c.summary_line.ensures.text)
+loop-figure-preserved g c =
+    more_written c.loop-figure.invariant
+    (figure_more c.args.tally.now c.args.rows c.loop-figure.figure-index c.all-figures.result _ c.all-figures.ensures
+    c.loop-figure-test.true)
+    (c.in-Ok.ensures _ c.summary_line.ensures.text)
 
 pub returns-in-Err : goal.returns-in-Err
-returns-in-Err g c = cut_written c.loop-figure.invariant (figure_more c.args.tally.now c.args.rows c.loop-figure.figure-index c.all-figures.result _ c.all-figures.ensures c.loop-figure-test.true) (c.in-Err.ensures _ c.summary_line.ensures.text)
+returns-in-Err g c =
+    cut_written c.loop-figure.invariant
+    (figure_more c.args.tally.now c.args.rows c.loop-figure.figure-index c.all-figures.result _ c.all-figures.ensures
+    c.loop-figure-test.true)
+    (c.in-Err.ensures _ c.summary_line.ensures.text)
 
 pub returns : goal.returns
-returns g c = all_written c.loop-figure.invariant (ap (flat_map (figure_text c.args.tally.now c.args.rows)) (drop_of_length-le figures c.loop-figure-test.false))
+returns g c =
+    all_written c.loop-figure.invariant
+    (ap (flat_map (figure_text c.args.tally.now c.args.rows)) (drop_of_length-le figures c.loop-figure-test.false))

@@ -15,7 +15,9 @@ loop-turn-init c = record {
 pub loop-turn-preserved : goal.loop-turn-preserved
 loop-turn-preserved c = record {
   first = rw (next_steps c.args.seed c.loop-turn._turn) (then _ _ _ _ _ c.loop-turn.invariant.first
-      (c.in_ok-add_to.ensures.steps ∙ ap (λ turn. with_steps c.loop-turn.first (steps_of turn)) (c.turn.ensures.turn ∙ ap turn_of c.loop-turn.invariant.journey)));
+      (c.in_ok-add_to.ensures.steps
+      ∙ ap (λ turn. with_steps c.loop-turn.first (steps_of turn))
+      (c.turn.ensures.turn ∙ ap turn_of c.loop-turn.invariant.journey)));
   journey = c.turn.ensures.journey ∙ ap after c.loop-turn.invariant.journey ∙ sym (next_journey c.args.seed c.loop-turn._turn);
 }
 
@@ -26,4 +28,6 @@ returns-clause-events c =
       | then-loop-turn-test+then-is_full w ↦ enough_where_full c.args.n c.args.seed c.loop-turn._turn
           (subst (λ (taken : Taken). length taken.steps ≡ taken.most) c.loop-turn.invariant.first (w.is_full.ensures.0 w.if-is_full.true))
     ] in
-    c.into_steps.ensures.value ∙ ap (λ taken. taken.steps) c.loop-turn.invariant.first ∙ all_taken c.args.n c.args.seed c.loop-turn._turn c.loop-turn.auto._turn-end enough
+    c.into_steps.ensures.value
+    ∙ ap (λ taken. taken.steps) c.loop-turn.invariant.first
+    ∙ all_taken c.args.n c.args.seed c.loop-turn._turn c.loop-turn.auto._turn-end enough

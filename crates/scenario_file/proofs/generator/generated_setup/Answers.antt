@@ -1,9 +1,8 @@
 use Rattle.std.proofs.Common.{ℕ, zero, suc, ◌≡◌, ◌<◌, ◌∙◌, false, ap, sym, refl, map, length, List, [], ◌∷◌, ◌++◌, arith}
-use Rattle.lte_events.specs.Site.{Site}
+use Rattle.lte_events.specs.Site.{Site, is_site}
 use Rattle.lte_events.specs.declared.setups.StationSetup.{StationSetup}
 use Rattle.std.specs.List.{range_with_len, list_any}
 use Rattle.std.proofs.lemmas.List.FromFn.{length-map-range_with_len, map-range_with_len_more}
-use Rattle.lte_events.specs.Site.{is_site}
 use Rattle.scenario_file.specs.Draws.{cell_of, station_setup, site_of}
 use Rattle.scenario_file.proofs.generator.generated_setup.Goals as goal
 
@@ -27,7 +26,8 @@ add_cell-requires-clause-new c = ap (list_any (is_site (cell_of c.loop-s.s))) c.
 pub loop-s-preserved : goal.loop-s-preserved
 loop-s-preserved c = record {
   stations = c.push.ensures ∙ ap (λ (stations : List StationSetup). stations ++ c.station_setup.result ∷ []) c.loop-s.invariant.stations
-      ∙ ap (λ last. map station_setup (range_with_len 0 c.loop-s.s) ++ last ∷ []) c.station_setup.ensures ∙ sym (map-range_with_len_more station_setup 0 c.loop-s.s c.loop-s.s (omega arith));
+      ∙ ap (λ last. map station_setup (range_with_len 0 c.loop-s.s) ++ last ∷ []) c.station_setup.ensures
+      ∙ sym (map-range_with_len_more station_setup 0 c.loop-s.s c.loop-s.s (omega arith));
   cells = c.add_cell.ensures ∙ ap (λ (cells : List Site). cells ++ site_of c.loop-s.s ∷ []) c.loop-s.invariant.cells
       ∙ sym (map-range_with_len_more site_of 0 c.loop-s.s c.loop-s.s (omega arith));
 }

@@ -3,4 +3,6 @@ use Rattle.scenario_file.proofs.turns.handover.Goals as goal
 
 pub returns-clause-steps : goal.returns-clause-steps
 returns-clause-steps c =
-    rw (← c.cell_of.ensures) (then _ _ _ _ _ c.in_ok-put.ensures.step (then _ _ _ _ _ c.in_ok-arrivals.ensures.steps (then _ _ _ _ _ c.in_ok-put-2.ensures.step c.in_ok-arrivals-2.ensures.steps)))
+    rw (← c.cell_of.ensures) (then _ _ _ _ _ c.in_ok-put.ensures.step
+    (then _ _ _ _ _ c.in_ok-arrivals.ensures.steps
+    (then _ _ _ _ _ c.in_ok-put-2.ensures.step c.in_ok-arrivals-2.ensures.steps)))

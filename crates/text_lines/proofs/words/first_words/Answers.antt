@@ -10,4 +10,6 @@ pub returns-clause-words : goal.returns-clause-words
 returns-clause-words c =
     let source = c.take.ensures.source in
     collected _ c.collect.ensures.ran (YieldsList-from_take c.args.most
-    (YieldsList-from_slice_split _ is_space c.args.line.now (ap split_rest source ∙ c.split.ensures.rest) (ap split_done source ∙ c.split.ensures.done) (ap split_callee source ∙ c.split.ensures.closure) (search rules)) c.take.ensures.count)
+    (YieldsList-from_slice_split _ is_space c.args.line.now (ap split_rest source ∙ c.split.ensures.rest)
+    (ap split_done source ∙ c.split.ensures.done) (ap split_callee source ∙ c.split.ensures.closure) (search rules))
+    c.take.ensures.count)

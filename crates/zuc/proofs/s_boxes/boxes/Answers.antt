@@ -9,4 +9,10 @@ returns c =
     let w = c.args.w in
     c.from_be_bytes.ensures
     ∙ number_of_four _ _ _ _
-    ∙ rw (get_or-S0 (w / 2 ^ 24) (omega arith), get_or-S1 (w / 2 ^ 16 % 256) (omega arith), get_or-S0 (w / 2 ^ 8 % 256) (omega arith), get_or-S1 (w % 256) (omega arith)) refl
+    ∙ rw (
+      get_or-S0 (w / 2 ^ 24) (omega arith),
+      get_or-S1 (w / 2 ^ 16 % 256) (omega arith),
+      get_or-S0 (w / 2 ^ 8 % 256) (omega arith),
+      get_or-S1 (w % 256) (omega arith),
+    )
+    refl

@@ -5,4 +5,14 @@ use Rattle.aes_core.proofs.state.State.block.Goals as goal
 pub returns : goal.returns
 unfolding word_octets
 returns c =
-    rw (c.copy_from_slice.ensures.after, c.copy_from_slice-2.ensures.after, c.copy_from_slice-3.ensures.after, c.copy_from_slice-4.ensures.after, c.to_be_bytes.ensures, c.to_be_bytes-2.ensures, c.to_be_bytes-3.ensures, c.to_be_bytes-4.ensures) refl
+    rw (
+      c.copy_from_slice.ensures.after,
+      c.copy_from_slice-2.ensures.after,
+      c.copy_from_slice-3.ensures.after,
+      c.copy_from_slice-4.ensures.after,
+      c.to_be_bytes.ensures,
+      c.to_be_bytes-2.ensures,
+      c.to_be_bytes-3.ensures,
+      c.to_be_bytes-4.ensures,
+    )
+    refl

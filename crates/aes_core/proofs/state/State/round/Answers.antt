@@ -13,7 +13,9 @@ returns c =
     let n = c.args.round in
     let long : length words ≡ 44 = search rules in
     four_words _ _ _ _ _ _ _ _
-    (c.mixed_column.ensures ∙ sums_turned _ _ (mixed_column (map sub_byte (diagonal s.0 s.1 s.2 s.3))) (key_column words n 0 (4 * n) (omega arith) (omega arith)))
+    (c.mixed_column.ensures
+    ∙ sums_turned _ _ (mixed_column (map sub_byte (diagonal s.0 s.1 s.2 s.3)))
+    (key_column words n 0 (4 * n) (omega arith) (omega arith)))
     (c.mixed_column-2.ensures ∙ sums_turned _ _ (mixed_column (map sub_byte (diagonal s.1 s.2 s.3 s.0))) (key_column words n 1 (4 * n + 1) refl (omega arith)))
     (c.mixed_column-3.ensures ∙ sums_turned _ _ (mixed_column (map sub_byte (diagonal s.2 s.3 s.0 s.1))) (key_column words n 2 (4 * n + 2) refl (omega arith)))
     (c.mixed_column-4.ensures ∙ sums_turned _ _ (mixed_column (map sub_byte (diagonal s.3 s.0 s.1 s.2))) (key_column words n 3 (4 * n + 3) refl (omega arith)))

@@ -1,7 +1,10 @@
 use Rattle.std.proofs.Common.{rules}
+use Rattle.std.proofs.lemmas.Result.{err_from_is_err_and}
 use Rattle.edge_io.proofs.Served.{not_served}
 use Rattle.edge_io.proofs.served_child.ServedChild.start.Goals as goal
 
-pub returns-in-Err-connected-clause-failed : goal.returns-in-Err-connected-clause-failed
-returns-in-Err-connected-clause-failed g c fault is =
-    not_served _ _ _ _ _ (g.H.Network.connects c.args.host.now) _ _ _ _ fault (search rules) c.in-Err-connected.ensures.ended (c.in-Err-connected.ensures.failed fault is)
+pub returns-in_err-connection-clause-failed : goal.returns-in_err-connection-clause-failed
+returns-in_err-connection-clause-failed g c =
+    let p = err_from_is_err_and c.from_residual.result c.from_residual.ensures.1 in rw (p.1, p.2) (λ fault is.
+    not_served _ _ _ _ _ (g.H.Network.connects c.args.host.now) _ _ _ _ fault (search rules)
+    c.in_err-connection.ensures.ended (c.in_err-connection.ensures.failed fault is))

@@ -6,5 +6,10 @@ use Rattle.enb_context.proofs.station.Station.handover_command.Goals as goal
 
 pub returns : goal.returns
 returns c =
-    serves _ _ _ c.handover_command.new.self c.handover_command.new.out (StationRecord OnS1 (Ok (record { fields = HandoverCommand c.args.conn c.args.attempt c.args.cell c.args.ncc c.args.algs c.args.air; key = None }))) c.self.view_is (search rules)
+    serves _ _ _ c.handover_command.new.self c.handover_command.new.out
+    (StationRecord OnS1 (Ok (record {
+      fields = HandoverCommand c.args.conn c.args.attempt c.args.cell c.args.ncc c.args.algs c.args.air;
+      key = None;
+    })))
+    c.self.view_is (search rules)
     c.handover_command.ensures.step

@@ -9,15 +9,19 @@ returns-in_default c =
 
 pub returns-then-not-is_srb1 : goal.returns-then-not-is_srb1
 returns-then-not-is_srb1 c =
-    prep_other c.args.self.now c.in-Some.prep.now c.args.air c.args.bearer c.args.pdu.now c.only-then-not-is_srb1.new.self c.requires.elsewhere (search rules) (search rules) c.only-then-not-is_srb1.ensures
+    prep_other c.args.self.now c.in-Some.prep.now c.args.air c.args.bearer c.args.pdu.now
+    c.only-then-not-is_srb1.new.self c.requires.elsewhere (search rules) (search rules)
+    c.only-then-not-is_srb1.ensures
 
 pub returns-in-Err : goal.returns-in-Err
 returns-in-Err c =
     rw (first_is c.args.bearer (search rules))
-    (prep_refused c.args.self.now c.in-Some.prep.now c.args.air c.args.pdu.now c.in-Err.fault c.only-in-Err.new.self c.requires.elsewhere (search rules) (search rules) (search rules))
+    (prep_refused c.args.self.now c.in-Some.prep.now c.args.air c.args.pdu.now c.in-Err.fault c.only-in-Err.new.self
+    c.requires.elsewhere (search rules) (search rules) (search rules))
 
 pub returns : goal.returns
 returns c =
     let found : at_air c.args.air c.args.self.now.preps ≡ Some c.in-Some.prep.now = search rules in
     rw (first_is c.args.bearer (search rules))
-    (prep_taken_so c.args.self.now c.in-Some.prep.now c.args.air c.args.pdu.now c.in-Ok.opened _ c.requires.elsewhere found (search rules) (c.take_prepared.ensures c.in-Some.prep.now found))
+    (prep_taken_so c.args.self.now c.in-Some.prep.now c.args.air c.args.pdu.now c.in-Ok.opened _ c.requires.elsewhere
+    found (search rules) (c.take_prepared.ensures c.in-Some.prep.now found))

@@ -18,7 +18,8 @@ preps_are c =
 pub invariant_of-self : goal.invariant_of-self
 invariant_of-self c =
     let le : c.prep.inside.conn ≤ c.prep.inside.conn = omega arith in
-    let dropped : NoneAbove c.prep.inside.conn (drop_below c.prep.inside.conn c.self.inside.preps) = none_above_drop c.self.inside.last c.prep.inside.conn c.self.inside.preps c.self.invariant.3 (above c) in (
+    let dropped : NoneAbove c.prep.inside.conn (drop_below c.prep.inside.conn c.self.inside.preps) =
+    none_above_drop c.self.inside.last c.prep.inside.conn c.self.inside.preps c.self.invariant.3 (above c) in (
       c.self.invariant.0,
       omega arith,
       omega arith,

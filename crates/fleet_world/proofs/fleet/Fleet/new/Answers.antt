@@ -1,5 +1,4 @@
-use Rattle.std.proofs.Common.{◌≡◌, sym, ap, subst, ◌∙◌, replicate}
-use Rattle.lte_world.specs.Whole.{begun}
+use Rattle.std.proofs.Common.{sym, subst}
 use Rattle.fleet_world.specs.Fleets.{Stands}
 use Rattle.fleet_world.proofs.Taking.{stands_first}
 use Rattle.fleet_world.proofs.fleet.Fleet.new.Goals as goal

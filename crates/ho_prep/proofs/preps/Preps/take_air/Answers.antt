@@ -5,7 +5,8 @@ use Rattle.ho_prep.proofs.preps.Preps.take_air.Goals as goal
 
 pub returns-in-Some-clause-value : goal.returns-in-Some-clause-value
 returns-in-Some-clause-value c =
-    sym (find_placed (is_at c.args.air) c.args.self.now c.in-Some.place c.remove.result (sym c.place_at.ensures ∙ c.in-Some.is) (rw (← c.self.view_is) c.remove.ensures.value))
+    sym (find_placed (is_at c.args.air) c.args.self.now c.in-Some.place c.remove.result
+    (sym c.place_at.ensures ∙ c.in-Some.is) (rw (← c.self.view_is) c.remove.ensures.value))
 
 pub returns-in-None-clause-value : goal.returns-in-None-clause-value
 returns-in-None-clause-value c =

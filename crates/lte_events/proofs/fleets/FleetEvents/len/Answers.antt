@@ -5,4 +5,6 @@ use Rattle.lte_events.proofs.fleets.FleetEvents.len.Goals as goal
 
 pub returns : goal.returns
 returns c =
-    c.len.ensures ∙ sym (paired_length c.self.inside.phones.items c.self.inside.events.items c.self.invariant) ∙ ap (λ (list : FleetListed). length list.items) c.self.view_is
+    c.len.ensures
+    ∙ sym (paired_length c.self.inside.phones.items c.self.inside.events.items c.self.invariant)
+    ∙ ap (λ (list : FleetListed). length list.items) c.self.view_is

@@ -7,4 +7,6 @@ pub returns-clause-items : goal.returns-clause-items
 returns-clause-items g c =
     let start : c.len.result ≡ length c.self.inside.flat.items = search rules in
     let put = items_put c.self.inside.flat.items c.args.octets.now c.self.inside.pieces.items _ c.self.invariant.0 start refl in
-    (λ i. map (item_of (c.append.ensures.items i)) (c.push_reserved.ensures.items i)) ∙ put ∙ ap (λ v. v.items ++ record { tag = c.args.tag; octets = c.args.octets.now } ∷ []) c.self.view_is
+    (λ i. map (item_of (c.append.ensures.items i)) (c.push_reserved.ensures.items i))
+    ∙ put
+    ∙ ap (λ v. v.items ++ record { tag = c.args.tag; octets = c.args.octets.now } ∷ []) c.self.view_is

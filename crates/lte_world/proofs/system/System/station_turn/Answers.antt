@@ -1,4 +1,5 @@
-use Rattle.std.proofs.Common.{◌==◌, sym, ap, ◌∙◌, position, rules}
+use Rattle.std.proofs.Common.{◌==◌, sym, ap, ◌∙◌, position}
+use Rattle.lte_world.specs.Settling.{told_in}
 use Rattle.lte_world.proofs.Replying.{told_nowhere, told_there, first_steps}
 use Rattle.lte_world.proofs.Stations.{number_within}
 use Rattle.lte_world.proofs.Turning.{no_turn_from, station_settles_from, station_turns_from, ids_after}
@@ -8,7 +9,7 @@ pub returns-in_default-clause-turns : goal.returns-in_default-clause-turns
 returns-in_default-clause-turns c =
     no_turn_from _ c.args.self.now c.self.view_is c.args.id c.self.inside.ids.items c.self.invariant.0 c.args.input
     (ap (position (λ x. x == c.args.id)) (sym c.as_slice.ensures.value) ∙ sym c.place_of.ensures.place ∙ c.in_default.is)
-    c.args.sender c.args.step c.refused.result c.refused.ensures
+    c.args.sender c.args.step c.refused.new.line c.refused.ensures
 
 pub settle-requires-clause-holder : goal.settle-requires-clause-holder
 settle-requires-clause-holder c =
@@ -23,7 +24,9 @@ settle-requires-clause-awaits c =
 
 pub invariant_of-self : goal.invariant_of-self
 invariant_of-self c = (
-  ids_after c.self.inside.stations.items c.station.new.stations.items c.in-Some.place c.args.input c.station.ensures.out c.station.ensures.steps ∙ c.self.invariant.0,
+  ids_after c.self.inside.stations.items c.station.new.stations.items c.in-Some.place c.args.input c.station.ensures.out
+      c.station.ensures.steps
+      ∙ c.self.invariant.0,
   c.self.invariant.1,
   c.self.invariant.2,
 )
@@ -32,7 +35,8 @@ pub returns-clause-turns : goal.returns-clause-turns
 returns-clause-turns c =
     station_turns_from _ c.args.self.now c.self.view_is c.args.id c.self.inside.ids.items c.self.invariant.0 c.args.input c.in-Some.place
     (ap (position (λ x. x == c.args.id)) (sym c.as_slice.ensures.value) ∙ sym c.place_of.ensures.place ∙ c.in-Some.is)
-    c.station.new.stations.items c.first.result.now (first_steps _ _ c.station.ensures c.first.ensures) c.self.invariant.1 c.args.sender c.args.step c.settle.result _ c.settle.ensures.settled
+    c.station.new.stations.items c.first.result.now (first_steps _ _ c.station.ensures c.first.ensures)
+    c.self.invariant.1 c.args.sender c.args.step (told_in c.settle.result c.settle.new.line) _ c.settle.ensures.settled
 
 pub returns-in_default-clause-told : goal.returns-in_default-clause-told
 returns-in_default-clause-told c =

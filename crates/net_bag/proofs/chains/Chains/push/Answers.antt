@@ -8,19 +8,24 @@ use Rattle.net_bag.proofs.chains.Chains.push.Goals as goal
 
 pub invariant_of-self-in_err-insert : goal.invariant_of-self-in_err-insert
 invariant_of-self-in_err-insert c = (
-  chained_same c.self.inside.chains c.insert.new.self c.self.inside.links.items c.reserve.new.self.items c.in_err-insert.ensures.err c.reserve.ensures.items c.self.invariant.0,
+  chained_same c.self.inside.chains c.insert.new.self c.self.inside.links.items c.reserve.new.self.items
+      c.in_err-insert.ensures.err c.reserve.ensures.items c.self.invariant.0,
   omega (arith, c.reserve.ensures.len),
 )
 
 pub put_link-requires-clause-last : goal.put_link-requires-clause-last
 put_link-requires-clause-last c =
-    let last = last_stands (get bytes_eq c.self.inside.chains) c.self.inside.links.items c.args.digest c.chain_of-chain.result c.self.invariant.0 c.chain_of-chain.ensures in
+    let last = last_stands (get bytes_eq c.self.inside.chains) c.self.inside.links.items c.args.digest
+    c.chain_of-chain.result c.self.invariant.0 c.chain_of-chain.ensures in
     subst (λ ls. IfSome c.chain_of-chain.result (λ c'. c'.last < length ls)) (sym c.reserve.ensures.items) last
 
 pub invariant_of-self-2 : goal.invariant_of-self-2
 invariant_of-self-2 c =
     let number : c.len-number.result ≡ length c.reserve.new.self.items = search rules in
-    let all = chained_put (get bytes_eq c.self.inside.chains) (get bytes_eq c.insert.new.self) c.self.inside.links.items c.reserve.new.self.items c.put_link.new.links.items c.args.digest c.chain_of-chain.result c.len-number.result c.chain_with.result c.self.invariant.0 c.reserve.ensures.items c.chain_of-chain.ensures number c.chain_with.ensures c.put_link.ensures.items c.in_ok-insert.ensures.updates.0 in
+    let all = chained_put (get bytes_eq c.self.inside.chains) (get bytes_eq c.insert.new.self) c.self.inside.links.items
+    c.reserve.new.self.items c.put_link.new.links.items c.args.digest c.chain_of-chain.result c.len-number.result
+    c.chain_with.result c.self.invariant.0 c.reserve.ensures.items c.chain_of-chain.ensures number
+    c.chain_with.ensures c.put_link.ensures.items c.in_ok-insert.ensures.updates.0 in
     let same = ap length c.reserve.ensures.items in
     let view = ap length c.self.view_is in
     let digests = length-map c.self.inside.links.items (λ l. l.digest) in
@@ -29,5 +34,8 @@ invariant_of-self-2 c =
 pub returns-clause-ok : goal.returns-clause-ok
 returns-clause-ok c =
     let number : c.len-number.result ≡ length c.reserve.new.self.items = search rules in
-    let all = chained_put (get bytes_eq c.self.inside.chains) (get bytes_eq c.insert.new.self) c.self.inside.links.items c.reserve.new.self.items c.put_link.new.links.items c.args.digest c.chain_of-chain.result c.len-number.result c.chain_with.result c.self.invariant.0 c.reserve.ensures.items c.chain_of-chain.ensures number c.chain_with.ensures c.put_link.ensures.items c.in_ok-insert.ensures.updates.0 in
+    let all = chained_put (get bytes_eq c.self.inside.chains) (get bytes_eq c.insert.new.self) c.self.inside.links.items
+    c.reserve.new.self.items c.put_link.new.links.items c.args.digest c.chain_of-chain.result c.len-number.result
+    c.chain_with.result c.self.invariant.0 c.reserve.ensures.items c.chain_of-chain.ensures number
+    c.chain_with.ensures c.put_link.ensures.items c.in_ok-insert.ensures.updates.0 in
     all.1 ∙ ap (λ ds. ds ++ c.args.digest ∷ []) c.self.view_is

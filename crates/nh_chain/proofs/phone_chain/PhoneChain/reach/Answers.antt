@@ -6,7 +6,8 @@ use Rattle.nh_chain.proofs.phone_chain.PhoneChain.reach.Goals as goal
 
 pub returns-clause-terms : goal.returns-clause-terms
 returns-clause-terms c =
-    terms_reached c.args.self.now c.climb-nh.new.self c.args.active.now c.args.ncc c.args.cell.now.pci c.args.cell.now.earfcn c.star_from-star.result.0 (record {
+    terms_reached c.args.self.now c.climb-nh.new.self c.args.active.now c.args.ncc c.args.cell.now.pci
+    c.args.cell.now.earfcn c.star_from-star.result.0 (record {
       steps = c.steps_to-steps.result;
       nh = c.climb-nh.result.0;
       counted = rw (← c.self.view_is) c.steps_to-steps.ensures.steps;
@@ -32,7 +33,8 @@ returns-clause-steps c =
 
 pub returns-clause-inputs : goal.returns-clause-inputs
 returns-clause-inputs c =
-    rw c.push.ensures.items (All-push (λ d. IsKdfInput d.input) c.climb-nh.result.1.items c.star_from-star.result.2 c.climb-nh.ensures.inputs c.star_from-star.ensures.input)
+    rw c.push.ensures.items (All-push (λ d. IsKdfInput d.input) c.climb-nh.result.1.items c.star_from-star.result.2
+    c.climb-nh.ensures.inputs c.star_from-star.ensures.input)
 
 pub returns-clause-ncc : goal.returns-clause-ncc
 returns-clause-ncc c = ap (λ chain. chain.number) c.climb-nh.ensures.chain ∙ c.steps_to-steps.ensures.there

@@ -18,7 +18,11 @@ returns-clause-was_sealed c =
     drb_sealed-opened c.args.keys.now c.args.self.now.bearer c.args.self.now.counts.receive c.args.dir c.args.pdu.now c.opened_at.result octet opens
 
 pub returns-clause-intact : goal.returns-clause-intact
-returns-clause-intact c = drb_intact c.args.keys.now c.args.self.now.bearer c.args.self.now.counts.receive c.args.dir c.args.pdu.now (Ok c.opened_at.result) (search rules)
+returns-clause-intact c =
+    drb_intact c.args.keys.now c.args.self.now.bearer c.args.self.now.counts.receive c.args.dir c.args.pdu.now
+    (Ok c.opened_at.result) (search rules)
 
 pub returns-in_err-count-clause-intact : goal.returns-in_err-count-clause-intact
-returns-in_err-count-clause-intact c = drb_intact c.args.keys.now c.args.self.now.bearer c.args.self.now.counts.receive c.args.dir c.args.pdu.now c.from_residual.result (search rules)
+returns-in_err-count-clause-intact c =
+    drb_intact c.args.keys.now c.args.self.now.bearer c.args.self.now.counts.receive c.args.dir c.args.pdu.now
+    c.from_residual.result (search rules)

@@ -5,11 +5,15 @@ use Rattle.pdcp_guard.proofs.SrbFacts.{Answered, srb_answered, srb_intact}
 use Rattle.pdcp_guard.proofs.srbs.Srb.open.Goals as goal
 
 -- what is so of the answer at the COUNT found
-answered : (c : goal.After-opened_at) → Answered c.args.keys.now c.args.cipher c.args.self.now.bearer c.args.self.now.counts.receive c.args.dir c.args.pdu.now (srb_opened_at c.args.keys.now c.args.cipher c.args.self.now.bearer c.in_ok-count.count c.args.dir c.args.pdu.now)
+answered : (c : goal.After-opened_at)
+    → Answered c.args.keys.now c.args.cipher c.args.self.now.bearer c.args.self.now.counts.receive c.args.dir
+    c.args.pdu.now
+    (srb_opened_at c.args.keys.now c.args.cipher c.args.self.now.bearer c.in_ok-count.count c.args.dir c.args.pdu.now)
 answered c =
     let below : c.in_ok-count.count < count_limit = omega arith in
     let found = c.in_ok-count.ensures in
-    srb_answered c.args.keys.now c.args.cipher c.args.self.now.bearer c.args.self.now.counts.receive c.args.dir c.args.pdu.now c.in_ok-count.count found.long found.reserved found.count below found.at_or_above
+    srb_answered c.args.keys.now c.args.cipher c.args.self.now.bearer c.args.self.now.counts.receive c.args.dir
+    c.args.pdu.now c.in_ok-count.count found.long found.reserved found.count below found.at_or_above
 
 pub returns-clause-opens : goal.returns-clause-opens
 returns-clause-opens c =
@@ -32,7 +36,11 @@ returns-clause-was_sealed c =
     rw (c.opened_at.ensures, same) (answered c).was_sealed
 
 pub returns-clause-intact : goal.returns-clause-intact
-returns-clause-intact c = srb_intact c.args.keys.now c.args.cipher c.args.self.now.bearer c.args.self.now.counts.receive c.args.dir c.args.pdu.now c.opened_at.result (search rules)
+returns-clause-intact c =
+    srb_intact c.args.keys.now c.args.cipher c.args.self.now.bearer c.args.self.now.counts.receive c.args.dir
+    c.args.pdu.now c.opened_at.result (search rules)
 
 pub returns-in_err-count-clause-intact : goal.returns-in_err-count-clause-intact
-returns-in_err-count-clause-intact c = srb_intact c.args.keys.now c.args.cipher c.args.self.now.bearer c.args.self.now.counts.receive c.args.dir c.args.pdu.now c.from_residual.result (search rules)
+returns-in_err-count-clause-intact c =
+    srb_intact c.args.keys.now c.args.cipher c.args.self.now.bearer c.args.self.now.counts.receive c.args.dir
+    c.args.pdu.now c.from_residual.result (search rules)
