@@ -117,8 +117,7 @@ impl RrcRecord {
                 air,
             } => {
                 put_cell(&mut out, cell);
-                out.append(&[algs_octet(algs)]);
-                out.append(&[*station]);
+                out.append(&[algs_octet(algs), *station]);
                 put_u32(&mut out, *air);
             }
             RrcRecord::SecurityModeComplete | RrcRecord::ReconfigurationComplete => {}

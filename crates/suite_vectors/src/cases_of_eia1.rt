@@ -1,23 +1,15 @@
 // 128-EIA1: random cases of another implementation, libipsec-mb 1.3.
 
-use crate::cases::{Algorithm, Case, try_case};
+use crate::cases::{Algorithm, Case, try_all};
 use rec_base::Dir;
 use std::test::Fail;
 
 #[test]
-fn texts_of_0_to_39_octets_as_another_implementation(rt: HostRuntime) -> Result<(), Fail> {
-    for case in &SHORT {
-        try_case(&rt, rt.alloc(), Algorithm::Eia1, case)?;
-    }
-    Ok(())
-}
-
-#[test]
-fn longer_texts_as_another_implementation(rt: HostRuntime) -> Result<(), Fail> {
-    for case in &LONGER {
-        try_case(&rt, rt.alloc(), Algorithm::Eia1, case)?;
-    }
-    Ok(())
+fn texts_of_0_to_39_octets_and_longer_as_another_implementation(
+    rt: HostRuntime,
+) -> Result<(), Fail> {
+    try_all(&rt, rt.alloc(), Algorithm::Eia1, &SHORT)?;
+    try_all(&rt, rt.alloc(), Algorithm::Eia1, &LONGER)
 }
 
 static SHORT: [Case; 39] = [

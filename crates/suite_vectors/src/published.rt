@@ -1,39 +1,27 @@
 // Test sets of TS 35.217, 35.222, 35.223 and TS 33.401 Annex C that are whole octets, or cut to them.
 
-use crate::cases::{Algorithm, Case, try_case};
+use crate::cases::{Algorithm, Case, try_all};
 use rec_base::Dir;
 use std::test::Fail;
 
 #[test]
 fn texts_are_ciphered_with_128_eea1(rt: HostRuntime) -> Result<(), Fail> {
-    for case in &EEA1 {
-        try_case(&rt, rt.alloc(), Algorithm::Eea1, case)?;
-    }
-    Ok(())
+    try_all(&rt, rt.alloc(), Algorithm::Eea1, &EEA1)
 }
 
 #[test]
 fn texts_are_ciphered_with_128_eea3(rt: HostRuntime) -> Result<(), Fail> {
-    for case in &EEA3 {
-        try_case(&rt, rt.alloc(), Algorithm::Eea3, case)?;
-    }
-    Ok(())
+    try_all(&rt, rt.alloc(), Algorithm::Eea3, &EEA3)
 }
 
 #[test]
 fn a_text_has_a_code_of_128_eia1(rt: HostRuntime) -> Result<(), Fail> {
-    for case in &EIA1 {
-        try_case(&rt, rt.alloc(), Algorithm::Eia1, case)?;
-    }
-    Ok(())
+    try_all(&rt, rt.alloc(), Algorithm::Eia1, &EIA1)
 }
 
 #[test]
 fn texts_have_codes_of_128_eia3(rt: HostRuntime) -> Result<(), Fail> {
-    for case in &EIA3 {
-        try_case(&rt, rt.alloc(), Algorithm::Eia3, case)?;
-    }
-    Ok(())
+    try_all(&rt, rt.alloc(), Algorithm::Eia3, &EIA3)
 }
 
 static EEA1: [Case; 22] = [
