@@ -1,6 +1,5 @@
 -- What is so of a run of the program at each status.
-use Rattle.std.specs.Prelude.{◌≡◌, ℕ, ◌+◌, ◌≤◌, ◌<◌, ◌⊎◌, Bool, false, Option, Some, List, [], ◌∷◌, ◌++◌, length, take}
-use Rattle.std.specs.List.{list_any}
+use Rattle.std.specs.Prelude.{◌≡◌, ℕ, ◌+◌, ◌≤◌, ◌<◌, ◌⊎◌, false, Option, Some, List, [], ◌∷◌, ◌++◌, length, take}
 use Rattle.std.specs.Io.KnownBytes.{IsAtEnd}
 use Rattle.edge_io.specs.Told.{Told, HasEnded}
 use Rattle.edge_io.specs.Cause.{Rose}

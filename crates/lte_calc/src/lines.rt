@@ -168,6 +168,5 @@ fn answer_of(alloc: Global, line: &[u8]) -> Result<Answer, AllocError>
     ensures lines { IfOk result (λ answer. are_lines (string_bytes answer.text) ≡ true) }
     ensures refused { OnErr result WasRefused }
 {
-    let answer = calc_text::answer_to(alloc, line)?;
-    Ok(answer)
+    calc_text::answer_to(alloc, line)
 }

@@ -251,6 +251,12 @@ fn happen(rt: &impl Abort, two: &mut Two, event: &Event) -> Result<TwoLine, Worl
 fn follow(rt: &impl Abort, two: &mut Two, events: &Events, case: &Case)
     requires { All (CanHappen two.old.world.setup) events.now.items }
 {
+    let rows = events.len().saturating_sub(CONNECTED.len());
+    assert!(rt;
+        rows >= case.rows.len(),
+        "a row without its event: {}",
+        case.shown
+    );
     for number in 0..events.len() {
         let event = events.at(number);
         let wanted = match CONNECTED.get(number) {
