@@ -10,7 +10,7 @@ use Rattle.ho_prep.specs.Prep.{Prep, at_air, drop_below, is_of, is_at}
 use Rattle.lte_machine.specs.Reply.{Origin, Reply}
 use Rattle.lte_machine.specs.StationState.{Station, Context, Attempt, OverX2, OverS1, Within, X2State, X2Open, X2Ready, X2Commanded, Renewing}
 use Rattle.lte_machine.specs.StationRows.{StationRow, OfRecord, OfAir, OfAct}
-use Rattle.lte_machine.specs.StationKeys.{x2_spent, spent_in, commanded, given_up, with_security, with_rrc_taken, with_packet_taken, with_skipped, station_does}
+use Rattle.lte_machine.specs.StationKeys.{x2_spent, spent_in, given_up, with_security, with_rrc_taken, with_packet_taken, with_skipped, station_does}
 use Rattle.lte_machine.specs.StationRecords.{with_pair, with_s1_ack, with_x2_ack, source_release}
 use Rattle.lte_machine.specs.Known.{PairKnown, StationKeyKnown, X2Known, AttemptKnown, ContextKnown, PrepKnown, StationKnown, SentKnown}
 use Rattle.lte_machine.proofs.StationCases.{Any, RecordCases, AirCases, ActCases, record_case, air_case, act_case}

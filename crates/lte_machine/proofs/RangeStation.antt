@@ -23,7 +23,7 @@ use Rattle.lte_machine.specs.Opening.{Outcome}
 use Rattle.lte_machine.specs.Reply.{Origin, Reply, unseen}
 use Rattle.lte_machine.specs.StationState.{Station, Context, X2State, X2Open, X2Ready, X2Commanded, S1State, S1Open, S1Ready, S1Commanded, Interface, StationInput, StationActs, AirPdu, StationRecord}
 use Rattle.lte_machine.specs.StationRows.{Admitted}
-use Rattle.lte_machine.specs.StationKeys.{commanded, given_up, with_security, with_rrc_taken, with_packet_taken, with_skipped}
+use Rattle.lte_machine.specs.StationKeys.{given_up, with_security, with_rrc_taken, with_packet_taken, with_skipped}
 use Rattle.lte_machine.specs.StationRecords.{with_pair, with_s1_ack, with_x2_ack, source_release}
 use Rattle.lte_machine.specs.StationStep.{plain_station, station_step}
 use Rattle.lte_machine.specs.StationChoice.{record_row, air_front, air_row, act_row}

@@ -1,5 +1,5 @@
 -- A setup that was read is one that a system can start with.
-use Rattle.std.proofs.Common.{◌≡◌, ℕ, ◌==◌, ◌<◌, ◌≤◌, ◌^◌, ◌-◌, true, false, ◌&&◌, List, [], ◌∷◌, ◌++◌, length, refl, sym, ◌∙◌, subst, Some, None, Result, Ok, Err, All, arith, ⊎_elim, ◌⊎◌, inl, inr}
+use Rattle.std.proofs.Common.{◌≡◌, ℕ, ◌==◌, ◌≤◌, ◌^◌, ◌-◌, true, false, ◌&&◌, List, [], ◌∷◌, ◌++◌, length, refl, sym, ◌∙◌, subst, Some, None, Result, Ok, Err, All, arith, ⊎_elim, ◌⊎◌, inl, inr}
 use Rattle.std.specs.Prelude.{IsTrue, IfOk, nat_le, nat_lt, if◌then◌else◌, slice_set}
 use Rattle.std.specs.Option.{ok_or}
 use Rattle.std.specs.List.{list_any, IsDistinct}

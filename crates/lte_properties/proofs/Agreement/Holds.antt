@@ -3,7 +3,7 @@ use Rattle.std.proofs.Common.{◌≡◌, refl, sym, ap, ◌∙◌, subst, ℕ, �
 use Rattle.std.specs.Prelude.{◌||◌, IsTrue, replicate}
 use Rattle.std.proofs.lemmas.Bool.{eqb-true}
 use Rattle.std.proofs.lemmas.List.Elements.{recursion_from_All}
-use Rattle.lte_events.specs.Ranges.{has_station, IsSetup, IsStation, IsSiteOf, IsEvent}
+use Rattle.lte_events.specs.Ranges.{has_station, IsSetup, IsStation, IsSiteOf}
 use Rattle.lte_events.specs.declared.setups.Setup.{Setup}
 use Rattle.lte_events.specs.declared.setups.StationSetup.{StationSetup}
 use Rattle.lte_events.specs.Site.{Site}
