@@ -49,15 +49,13 @@ impl Fleet {
         ensures refused { OnErr result WasRefused }
         ensures begins { IfOk result (λ f. f ≡ begun setup.now phones) }
     {
-        match worlds_of(alloc, setup, phones) {
-            Ok(worlds) => Ok(Fleet {
-                setup: copied_setup(setup),
-                worlds,
-                journal: FleetEvents::new(alloc),
-                over: None,
-            }),
-            Err(fault) => Err(fault),
-        }
+        let worlds = worlds_of(alloc, setup, phones)?;
+        Ok(Fleet {
+            setup: copied_setup(setup),
+            worlds,
+            journal: FleetEvents::new(alloc),
+            over: None,
+        })
     }
 
     /// A phone takes an event, which can happen to it; there are fewer than 200,000 events before it.

@@ -52,13 +52,8 @@ fn take_in(world: &mut World, event: &Event) -> Result<(usize, Line), WorldFault
     ensures takes { Takes world.old world.new event.now result }
     ensures refused { IfErr result (λ fault. fault ≡ WorldFault.Memory → WasRefused) }
 {
-    match world.reserve() {
-        Ok(()) => {}
-        Err(_) => return Err(WorldFault::Memory),
-    }
+    world.reserve()?;
     let before = world.ladder().len();
-    match world.apply(event) {
-        Ok(line) => Ok((before, line)),
-        Err(fault) => Err(fault),
-    }
+    let line = world.apply(event)?;
+    Ok((before, line))
 }
