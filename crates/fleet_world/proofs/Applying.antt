@@ -7,7 +7,6 @@ use Rattle.lte_events.specs.declared.events.Event.{Event}
 use Rattle.lte_events.specs.declared.lines.Line.{Line}
 use Rattle.lte_events.specs.declared.setups.Setup.{Setup}
 use Rattle.key_terms.specs.declared.proof.Proof.{Proof}
-use Rattle.lte_world.specs.declared.faults.WorldFault.{WorldFault}
 use Rattle.lte_world.specs.declared.faults.WorldFault.TheVariants as world_fault
 use Rattle.lte_world.specs.Whole.{Whole}
 use Rattle.fleet_world.specs.declared.faults.FleetFault.{FleetFault}
