@@ -151,14 +151,8 @@ impl Network {
         ensures settled { SettledAs self.old self.new out.now sender holder who step (told_in result line.new) }
         ensures grows { AddsFew self.old self.new }
     {
-        match accepted_so(out.accepted, sender) {
-            Ok(()) => {}
-            Err(proof) => return Err(proof),
-        }
-        match add_all(&mut self.ladder, out.derived.as_slice()) {
-            Ok(()) => {}
-            Err(proof) => return Err(proof),
-        }
+        accepted_so(out.accepted, sender)?;
+        add_all(&mut self.ladder, out.derived.as_slice())?;
         hold_received(&mut self.ladder, holder, &out.received);
         hold_all(&mut self.ladder, holder, out.derived.as_slice());
         let sent = keep(&mut self.bag, out);

@@ -16,10 +16,7 @@ pub(crate) fn add_all(ladder: &mut Ladder, derived: &[Derived]) -> Result<(), Pr
     ensures few { length ladder.new.rows ≤ length ladder.old.rows + length derived.now }
 {
     for made in derived {
-        match add_one(ladder, made) {
-            Ok(()) => {}
-            Err(proof) => return Err(proof),
-        }
+        add_one(ladder, made)?;
     }
     Ok(())
 }

@@ -161,10 +161,7 @@ impl World {
             Ok(()) => {}
             Err(_) => return Err(WorldFault::Memory),
         }
-        match self.system.reserve() {
-            Ok(()) => {}
-            Err(fault) => return Err(fault),
-        }
+        self.system.reserve()?;
         self.ready = true;
         Ok(())
     }
