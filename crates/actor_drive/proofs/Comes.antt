@@ -1,52 +1,39 @@
 -- What comes of a scenario that was driven.
-use Rattle.std.proofs.Common.{◌≡◌, ℕ, ◌⊎◌, inl, inr, Bool, true, false, Option, Some, None, List, [], ◌∷◌, ◌++◌, Result, Ok, Err, IfSome, OnOk, OnErr, IsErrOf, refl, ap, sym, subst, ◌∙◌, append_assoc, append-nil}
+use Rattle.std.proofs.Common.{◌≡◌, ℕ, ◌⊎◌, inl, inr, Option, Some, None, List, ◌∷◌, ◌++◌, Result, Ok, Err, IfSome, IfOk, OnOk, OnErr, IsErrOf, refl, ap, sym, subst, ◌∙◌, append_assoc}
 use Rattle.edge_io.proofs.Known.{all_out, prefix_on, prefix_of, proper_prefix_on}
 use Rattle.edge_io.specs.Cause.{Rose}
 use Rattle.edge_io.specs.Octets.{Grows, GrowsByPrefix, GrowsByProperPrefix}
 use Rattle.edge_io.specs.Peers.{PeersTold}
 use Rattle.actor_drive.proofs.Composing.{writes-append}
-use Rattle.actor_drive.proofs.Gone.{whole_made, whole_made_at_coincidence, failed_next, no_difference}
+use Rattle.actor_drive.proofs.Gone.{whole_made, failed_next, no_difference}
 use Rattle.actor_drive.specs.declared.faults.DriveFault.{DriveFault}
-use Rattle.actor_drive.specs.declared.faults.DriveFault.TheVariants.{Memory, PeerFault, Differs, Coincidence, WriteFault}
+use Rattle.actor_drive.specs.declared.faults.DriveFault.TheVariants.{Memory, PeerFault, Differs, WriteFault}
 use Rattle.actor_drive.specs.Acts.{Receiving, Act, Writing, Calling, calls, writes}
 use Rattle.actor_drive.specs.Driven.{Plan, Driven, WhereTold, FailedNext, GivesAll}
-use Rattle.actor_drive.specs.Outside.{Outside, outside, AllDone}
+use Rattle.actor_drive.specs.Outside.{Outside, outside}
 use Rattle.actor_drive.specs.Peerwise.{Made}
 use Rattle.actor_drive.specs.Went.{ActFails, CutAt}
+use Rattle.run_report.specs.declared.endings.Ending.{Ending}
 use Rattle.run_report.specs.Report.{Report}
 use Rattle.actor_drive.proofs.Texts.{Reports}
 
-not_both : (b : Bool) → b ≡ true → b ≡ false → ⊥
-not_both b is not = absurd cc
-
 -- THE TEXT
 
-pub ok_text : {A : Type 0} (plan : Plan) (r : Report) (result : Result A DriveFault) (before after : Outside)
+pub ok_text : (plan : Plan) (r : Report) (result : Result Ending DriveFault) (before after : Outside)
     → Reports plan r
     → Driven plan result before after
     → OnOk result (Grows before.written after.written r.text)
-ok_text plan r (Ok done) before after is driven =
+ok_text plan r (Ok ending) before after is driven =
     let P : List ℕ → Type 0 = λ octets. Grows before.written after.written octets in
     subst P is.text driven.went.0.written
 ok_text plan r (Err fault) before after is driven = tt
 
-pub ok_coincides : {A : Type 0} (plan : Plan) (r : Report) (result : Result A DriveFault) (before after : Outside)
+pub ok_ends : (plan : Plan) (r : Report) (result : Result Ending DriveFault) (before after : Outside)
     → Reports plan r
     → Driven plan result before after
-    → OnOk result (r.coincides ≡ false)
-ok_coincides plan r (Ok done) before after is driven = sym is.coincides ∙ driven.went.1
-ok_coincides plan r (Err fault) before after is driven = tt
-
-pub coincidence_text : {A : Type 0} (plan : Plan) (r : Report) (result : Result A DriveFault) (before after : Outside)
-    → Reports plan r
-    → Driven plan result before after
-    → result ≡ Err Coincidence
-    → Grows before.written after.written r.text × (r.coincides ≡ true)
-coincidence_text {A} plan r result before after is driven coincidence =
-    let P : Result A DriveFault → Type 0 = λ res. Driven plan res before after in
-    let Q : List ℕ → Type 0 = λ octets. Grows before.written after.written octets in
-    let at : Driven {A = A} plan (Err Coincidence) before after = subst P coincidence driven in
-    (subst Q is.text at.went.0.written, sym is.coincides ∙ at.went.1)
+    → IfOk result (λ ending. ending ≡ r.ends)
+ok_ends plan r (Ok ending) before after is driven = driven.went.1 ∙ is.ends
+ok_ends plan r (Err fault) before after is driven = tt
 
 -- an act at which the output failed left something to write
 act_short : (act : Act) (more : List Act) (first : Option (List ℕ)) (front : List ℕ) (x y : Outside)
@@ -92,66 +79,43 @@ cut_short acts x y cut =
     subst P (sym (ap writes cut.is ∙ writes-append cut.made (cut.next ∷ cut.more)))
     (act_short cut.next cut.more x.written (writes cut.made) cut.between y cut.did.written cut.fails)
 
-whole_prefix : (acts : List Act) (x y : Outside) → AllDone acts x y → GrowsByPrefix x.written y.written (writes acts)
-whole_prefix acts x y did =
-    let P : List ℕ → Type 0 = λ octets. GrowsByPrefix x.written y.written octets in
-    subst P (append-nil (writes acts)) (all_out x.written y.written (writes acts) [] did.written)
-
-err_text : {A : Type 0} (plan : Plan) (fault : DriveFault) (before after : Outside)
-    → Driven {A = A} plan (Err fault) before after
-    → GrowsByPrefix before.written after.written (writes plan.acts)
-err_text plan Memory before after driven = cut_text plan.acts Memory before (outside after.written driven.last) driven.went
-err_text plan PeerFault before after driven = cut_text plan.acts PeerFault before (outside after.written driven.last) driven.went
-err_text plan (Differs step wanted got) before after driven =
-    cut_text plan.acts (Differs step wanted got) before (outside after.written driven.last) driven.went
-err_text plan Coincidence before after driven = whole_prefix plan.acts before (outside after.written driven.last) driven.went.0
-err_text plan WriteFault before after driven = cut_text plan.acts WriteFault before (outside after.written driven.last) driven.went
-
-pub fault_text : {A : Type 0} (plan : Plan) (r : Report) (result : Result A DriveFault) (before after : Outside)
+pub fault_text : (plan : Plan) (r : Report) (result : Result Ending DriveFault) (before after : Outside)
     → Reports plan r
     → Driven plan result before after
     → OnErr result (GrowsByPrefix before.written after.written r.text)
-fault_text plan r (Ok done) before after is driven = tt
-fault_text {A} plan r (Err fault) before after is driven =
+fault_text plan r (Ok ending) before after is driven = tt
+fault_text plan r (Err fault) before after is driven =
     let P : List ℕ → Type 0 = λ octets. GrowsByPrefix before.written after.written octets in
-    subst P is.text (err_text {A = A} plan fault before after driven)
+    subst P is.text (cut_text plan.acts fault before (outside after.written driven.last) driven.went)
 
-pub short_text : {A : Type 0} (plan : Plan) (r : Report) (result : Result A DriveFault) (before after : Outside)
+pub short_text : (plan : Plan) (r : Report) (result : Result Ending DriveFault) (before after : Outside)
     → Reports plan r
     → Driven plan result before after
     → result ≡ Err WriteFault
     → GrowsByProperPrefix before.written after.written r.text
-short_text {A} plan r result before after is driven failed =
-    let P : Result A DriveFault → Type 0 = λ res. Driven plan res before after in
+short_text plan r result before after is driven failed =
+    let P : Result Ending DriveFault → Type 0 = λ res. Driven plan res before after in
     let Q : List ℕ → Type 0 = λ octets. GrowsByProperPrefix before.written after.written octets in
-    let at : Driven {A = A} plan (Err WriteFault) before after = subst P failed driven in
+    let at : Driven plan (Err WriteFault) before after = subst P failed driven in
     subst Q is.text (cut_short plan.acts before (outside after.written at.last) at.went)
 
 -- THE PEERS
 
-pub ok_made : {A : Type 0} (plan : Plan) (result : Result A DriveFault) (before after : Outside)
+pub ok_made : (plan : Plan) (result : Result Ending DriveFault) (before after : Outside)
     → Driven plan result before after
     → OnOk result (WhereTold (Made (calls plan.acts)) before.peers after.peers)
-ok_made plan (Ok done) before after driven = whole_made plan done before after driven
+ok_made plan (Ok ending) before after driven = whole_made plan ending before after driven
 ok_made plan (Err fault) before after driven = tt
 
-pub coincidence_made : {A : Type 0} (plan : Plan) (result : Result A DriveFault) (before after : Outside)
-    → Driven plan result before after
-    → result ≡ Err Coincidence
-    → WhereTold (Made (calls plan.acts)) before.peers after.peers
-coincidence_made {A} plan result before after driven coincidence =
-    let P : Result A DriveFault → Type 0 = λ res. Driven plan res before after in
-    whole_made_at_coincidence {A = A} plan before after (subst P coincidence driven)
-
-pub fault_named : {A : Type 0} (plan : Plan) (result : Result A DriveFault) (before after : Outside)
+pub fault_named : (plan : Plan) (result : Result Ending DriveFault) (before after : Outside)
     → Driven plan result before after
     → result ≡ Err PeerFault
     → WhereTold (FailedNext (calls plan.acts)) before.peers after.peers
-fault_named {A} plan result before after driven fault =
-    let P : Result A DriveFault → Type 0 = λ res. Driven plan res before after in
-    failed_next {A = A} plan before after (subst P fault driven)
+fault_named plan result before after driven fault =
+    let P : Result Ending DriveFault → Type 0 = λ res. Driven plan res before after in
+    failed_next plan before after (subst P fault driven)
 
-by_result : (plan : Plan) (r : Report) (result : Result (Unit {0}) DriveFault) (before after : Outside)
+by_result : (plan : Plan) (r : Report) (result : Result Ending DriveFault) (before after : Outside)
     (peers peers' sink sink' : ℕ)
     → Reports plan r
     → Driven plan result before after
@@ -159,46 +123,39 @@ by_result : (plan : Plan) (r : Report) (result : Result (Unit {0}) DriveFault) (
     → (t : PeersTold)
     → before.peers ≡ Some t
     → GivesAll (calls plan.acts) t
-    → r.coincides ≡ false
     → (Rose peers peers' → ⊥)
     → (Rose sink sink' → ⊥)
-    → (result ≡ Ok tt) ⊎ (result ≡ Err Memory)
-by_result plan r (Ok tt) before after peers peers' sink sink' is driven by_peers by_sink t there gives ends no_fault no_write = inl refl
-by_result plan r (Err Memory) before after peers peers' sink sink' is driven by_peers by_sink t there gives ends no_fault no_write = inr refl
-by_result plan r (Err PeerFault) before after peers peers' sink sink' is driven by_peers by_sink t there gives ends
-    no_fault no_write =
+    → (result ≡ Ok r.ends) ⊎ (result ≡ Err Memory)
+by_result plan r (Ok ending) before after peers peers' sink sink' is driven by_peers by_sink t there gives no_fault no_write =
+    inl (ap Ok (driven.went.1 ∙ is.ends))
+by_result plan r (Err Memory) before after peers peers' sink sink' is driven by_peers by_sink t there gives no_fault no_write = inr refl
+by_result plan r (Err PeerFault) before after peers peers' sink sink' is driven by_peers by_sink t there gives no_fault no_write =
     absurd (no_fault (by_peers refl))
-by_result plan r (Err (Differs step wanted got)) before after peers peers' sink sink' is driven by_peers by_sink t there gives ends no_fault no_write =
+by_result plan r (Err (Differs step wanted got)) before after peers peers' sink sink' is driven by_peers by_sink t there gives no_fault no_write =
     let P : Option PeersTold → Type 0 = λ told. IfSome told (GivesAll (calls plan.acts)) in
     let Q : Option PeersTold → Type 0 = λ told. IfSome told (λ u. ⊥) in
-    absurd (subst Q there (no_difference {A = Unit {0}} plan step wanted got before after driven (subst P (sym there) gives)))
-by_result plan r (Err Coincidence) before after peers peers' sink sink' is driven by_peers by_sink t there gives ends no_fault no_write =
-    absurd (not_both r.coincides (sym is.coincides ∙ driven.went.1) ends)
-by_result plan r (Err WriteFault) before after peers peers' sink sink' is driven by_peers by_sink t there gives ends
-    no_fault no_write =
+    absurd (subst Q there (no_difference plan step wanted got before after driven (subst P (sym there) gives)))
+by_result plan r (Err WriteFault) before after peers peers' sink sink' is driven by_peers by_sink t there gives no_fault no_write =
     absurd (no_write (by_sink refl))
 
 -- where each peer gives what is to come, and nothing fails, all is done
-pub all_is_done : (plan : Plan) (r : Report) (result : Result (Unit {0}) DriveFault) (before after : Outside)
+pub all_is_done : (plan : Plan) (r : Report) (result : Result Ending DriveFault) (before after : Outside)
     (peers peers' sink sink' : ℕ)
     → Reports plan r
     → Driven plan result before after
     → (IsErrOf result PeerFault → Rose peers peers') → (IsErrOf result WriteFault → Rose sink sink')
     → IfSome before.peers (λ t. GivesAll (calls plan.acts) t
-    → r.coincides ≡ false
     → (Rose peers peers' → ⊥)
     → (Rose sink sink' → ⊥)
-    → (result ≡ Ok tt) ⊎ (result ≡ Err Memory))
+    → (result ≡ Ok r.ends) ⊎ (result ≡ Err Memory))
 all_is_done plan r result before after peers peers' sink sink' is driven by_peers by_sink = told before.peers refl
   where
     told : (o : Option PeersTold)
         → before.peers ≡ o
         → IfSome o (λ t. GivesAll (calls plan.acts) t
-        → r.coincides ≡ false
         → (Rose peers peers' → ⊥)
         → (Rose sink sink' → ⊥)
-        → (result ≡ Ok tt) ⊎ (result ≡ Err Memory))
+        → (result ≡ Ok r.ends) ⊎ (result ≡ Err Memory))
     told None there = tt
-    told (Some t) there = λ gives ends no_fault no_write.
-        by_result plan r result before after peers peers' sink sink' is driven by_peers by_sink t there gives ends
-        no_fault no_write
+    told (Some t) there = λ gives no_fault no_write.
+        by_result plan r result before after peers peers' sink sink' is driven by_peers by_sink t there gives no_fault no_write

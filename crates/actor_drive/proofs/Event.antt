@@ -1,5 +1,5 @@
 -- One event: what is written of it, and whom it tells.
-use Rattle.std.proofs.Common.{◌≡◌, ℕ, zero, suc, ◌<◌, Bool, true, false, Option, Some, None, List, [], ◌∷◌, ◌++◌, length, get_or, All, Result, Ok, Err, refl, sym, subst, append-nil, arith}
+use Rattle.std.proofs.Common.{◌≡◌, ℕ, zero, suc, ◌<◌, Option, Some, None, List, [], ◌∷◌, ◌++◌, length, get_or, All, Ok, Err, refl, sym, subst, append-nil, arith}
 use Rattle.std.specs.List.{AllByRecursion as AllOf}
 use Rattle.edge_io.specs.Octets.{Grows}
 use Rattle.edge_io.specs.Peers.{PeersTold}
@@ -17,16 +17,20 @@ use Rattle.lte_world.specs.Replies.{RepliedLast, IsOfSetup}
 use Rattle.lte_world.specs.Whole.{Whole, run_of, unless_over}
 use Rattle.run_report.specs.declared.unwritten.Unwritten.{Unwritten}
 use Rattle.run_report.specs.declared.unwritten.Unwritten.TheVariants as unwritten
-use Rattle.run_report.specs.Events.{event_text, is_coincidence}
+use Rattle.run_report.specs.declared.endings.Ending.{Ending}
+use Rattle.run_report.specs.declared.endings.Ending.TheVariants.{Done, Coincidence}
+use Rattle.run_report.specs.Events.{told_of, event_text, event_ends}
+use Rattle.run_report.specs.Takes.{Takes}
 use Rattle.run_report.specs.Written.{Written}
-use Rattle.actor_drive.proofs.Composing.{cut_at, cut_before, did_none, went_on}
+use Rattle.run_report.proofs.Telling.{still_goes}
+use Rattle.actor_drive.proofs.Composing.{cut_after, cut_at, cut_before, did_none, done_twice}
 use Rattle.actor_drive.specs.declared.faults.DriveFault.{DriveFault}
-use Rattle.actor_drive.specs.declared.faults.DriveFault.TheVariants.{Memory, PeerFault, Differs, Coincidence, WriteFault}
-use Rattle.actor_drive.specs.Acts.{Starting, Sending, Receiving, Act, Writing, Calling}
-use Rattle.actor_drive.specs.Driven.{Plan, PlanWent}
+use Rattle.actor_drive.specs.declared.faults.DriveFault.TheVariants.{Memory, WriteFault}
+use Rattle.actor_drive.specs.Acts.{Writing}
+use Rattle.actor_drive.specs.Driven.{PlanWent}
 use Rattle.actor_drive.specs.Exchanges.{replied, HasActor}
 use Rattle.actor_drive.specs.Outside.{Outside, outside, AllDone}
-use Rattle.actor_drive.specs.Went.{ActFails, CutAt, Went}
+use Rattle.actor_drive.specs.Went.{CutAt, fault_of}
 use Rattle.actor_drive.specs.Plan.{event_plan, replies_at}
 
 -- a run that goes on has met no coincidence
@@ -40,6 +44,10 @@ no_coincidence v goes = not_over v.over (octet_run v.setup v.journal) goes
 in_octets : (o : Option Proof) (run : RunState (List ℕ) ℕ Kept) → GoesOn (unless_over o run) → unless_over o run ≡ run
 in_octets None run goes = refl
 in_octets (Some proof) run goes = absurd goes
+
+-- a system to which an event happened that is no coincidence
+pub goes_after : (v after : Whole) (e : Event) → event_ends (told_of (run_of v) e) ≡ Done → Takes v e after → GoesOn (run_of after)
+goes_after v after e plain takes = subst (λ r. GoesOn r) (sym takes.run) (still_goes (run_of v) e plain)
 
 -- the replies to the event are those of the local actors
 reply_in : (setup : Setup) (journal : List Event) (e : Event) (replies : List (ActorIn × ActorOut))
@@ -84,18 +92,13 @@ all_have setup replies all = λ i d below. has_at setup replies all i d below
 -- WRITING
 
 -- a text that was not written to its end
-pub writing_cut : (B : Type 0) (fault : Unwritten) (out : DriveFault) (text : List ℕ) (first now : Told)
-    (peers : Option PeersTold)
-    → (fault ≡ unwritten.Memory → out ≡ Memory)
-    → (fault ≡ unwritten.WriteFault → out ≡ WriteFault)
-    → Written {A = B} text (Err fault) first now
-    → CutAt (Writing text ∷ []) out (outside first.written peers) (outside now.written peers)
-writing_cut B unwritten.Memory out text first now peers memory write written =
-    let P : DriveFault → Type 0 = λ f. CutAt (Writing text ∷ []) f (outside first.written peers) (outside now.written peers) in
-    subst P (sym (memory refl)) (cut_at (Writing text) Memory (outside first.written peers) (outside now.written peers) (written, refl))
-writing_cut B unwritten.WriteFault out text first now peers memory write written =
-    let P : DriveFault → Type 0 = λ f. CutAt (Writing text ∷ []) f (outside first.written peers) (outside now.written peers) in
-    subst P (sym (write refl)) (cut_at (Writing text) WriteFault (outside first.written peers) (outside now.written peers) (written.1, refl))
+writing_cut : (A : Type 0) (fault : Unwritten) (text : List ℕ) (first now : Told) (peers : Option PeersTold)
+    → Written {A = A} text (Err fault) first now
+    → CutAt (Writing text ∷ []) (fault_of fault) (outside first.written peers) (outside now.written peers)
+writing_cut A unwritten.Memory text first now peers written =
+    cut_at (Writing text) Memory (outside first.written peers) (outside now.written peers) (written, refl)
+writing_cut A unwritten.WriteFault text first now peers written =
+    cut_at (Writing text) WriteFault (outside first.written peers) (outside now.written peers) (written.1, refl)
 
 -- a text that was written
 pub writing_done : (text : List ℕ) (first now : Told) (peers : Option PeersTold)
@@ -105,49 +108,42 @@ writing_done text first now peers grown =
     let P : List ℕ → Type 0 = λ octets. Grows first.written now.written octets in
     record { written = subst P (sym (append-nil text)) grown; did = did_none peers }
 
--- no act is cut by a coincidence
-pub fails_by_coincidence : (act : Act) (x y : Outside) → ActFails act Coincidence x y → ⊥
-fails_by_coincidence (Writing text) x y fails = fails
-fails_by_coincidence (Calling (Starting role)) x y fails = fails
-fails_by_coincidence (Calling (Sending peer octets)) x y fails = fails
-fails_by_coincidence (Calling (Receiving peer w)) x y fails = fails
-
--- a plan that no coincidence ends
-pub plan_went : {A : Type 0} (plan : Plan) (result : Result A DriveFault) (x y : Outside)
-    → plan.coincides ≡ false
-    → Went plan.acts result x y
-    → PlanWent plan result x y
-plan_went plan (Ok done) x y ends went = (went, ends)
-plan_went plan (Err Memory) x y ends went = went
-plan_went plan (Err PeerFault) x y ends went = went
-plan_went plan (Err (Differs step wanted got)) x y ends went = went
-plan_went plan (Err Coincidence) x y ends went = absurd (fails_by_coincidence went.next went.between y went.fails)
-plan_went plan (Err WriteFault) x y ends went = went
-
--- a line was written, and then the peers were told
-pub event_told : {A : Type 0} (setup : Setup) (step : ℕ) (told : EventReport (List ℕ))
-    (replies : List (ActorIn × ActorOut)) (result : Result A DriveFault) (first mid : Told)
-    (peers peers' : Option PeersTold)
-    → false ≡ is_coincidence told
+-- its line was written, and then the peers were told
+pub event_told : (setup : Setup) (step : ℕ) (told : EventReport (List ℕ)) (replies : List (ActorIn × ActorOut))
+    (first mid : Told) (peers peers' : Option PeersTold)
+    → event_ends told ≡ Done
     → Grows first.written mid.written (event_text step told)
-    → Went (replied setup step replies) result (outside mid.written peers) (outside mid.written peers')
-    → PlanWent (event_plan setup step told replies) result (outside first.written peers) (outside mid.written peers')
-event_told setup step (Reported line) replies result first mid peers peers' is grown went =
+    → AllDone (replied setup step replies) (outside mid.written peers) (outside mid.written peers')
+    → PlanWent (event_plan setup step told replies) (Ok Done) (outside first.written peers) (outside mid.written peers')
+event_told setup step (Reported line) replies first mid peers peers' plain grown did =
+    let text : List ℕ = event_text step (Reported line) in (
+      done_twice (Writing text ∷ []) (replied setup step replies) (outside first.written peers) (outside mid.written peers)
+          (outside mid.written peers') (writing_done text first mid peers grown) did,
+      refl,
+    )
+event_told setup step (Coincided coincidence) replies first mid peers peers' plain grown did = absurd cc
+
+-- its line was written, and the peers were not told to the end
+pub event_untold : (setup : Setup) (step : ℕ) (told : EventReport (List ℕ)) (replies : List (ActorIn × ActorOut))
+    (fault : DriveFault) (first mid : Told) (peers peers' : Option PeersTold)
+    → event_ends told ≡ Done
+    → Grows first.written mid.written (event_text step told)
+    → CutAt (replied setup step replies) fault (outside mid.written peers) (outside mid.written peers')
+    → PlanWent (event_plan setup step told replies) (Err fault) (outside first.written peers) (outside mid.written peers')
+event_untold setup step (Reported line) replies fault first mid peers peers' plain grown cut =
     let text : List ℕ = event_text step (Reported line) in
-    plan_went (event_plan setup step (Reported line) replies) result (outside first.written peers) (outside mid.written peers') refl
-    (went_on (Writing text ∷ []) (replied setup step replies) result (outside first.written peers)
-    (outside mid.written peers) (outside mid.written peers') (writing_done text first mid peers grown) went)
-event_told setup step (Coincided coincidence) replies result first mid peers peers' is grown went = absurd cc
+    cut_after (Writing text ∷ []) (replied setup step replies) fault (outside first.written peers) (outside mid.written peers)
+    (outside mid.written peers') (writing_done text first mid peers grown) cut
+event_untold setup step (Coincided coincidence) replies fault first mid peers peers' plain grown cut = absurd cc
 
 -- a coincidence was written
-pub event_coincides : (A : Type 0) (setup : Setup) (step : ℕ) (told : EventReport (List ℕ))
-    (replies : List (ActorIn × ActorOut)) (first now : Told) (peers : Option PeersTold)
-    → true ≡ is_coincidence told
+pub event_coincides : (setup : Setup) (step : ℕ) (told : EventReport (List ℕ)) (replies : List (ActorIn × ActorOut))
+    (first now : Told) (peers : Option PeersTold)
+    → event_ends told ≡ Coincidence
     → Grows first.written now.written (event_text step told)
-    → PlanWent {A = A} (event_plan setup step told replies) (Err Coincidence) (outside first.written peers)
-    (outside now.written peers)
-event_coincides A setup step (Reported line) replies first now peers is grown = absurd cc
-event_coincides A setup step (Coincided coincidence) replies first now peers is grown =
+    → PlanWent (event_plan setup step told replies) (Ok Coincidence) (outside first.written peers) (outside now.written peers)
+event_coincides setup step (Reported line) replies first now peers is grown = absurd cc
+event_coincides setup step (Coincided coincidence) replies first now peers is grown =
     (writing_done (event_text step (Coincided coincidence)) first now peers grown, refl)
 
 -- what is told was not written to its end
@@ -158,28 +154,17 @@ event_cut : (setup : Setup) (step : ℕ) (told : EventReport (List ℕ)) (replie
 event_cut setup step (Reported line) replies out x y cut = cut_before (Writing (event_text step (Reported line)) ∷ []) (replied setup step replies) out x y cut
 event_cut setup step (Coincided coincidence) replies out x y cut = cut
 
-pub event_unwritten : (A : Type 0) (setup : Setup) (step : ℕ) (told : EventReport (List ℕ))
-    (replies : List (ActorIn × ActorOut)) (fault : Unwritten) (out : DriveFault) (first now : Told)
-    (peers : Option PeersTold)
-    → (fault ≡ unwritten.Memory → out ≡ Memory)
-    → (fault ≡ unwritten.WriteFault → out ≡ WriteFault)
-    → Written {A = Bool} (event_text step told) (Err fault) first now
-    → PlanWent {A = A} (event_plan setup step told replies) (Err out) (outside first.written peers) (outside now.written peers)
-event_unwritten A setup step told replies unwritten.Memory out first now peers memory write written =
-    let P : DriveFault → Type 0 = λ f. PlanWent {A = A} (event_plan setup step told replies) (Err f)
-    (outside first.written peers) (outside now.written peers) in
-    subst P (sym (memory refl)) (event_cut setup step told replies Memory _ _
-    (writing_cut Bool unwritten.Memory Memory (event_text step told) first now peers (λ e. refl) (λ e. cc) written))
-event_unwritten A setup step told replies unwritten.WriteFault out first now peers memory write written =
-    let P : DriveFault → Type 0 = λ f. PlanWent {A = A} (event_plan setup step told replies) (Err f)
-    (outside first.written peers) (outside now.written peers) in
-    subst P (sym (write refl)) (event_cut setup step told replies WriteFault _ _
-    (writing_cut Bool unwritten.WriteFault WriteFault (event_text step told) first now peers (λ e. cc)
-    (λ e. refl) written))
+pub event_unwritten : (setup : Setup) (step : ℕ) (told : EventReport (List ℕ)) (replies : List (ActorIn × ActorOut))
+    (fault : Unwritten) (first now : Told) (peers : Option PeersTold)
+    → Written {A = Ending} (event_text step told) (Err fault) first now
+    → PlanWent (event_plan setup step told replies) (Err (fault_of fault)) (outside first.written peers) (outside now.written peers)
+event_unwritten setup step told replies fault first now peers written =
+    event_cut setup step told replies (fault_of fault) (outside first.written peers) (outside now.written peers)
+    (writing_cut Ending fault (event_text step told) first now peers written)
 
 -- an event whose plan no coincidence ends
 pub plain_of : (setup : Setup) (step : ℕ) (told : EventReport (List ℕ)) (replies : List (ActorIn × ActorOut))
-    → (event_plan setup step told replies).coincides ≡ false
-    → is_coincidence told ≡ false
+    → (event_plan setup step told replies).ends ≡ Done
+    → event_ends told ≡ Done
 plain_of setup step (Reported line) replies is = refl
 plain_of setup step (Coincided coincidence) replies is = absurd cc

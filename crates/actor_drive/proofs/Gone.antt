@@ -14,9 +14,10 @@ use Rattle.lte_events.specs.declared.inputs.ActorIn.{ActorIn}
 use Rattle.lte_events.specs.declared.replies.ActorOut.{ActorOut}
 use Rattle.lte_events.specs.declared.setups.Setup.{Setup}
 use Rattle.actor_frames.specs.declared.frames.RoleSetup.{RoleSetup}
+use Rattle.run_report.specs.declared.endings.Ending.{Ending}
 use Rattle.actor_drive.proofs.Composing.{calls-append}
 use Rattle.actor_drive.proofs.Peerwise.{there, kept_by, all_made}
-use Rattle.actor_drive.specs.declared.faults.DriveFault.TheVariants.{Memory, PeerFault, Differs, Coincidence, WriteFault}
+use Rattle.actor_drive.specs.declared.faults.DriveFault.TheVariants.{Memory, PeerFault, Differs, WriteFault}
 use Rattle.actor_drive.specs.Acts.{Wanted, Call, Starting, Sending, Receiving, Act, Writing, Calling, calls}
 use Rattle.actor_drive.specs.Driven.{Plan, Driven, WhereTold, AllStopped, FailedNext, GivesAll}
 use Rattle.actor_drive.specs.Outside.{Outside, outside, all_done, Did, HasStarted, stopped_below}
@@ -108,16 +109,10 @@ did_made made count (Some o) last after did is =
     let there : after ≡ Some (stopped_below count (all_done made o)) = is ∙ ap (λ (t : Option PeersTold). option_map (stopped_below count) t) did.told in
     subst P (sym there) (made_stopped made count o (all_done made o) (all_made made o did.gave))
 
-pub whole_made : {A : Type 0} (plan : Plan) (done : A) (before after : Outside)
-    → Driven plan (Ok done) before after
+pub whole_made : (plan : Plan) (ending : Ending) (before after : Outside)
+    → Driven plan (Ok ending) before after
     → WhereTold (Made (calls plan.acts)) before.peers after.peers
-whole_made plan done before after driven = did_made (calls plan.acts) driven.started before.peers driven.last after.peers driven.went.0.did driven.stopped
-
-pub whole_made_at_coincidence : {A : Type 0} (plan : Plan) (before after : Outside)
-    → Driven {A = A} plan (Err Coincidence) before after
-    → WhereTold (Made (calls plan.acts)) before.peers after.peers
-whole_made_at_coincidence plan before after driven =
-    did_made (calls plan.acts) driven.started before.peers driven.last after.peers driven.went.0.did driven.stopped
+whole_made plan ending before after driven = did_made (calls plan.acts) driven.started before.peers driven.last after.peers driven.went.0.did driven.stopped
 
 -- THE CALL THAT FAILED
 
@@ -178,8 +173,8 @@ by_act whole cut_made cut_more (Calling call) count x y before after is did fail
     failed_told (calls whole) (calls cut_made) (calls cut_more) call count before x.peers y.peers after
     (calls_cut whole cut_made cut_more call is) did fails.1 stops
 
-pub failed_next : {A : Type 0} (plan : Plan) (before after : Outside)
-    → Driven {A = A} plan (Err PeerFault) before after
+pub failed_next : (plan : Plan) (before after : Outside)
+    → Driven plan (Err PeerFault) before after
     → WhereTold (FailedNext (calls plan.acts)) before.peers after.peers
 failed_next plan before after driven =
     let cut : CutAt plan.acts PeerFault before (outside after.written driven.last) = driven.went in
@@ -247,8 +242,8 @@ other_by_act whole cut_made cut_more (Calling (Receiving peer w)) step wanted go
     (calls_cut whole cut_made cut_more (Receiving peer w) is) did fails.1 gives
 
 -- where each peer gives what is to come, no reply differs
-pub no_difference : {A : Type 0} (plan : Plan) (step : Option ℕ) (wanted got : List ℕ) (before after : Outside)
-    → Driven {A = A} plan (Err (Differs step wanted got)) before after
+pub no_difference : (plan : Plan) (step : Option ℕ) (wanted got : List ℕ) (before after : Outside)
+    → Driven plan (Err (Differs step wanted got)) before after
     → IfSome before.peers (GivesAll (calls plan.acts))
     → IfSome before.peers (λ o. ⊥)
 no_difference plan step wanted got before after driven gives =

@@ -1,7 +1,7 @@
 -- A plan, event by event.
 use Rattle.std.specs.List.{slice_get}
 use Rattle.std.specs.Option.{option_map}
-use Rattle.std.proofs.Common.{◌≡◌, ℕ, zero, suc, map, All, Some, None, IfSome, ◌+◌, ◌<◌, ◌≤◌, Bool, true, false, Option, List, [], ◌∷◌, ◌++◌, length, drop, get_or, Result, Ok, Err, refl, ap, sym, subst, ◌∙◌, append_assoc, drop_of_length-le, arith}
+use Rattle.std.proofs.Common.{◌≡◌, ℕ, zero, suc, map, All, Some, None, IfSome, ◌+◌, ◌<◌, ◌≤◌, Option, List, [], ◌∷◌, ◌++◌, length, drop, get_or, Result, Ok, Err, refl, ap, sym, subst, ◌∙◌, append_assoc, drop_of_length-le, arith}
 use Rattle.std.proofs.lemmas.Option.{get_or_from_slice_get, slice_get_within}
 use Rattle.std.proofs.Math.Seq.{drop-cons}
 use Rattle.alg_choice.specs.declared.algs.Eea.{Eea}
@@ -21,6 +21,8 @@ use Rattle.lte_events.specs.declared.setups.StationSetup.{StationSetup}
 use Rattle.actor_frames.specs.Ranges.{IsSetup}
 use Rattle.actor_frames.specs.declared.frames.RoleSetup.{RoleSetup}
 use Rattle.actor_frames.specs.declared.frames.RoleSetup.TheVariants as first
+use Rattle.run_report.specs.declared.endings.Ending.{Ending}
+use Rattle.run_report.specs.declared.endings.Ending.TheVariants.{Done, Coincidence}
 use Rattle.run_report.specs.Report.{end_of}
 use Rattle.lte_events.specs.declared.events.Event.{Event}
 use Rattle.lte_events.specs.declared.setups.Setup.{Setup}
@@ -31,7 +33,7 @@ use Rattle.actor_drive.proofs.Composing.{calls-append, done_twice, cut_after, cu
 use Rattle.actor_drive.proofs.Gone.{roles_started-append, started_did, started_went, replied_start}
 use Rattle.actor_drive.proofs.Running.{all_run_did, all_run_went}
 use Rattle.actor_drive.specs.declared.faults.DriveFault.{DriveFault}
-use Rattle.actor_drive.specs.declared.faults.DriveFault.TheVariants.{Memory, PeerFault, Differs, Coincidence, WriteFault}
+use Rattle.actor_drive.specs.declared.faults.DriveFault.TheVariants.{Memory}
 use Rattle.actor_drive.specs.Acts.{Starting, Act, Calling, calls}
 use Rattle.actor_drive.specs.Driven.{Plan, then_plan, PlanWent, Driven}
 use Rattle.actor_drive.specs.Exchanges.{core_seed, roles_of, starts, seeds_of, set_ups}
@@ -39,7 +41,7 @@ use Rattle.actor_drive.specs.Outside.{Outside, outside, AllDone, AllRun, HasStar
 use Rattle.actor_drive.specs.Peerwise.{roles_started}
 use Rattle.actor_drive.specs.Went.{CutAt}
 use Rattle.actor_drive.specs.Plan.{event_plan, replies_at, turned, unless_ended, followed, events_plan, plan_of}
-use Rattle.actor_drive.proofs.Event.{fails_by_coincidence, writing_done}
+use Rattle.actor_drive.proofs.Event.{writing_done}
 
 -- some of a plan is done, and this is to do
 pub record PlanGoing (whole rest : Plan) (first now : Outside) : Type 0 where
@@ -48,104 +50,85 @@ pub record PlanGoing (whole rest : Plan) (first now : Outside) : Type 0 where
   pub did : AllDone made first now
 
 then_twice : (a b : List Act) (rest : Plan) → then_plan a (then_plan b rest) ≡ then_plan (a ++ b) rest
-then_twice a b rest = ap (λ (acts : List Act). let p : Plan = record { acts = acts; coincides = rest.coincides } in p) (sym (append_assoc a b rest.acts))
+then_twice a b rest = ap (λ (acts : List Act). let p : Plan = record { acts = acts; ends = rest.ends } in p) (sym (append_assoc a b rest.acts))
 
-goes_by : (first rest : Plan) (b : Bool) → first.coincides ≡ b → b ≡ false → followed first rest ≡ then_plan first.acts rest
-goes_by first rest true is false_is = absurd cc
-goes_by first rest false is false_is = ap (λ (b : Bool). unless_ended b first rest) is
+followed_by : (first rest : Plan) (ending : Ending) → ending ≡ first.ends → followed first rest ≡ unless_ended ending first rest
+followed_by first rest ending is = ap (λ (e : Ending). unless_ended e first rest) (sym is)
 
 -- a part of it was done, which no coincidence ended
-pub plan_on : {A : Type 0} (whole first rest : Plan) (done : A) (o x y : Outside)
+pub plan_on : (whole first rest : Plan) (o x y : Outside)
     → PlanGoing whole (followed first rest) o x
-    → PlanWent first (Ok done) x y
+    → PlanWent first (Ok Done) x y
     → PlanGoing whole rest o y
-plan_on whole first rest done o x y so_far went = record {
+plan_on whole first rest o x y so_far went = record {
   made = so_far.made ++ first.acts;
-  is = so_far.is ∙ ap (then_plan so_far.made) (goes_by first rest first.coincides refl went.1) ∙ then_twice so_far.made first.acts rest;
+  is = so_far.is ∙ ap (then_plan so_far.made) (followed_by first rest Done went.1) ∙ then_twice so_far.made first.acts rest;
   did = done_twice so_far.made first.acts o x y so_far.did went.0;
 }
 
 -- acts before a plan that went so
-pub then_went : {A : Type 0} (made : List Act) (plan : Plan) (result : Result A DriveFault) (o x y : Outside)
+pub then_went : (made : List Act) (plan : Plan) (result : Result Ending DriveFault) (o x y : Outside)
     → AllDone made o x
     → PlanWent plan result x y
     → PlanWent (then_plan made plan) result o y
-then_went made plan (Ok done) o x y did went = (done_twice made plan.acts o x y did went.0, went.1)
-then_went made plan (Err Memory) o x y did went = cut_after made plan.acts Memory o x y did went
-then_went made plan (Err PeerFault) o x y did went = cut_after made plan.acts PeerFault o x y did went
-then_went made plan (Err (Differs step wanted got)) o x y did went = cut_after made plan.acts (Differs step wanted got) o x y did went
-then_went made plan (Err Coincidence) o x y did went = (done_twice made plan.acts o x y did went.0, went.1)
-then_went made plan (Err WriteFault) o x y did went = cut_after made plan.acts WriteFault o x y did went
+then_went made plan (Ok ending) o x y did went = (done_twice made plan.acts o x y did went.0, went.1)
+then_went made plan (Err fault) o x y did went = cut_after made plan.acts fault o x y did went
 
 -- the rest went so
-pub plan_goes : {A : Type 0} (whole rest : Plan) (result : Result A DriveFault) (o x y : Outside)
+pub plan_goes : (whole rest : Plan) (result : Result Ending DriveFault) (o x y : Outside)
     → PlanGoing whole rest o x
     → PlanWent rest result x y
     → PlanWent whole result o y
-plan_goes {A} whole rest result o x y so_far went =
-    let P : Plan → Type 0 = λ plan. PlanWent {A = A} plan result o y in
+plan_goes whole rest result o x y so_far went =
+    let P : Plan → Type 0 = λ plan. PlanWent plan result o y in
     subst P (sym so_far.is) (then_went so_far.made rest result o x y so_far.did went)
 
-cut_by : (first rest : Plan) (b : Bool) (fault : DriveFault) (x y : Outside) → CutAt first.acts fault x y → CutAt (unless_ended b first rest).acts fault x y
-cut_by first rest true fault x y cut = cut
-cut_by first rest false fault x y cut = cut_before first.acts rest.acts fault x y cut
+-- a part of it was cut
+cut_by : (first rest : Plan) (ending : Ending) (fault : DriveFault) (x y : Outside)
+    → CutAt first.acts fault x y
+    → CutAt (unless_ended ending first rest).acts fault x y
+cut_by first rest Done fault x y cut = cut_before first.acts rest.acts fault x y cut
+cut_by first rest Coincidence fault x y cut = cut
 
-coincidence_by : (first rest : Plan) (b : Bool) → b ≡ true → unless_ended b first rest ≡ first
-coincidence_by first rest true is = refl
-coincidence_by first rest false is = absurd cc
-
--- a part of it was cut, or ended by a coincidence
-followed_went : (A : Type 0) (first rest : Plan) (fault : DriveFault) (x y : Outside)
-    → PlanWent {A = A} first (Err fault) x y
-    → PlanWent {A = A} (followed first rest) (Err fault) x y
-followed_went A first rest Memory x y went = cut_by first rest first.coincides Memory x y went
-followed_went A first rest PeerFault x y went = cut_by first rest first.coincides PeerFault x y went
-followed_went A first rest (Differs step wanted got) x y went = cut_by first rest first.coincides (Differs step wanted got) x y went
-followed_went A first rest Coincidence x y went =
-    let P : Plan → Type 0 = λ plan. PlanWent {A = A} plan (Err Coincidence) x y in
-    subst P (sym (coincidence_by first rest first.coincides went.1)) went
-followed_went A first rest WriteFault x y went = cut_by first rest first.coincides WriteFault x y went
-
-pub plan_ends : (A : Type 0) (whole first rest : Plan) (fault : DriveFault) (o x y : Outside)
+pub plan_cut : (whole first rest : Plan) (fault : DriveFault) (o x y : Outside)
     → PlanGoing whole (followed first rest) o x
-    → PlanWent {A = A} first (Err fault) x y
-    → PlanWent {A = A} whole (Err fault) o y
-plan_ends A whole first rest fault o x y so_far went =
-    plan_goes {A = A} whole (followed first rest) (Err fault) o x y so_far (followed_went A first rest fault x y went)
+    → PlanWent first (Err fault) x y
+    → PlanWent whole (Err fault) o y
+plan_cut whole first rest fault o x y so_far cut =
+    plan_goes whole (followed first rest) (Err fault) o x y so_far (cut_by first rest first.ends fault x y cut)
+
+-- a part of it was done, which a coincidence ended
+pub plan_ended : (whole first rest : Plan) (o x y : Outside)
+    → PlanGoing whole (followed first rest) o x
+    → PlanWent first (Ok Coincidence) x y
+    → PlanWent whole (Ok Coincidence) o y
+plan_ended whole first rest o x y so_far went =
+    let P : Plan → Type 0 = λ plan. PlanWent plan (Ok Coincidence) x y in
+    plan_goes whole (followed first rest) (Ok Coincidence) o x y so_far (subst P (sym (followed_by first rest Coincidence went.1)) went)
 
 -- THE WHOLE
-
--- a plan that was cut
-pub err_went : (A : Type 0) (plan : Plan) (fault : DriveFault) (x y : Outside) → CutAt plan.acts fault x y → PlanWent {A = A} plan (Err fault) x y
-err_went A plan Memory x y cut = cut
-err_went A plan PeerFault x y cut = cut
-err_went A plan (Differs step wanted got) x y cut = cut
-err_went A plan Coincidence x y cut = absurd (fails_by_coincidence cut.next cut.between y cut.fails)
-err_went A plan WriteFault x y cut = cut
 
 abbrev pub firsts : Setup → List Act
 firsts setup = starts (roles_of setup) ++ set_ups 0 (seeds_of setup)
 
-pub starts_cut : (A : Type 0) (setup : Setup) (events : List Event) (fault : DriveFault) (x y : Outside)
+pub starts_cut : (setup : Setup) (events : List Event) (fault : DriveFault) (x y : Outside)
     → CutAt (starts (roles_of setup)) fault x y
-    → PlanWent {A = A} (plan_of setup events) (Err fault) x y
+    → PlanWent (plan_of setup events) (Err fault) x y
 unfolding plan_of
-starts_cut A setup events fault x y cut =
+starts_cut setup events fault x y cut =
     let rest : Plan = events_plan setup 0 (Running (first_world setup)) events in
-    err_went A (then_plan (firsts setup) rest) fault x y
-    (cut_before (firsts setup) rest.acts fault x y (cut_before (starts (roles_of setup)) (set_ups 0 (seeds_of setup)) fault x y cut))
+    cut_before (firsts setup) rest.acts fault x y (cut_before (starts (roles_of setup)) (set_ups 0 (seeds_of setup)) fault x y cut)
 
-pub set_ups_cut : (A : Type 0) (setup : Setup) (events : List Event) (fault : DriveFault) (x y z : Outside)
+pub set_ups_cut : (setup : Setup) (events : List Event) (fault : DriveFault) (x y z : Outside)
     → AllDone (starts (roles_of setup)) x y
     → CutAt (set_ups 0 (seeds_of setup)) fault y z
-    → PlanWent {A = A} (plan_of setup events) (Err fault) x z
+    → PlanWent (plan_of setup events) (Err fault) x z
 unfolding plan_of
-set_ups_cut A setup events fault x y z did cut =
+set_ups_cut setup events fault x y z did cut =
     let rest : Plan = events_plan setup 0 (Running (first_world setup)) events in
-    err_went A (then_plan (firsts setup) rest) fault x z
-    (cut_before (firsts setup) rest.acts fault x z (cut_after (starts (roles_of setup)) (set_ups 0 (seeds_of setup)) fault x y z did cut))
+    cut_before (firsts setup) rest.acts fault x z (cut_after (starts (roles_of setup)) (set_ups 0 (seeds_of setup)) fault x y z did cut)
 
-pub whole_went : {A : Type 0} (setup : Setup) (events : List Event) (result : Result A DriveFault) (x y z o : Outside)
+pub whole_went : (setup : Setup) (events : List Event) (result : Result Ending DriveFault) (x y z o : Outside)
     → AllDone (starts (roles_of setup)) x y
     → AllDone (set_ups 0 (seeds_of setup)) y z
     → PlanWent (events_plan setup 0 (Running (first_world setup)) events) result z o → PlanWent (plan_of setup events) result x o
@@ -155,10 +138,10 @@ whole_went setup events result x y z o did more went =
     (done_twice (starts (roles_of setup)) (set_ups 0 (seeds_of setup)) x y z did more) went
 
 -- memory ran out before the first act
-pub nothing_done : (A : Type 0) (setup : Setup) (events : List Event) (x : Outside) → PlanWent {A = A} (plan_of setup events) (Err Memory) x x
+pub nothing_done : (setup : Setup) (events : List Event) (x : Outside) → PlanWent (plan_of setup events) (Err Memory) x x
 unfolding plan_of
-nothing_done A setup events x =
-    starts_cut A setup events Memory x x
+nothing_done setup events x =
+    starts_cut setup events Memory x x
     (cut_before (Calling (Starting role.Phone) ∷ []) _ Memory x x
     (cut_at (Calling (Starting role.Phone)) Memory x x refl))
 
@@ -202,12 +185,12 @@ none_twice a b first second =
     ap roles_started (calls-append a b) ∙ roles_started-append (calls a) (calls b)
     ∙ ap (λ (roles : List Role). roles ++ roles_started (calls b)) first ∙ second
 
-followed_start : (p rest : Plan) (b : Bool)
+followed_start : (p rest : Plan) (ending : Ending)
     → roles_started (calls p.acts) ≡ []
     → roles_started (calls rest.acts) ≡ []
-    → roles_started (calls (unless_ended b p rest).acts) ≡ []
-followed_start p rest true first second = first
-followed_start p rest false first second = none_twice p.acts rest.acts first second
+    → roles_started (calls (unless_ended ending p rest).acts) ≡ []
+followed_start p rest Done first second = none_twice p.acts rest.acts first second
+followed_start p rest Coincidence first second = first
 
 events_start : (setup : Setup) (events : List Event) (step : ℕ) (run : RunState (List ℕ) ℕ Kept)
     → roles_started (calls (events_plan setup step run events).acts) ≡ []
@@ -215,56 +198,38 @@ events_start setup [] step run = refl
 events_start setup (e ∷ events) step run =
     let p : Plan = event_plan setup step (told_of run e) (replies_at run e) in
     let rest : Plan = events_plan setup (suc step) (turned run e) events in
-    followed_start p rest p.coincides (told_start setup step (told_of run e) (replies_at run e)) (events_start setup events (suc step) (turned run e))
+    followed_start p rest p.ends (told_start setup step (told_of run e) (replies_at run e)) (events_start setup events (suc step) (turned run e))
 
 -- a plan of events starts nobody, however far it goes, and stops nobody
-pub events_count : {A : Type 0} (setup : Setup) (events : List Event) (count : ℕ) (run : RunState (List ℕ) ℕ Kept)
-    (result : Result A DriveFault) (x y : Outside)
+pub events_count : (setup : Setup) (events : List Event) (count : ℕ) (run : RunState (List ℕ) ℕ Kept)
+    (result : Result Ending DriveFault) (x y : Outside)
     → HasStarted count x.peers
     → PlanWent (events_plan setup 0 run events) result x y
     → HasStarted count y.peers
-events_count setup events count run (Ok done) x y has went =
+events_count setup events count run (Ok ending) x y has went =
     started_did count (calls (events_plan setup 0 run events).acts) x.peers y.peers
     (events_start setup events 0 run) has went.0.did
-events_count setup events count run (Err Coincidence) x y has went =
-    started_did count (calls (events_plan setup 0 run events).acts) x.peers y.peers
-    (events_start setup events 0 run) has went.0.did
-events_count {A} setup events count run (Err Memory) x y has went =
-    started_went {A = A} count (events_plan setup 0 run events).acts (Err Memory) x y
-    (events_start setup events 0 run) has went
-events_count {A} setup events count run (Err PeerFault) x y has went =
-    started_went {A = A} count (events_plan setup 0 run events).acts (Err PeerFault) x y
-    (events_start setup events 0 run) has went
-events_count {A} setup events count run (Err (Differs step wanted got)) x y has went =
-    started_went {A = A} count (events_plan setup 0 run events).acts (Err (Differs step wanted got)) x y
-    (events_start setup events 0 run) has went
-events_count {A} setup events count run (Err WriteFault) x y has went =
-    started_went {A = A} count (events_plan setup 0 run events).acts (Err WriteFault) x y
+events_count setup events count run (Err fault) x y has went =
+    started_went {A = Ending} count (events_plan setup 0 run events).acts (Err fault) x y
     (events_start setup events 0 run) has went
 
-pub plan_runs : {A : Type 0} (plan : Plan) (count : ℕ) (result : Result A DriveFault) (x y : Outside)
+pub plan_runs : (plan : Plan) (count : ℕ) (result : Result Ending DriveFault) (x y : Outside)
     → AllRun count x.peers
     → PlanWent plan result x y
     → AllRun count y.peers
-plan_runs plan count (Ok done) x y run went = all_run_did count (calls plan.acts) x.peers y.peers run went.0.did
-plan_runs plan count (Err Coincidence) x y run went = all_run_did count (calls plan.acts) x.peers y.peers run went.0.did
-plan_runs {A} plan count (Err Memory) x y run went = all_run_went {A = A} count plan.acts (Err Memory) x y run went
-plan_runs {A} plan count (Err PeerFault) x y run went = all_run_went {A = A} count plan.acts (Err PeerFault) x y run went
-plan_runs {A} plan count (Err (Differs step wanted got)) x y run went = all_run_went {A = A} count plan.acts (Err (Differs step wanted got)) x y run went
-plan_runs {A} plan count (Err WriteFault) x y run went = all_run_went {A = A} count plan.acts (Err WriteFault) x y run went
+plan_runs plan count (Ok ending) x y run went = all_run_did count (calls plan.acts) x.peers y.peers run went.0.did
+plan_runs plan count (Err fault) x y run went = all_run_went {A = Ending} count plan.acts (Err fault) x y run went
 
 -- THE END
 
-pub end_done : (A : Type 0) (setup : Setup) (events : List Event) (i n : ℕ) (run : RunState (List ℕ) ℕ Kept)
+pub end_done : (setup : Setup) (events : List Event) (i n : ℕ) (run : RunState (List ℕ) ℕ Kept)
     (first now : Told) (peers : Option PeersTold)
     → length events ≤ i
     → n ≡ i
     → Grows first.written now.written (end_of n run)
-    → (done : A)
-    → PlanWent (events_plan setup i run (drop i events)) (Ok done) (outside first.written peers)
-    (outside now.written peers)
-end_done A setup events i n run first now peers past number grown done =
-    let P : List Event → Type 0 = λ es. PlanWent {A = A} (events_plan setup i run es) (Ok done) (outside first.written peers) (outside now.written peers) in
+    → PlanWent (events_plan setup i run (drop i events)) (Ok Done) (outside first.written peers) (outside now.written peers)
+end_done setup events i n run first now peers past number grown =
+    let P : List Event → Type 0 = λ es. PlanWent (events_plan setup i run es) (Ok Done) (outside first.written peers) (outside now.written peers) in
     let Q : ℕ → Type 0 = λ k. Grows first.written now.written (end_of k run) in
     subst P (sym (drop_of_length-le events past)) (writing_done (end_of i run) first now peers (subst Q number grown), refl)
 
@@ -293,11 +258,11 @@ none_are_started (Some t) none = ap length none
 -- memory ran out before any peer was started
 pub nothing_driven : (setup : Setup) (events : List Event) (written : Option (List ℕ)) (peers : Option PeersTold)
     → IfSome peers (λ t. t.roles ≡ [])
-    → Driven {A = Unit {0}} (plan_of setup events) (Err Memory) (outside written peers) (outside written peers)
+    → Driven (plan_of setup events) (Err Memory) (outside written peers) (outside written peers)
 nothing_driven setup events written peers none = record {
   started = 0;
   last = peers;
-  went = nothing_done (Unit {0}) setup events (outside written peers);
+  went = nothing_done setup events (outside written peers);
   count = none_are_started peers none;
   stopped = same_told peers;
 }

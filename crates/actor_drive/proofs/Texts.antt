@@ -37,7 +37,7 @@ replied_write setup step (r ∷ replies) = replied_write setup step replies
 -- a plan that writes a report
 pub record Reports (plan : Plan) (r : Report) : Type 0 where
   pub text : writes plan.acts ≡ r.text
-  pub coincides : plan.coincides ≡ r.coincides
+  pub ends : plan.ends ≡ r.ends
 
 one_event : (setup : Setup) (step : ℕ) (told : EventReport (List ℕ)) (replies : List (ActorIn × ActorOut)) (rest : Plan)
     (reports : List (EventReport (List ℕ))) (end : List ℕ)
@@ -50,16 +50,16 @@ one_event setup step (Reported line) replies rest reports end more =
           (writes-append (replied setup step replies) rest.acts
           ∙ ap (λ (octets : List ℕ). octets ++ writes rest.acts) (replied_write setup step replies)
           ∙ more.text);
-      coincides = more.coincides;
+      ends = more.ends;
     }
-one_event setup step (Coincided coincidence) replies rest reports end more = record { text = append-nil _; coincides = refl }
+one_event setup step (Coincided coincidence) replies rest reports end more = record { text = append-nil _; ends = refl }
 
 pub events_report : (setup : Setup) (events : List Event) (step count : ℕ) (run : RunState (List ℕ) ℕ Kept)
     → count ≡ step + length events
     → Reports (events_plan setup step run events) (report_from count step run events)
 events_report setup [] step count run is =
     let same : step ≡ count = omega (arith, is) in
-    record { text = append-nil (end_of step run) ∙ ap (λ n. end_of n run) same; coincides = refl }
+    record { text = append-nil (end_of step run) ∙ ap (λ n. end_of n run) same; ends = refl }
 events_report setup (e ∷ events) step count run is =
     one_event setup step (told_of run e) (replies_at run e) (events_plan setup (suc step) (turned run e) events)
     (report (open_octets annex_b) (machine_in_octets annex_b) (turned run e) events)
@@ -80,5 +80,5 @@ plan_report setup events scenario =
     events_report setup events 0 (length events) (Running (first_world setup)) (omega arith) in
     subst P (sym (report_is scenario)) (record {
       text = writes-append first rest.acts ∙ ap (λ (octets : List ℕ). octets ++ writes rest.acts) none ∙ more.text;
-      coincides = more.coincides;
+      ends = more.ends;
     })

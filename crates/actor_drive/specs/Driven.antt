@@ -1,31 +1,31 @@
 -- A plan that is gone through, behind which all peers that were started are stopped; and what comes of it, peer by peer.
-use Rattle.std.specs.Prelude.{◌≡◌, ℕ, ◌<◌, Bool, true, false, Option, Some, List, ◌∷◌, ◌++◌, length, Result, Ok, Err, IfSome}
+use Rattle.std.specs.Prelude.{◌≡◌, ℕ, ◌<◌, true, Option, Some, List, ◌∷◌, ◌++◌, length, Result, Ok, Err, IfSome}
 use Rattle.std.specs.Io.{StartsWith}
 use Rattle.std.specs.Option.{option_map}
 use Rattle.edge_io.specs.Peers.{PeersTold, is_stopped, to_give_of}
+use Rattle.run_report.specs.declared.endings.Ending.{Ending}
 use Rattle.actor_drive.specs.declared.faults.DriveFault.{DriveFault}
-use Rattle.actor_drive.specs.declared.faults.DriveFault.TheVariants.{Coincidence}
 use Rattle.actor_drive.specs.Acts.{Call, Act}
 use Rattle.actor_drive.specs.Outside.{Outside, outside, AllDone, HasStarted, stopped_below}
 use Rattle.actor_drive.specs.Peerwise.{Made, name_of, receives}
 use Rattle.actor_drive.specs.Went.{CutAt}
 
--- acts in order, and whether a coincidence ends them
+-- acts in order, and how the report ends that they write
 pub record Plan : Type 0 where
   pub acts : List Act
-  pub coincides : Bool
+  pub ends : Ending
 
 -- acts before a plan
 abbrev pub then_plan : List Act → Plan → Plan
-then_plan acts plan = record { acts = acts ++ plan.acts; coincides = plan.coincides }
+then_plan acts plan = record { acts = acts ++ plan.acts; ends = plan.ends }
 
-abbrev pub PlanWent : {A : Type 0} → Plan → Result A DriveFault → Outside → Outside → Type 0
-PlanWent plan (Ok done) before after = AllDone plan.acts before after × (plan.coincides ≡ false)
-PlanWent plan (Err Coincidence) before after = AllDone plan.acts before after × (plan.coincides ≡ true)
+-- how far it was gone through, by the answer: where all was done, that is how it ends
+abbrev pub PlanWent : Plan → Result Ending DriveFault → Outside → Outside → Type 0
+PlanWent plan (Ok ending) before after = AllDone plan.acts before after × (ending ≡ plan.ends)
 PlanWent plan (Err fault) before after = CutAt plan.acts fault before after
 
 -- it was gone through as far as the answer says, and then the peers that were started were stopped
-pub record Driven {A : Type 0} (plan : Plan) (result : Result A DriveFault) (before after : Outside) : Type 0 where
+pub record Driven (plan : Plan) (result : Result Ending DriveFault) (before after : Outside) : Type 0 where
   pub started : ℕ
   pub last : Option PeersTold
   pub went : PlanWent plan result before (outside after.written last)

@@ -1,6 +1,6 @@
 -- What is done to drive a scenario: the peers are started and set up; then for each event, to the first coincidence, its line is
 -- written and the actors' peers are told its inputs; and behind the last event the end of the report is written.
-use Rattle.std.specs.Prelude.{ℕ, suc, Bool, true, false, List, [], ◌∷◌, ◌++◌}
+use Rattle.std.specs.Prelude.{ℕ, suc, List, [], ◌∷◌, ◌++◌}
 use Rattle.lte_events.specs.declared.events.Event.{Event}
 use Rattle.lte_events.specs.declared.inputs.ActorIn.{ActorIn}
 use Rattle.lte_events.specs.declared.replies.ActorOut.{ActorOut}
@@ -13,6 +13,8 @@ use Rattle.lte_machine.specs.Run.{RunState, Running, Stopped, EventReport, Repor
 use Rattle.lte_world.specs.Replies.{replies_of}
 use Rattle.report_text.specs.Coincidence.{coincidence_text}
 use Rattle.report_text.specs.Line.{line_text}
+use Rattle.run_report.specs.declared.endings.Ending.{Ending}
+use Rattle.run_report.specs.declared.endings.Ending.TheVariants.{Done, Coincidence}
 use Rattle.run_report.specs.Events.{told_of}
 use Rattle.run_report.specs.Report.{end_of}
 use Rattle.store_laws.specs.Proofs.{proof_of}
@@ -31,20 +33,20 @@ replies_at (Stopped coincidence) e = []
 
 -- what is done for one event: its line before its replies; a coincidence is written and no peer is told
 abbrev pub event_plan : Setup → ℕ → EventReport (List ℕ) → List (ActorIn × ActorOut) → Plan
-event_plan setup step (Reported line) replies = record { acts = Writing (line_text (line_out line)) ∷ replied setup step replies; coincides = false }
-event_plan setup step (Coincided coincidence) replies = record { acts = Writing (coincidence_text step (proof_of coincidence)) ∷ []; coincides = true }
+event_plan setup step (Reported line) replies = record { acts = Writing (line_text (line_out line)) ∷ replied setup step replies; ends = Done }
+event_plan setup step (Coincided coincidence) replies = record { acts = Writing (coincidence_text step (proof_of coincidence)) ∷ []; ends = Coincidence }
 
 -- a plan, and another where no coincidence ends it
-abbrev pub unless_ended : Bool → Plan → Plan → Plan
-unless_ended true first rest = first
-unless_ended false first rest = then_plan first.acts rest
+abbrev pub unless_ended : Ending → Plan → Plan → Plan
+unless_ended Done first rest = then_plan first.acts rest
+unless_ended Coincidence first rest = first
 
 abbrev pub followed : Plan → Plan → Plan
-followed first rest = unless_ended first.coincides first rest
+followed first rest = unless_ended first.ends first rest
 
 -- from an event on, so many being before it
 abbrev pub events_plan : Setup → ℕ → RunState (List ℕ) ℕ Kept → List Event → Plan
-events_plan setup step run [] = record { acts = Writing (end_of step run) ∷ []; coincides = false }
+events_plan setup step run [] = record { acts = Writing (end_of step run) ∷ []; ends = Done }
 events_plan setup step run (e ∷ events) =
     followed (event_plan setup step (told_of run e) (replies_at run e)) (events_plan setup (suc step) (turned run e) events)
 

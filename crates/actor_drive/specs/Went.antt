@@ -4,10 +4,17 @@ use Rattle.std.specs.Option.{option_map}
 use Rattle.edge_io.specs.Octets.{GrowsByPrefix, GrowsByProperPrefix}
 use Rattle.edge_io.specs.Peers.{PeersTold, SendFailed, ReceiveFailed, failed_at, taken_from, to_give_of}
 use Rattle.edge_io.specs.declared.peers.PeerCall.TheVariants.{Start}
+use Rattle.run_report.specs.declared.unwritten.Unwritten.{Unwritten}
+use Rattle.run_report.specs.declared.unwritten.Unwritten.TheVariants as unwritten
 use Rattle.actor_drive.specs.declared.faults.DriveFault.{DriveFault}
 use Rattle.actor_drive.specs.declared.faults.DriveFault.TheVariants.{Memory, PeerFault, Differs, WriteFault}
 use Rattle.actor_drive.specs.Acts.{Wanted, Call, Starting, Sending, Receiving, Act, Writing, Calling}
 use Rattle.actor_drive.specs.Outside.{Outside, AllDone}
+
+-- why a text was not written to its end
+abbrev pub fault_of : Unwritten → DriveFault
+fault_of unwritten.Memory = Memory
+fault_of unwritten.WriteFault = WriteFault
 
 -- a call that failed, which may have sent or taken a prefix of its octets
 abbrev pub CallFails : Call → Option PeersTold → Option PeersTold → Type 0

@@ -143,14 +143,8 @@ pub(crate) fn exchange<P: Peers>(
     ensures no_memory { IsErrOf result DriveFault.Memory → ⊥ }
     ensures no_fault { result ≢ Err DriveFault.PeerFault → P.faults peers.new ≡ P.faults peers.old }
 {
-    match send(peers, peer, frame) {
-        Ok(()) => {}
-        Err(fault) => return Err(fault),
-    }
+    send(peers, peer, frame)?;
     let (size, rest) = reply.as_slice().split_at(2);
-    match receive(peers, step, peer, reply, &[], size) {
-        Ok(()) => {}
-        Err(fault) => return Err(fault),
-    }
+    receive(peers, step, peer, reply, &[], size)?;
     receive(peers, step, peer, reply, size, rest)
 }

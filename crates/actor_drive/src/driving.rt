@@ -1,4 +1,4 @@
-ghost use Rattle.std.specs.Prelude.{◌≡◌, ◌≢◌, ◌<◌, ◌≤◌, ◌⊎◌, [], false, true, Ok, Err, ℕ, IsTrue, IsErrOf, OnOk, OnErr, IfSome, length};
+ghost use Rattle.std.specs.Prelude.{◌≡◌, ◌≢◌, ◌<◌, ◌≤◌, ◌⊎◌, [], Ok, Err, ℕ, IsTrue, IsErrOf, IfOk, OnOk, OnErr, IfSome, length};
 ghost use Rattle.growth.specs.Growth.{WasRefused};
 ghost use Rattle.edge_io.specs.Cause.{NoFault, Rose};
 ghost use Rattle.edge_io.specs.Octets.{Grows, GrowsByPrefix, GrowsByProperPrefix};
@@ -14,28 +14,29 @@ ghost use Rattle.lte_events.specs.Scenario.{IsScenario};
 ghost use Rattle.run_report.specs.Report.{report_of};
 ghost use Rattle.actor_drive.specs.Plan.{events_plan, plan_of};
 
-use crate::happening::{fault_of, happen};
+use crate::happening::happen;
 use crate::{DriveFault, set_up_all, start_all, stop_all};
 use edge_io::{Peers, Sink};
 use lte_events::{Events, Setup};
 use lte_world::World;
-use run_report::write_end;
+use run_report::{Ending, write_end};
 use std::alloc::Global;
 
 /// Drives a scenario against peers: it starts one for the phone, one for the core and one for each station,
 /// and sets them up. Then each event happens to the local system, its line is written, and each peer is told
 /// what its actor is told; its reply is compared with the local actor's. Behind the last event the end of the
-/// report is written. All peers that were started are stopped, whatever it answers.
+/// report is written. A coincidence ends the report, and no peer is told of it. All peers that were started are
+/// stopped, whatever it answers.
 ///
-/// `Memory` where std refused memory or a start of a peer lacked it, `PeerFault` where a call on a peer failed, `Differs` at the first reply that is
-/// not the local one, `Coincidence` where an event was one, `WriteFault` where the output failed.
+/// The answer is how the report ends. `Memory` where std refused memory or a start of a peer lacked it, `PeerFault` where a call on a peer failed,
+/// `Differs` at the first reply that is not the local one, `WriteFault` where the output failed.
 pub fn drive<P: Peers, W: Sink>(
     alloc: Global,
     setup: &Setup,
     events: &Events,
     peers: &mut P,
     out: &mut W,
-) -> Result<(), DriveFault>
+) -> Result<Ending, DriveFault>
     requires is_scenario { IsScenario setup.now events.now.items }
     requires cells { 1 ≤ length setup.now.cells }
     requires none { IfSome (P.told peers.old) (λ t. t.roles ≡ []) }
@@ -45,18 +46,15 @@ pub fn drive<P: Peers, W: Sink>(
     ensures driven { Driven (plan_of setup.now events.now.items) result
         (outside (W.told out.old).written (P.told peers.old)) (outside (W.told out.new).written (P.told peers.new)) }
 
-    // What is written is the report of the run: all of it, or a prefix where the answer is a fault. Where the output failed,
-    // something was still to be written.
+    // What is written is the report of the run: all of it, and how it ends, or a prefix where the answer is a fault. Where the
+    // output failed, something was still to be written.
     ensures report { OnOk result (Grows (W.told out.old).written (W.told out.new).written (report_of setup.now events.now.items).text) }
-    ensures no_coincidence { OnOk result ((report_of setup.now events.now.items).coincides ≡ false) }
-    ensures coincidence { result ≡ Err DriveFault.Coincidence →
-        Grows (W.told out.old).written (W.told out.new).written (report_of setup.now events.now.items).text × ((report_of setup.now events.now.items).coincides ≡ true) }
+    ensures ends { IfOk result (λ ending. ending ≡ (report_of setup.now events.now.items).ends) }
     ensures prefix { OnErr result (GrowsByPrefix (W.told out.old).written (W.told out.new).written (report_of setup.now events.now.items).text) }
     ensures short { result ≡ Err DriveFault.WriteFault → GrowsByProperPrefix (W.told out.old).written (W.told out.new).written (report_of setup.now events.now.items).text }
 
     // The roles that were started, and what each peer was sent and gave.
     ensures made { OnOk result (WhereTold (Made (calls (plan_of setup.now events.now.items).acts)) (P.told peers.old) (P.told peers.new)) }
-    ensures made_to_coincidence { result ≡ Err DriveFault.Coincidence → WhereTold (Made (calls (plan_of setup.now events.now.items).acts)) (P.told peers.old) (P.told peers.new) }
     // The call that failed is the next one of the plan.
     ensures failed { result ≡ Err DriveFault.PeerFault → WhereTold (FailedNext (calls (plan_of setup.now events.now.items).acts)) (P.told peers.old) (P.told peers.new) }
     ensures stopped { IfSome (P.told peers.new) AllStopped }
@@ -70,12 +68,11 @@ pub fn drive<P: Peers, W: Sink>(
     ensures no_write_fault { result ≢ Err DriveFault.WriteFault → NoFault (W.told out.old) (W.told out.new) }
     ensures out { UsedAsSink (W.told out.old) (W.told out.new) }
 
-    // Where each peer gives the local replies, no step is a coincidence and nothing fails, all is done.
+    // Where each peer gives the local replies and nothing fails, all is done.
     ensures complete { IfSome (P.told peers.old) (λ t. GivesAll (calls (plan_of setup.now events.now.items).acts) t
-        → (report_of setup.now events.now.items).coincides ≡ false
         → (Rose (P.faults peers.old) (P.faults peers.new) → ⊥)
         → (Rose (W.told out.old).write_faults (W.told out.new).write_faults → ⊥)
-        → (result ≡ Ok tt) ⊎ (result ≡ Err DriveFault.Memory)) }
+        → (result ≡ Ok (report_of setup.now events.now.items).ends) ⊎ (result ≡ Err DriveFault.Memory)) }
 {
     drive_plan(alloc, setup, events, peers, out)
 }
@@ -87,7 +84,7 @@ fn drive_plan<P: Peers, W: Sink>(
     events: &Events,
     peers: &mut P,
     out: &mut W,
-) -> Result<(), DriveFault>
+) -> Result<Ending, DriveFault>
     requires is_scenario { IsScenario setup.now events.now.items }
     requires cells { 1 ≤ length setup.now.cells }
     requires none { IfSome (P.told peers.old) (λ t. t.roles ≡ []) }
@@ -118,7 +115,7 @@ fn play<P: Peers, W: Sink>(
     world: &mut World,
     peers: &mut P,
     out: &mut W,
-) -> (u8, Result<(), DriveFault>)
+) -> (u8, Result<Ending, DriveFault>)
     requires is_scenario { IsScenario setup.now events.now.items }
     requires cells { 1 ≤ length setup.now.cells }
     requires none { IfSome (P.told peers.old) (λ t. t.roles ≡ []) }
@@ -156,7 +153,7 @@ fn run_all<P: Peers, W: Sink>(
     world: &mut World,
     peers: &mut P,
     out: &mut W,
-) -> Result<(), DriveFault>
+) -> Result<Ending, DriveFault>
     requires is_scenario { IsScenario setup.now events.now.items }
     requires running { AllRun (length (roles_of setup.now)) (P.told peers.old) }
     requires out_ready { IsTrue (W.told out.old).ready }
@@ -173,13 +170,11 @@ fn run_all<P: Peers, W: Sink>(
 {
     for number in 0..events.len() {
         let event = events.at(number);
-        match happen(alloc, setup, world, &event, peers, out) {
-            Ok(()) => {}
-            Err(fault) => return Err(fault),
+        match happen(alloc, setup, world, &event, peers, out)? {
+            Ending::Done => {}
+            Ending::Coincidence => return Ok(Ending::Coincidence),
         }
     }
-    match write_end(alloc, world, out) {
-        Ok(()) => Ok(()),
-        Err(fault) => Err(fault_of(fault)),
-    }
+    write_end(alloc, world, out)?;
+    Ok(Ending::Done)
 }

@@ -1,4 +1,5 @@
 use actor_frames::Frame;
+use run_report::Unwritten;
 
 /// Why a scenario was not driven to its end.
 #[derive(Debug, PartialEq, Eq, Drop)]
@@ -16,8 +17,20 @@ pub enum DriveFault {
         /// What came of it: its two octets of length where these differ, and else all.
         got: Frame,
     },
-    /// A step was a coincidence.
-    Coincidence,
     /// The output failed.
     WriteFault,
+}
+
+impl From<Unwritten> for DriveFault {
+    ghost use Rattle.std.specs.Prelude.{◌≡◌};
+    ghost use Rattle.actor_drive.specs.Went.{fault_of};
+
+    ghost from_gives = { λ unwritten fault. fault ≡ fault_of unwritten };
+
+    fn from(unwritten: Unwritten) -> DriveFault {
+        match unwritten {
+            Unwritten::Memory => DriveFault::Memory,
+            Unwritten::WriteFault => DriveFault::WriteFault,
+        }
+    }
 }

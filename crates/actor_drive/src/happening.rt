@@ -1,5 +1,5 @@
 // One event, before peers.
-ghost use Rattle.std.specs.Prelude.{◌≡◌, ◌≢◌, ◌≤◌, Err, ℕ, IsTrue, IsErrOf, OnOk, length};
+ghost use Rattle.std.specs.Prelude.{◌≡◌, ◌≢◌, ◌≤◌, Ok, Err, ℕ, IsTrue, IsErrOf, length};
 ghost use Rattle.growth.specs.Growth.{WasRefused};
 ghost use Rattle.edge_io.specs.Cause.{NoFault, Rose};
 ghost use Rattle.edge_io.specs.Used.{UsedAsSink};
@@ -15,23 +15,11 @@ use crate::{DriveFault, tell_all};
 use edge_io::{Peers, Sink};
 use lte_events::{Event, Setup};
 use lte_world::World;
-use run_report::{Unwritten, write_event};
+use run_report::{Ending, write_event};
 use std::alloc::Global;
 
-// Why a text was not written.
-pub(crate) fn fault_of(fault: Unwritten) -> DriveFault
-    ensures memory { fault ≡ Unwritten.Memory → result ≡ DriveFault.Memory }
-    ensures write { fault ≡ Unwritten.WriteFault → result ≡ DriveFault.WriteFault }
-    ensures memory_alone { result ≡ DriveFault.Memory → fault ≡ Unwritten.Memory }
-{
-    match fault {
-        Unwritten::Memory => DriveFault::Memory,
-        Unwritten::WriteFault => DriveFault::WriteFault,
-    }
-}
-
 // Lets one event happen: what is told of it is written, and then the peers of its actors are told its
-// inputs.
+// inputs. At a coincidence no peer is told.
 pub(crate) fn happen<P: Peers, W: Sink>(
     alloc: Global,
     setup: &Setup,
@@ -39,14 +27,14 @@ pub(crate) fn happen<P: Peers, W: Sink>(
     event: &Event,
     peers: &mut P,
     out: &mut W,
-) -> Result<(), DriveFault>
+) -> Result<Ending, DriveFault>
     requires out_ready { IsTrue (W.told out.old).ready }
     requires same { world.old.setup ≡ setup.now }
     requires can { CanTake world.old event.now }
     requires running { AllRun (length (roles_of setup.now)) (P.told peers.old) }
     ensures went { PlanWent (event_plan setup.now (length world.old.journal) (told_of (run_of world.old) event.now) (replies_at (run_of world.old) event.now)) result
         (outside (W.told out.old).written (P.told peers.old)) (outside (W.told out.new).written (P.told peers.new)) }
-    ensures takes { OnOk result (Takes world.old event.now world.new) }
+    ensures takes { result ≡ Ok Ending.Done → Takes world.old event.now world.new }
     ensures memory { IsErrOf result DriveFault.Memory → WasRefused }
     ensures peer_cause { IsErrOf result DriveFault.PeerFault → Rose (P.faults peers.old) (P.faults peers.new) }
     ensures write_cause { IsErrOf result DriveFault.WriteFault → Rose (W.told out.old).write_faults (W.told out.new).write_faults }
@@ -55,10 +43,10 @@ pub(crate) fn happen<P: Peers, W: Sink>(
     ensures out { UsedAsSink (W.told out.old) (W.told out.new) }
 {
     let step = world.journal().len() as u32;
-    match write_event(alloc, world, event, out) {
-        Ok(false) => {}
-        Ok(true) => return Err(DriveFault::Coincidence),
-        Err(fault) => return Err(fault_of(fault)),
+    match write_event(alloc, world, event, out)? {
+        Ending::Done => {}
+        Ending::Coincidence => return Ok(Ending::Coincidence),
     }
-    tell_all(peers, setup, step, world.replies())
+    tell_all(peers, setup, step, world.replies())?;
+    Ok(Ending::Done)
 }

@@ -68,10 +68,7 @@ pub fn set_up_all<P: Peers>(peers: &mut P, setup: &Setup) -> Result<(), DriveFau
     let ready = setup_reply();
     for peer in 0..peers_of(setup) {
         let frame = setup_frame(&seed_at(setup, peer));
-        match exchange(peers, None, peer, &frame, &ready) {
-            Ok(()) => {}
-            Err(fault) => return Err(fault),
-        }
+        exchange(peers, None, peer, &frame, &ready)?;
     }
     Ok(())
 }

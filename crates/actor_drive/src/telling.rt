@@ -57,10 +57,7 @@ pub fn tell_all<P: Peers>(
     for (input, out) in replies {
         let frame = actor_frame(input);
         let reply = reply_frame(out);
-        match exchange(peers, Some(step), peer_of(setup, input), &frame, &reply) {
-            Ok(()) => {}
-            Err(fault) => return Err(fault),
-        }
+        exchange(peers, Some(step), peer_of(setup, input), &frame, &reply)?;
     }
     Ok(())
 }

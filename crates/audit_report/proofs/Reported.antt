@@ -1,5 +1,5 @@
 -- The report of an audit is that of the run in octets.
-use Rattle.std.proofs.Common.{◌≡◌, sym, ap, ◌∙◌, ℕ, false, true, List, []}
+use Rattle.std.proofs.Common.{◌≡◌, sym, ap, ◌∙◌, ℕ, List, []}
 use Rattle.key_audit.specs.Text.{audit_text}
 use Rattle.key_terms.specs.declared.proof.Proof.{Proof}
 use Rattle.key_terms.specs.declared.row.LadderRow.{LadderRow}
@@ -11,6 +11,7 @@ use Rattle.lte_machine.specs.Run.{RunState, Running, Stopped, GoesOn}
 use Rattle.lte_world.specs.Whole.{InRun}
 use Rattle.report_text.specs.Coincidence.{coincidence_text}
 use Rattle.report_text.specs.Summary.{Tallied}
+use Rattle.run_report.specs.declared.endings.Ending.TheVariants.{Done, Coincidence}
 use Rattle.run_report.specs.Counted.{Ended}
 use Rattle.lte_events.specs.Scenario.{IsScenario}
 use Rattle.run_report.specs.Summary.{Coincides, outcome_from}
@@ -34,13 +35,13 @@ pub audit_ended : {setup : Setup} {events : List Event} {tally : Tallied} {run :
     → IsScenario setup events
     → Ended setup events tally run
     → InRun (λ w. rows ≡ world_rows w) run
-    → audit_report_of setup events ≡ record { text = audit_text rows; coincides = false }
+    → audit_report_of setup events ≡ record { text = audit_text rows; ends = Done }
 audit_ended {setup} {events} {run} rows scenario e are =
     audit_is scenario ∙ ap (audit_with (audit_in (octet_run setup events))) e.all
-    ∙ ap (λ t. record { text = t; coincides = false }) (ap audit_in (sym e.state) ∙ rows_in run rows e.goes are)
+    ∙ ap (λ t. record { text = t; ends = Done }) (ap audit_in (sym e.state) ∙ rows_in run rows e.goes are)
 
 pub audit_coincidence : {setup : Setup} {events : List Event} (step : ℕ) (proof : Proof)
     → IsScenario setup events
     → outcome_from [] (octet_report setup events) ≡ Coincides step proof
-    → audit_report_of setup events ≡ record { text = coincidence_text step proof; coincides = true }
+    → audit_report_of setup events ≡ record { text = coincidence_text step proof; ends = Coincidence }
 audit_coincidence {setup} {events} step proof scenario e = audit_is scenario ∙ ap (audit_with (audit_in (octet_run setup events))) e

@@ -1,5 +1,5 @@
 -- The audit of a run: where no coincidence ends it, who can derive each of its keys; and otherwise the coincidence alone.
-use Rattle.std.specs.Prelude.{ℕ, true, false, List, [], map}
+use Rattle.std.specs.Prelude.{ℕ, List, [], map}
 use Rattle.key_audit.specs.Text.{audit_text}
 use Rattle.lte_events.specs.declared.events.Event.{Event}
 use Rattle.lte_events.specs.declared.setups.Setup.{Setup}
@@ -9,6 +9,7 @@ use Rattle.lte_machine.specs.Ciphers.{annex_b}
 use Rattle.lte_machine.specs.Machines.{Kept}
 use Rattle.lte_machine.specs.Run.{RunState, Running, Stopped}
 use Rattle.report_text.specs.Coincidence.{coincidence_text}
+use Rattle.run_report.specs.declared.endings.Ending.TheVariants.{Done, Coincidence}
 use Rattle.run_report.specs.Report.{Report}
 use Rattle.run_report.specs.Summary.{Outcome, AllLines, Coincides, outcome_from}
 use Rattle.store_laws.specs.Rows.{world_rows}
@@ -19,8 +20,8 @@ audit_in (Running w) = audit_text (world_rows w)
 audit_in (Stopped coincidence) = []
 
 abbrev pub audit_with : List ℕ → Outcome → Report
-audit_with text (AllLines lines) = record { text = text; coincides = false }
-audit_with text (Coincides step proof) = record { text = coincidence_text step proof; coincides = true }
+audit_with text (AllLines lines) = record { text = text; ends = Done }
+audit_with text (Coincides step proof) = record { text = coincidence_text step proof; ends = Coincidence }
 
 -- the audit of the written machine's run over key terms, printed in values
 unfoldable pub audit_report_of : Setup → List Event → Report

@@ -1,4 +1,4 @@
-ghost use Rattle.std.specs.Prelude.{◌≡◌, false, Ok, IsTrue};
+ghost use Rattle.std.specs.Prelude.{◌≡◌, Ok, IsTrue};
 ghost use Rattle.key_audit.specs.Text.{audit_text};
 ghost use Rattle.lte_world.specs.Whole.{begun};
 ghost use Rattle.lte_events.specs.Scenario.{IsScenario};
@@ -16,30 +16,30 @@ use key_terms::Ladder;
 use lte_events::{Events, Setup};
 use lte_world::World;
 use report_text::Tally;
-use run_report::{Course, Unwritten, run_through, write_coincidence};
+use run_report::{Course, Ending, Unwritten, run_through, write_coincidence};
 use std::alloc::Global;
 
 /// Lets these events happen to a system, and writes the exact audit of its keys, each line by one `write_all`: which
 /// station can derive which key by itself, and on which path, when a check of its own has accepted it. At
-/// a coincidence it writes only that line, and the answer is whether there was one. `Memory` if std refuses
-/// memory, and `WriteFault` if the output fails; a prefix is then written.
+/// a coincidence it writes only that line. The answer is how it ends. `Memory` if std refuses memory, and
+/// `WriteFault` if the output fails; a prefix is then written.
 #[tactic(auto, using(crate::proofs::Together::each_alone))]
 pub fn write_audit<W: Sink>(
     alloc: Global,
     setup: &Setup,
     events: &Events,
     out: &mut W,
-) -> Result<bool, Unwritten>
+) -> Result<Ending, Unwritten>
     requires out_ready { IsTrue (W.told out.old).ready }
     requires is_scenario { IsScenario setup.now events.now.items }
     ensures report { WritesReport (audit_report_of setup.now events.now.items) result (W.told out.old) (W.told out.new) }
     // What the stations of a set held lets them derive a key of the run exactly where one of them can by itself.
     ensures alone { EachAlone setup.now events.now.items }
     // And the audit that was written is exact.
-    ensures exact { result ≡ Ok false → AuditIsExact setup.now events.now.items }
+    ensures exact { result ≡ Ok Ending.Done → AuditIsExact setup.now events.now.items }
     // It is that of the written run: a mark stands at a row and a station exactly where the key of the row in that run is derivable
     // from what the station held in it.
-    ensures of_run { result ≡ Ok false → AuditIsOfRun setup.now events.now.items }
+    ensures of_run { result ≡ Ok Ending.Done → AuditIsOfRun setup.now events.now.items }
 {
     let mut world = match World::new(alloc, setup) {
         Ok(world) => world,
@@ -54,24 +54,24 @@ fn audit_run<W: Sink>(
     world: &mut World,
     events: &Events,
     out: &mut W,
-) -> Result<bool, Unwritten>
+) -> Result<Ending, Unwritten>
     requires out_ready { IsTrue (W.told out.old).ready }
     requires begun { world.old ≡ begun world.old.setup }
     requires is_scenario { IsScenario world.old.setup events.now.items }
     ensures report { WritesReport (audit_report_of world.old.setup events.now.items) result (W.told out.old) (W.told out.new) }
-    ensures exact { result ≡ Ok false → AuditIsExact world.old.setup events.now.items }
-    ensures of_run { result ≡ Ok false → AuditIsOfRun world.old.setup events.now.items }
+    ensures exact { result ≡ Ok Ending.Done → AuditIsExact world.old.setup events.now.items }
+    ensures of_run { result ≡ Ok Ending.Done → AuditIsOfRun world.old.setup events.now.items }
 {
     let mut tally = Tally::new();
     match run_through(world, events, &mut tally) {
-        Ok(Course::Ended) => match write_ladder(alloc, world.ladder(), out) {
-            Ok(()) => Ok(false),
-            Err(fault) => Err(fault),
-        },
-        Ok(Course::Coincidence(step, proof)) => match write_coincidence(alloc, step, proof, out) {
-            Ok(()) => Ok(true),
-            Err(fault) => Err(fault),
-        },
+        Ok(Course::Ended) => {
+            write_ladder(alloc, world.ladder(), out)?;
+            Ok(Ending::Done)
+        }
+        Ok(Course::Coincidence(step, proof)) => {
+            write_coincidence(alloc, step, proof, out)?;
+            Ok(Ending::Coincidence)
+        }
         Err(_) => Err(Unwritten::Memory),
     }
 }

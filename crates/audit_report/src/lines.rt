@@ -21,10 +21,8 @@ pub(crate) fn write_checked<W: Sink>(
     requires out_ready { IsTrue (W.told out.old).ready }
     ensures { WritesText (audit_text ladder.now.rows) result (W.told out.old) (W.told out.new) }
 {
-    match write_text(first_line(alloc, ladder), out) {
-        Ok(()) => write_rest(alloc, ladder, audit, out),
-        Err(fault) => Err(fault),
-    }
+    write_text(first_line(alloc, ladder), out)?;
+    write_rest(alloc, ladder, audit, out)
 }
 
 // Writes all lines but the first.
@@ -38,10 +36,8 @@ fn write_rest<W: Sink>(
     requires out_ready { IsTrue (W.told out.old).ready }
     ensures { WritesText (row_lines ladder.now.rows (exact_mark ladder.now.rows) 0 (length ladder.now.rows) ++ last_line) result (W.told out.old) (W.told out.new) }
 {
-    match write_rows(alloc, ladder, audit, out) {
-        Ok(()) => write_lines(last_line(), out),
-        Err(fault) => Err(fault),
-    }
+    write_rows(alloc, ladder, audit, out)?;
+    write_lines(last_line(), out)
 }
 
 // Writes a line for each row.
@@ -56,10 +52,7 @@ fn write_rows<W: Sink>(
     ensures { WritesText (row_lines ladder.now.rows (exact_mark ladder.now.rows) 0 (length ladder.now.rows)) result (W.told out.old) (W.told out.new) }
 {
     for k in 0..ladder.len() {
-        match write_text(row_line(alloc, ladder, audit, Row(k as u32)), out) {
-            Ok(()) => {}
-            Err(fault) => return Err(fault),
-        }
+        write_text(row_line(alloc, ladder, audit, Row(k as u32)), out)?;
     }
     Ok(())
 }

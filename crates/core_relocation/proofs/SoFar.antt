@@ -1,5 +1,5 @@
 -- The report, event by event.
-use Rattle.std.proofs.Common.{◌≡◌, refl, sym, ap, ◌∙◌, ℕ, suc, ◌+◌, ◌<◌, ◌≤◌, false, Some, Result, Ok, Err, List, [], ◌∷◌, ◌++◌, length, drop, take, get_or, drop_of_length-le, add-one, arith}
+use Rattle.std.proofs.Common.{◌≡◌, refl, sym, ap, ◌∙◌, ℕ, suc, ◌+◌, ◌<◌, ◌≤◌, Some, Result, Ok, Err, List, [], ◌∷◌, ◌++◌, length, drop, take, get_or, drop_of_length-le, add-one, arith}
 use Rattle.std.specs.List.{slice_get}
 use Rattle.std.proofs.lemmas.List.{length-take-le}
 use Rattle.std.proofs.lemmas.Option.{slice_get_within}
@@ -8,6 +8,7 @@ use Rattle.lte_events.specs.declared.events.Event.{Event}
 use Rattle.lte_events.specs.declared.setups.Setup.{Setup}
 use Rattle.lte_world.specs.declared.faults.WorldFault.{WorldFault}
 use Rattle.lte_world.specs.Whole.{Whole, run_of}
+use Rattle.run_report.specs.declared.endings.Ending.TheVariants.{Done}
 use Rattle.run_report.specs.Report.{Report, end_of}
 use Rattle.run_report.proofs.Partly.{followed, Follows}
 use Rattle.run_report.proofs.Taking.{item_at, left_at}
@@ -71,7 +72,7 @@ module _ (setup : Setup) (core_of : List ℕ) (events : List Event) where
         → w ≡ v.world
         → v.world.journal ≡ heard_of v.world.setup v.cores.core_of v.events
         → run_of v.world ≡ run_after v.world.setup v.cores.core_of v.world.journal
-        → i ≤ length events → length events ≤ i → rest_at i ≡ record { text = end_of (length w.journal) (run_of w); coincides = false }
+        → i ≤ length events → length events ≤ i → rest_at i ≡ record { text = end_of (length w.journal) (run_of w); ends = Done }
     ends w is journal run low past =
         let number : i ≡ length events = omega (arith, low, past) in
         let whole : v.events ≡ events = taken ∙ ap (λ k. take k events) number ∙ take-length events in
@@ -80,4 +81,4 @@ module _ (setup : Setup) (core_of : List ℕ) (events : List Event) where
         ap (λ u. end_of (length u.journal) (run_of u)) is ∙ ap (λ r. end_of (length v.world.journal) r) run
         ∙ (λ j. end_of (length (heard j)) (run_after (set j) (same j) (heard j))) in
         ap (λ es. two_told_from i (answers setup core_of (two_state setup core_of (take i events)) es) the_end) (drop_of_length-le events past)
-        ∙ ap (λ t. record { text = t; coincides = false }) (sym text)
+        ∙ ap (λ t. record { text = t; ends = Done }) (sym text)

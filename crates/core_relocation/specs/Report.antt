@@ -1,5 +1,5 @@
 -- The report of a run with two cores: that of `run`, with the number of the core in each line of a core.
-use Rattle.std.specs.Prelude.{ℕ, suc, Bool, true, false, Option, Some, None, List, [], ◌∷◌, ◌++◌, length, codes, Result, Ok, Err}
+use Rattle.std.specs.Prelude.{ℕ, suc, Option, Some, None, List, [], ◌∷◌, ◌++◌, length, codes, Result, Ok, Err}
 use Rattle.std.specs.Fmt.{decimal}
 use Rattle.lte_events.specs.declared.events.Event.{Event}
 use Rattle.lte_events.specs.declared.lines.Line.{Line}
@@ -10,6 +10,8 @@ use Rattle.lte_world.specs.declared.faults.WorldFault.TheVariants.{Memory, Coinc
 use Rattle.report_text.specs.Coincidence.{coincidence_text}
 use Rattle.report_text.specs.Details.{details_text}
 use Rattle.report_text.specs.Line.{alarm_text, line_text, note_text, opened_text, sent_text}
+use Rattle.run_report.specs.declared.endings.Ending.{Ending}
+use Rattle.run_report.specs.declared.endings.Ending.TheVariants as ending
 use Rattle.run_report.specs.Report.{Report, before, end_of}
 use Rattle.core_relocation.specs.declared.lines.TwoLine.{TwoLine}
 use Rattle.core_relocation.specs.declared.lines.TwoLine.TheVariants.{By, NotHere}
@@ -46,19 +48,19 @@ abbrev pub told_text : ℕ → Result TwoLine WorldFault → List ℕ
 told_text step (Ok line) = two_text step line
 told_text step (Err fault) = fault_text step fault
 
-abbrev pub is_fault : Result TwoLine WorldFault → Bool
-is_fault (Ok line) = false
-is_fault (Err fault) = true
+abbrev pub answer_ends : Result TwoLine WorldFault → Ending
+answer_ends (Ok line) = ending.Done
+answer_ends (Err fault) = ending.Coincidence
 
 -- and both
 abbrev pub answer_report : ℕ → Result TwoLine WorldFault → Report
-answer_report step answer = record { text = told_text step answer; coincides = is_fault answer }
+answer_report step answer = record { text = told_text step answer; ends = answer_ends answer }
 
 -- what is answered to each event, this step and those behind it, to the first coincidence; and then the end
 abbrev pub two_told_from : ℕ → List (Result TwoLine WorldFault) → List ℕ → Report
-two_told_from step [] end = record { text = end; coincides = false }
+two_told_from step [] end = record { text = end; ends = ending.Done }
 two_told_from step (Ok line ∷ rest) end = before (two_text step line) (two_told_from (suc step) rest end)
-two_told_from step (Err fault ∷ rest) end = record { text = fault_text step fault; coincides = true }
+two_told_from step (Err fault ∷ rest) end = record { text = fault_text step fault; ends = ending.Coincidence }
 
 -- the report of the written machine's run with two cores, printed in values; its end is that of the system, which counts the
 -- events that it saw

@@ -1,5 +1,5 @@
 // The report of a run with two cores.
-ghost use Rattle.std.specs.Prelude.{◌≡◌, ◌≤◌, false, Ok, length, All, IsTrue};
+ghost use Rattle.std.specs.Prelude.{◌≡◌, ◌≤◌, Ok, length, All, IsTrue};
 ghost use Rattle.lte_events.specs.Scenario.{IsScenario};
 ghost use Rattle.run_report.specs.Written.{WritesReport};
 ghost use Rattle.core_relocation.specs.Report.{answer_report, two_report_of};
@@ -11,20 +11,20 @@ use crate::two::Two;
 use edge_io::Sink;
 use lte_events::{Event, Events, Setup};
 use lte_world::WorldFault;
-use run_report::{Unwritten, write_coincidence, write_end, write_text};
+use run_report::{Ending, Unwritten, write_coincidence, write_end, write_text};
 use std::alloc::Global;
 
 /// Lets these events happen to a system with two cores, and writes the report of them: that of `run`, with the number of the
 /// core in each line of a core, and a line for each event that asks a core which does not hold the context. A coincidence
-/// ends the report, and the answer is whether there was one. `Memory` where std refuses memory, and `WriteFault` where the
-/// output fails; a prefix is then written.
+/// ends the report. The answer is how it ends. `Memory` where std refuses memory, and `WriteFault` where the output fails; a
+/// prefix is then written.
 pub fn write_two<W: Sink>(
     alloc: Global,
     setup: &Setup,
     core_of: &[u8; 8],
     events: &Events,
     out: &mut W,
-) -> Result<bool, Unwritten>
+) -> Result<Ending, Unwritten>
     requires out_ready { IsTrue (W.told out.old).ready }
     requires is_scenario { IsScenario setup.now events.now.items }
     requires two { All (λ core. core ≤ 1) core_of.now }
@@ -36,25 +36,22 @@ pub fn write_two<W: Sink>(
     };
     for number in 0..events.len() {
         let event = events.at(number);
-        match write_answer(alloc, &mut two, &event, out) {
-            Ok(false) => {}
-            Ok(true) => return Ok(true),
-            Err(fault) => return Err(fault),
+        match write_answer(alloc, &mut two, &event, out)? {
+            Ending::Done => {}
+            Ending::Coincidence => return Ok(Ending::Coincidence),
         }
     }
-    match write_end(alloc, two.world(), out) {
-        Ok(()) => Ok(false),
-        Err(fault) => Err(fault),
-    }
+    write_end(alloc, two.world(), out)?;
+    Ok(Ending::Done)
 }
 
-// Lets one event happen, and writes what is answered to it. The answer is whether it is a coincidence.
+// Lets one event happen, and writes what is answered to it. The answer is `Coincidence` if it is one, and else `Done`.
 fn write_answer<W: Sink>(
     alloc: Global,
     two: &mut Two,
     event: &Event,
     out: &mut W,
-) -> Result<bool, Unwritten>
+) -> Result<Ending, Unwritten>
     requires out_ready { IsTrue (W.told out.old).ready }
     requires runs { StillRuns two.old }
     requires can { CanTake two.old event.now }
@@ -62,18 +59,18 @@ fn write_answer<W: Sink>(
         (answer_report (length two.old.events)
         (next_answer two.old.world.setup two.old.cores.core_of (state_written two.old) event.now))
         result (W.told out.old) (W.told out.new) }
-    ensures takes { result ≡ Ok false → Takes two.old event.now two.new }
+    ensures takes { result ≡ Ok Ending.Done → Takes two.old event.now two.new }
 {
     let step = two.events().len() as u32;
     match two.apply(event) {
-        Ok(line) => match write_text(two_text(alloc, step, line), out) {
-            Ok(()) => Ok(false),
-            Err(fault) => Err(fault),
-        },
-        Err(WorldFault::Coincidence(proof)) => match write_coincidence(alloc, step, proof, out) {
-            Ok(()) => Ok(true),
-            Err(fault) => Err(fault),
-        },
+        Ok(line) => {
+            write_text(two_text(alloc, step, line), out)?;
+            Ok(Ending::Done)
+        }
+        Err(WorldFault::Coincidence(proof)) => {
+            write_coincidence(alloc, step, proof, out)?;
+            Ok(Ending::Coincidence)
+        }
         Err(WorldFault::Memory) => Err(Unwritten::Memory),
     }
 }

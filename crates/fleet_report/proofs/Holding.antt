@@ -26,6 +26,7 @@ use Rattle.lte_properties.proofs.HeadlineHolds.{headline}
 use Rattle.report_text.specs.End.{end_text}
 use Rattle.report_text.specs.Ladder.{rows_from, row_text}
 use Rattle.report_text.specs.Line.{line_text}
+use Rattle.run_report.specs.declared.endings.Ending.TheVariants.{Done}
 use Rattle.run_report.specs.Report.{told_from, end_of, report_of}
 use Rattle.store_laws.specs.Rows.{world_rows}
 use Rattle.fleet_world.specs.declared.faults.FleetFault.{FleetFault}
@@ -246,16 +247,16 @@ none_in_range (suc n) (suc i) = none_in_range n i
 
 -- a report that no coincidence ends
 no_coincidence : (setup : Setup) (owns : List (List Event)) (step : ℕ) (events : List (ℕ × Event))
-    → (outputs_from setup owns step events).coincides ≡ false
+    → (outputs_from setup owns step events).ends ≡ Done
     → AllAnswered setup owns events
 no_coincidence setup owns step [] none = tt
 no_coincidence setup owns step (x ∷ xs) none = by (answer setup owns x.0 x.1) none (no_coincidence setup (owns_after setup owns x.0 x.1) (suc step) xs)
   where
     by : (r : Result FleetLine FleetFault)
         → (goes_on r (answer_output step (length (own_at owns x.0)) r)
-        (outputs_from setup (owns_after setup owns x.0 x.1) (suc step) xs)).coincides
-        ≡ false
-        → ((outputs_from setup (owns_after setup owns x.0 x.1) (suc step) xs).coincides ≡ false → AllAnswered setup (owns_after setup owns x.0 x.1) xs)
+        (outputs_from setup (owns_after setup owns x.0 x.1) (suc step) xs)).ends
+        ≡ Done
+        → ((outputs_from setup (owns_after setup owns x.0 x.1) (suc step) xs).ends ≡ Done → AllAnswered setup (owns_after setup owns x.0 x.1) xs)
         → IsOk r × AllAnswered setup (owns_after setup owns x.0 x.1) xs
     by (Ok told) is rest = (refl, rest is)
     by (Err f) is rest = absurd cc
@@ -263,25 +264,25 @@ no_coincidence setup owns step (x ∷ xs) none = by (answer setup owns x.0 x.1) 
 -- ALL OF IT
 
 module _ (setup : Setup) (phones : ℕ) (events : List (ℕ × Event)) (is : IsSetup setup) (are : AllOf (IsEventOf phones) events) where
-  all_answered : (fleet_report_of setup phones events).coincides ≡ false → AllAnswered setup (no_events phones) events
+  all_answered : (fleet_report_of setup phones events).ends ≡ Done → AllAnswered setup (no_events phones) events
   unfolding fleet_report_of
   all_answered none = no_coincidence setup (no_events phones) 0 events none
 
-  apart : (fleet_report_of setup phones events).coincides ≡ false → Apart setup (owns_of setup phones events)
+  apart : (fleet_report_of setup phones events).ends ≡ Done → Apart setup (owns_of setup phones events)
   apart none = phones_apart setup phones events are (all_answered none)
 
   each_headline : (p : ℕ) → AllOf IsEvent (own setup phones events p)
   unfolding own
   each_headline p = in_range setup phones (no_events phones) events are (none_in_range phones) p
 
-  isolated : (none : (fleet_report_of setup phones events).coincides ≡ false) (p : ℕ) → p < phones
+  isolated : (none : (fleet_report_of setup phones events).ends ≡ Done) (p : ℕ) → p < phones
       → phone_texts p (outputs_from setup (no_events phones) 0 events).lines
       ≡ text_of (lines_of p (answers setup (no_events phones) events))
       ++ end_of (length (own setup phones events p)) (phone_run setup (own setup phones events p))
   unfolding own
   isolated none p low = phone_text_is setup (no_events phones) 0 events p (subst (λ n. p < n) (sym (length-replicate phones [])) low) (all_answered none)
 
-  own_goes : (none : (fleet_report_of setup phones events).coincides ≡ false) (p : ℕ) → GoesOn setup (own setup phones events p)
+  own_goes : (none : (fleet_report_of setup phones events).ends ≡ Done) (p : ℕ) → GoesOn setup (own setup phones events p)
   unfolding own
   own_goes none p = (apart none).goes p
 

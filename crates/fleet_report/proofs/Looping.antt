@@ -1,5 +1,5 @@
 -- The events of a fleet's report, one after the other.
-use Rattle.std.proofs.Common.{◌≡◌, sym, ap, subst, ◌∙◌, ℕ, suc, ◌+◌, ◌<◌, ◌≤◌, false, List, [], ◌∷◌, length, drop, get_or, None, All, arith}
+use Rattle.std.proofs.Common.{◌≡◌, sym, ap, subst, ◌∙◌, ℕ, suc, ◌+◌, ◌<◌, ◌≤◌, List, length, drop, get_or, None, All, arith}
 use Rattle.std.proofs.lemmas.List.{length-replicate}
 use Rattle.std.proofs.lemmas.List.Elements.{recursion_from_All}
 use Rattle.std.specs.List.{AllByRecursion as AllOf}
@@ -11,10 +11,11 @@ use Rattle.fleet_world.specs.Answers.{answer, own_at, owns_after, owns_of, no_ev
 use Rattle.fleet_world.specs.Apart.{IsEventOf}
 use Rattle.fleet_world.specs.Fleets.{Fleeted, CanTake, owns_in, answer_of, begun}
 use Rattle.fleet_world.proofs.Standing.{owns_snoc}
+use Rattle.run_report.specs.declared.endings.Ending.TheVariants.{Done}
 use Rattle.run_report.specs.Report.{Report}
 use Rattle.run_report.proofs.Partly.{followed, Follows}
-use Rattle.fleet_report.specs.Events.{ends_it, event_report, IsOfPhone, Takes}
-use Rattle.fleet_report.specs.Lines.{output_text, answer_output, texts}
+use Rattle.fleet_report.specs.Events.{answer_report, event_report, IsOfPhone, Takes}
+use Rattle.fleet_report.specs.Lines.{texts}
 use Rattle.fleet_report.specs.Report.{report_from, ends_from, fleet_report_of}
 use Rattle.fleet_report.proofs.Shown.{answers_are}
 use Rattle.fleet_report.proofs.Telling.{events_left, none_left, event_more}
@@ -52,11 +53,7 @@ module _ (v : Fleeted) (events : List (ℕ × Event)) (i : ℕ) (x : ℕ × Even
       let same : answer v.setup (owns_in v) x.0 x.1 ≡ answer_of v x.0 x.1 = sym (answers_are v x.0 x.1 none) in
       record {
         is = ap (report_from v.setup (owns_in v) i) (events_left events i x low is) ∙ event_more v.setup (owns_in v) i x (drop (suc i) events)
-            ∙ (λ j. followed (record {
-              text = output_text (answer_output (sym count j) (length (own_at (owns_in v) x.0)) (same j));
-              coincides = ends_it (same j);
-            })
-            behind);
+            ∙ (λ j. followed (answer_report (sym count j) (length (own_at (owns_in v) x.0)) (same j)) behind);
       }
 
   pub behind_is : (u : Fleeted) → Takes v x.0 x.1 u → behind ≡ left_of u events (i + 1)
@@ -70,7 +67,7 @@ module _ (v : Fleeted) (events : List (ℕ × Event)) (i : ℕ) (x : ℕ × Even
 -- at the end
 pub end_is : (v : Fleeted) (events : List (ℕ × Event)) (i : ℕ)
     → length events ≤ i
-    → left_of v events i ≡ record { text = texts (ends_from v.setup 0 (owns_in v)); coincides = false }
+    → left_of v events i ≡ record { text = texts (ends_from v.setup 0 (owns_in v)); ends = Done }
 unfolding left_of
 end_is v events i past = ap (report_from v.setup (owns_in v) i) (none_left events i past)
 

@@ -1,6 +1,6 @@
 -- A coincidence of a phone has a text.
-use Rattle.std.proofs.Common.{◌≡◌, ◌≢◌, refl, sym, ap, subst, ◌∙◌, ℕ, Bool, true, false, List, length, Option, Some, None, Result, Ok, Err}
-use Rattle.std.specs.Prelude.{IfOk, IsTrue}
+use Rattle.std.proofs.Common.{◌≡◌, ◌≢◌, refl, sym, ap, subst, ◌∙◌, ℕ, List, length, Option, Some, None, Result, Ok, Err}
+use Rattle.std.specs.Prelude.{IsTrue}
 use Rattle.edge_io.specs.Told.{Told}
 use Rattle.lte_events.specs.Ranges.{IsEvent, IsSetup}
 use Rattle.lte_events.specs.declared.events.Event.{Event}
@@ -10,13 +10,15 @@ use Rattle.lte_machine.specs.BothRuns.{octet_run}
 use Rattle.lte_machine.specs.Ciphers.{annex_b}
 use Rattle.lte_machine.specs.Machines.{Kept, machine_in_octets}
 use Rattle.lte_machine.specs.Opening.{open_octets}
-use Rattle.lte_machine.specs.Run.{RunState, Running, Stopped, EventReport, Reported, Coincided, event_report, GoesOn}
+use Rattle.lte_machine.specs.Run.{RunState, Running, Stopped, EventReport, Reported, Coincided, event_report as event_of_run, GoesOn}
 use Rattle.report_text.specs.Coincidence.{HasString}
+use Rattle.run_report.specs.declared.endings.Ending.{Ending}
+use Rattle.run_report.specs.declared.endings.Ending.TheVariants as ending
 use Rattle.run_report.specs.Events.{HasCounts}
 use Rattle.run_report.specs.Report.{Report}
-use Rattle.run_report.specs.Written.{WritesReport}
+use Rattle.run_report.specs.Written.{WritesReport, WritesText}
 use Rattle.growth.specs.Growth.{WasRefused}
-use Rattle.run_report.proofs.Partly.{unreported}
+use Rattle.run_report.proofs.Partly.{one_cut, one_piece, unreported}
 use Rattle.run_report.specs.declared.unwritten.Unwritten.{Unwritten}
 use Rattle.run_report.specs.declared.unwritten.Unwritten.TheVariants as unwritten
 use Rattle.fleet_world.specs.declared.lines.FleetLine.{FleetLine}
@@ -30,7 +32,7 @@ use Rattle.fleet_world.specs.Meeting.{Meeting}
 use Rattle.fleet_world.specs.Phones.{phone_told}
 use Rattle.fleet_world.proofs.Standing.{told_is}
 use Rattle.fleet_world.proofs.Together.{octets_are}
-use Rattle.fleet_report.specs.Events.{HasItsCounts, ends_it}
+use Rattle.fleet_report.specs.Events.{HasItsCounts, answer_report, event_report}
 use Rattle.fleet_report.specs.Lines.{IsShown, output_text, answer_output}
 
 -- a Coincidence is one of the phone's own run
@@ -58,7 +60,7 @@ coincidence_shown setup most own e coincidence is h good told counts =
     let octets = octets_are setup own is h.in_range in
     let on = goes (octet_run setup own) (subst GoesOn (sym octets) h.goes) in
     shown setup own on.0 e coincidence is h.in_range on.1 good
-    (ap (λ r. event_report (open_octets annex_b) (machine_in_octets annex_b) r e) (sym on.1) ∙ told_is setup own e is h.in_range good ∙ told) counts
+    (ap (λ r. event_of_run (open_octets annex_b) (machine_in_octets annex_b) r e) (sym on.1) ∙ told_is setup own e is h.in_range good ∙ told) counts
 
 pub answers_are : (v : Fleeted) (p : ℕ) (e : Event) → v.over ≡ None → answer_of v p e ≡ answer v.setup (owns_in v) p e
 answers_are v p e none = ap (λ o. unless_over o (answer v.setup (owns_in v) p e)) none
@@ -77,28 +79,44 @@ fault_shown v p e (fault.Coincidence q proof) none is h can answered counts =
     subst HasString (sym told.2)
     (coincidence_shown v.setup (length v.journal) (own_at (owns_in v) p) e told.0 is h can.can.0 told.1 (subst HasCounts told.2 counts))
 
--- the line for a coincidence is that of the answer
-pub fault_reported : (v : Fleeted) (p : ℕ) (e : Event) (f : FleetFault) (step own : ℕ) (result : Result Bool Unwritten) (before after : Told)
-    → (◌≢◌ {A = Result FleetLine FleetFault} (Err f) (Err fault.Memory) → Err f ≡ answer_of v p e)
-    → (f ≢ fault.Memory → WritesReport (record { text = output_text (answer_output step own (Err f)); coincides = true }) result before after)
-    → (f ≡ fault.Memory → (result ≡ Err unwritten.Memory) × (after ≡ before)) → (f ≡ fault.Memory → WasRefused) → IsTrue before.ready
-    → WritesReport (record { text = output_text (answer_output step own (answer_of v p e)); coincides = ends_it (answer_of v p e) }) result before after
-fault_reported v p e fault.Memory step own result before after says report memory refused ready =
-    let nothing = memory refl in
-    let whole : Report = record { text = output_text (answer_output step own (answer_of v p e)); coincides = ends_it (answer_of v p e) } in
-    subst (λ r. WritesReport whole r before after) (sym nothing.0)
-    (subst (λ t. WritesReport whole (Err unwritten.Memory) before t) (sym nothing.1)
-    (unreported whole before (refused refl) ready))
-fault_reported v p e (fault.Coincidence q proof) step own result before after says report memory refused ready =
-    subst (λ a. WritesReport (record { text = output_text (answer_output step own a); coincides = ends_it a })
-    result before after)
-    (says (λ same. cc)) (report (λ same. cc))
-fault_reported v p e (fault.Cross phone row other other_row) step own result before after says report memory refused ready =
-    subst (λ a. WritesReport (record { text = output_text (answer_output step own a); coincides = ends_it a })
-    result before after)
-    (says (λ same. cc)) (report (λ same. cc))
+-- how a report ends of which a coincidence was written
+abbrev pub ended : Result (Unit {0}) Unwritten → Result Ending Unwritten
+ended (Ok done) = Ok ending.Coincidence
+ended (Err cut) = Err cut
 
--- which is not that of a line
-pub never_false : (A : Type 0) (result : Result Bool Unwritten) → IfOk result (λ b. b ≡ true) → result ≡ Ok false → A
-never_false A (Ok b) ends is = let same : b ≡ false = cc in let bad : true ≡ false = sym ends ∙ same in absurd cc
-never_false A (Err f) ends is = absurd cc
+as_report : (text : List ℕ) (result : Result (Unit {0}) Unwritten) (before after : Told)
+    → IsTrue before.ready
+    → WritesText text result before after
+    → WritesReport (record { text = text; ends = ending.Coincidence }) (ended result) before after
+as_report text (Ok done) before after ready written = one_piece refl written
+as_report text (Err cut) before after ready written = one_cut refl ready written
+
+-- the line for a coincidence is that of the answer
+pub fault_reported : (v : Fleeted) (p : ℕ) (e : Event) (f : FleetFault) (step own : ℕ) (result : Result (Unit {0}) Unwritten) (before after : Told)
+    → step ≡ length v.journal
+    → own ≡ length (own_at (owns_in v) p)
+    → (◌≢◌ {A = Result FleetLine FleetFault} (Err f) (Err fault.Memory) → Err f ≡ answer_of v p e)
+    → (f ≢ fault.Memory → WritesText (output_text (answer_output step own (Err f))) result before after)
+    → (f ≡ fault.Memory → (result ≡ Err unwritten.Memory) × (after ≡ before)) → (f ≡ fault.Memory → WasRefused) → IsTrue before.ready
+    → WritesReport (event_report v p e) (ended result) before after
+unfolding event_report
+fault_reported v p e f step own result before after steps owns says text memory refused ready =
+    subst (λ r. WritesReport r (ended result) before after) (λ j. answer_report (steps j) (owns j) (answer_of v p e)) (by f says text memory refused)
+  where
+    by : (f : FleetFault)
+        → (◌≢◌ {A = Result FleetLine FleetFault} (Err f) (Err fault.Memory) → Err f ≡ answer_of v p e)
+        → (f ≢ fault.Memory → WritesText (output_text (answer_output step own (Err f))) result before after)
+        → (f ≡ fault.Memory → (result ≡ Err unwritten.Memory) × (after ≡ before)) → (f ≡ fault.Memory → WasRefused)
+        → WritesReport (answer_report step own (answer_of v p e)) (ended result) before after
+    by fault.Memory says text memory refused =
+        let nothing = memory refl in
+        let whole : Report = answer_report step own (answer_of v p e) in
+        subst (λ r. WritesReport whole (ended r) before after) (sym nothing.0)
+        (subst (λ t. WritesReport whole (Err unwritten.Memory) before t) (sym nothing.1)
+        (unreported whole before (refused refl) ready))
+    by (fault.Coincidence q proof) says text memory refused =
+        subst (λ a. WritesReport (answer_report step own a) (ended result) before after) (says (λ same. cc))
+        (as_report (output_text (answer_output step own (Err (fault.Coincidence q proof)))) result before after ready (text (λ same. cc)))
+    by (fault.Cross phone row other other_row) says text memory refused =
+        subst (λ a. WritesReport (answer_report step own a) (ended result) before after) (says (λ same. cc))
+        (as_report (output_text (answer_output step own (Err (fault.Cross phone row other other_row)))) result before after ready (text (λ same. cc)))

@@ -1,5 +1,5 @@
 -- The report of a fleet, piece by piece.
-use Rattle.std.proofs.Common.{◌≡◌, refl, sym, ap, ◌∙◌, ℕ, zero, suc, ◌+◌, ◌<◌, ◌≤◌, true, List, [], ◌∷◌, ◌++◌, length, drop, get_or, append_assoc, append-nil, arith, Result, Ok, Err}
+use Rattle.std.proofs.Common.{◌≡◌, refl, sym, ap, ◌∙◌, ℕ, zero, suc, ◌+◌, ◌<◌, ◌≤◌, List, [], ◌∷◌, ◌++◌, length, drop, get_or, append_assoc, append-nil, arith, Result, Ok, Err}
 use Rattle.std.proofs.lemmas.List.{length-replicate}
 use Rattle.std.specs.Prelude.{slice_get, Some, IfOk}
 use Rattle.lte_events.specs.declared.events.Event.{Event}
@@ -17,8 +17,9 @@ use Rattle.fleet_world.specs.Answers.{answer, own_at, owns_after, owns_from, own
 use Rattle.fleet_world.specs.Phones.{phone_run}
 use Rattle.fleet_world.proofs.Searching.{rows_left}
 use Rattle.fleet_world.proofs.Separating.{length_after}
+use Rattle.run_report.specs.declared.endings.Ending.TheVariants.{Coincidence}
 use Rattle.run_report.proofs.Partly.{Begins, followed}
-use Rattle.fleet_report.specs.Events.{ends_it}
+use Rattle.fleet_report.specs.Events.{answer_ends, answer_report}
 use Rattle.fleet_report.specs.Lines.{Output, output_text, texts, phone_text, answer_output, row_outputs, end_outputs}
 use Rattle.fleet_report.specs.Report.{Outputs, ends_from, goes_on, outputs_from, report_from}
 
@@ -82,17 +83,14 @@ many_owns setup phones events = length_from setup (no_events phones) events ∙ 
 
 -- an answer, and what comes behind it
 follows_by : (r : Result FleetLine FleetFault) (out : Output) (rest : Outputs)
-    → record { text = texts (goes_on r out rest).lines; coincides = (goes_on r out rest).coincides }
-    ≡ followed (record { text = output_text out; coincides = ends_it r }) (record { text = texts rest.lines; coincides = rest.coincides })
+    → record { text = texts (goes_on r out rest).lines; ends = (goes_on r out rest).ends }
+    ≡ followed (record { text = output_text out; ends = answer_ends r }) (record { text = texts rest.lines; ends = rest.ends })
 follows_by (Ok told) out rest = refl
-follows_by (Err ended) out rest = ap (λ t. record { text = t; coincides = true }) (append-nil (output_text out))
+follows_by (Err ended) out rest = ap (λ t. record { text = t; ends = Coincidence }) (append-nil (output_text out))
 
 pub event_more : (setup : Setup) (owns : List (List Event)) (step : ℕ) (x : ℕ × Event) (xs : List (ℕ × Event))
     → report_from setup owns step (x ∷ xs)
-    ≡ followed (record {
-      text = output_text (answer_output step (length (own_at owns x.0)) (answer setup owns x.0 x.1));
-      coincides = ends_it (answer setup owns x.0 x.1);
-    })
+    ≡ followed (answer_report step (length (own_at owns x.0)) (answer setup owns x.0 x.1))
     (report_from setup (owns_after setup owns x.0 x.1) (suc step) xs)
 event_more setup owns step x xs =
     follows_by (answer setup owns x.0 x.1) (answer_output step (length (own_at owns x.0)) (answer setup owns x.0 x.1))

@@ -1,6 +1,8 @@
 -- What is told of one event of a fleet.
-use Rattle.std.specs.Prelude.{◌≡◌, ℕ, ◌<◌, Bool, true, false, None, [], ◌∷◌, ◌++◌, length, Result, Ok, Err}
+use Rattle.std.specs.Prelude.{◌≡◌, ℕ, ◌<◌, None, [], ◌∷◌, ◌++◌, length, Result, Ok, Err}
 use Rattle.lte_events.specs.declared.events.Event.{Event}
+use Rattle.run_report.specs.declared.endings.Ending.{Ending}
+use Rattle.run_report.specs.declared.endings.Ending.TheVariants.{Done, Coincidence}
 use Rattle.run_report.specs.Events.{HasCounts}
 use Rattle.run_report.specs.Report.{Report}
 use Rattle.fleet_world.specs.declared.faults.FleetFault.{FleetFault}
@@ -14,22 +16,23 @@ use Rattle.fleet_report.specs.Lines.{output_text, answer_output}
 abbrev pub IsOfPhone : ℕ → ℕ × Event → Type 0
 IsOfPhone phones x = x.0 < phones
 
--- whether an answer ends the report
-abbrev pub ends_it : Result FleetLine FleetFault → Bool
-ends_it (Ok told) = false
-ends_it (Err ended) = true
+-- how the report of an answer ends
+abbrev pub answer_ends : Result FleetLine FleetFault → Ending
+answer_ends (Ok told) = Done
+answer_ends (Err ended) = Coincidence
+
+-- and that report, by the step among all events and among the phone's own
+abbrev pub answer_report : ℕ → ℕ → Result FleetLine FleetFault → Report
+answer_report step own answer = record { text = output_text (answer_output step own answer); ends = answer_ends answer }
 
 -- COUNTs of 32 bits
 abbrev pub HasItsCounts : FleetFault → Type 0
 HasItsCounts (fault.Coincidence p proof) = HasCounts proof
 HasItsCounts other = Unit {0}
 
--- the line for an event, and whether it ends the report
+-- the line for an event, and how the report of it ends
 unfoldable pub event_report : Fleeted → ℕ → Event → Report
-event_report v p e = record {
-  text = output_text (answer_output (length v.journal) (length (own_at (owns_in v) p)) (answer_of v p e));
-  coincides = ends_it (answer_of v p e);
-}
+event_report v p e = answer_report (length v.journal) (length (own_at (owns_in v) p)) (answer_of v p e)
 
 -- the event happened to the phone, and ended nothing
 pub record Takes (v : Fleeted) (p : ℕ) (e : Event) (after : Fleeted) : Type 0 where

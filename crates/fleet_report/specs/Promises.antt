@@ -3,6 +3,7 @@ use Rattle.std.specs.Prelude.{◌≡◌, ℕ, ◌<◌, ◌==◌, Bool, true, fal
 use Rattle.lte_events.specs.declared.events.Event.{Event}
 use Rattle.lte_events.specs.declared.setups.Setup.{Setup}
 use Rattle.lte_properties.specs.Headline.{Headline}
+use Rattle.run_report.specs.declared.endings.Ending.TheVariants.{Done}
 use Rattle.run_report.specs.Report.{report_of}
 use Rattle.fleet_world.specs.Answers.{own, owns_of, no_events}
 use Rattle.fleet_world.specs.Apart.{NoUseTwice, PhonesSeparate}
@@ -31,6 +32,6 @@ IsIsolated setup phones events =
 -- and no two phones have a key or its use in common
 pub record Holds (setup : Setup) (phones : ℕ) (events : List (ℕ × Event)) : Type 0 where
   pub headline : EachHeadline setup phones events
-  pub isolation : (fleet_report_of setup phones events).coincides ≡ false → IsIsolated setup phones events
-  pub freshness : (fleet_report_of setup phones events).coincides ≡ false → NoUseTwice setup (owns_of setup phones events)
-  pub separation : (fleet_report_of setup phones events).coincides ≡ false → PhonesSeparate setup (owns_of setup phones events)
+  pub isolation : (fleet_report_of setup phones events).ends ≡ Done → IsIsolated setup phones events
+  pub freshness : (fleet_report_of setup phones events).ends ≡ Done → NoUseTwice setup (owns_of setup phones events)
+  pub separation : (fleet_report_of setup phones events).ends ≡ Done → PhonesSeparate setup (owns_of setup phones events)

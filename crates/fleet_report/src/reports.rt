@@ -1,5 +1,5 @@
 ghost use Rattle.growth.specs.Growth.{WasRefused};
-ghost use Rattle.std.specs.Prelude.{◌≡◌, ◌≢◌, ℕ, ◌≤◌, List, true, false, None, Ok, Err, length, All, IfOk, OnErr, IsTrue};
+ghost use Rattle.std.specs.Prelude.{◌≡◌, ◌≢◌, ℕ, ◌≤◌, List, None, Ok, Err, length, All, IfOk, OnErr, IsTrue};
 ghost use Rattle.edge_io.specs.Lines.{EndsLine};
 ghost use Rattle.lte_world.specs.Whole.{run_of};
 ghost use Rattle.lte_events.specs.Scenario.{IsScenarioBy, most_events};
@@ -17,20 +17,20 @@ use key_terms::{Ladder, Row};
 use lte_events::{Event, FleetEvents, Setup};
 use lte_world::World;
 use report_text::{TextMemory, end, row_line};
-use run_report::{Unwritten, has_counts, write_text};
+use run_report::{Ending, Unwritten, has_counts, write_text};
 use std::alloc::Global;
 
 /// Lets these events happen to a fleet of 1 to 256 phones and writes their report, each line by one
 /// `write_all`: a line for each event, and after the last the end of each phone's own report. A coincidence ends
-/// the report, and the answer is whether there was one. `Memory` if std refuses memory, and `WriteFault` if the
-/// output fails; a prefix is then written.
+/// the report. The answer is how it ends. `Memory` if std refuses memory, and `WriteFault` if the output fails; a
+/// prefix is then written.
 pub fn write_fleet<W: Sink>(
     alloc: Global,
     setup: &Setup,
     phones: u16,
     events: &FleetEvents,
     out: &mut W,
-) -> Result<bool, Unwritten>
+) -> Result<Ending, Unwritten>
     requires out_ready { IsTrue (W.told out.old).ready }
     requires is_scenario { IsScenarioBy (λ x. x.1) setup.now events.now.items }
     requires some { 1 ≤ phones }
@@ -44,40 +44,40 @@ pub fn write_fleet<W: Sink>(
     };
     for number in 0..events.len() {
         let step = events.at(number);
-        match write_event(alloc, &mut fleet, step.0, &step.1, out) {
-            Ok(false) => {}
-            Ok(true) => return Ok(true),
-            Err(fault) => return Err(fault),
+        match write_event(alloc, &mut fleet, step.0, &step.1, out)? {
+            Ending::Done => {}
+            Ending::Coincidence => return Ok(Ending::Coincidence),
         }
     }
-    match write_ends(alloc, &fleet, phones, out) {
-        Ok(()) => Ok(false),
-        Err(fault) => Err(fault),
-    }
+    write_ends(alloc, &fleet, phones, out)?;
+    Ok(Ending::Done)
 }
 
-// Lets one event happen, and writes what is told of it. The answer is whether it is a coincidence.
+// Lets one event happen, and writes what is told of it. The answer is `Coincidence` if it is one, and else `Done`.
 fn write_event<W: Sink>(
     alloc: Global,
     fleet: &mut Fleet,
     phone: u16,
     event: &Event,
     out: &mut W,
-) -> Result<bool, Unwritten>
+) -> Result<Ending, Unwritten>
     requires out_ready { IsTrue (W.told out.old).ready }
     requires goes_on { fleet.old.over ≡ None }
     requires can { CanTake fleet.old phone event.now }
     ensures report { WritesReport (event_report fleet.old phone event.now) result (W.told out.old) (W.told out.new) }
-    ensures takes { result ≡ Ok false → Takes fleet.old phone event.now fleet.new }
+    ensures takes { result ≡ Ok Ending.Done → Takes fleet.old phone event.now fleet.new }
 {
     let step = fleet.journal().len() as u32;
     let own = fleet.world(phone).journal().len() as u32;
     match fleet.apply(phone, event) {
-        Ok(told) => match write_text(told_text(alloc, step, &told), out) {
-            Ok(()) => Ok(false),
-            Err(fault) => Err(fault),
-        },
-        Err(fault) => write_fault(alloc, step, own, fault, out),
+        Ok(told) => {
+            write_text(told_text(alloc, step, &told), out)?;
+            Ok(Ending::Done)
+        }
+        Err(fault) => {
+            write_fault(alloc, step, own, fault, out)?;
+            Ok(Ending::Coincidence)
+        }
     }
 }
 
@@ -88,22 +88,18 @@ fn write_fault<W: Sink>(
     own: u32,
     fault: FleetFault,
     out: &mut W,
-) -> Result<bool, Unwritten>
+) -> Result<(), Unwritten>
     requires out_ready { IsTrue (W.told out.old).ready }
     requires shown { HasItsCounts fault → IsShown fault }
     requires refused { fault ≡ FleetFault.Memory → WasRefused }
-    ensures report { fault ≢ FleetFault.Memory → WritesReport (record { text = output_text (answer_output step own (Err fault)); coincides = true }) result (W.told out.old) (W.told out.new) }
+    ensures text { fault ≢ FleetFault.Memory → WritesText (output_text (answer_output step own (Err fault))) result (W.told out.old) (W.told out.new) }
     ensures memory { fault ≡ FleetFault.Memory → (result ≡ Err Unwritten.Memory) × (out.new ≡ out.old) }
-    ensures ends { IfOk result (λ coincides. coincides ≡ true) }
 {
     if fault == FleetFault::Memory {
         return Err(Unwritten::Memory);
     }
     counts_in(fault);
-    match write_text(fault_text(alloc, step, own, fault), out) {
-        Ok(()) => Ok(true),
-        Err(fault) => Err(fault),
-    }
+    write_text(fault_text(alloc, step, own, fault), out)
 }
 
 // Writes the end of each phone's own report, phone after phone.
@@ -120,10 +116,7 @@ fn write_ends<W: Sink>(
     ensures { WritesText (texts (ends_from fleet.now.setup 0 (owns_in fleet.now))) result (W.told out.old) (W.told out.new) }
 {
     for phone in 0..phones {
-        match write_end(alloc, phone, fleet.world(phone), out) {
-            Ok(()) => {}
-            Err(fault) => return Err(fault),
-        }
+        write_end(alloc, phone, fleet.world(phone), out)?;
     }
     Ok(())
 }
@@ -143,10 +136,8 @@ fn write_end<W: Sink>(
     let events = world.journal().len() as u32;
     let ladder = world.ladder();
     let rows = ladder.len() as u32;
-    match write_line(alloc, phone, end(alloc, events, world.records(), rows), out) {
-        Ok(()) => write_rows(alloc, phone, ladder, out),
-        Err(fault) => Err(fault),
-    }
+    write_line(alloc, phone, end(alloc, events, world.records(), rows), out)?;
+    write_rows(alloc, phone, ladder, out)
 }
 
 // Writes the rows of a phone's ladder.
@@ -160,15 +151,12 @@ fn write_rows<W: Sink>(
     ensures { WritesText (texts (row_outputs phone ladder.now.rows 0 ladder.now.rows)) result (W.told out.old) (W.told out.new) }
 {
     for number in 0..ladder.len() {
-        match write_line(
+        write_line(
             alloc,
             phone,
             row_line(alloc, ladder, Row(number as u32)),
             out,
-        ) {
-            Ok(()) => {}
-            Err(fault) => return Err(fault),
-        }
+        )?;
     }
     Ok(())
 }

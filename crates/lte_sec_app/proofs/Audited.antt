@@ -1,5 +1,5 @@
 -- What holds of an audited scenario, at each status.
-use Rattle.std.proofs.Common.{◌≡◌, ◌∙◌, ℕ, Bool, true, false, List, Result, Ok, Err, refl}
+use Rattle.std.proofs.Common.{◌≡◌, ◌∙◌, ℕ, List, Result, Ok, Err, refl}
 use Rattle.std.specs.Prelude.{IfOk}
 use Rattle.audit_report.specs.Alone.{EachAlone}
 use Rattle.audit_report.specs.AuditReport.{audit_report_of}
@@ -8,6 +8,8 @@ use Rattle.audit_report.specs.OfRun.{AuditIsOfRun}
 use Rattle.lte_events.specs.declared.events.Event.{Event}
 use Rattle.lte_events.specs.declared.setups.Setup.{Setup}
 use Rattle.lte_properties.specs.Headline.{Headline}
+use Rattle.run_report.specs.declared.endings.Ending.{Ending}
+use Rattle.run_report.specs.declared.endings.Ending.TheVariants as ending
 use Rattle.run_report.specs.declared.unwritten.Unwritten.{Unwritten}
 use Rattle.run_report.specs.declared.unwritten.Unwritten.TheVariants as unwritten
 use Rattle.scenario_file.specs.Reading.{reading_of}
@@ -21,7 +23,7 @@ module _ (octets : List ℕ) (setup : Setup) (events : List Event) (reads : read
   abbrev pub IsRight : Type 0
   IsRight = AuditIsExact setup events × AuditIsOfRun setup events
 
-  has_audit : ((audit_report_of setup events).coincides ≡ false → IsRight) → HasAudit octets
+  has_audit : ((audit_report_of setup events).ends ≡ ending.Done → IsRight) → HasAudit octets
   has_audit right = record {
     setup = setup;
     events = events;
@@ -32,9 +34,9 @@ module _ (octets : List ℕ) (setup : Setup) (events : List Event) (reads : read
     alone = alone;
   }
 
-  pub audited : (r : Result Bool Unwritten) → (r ≡ Ok false → IsRight) → IfOk r (λ coincides. coincides ≡ (audit_report_of setup events).coincides)
+  pub audited : (r : Result Ending Unwritten) → (r ≡ Ok ending.Done → IsRight) → IfOk r (λ ends. ends ≡ (audit_report_of setup events).ends)
       → WhereRun (HasAudit octets) (status_of r)
-  audited (Ok false) right is = has_audit (λ none. right refl)
-  audited (Ok true) right is = has_audit (λ none. let clash : true ≡ false = is ∙ none in absurd cc)
+  audited (Ok ending.Done) right is = has_audit (λ none. right refl)
+  audited (Ok ending.Coincidence) right is = has_audit (λ none. let clash : ending.Coincidence ≡ ending.Done = is ∙ none in absurd cc)
   audited (Err unwritten.Memory) right is = tt
   audited (Err unwritten.WriteFault) right is = tt

@@ -32,7 +32,7 @@ nothing_done (Err fault) out peers = (none_of out.written (refused_text fault), 
 memory_goes : (r : Result (Setup × List Event) ScenarioFault) (out out' : Told) (peers : Option PeersTold)
     (faults faults' : ℕ)
     → TextGoes r Memory out out' peers faults faults'
-memory_goes (Ok scenario) out out' peers faults faults' = where_some peers _ (λ told gives goes_on calls writes. inr refl)
+memory_goes (Ok scenario) out out' peers faults faults' = where_some peers _ (λ told gives calls writes. inr refl)
 memory_goes (Err fault) out out' peers faults faults' = λ writes. inr refl
 
 pub unread : (status : Status) (input input' out : Told) (peers : Option PeersTold) → IsUnread status

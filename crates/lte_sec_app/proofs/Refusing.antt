@@ -1,5 +1,5 @@
 -- What is so of a text that was not read as a scenario, and that one that was read is not refused.
-use Rattle.std.proofs.Common.{◌≡◌, ◌≢◌, ◌∙◌, ◌⊎◌, inl, inr, Bool, true, false, Result, Ok, Err, refl, sym, ap, subst}
+use Rattle.std.proofs.Common.{◌≡◌, ◌≢◌, ◌∙◌, ◌⊎◌, inl, inr, Result, Ok, Err, refl, sym, ap, subst}
 use Rattle.std.specs.Prelude.{IfErr}
 use Rattle.edge_io.specs.Told.{Told}
 use Rattle.edge_io.proofs.Known.{none_of}
@@ -7,11 +7,13 @@ use Rattle.scenario_file.specs.declared.faults.ScenarioFault.{ScenarioFault}
 use Rattle.scenario_file.specs.declared.faults.ScenarioFault.TheVariants as fault
 use Rattle.lte_sec_app.specs.declared.status.Status.{Status}
 use Rattle.lte_sec_app.specs.declared.status.Status.TheVariants.{Memory, Refused}
-use Rattle.ladder_text.specs.declared.ending.Ending.{Ending}
-use Rattle.ladder_text.specs.declared.ending.Ending.TheVariants as endings
+use Rattle.ladder_text.specs.declared.ending.Ending.{Ending as LadderEnding}
+use Rattle.ladder_text.specs.declared.ending.Ending.TheVariants as ladder
+use Rattle.run_report.specs.declared.endings.Ending.{Ending}
+use Rattle.run_report.specs.declared.endings.Ending.TheVariants as ending
 use Rattle.lte_sec_app.specs.Ladder.{status_of as ladder_status}
 use Rattle.lte_sec_app.specs.Run.{Output, WritesAt}
-use Rattle.lte_sec_app.specs.Scenario.{RefusedBy, IsRefused, ending, refusal_output}
+use Rattle.lte_sec_app.specs.Scenario.{RefusedBy, IsRefused, report_status, refusal_output}
 
 pub is_memory : (why : ScenarioFault) → (why ≡ fault.Memory) ⊎ (why ≢ fault.Memory)
 is_memory fault.Memory = inl refl
@@ -47,22 +49,22 @@ module _ {B : Type 0} (output_of : Result B ScenarioFault → Output)
   refusal_writes (Err why) reads refused = by_fault why reads refused (is_memory why)
 
 -- the output of a report is no refusal
-pub never_refused : (coincides : Bool) → ending coincides ≢ Refused
-never_refused true = λ is. cc
-never_refused false = λ is. cc
+pub never_refused : (ends : Ending) → report_status ends ≢ Refused
+never_refused ending.Done = λ is. cc
+never_refused ending.Coincidence = λ is. cc
 
 pub read_never_refused : {B : Type 0} (ends_of : Result B ScenarioFault → Status) (reading : Result B ScenarioFault)
-    (scenario : B) (coincides : Bool)
+    (scenario : B) (ended : Ending)
     → reading ≡ Ok scenario
-    → ends_of (Ok scenario) ≡ ending coincides
+    → ends_of (Ok scenario) ≡ report_status ended
     → ends_of reading ≢ Refused
-read_never_refused ends_of reading scenario coincides reads ends is =
-    never_refused coincides (sym ends ∙ ap ends_of (sym reads) ∙ is)
+read_never_refused ends_of reading scenario ended reads ends is =
+    never_refused ended (sym ends ∙ ap ends_of (sym reads) ∙ is)
 
 -- the ending of a ladder text that was refused
-pub ladder_refused : (ended : Ending) → ladder_status ended ≡ Refused → ended ≡ endings.Refused
-ladder_refused endings.Done is = absurd cc
-ladder_refused endings.Memory is = absurd cc
-ladder_refused endings.Refused is = refl
-ladder_refused endings.WriteFault is = absurd cc
-ladder_refused endings.Coincidence is = absurd cc
+pub ladder_refused : (ended : LadderEnding) → ladder_status ended ≡ Refused → ended ≡ ladder.Refused
+ladder_refused ladder.Done is = absurd cc
+ladder_refused ladder.Memory is = absurd cc
+ladder_refused ladder.Refused is = refl
+ladder_refused ladder.WriteFault is = absurd cc
+ladder_refused ladder.Coincidence is = absurd cc

@@ -1,5 +1,5 @@
 -- What `audit` writes for a scenario, and what holds of it.
-use Rattle.std.specs.Prelude.{◌≡◌, ℕ, false, List, Result, Ok, Err}
+use Rattle.std.specs.Prelude.{◌≡◌, ℕ, List, Result, Ok, Err}
 use Rattle.audit_report.specs.Alone.{EachAlone}
 use Rattle.audit_report.specs.AuditReport.{audit_report_of}
 use Rattle.audit_report.specs.Audited.{AuditIsExact}
@@ -7,6 +7,7 @@ use Rattle.audit_report.specs.OfRun.{AuditIsOfRun}
 use Rattle.lte_events.specs.declared.events.Event.{Event}
 use Rattle.lte_events.specs.declared.setups.Setup.{Setup}
 use Rattle.lte_properties.specs.Headline.{Headline}
+use Rattle.run_report.specs.declared.endings.Ending.TheVariants.{Done}
 use Rattle.scenario_file.specs.declared.faults.ScenarioFault.{ScenarioFault}
 use Rattle.scenario_file.specs.Reading.{reading_of}
 use Rattle.lte_sec_app.specs.Run.{Output}
@@ -28,6 +29,6 @@ pub record HasAudit (octets : List ℕ) : Type 0 where
   pub events : List Event
   pub reads : reading_of octets ≡ Ok (setup, events)
   pub headline : Headline setup events
-  pub exact : (audit_report_of setup events).coincides ≡ false → AuditIsExact setup events
-  pub of_run : (audit_report_of setup events).coincides ≡ false → AuditIsOfRun setup events
+  pub exact : (audit_report_of setup events).ends ≡ Done → AuditIsExact setup events
+  pub of_run : (audit_report_of setup events).ends ≡ Done → AuditIsOfRun setup events
   pub alone : EachAlone setup events

@@ -1,5 +1,5 @@
 -- What is so of `drive` at each status, by the input, the output and the peers before and after.
-use Rattle.std.specs.Prelude.{◌≡◌, ◌⊎◌, ℕ, ◌+◌, ◌<◌, ◌≤◌, ◌++◌, Bool, true, false, Option, Some, None, List, length, codes, Result, Ok, Err, IfSome}
+use Rattle.std.specs.Prelude.{◌≡◌, ◌⊎◌, ℕ, ◌+◌, ◌<◌, ◌≤◌, ◌++◌, Option, Some, None, List, length, codes, Result, Ok, Err, IfSome}
 use Rattle.std.specs.Fmt.{decimal}
 use Rattle.hex.specs.Hex.{encode_lower}
 use Rattle.edge_io.specs.Told.{Told, HasEnded}
@@ -15,6 +15,8 @@ use Rattle.actor_drive.specs.Driven.{Driven, WhereTold, FailedNext, GivesAll}
 use Rattle.actor_drive.specs.Outside.{outside}
 use Rattle.actor_drive.specs.Peerwise.{Made}
 use Rattle.actor_drive.specs.Plan.{plan_of}
+use Rattle.run_report.specs.declared.endings.Ending.{Ending}
+use Rattle.run_report.specs.declared.endings.Ending.TheVariants as ending
 use Rattle.run_report.specs.Report.{report_of}
 use Rattle.scenario_file.specs.declared.faults.ScenarioFault.{ScenarioFault}
 use Rattle.scenario_file.specs.Reading.{reading_of}
@@ -22,6 +24,7 @@ use Rattle.scenario_file.specs.Refused.{refused_text}
 use Rattle.lte_sec_app.specs.declared.status.Status.{Status}
 use Rattle.lte_sec_app.specs.declared.status.Status.TheVariants.{Done, Memory, Refused, ReadFault, WriteFault, PeerFault, Coincidence, Differs, TooLong}
 use Rattle.lte_sec_app.specs.Run.{most_octets, WritesAt}
+use Rattle.lte_sec_app.specs.Scenario.{report_status}
 
 -- where a reply was wanted: at the event with this number, or where a peer was set up
 abbrev pub wanted_text : Option ℕ → List ℕ
@@ -41,7 +44,7 @@ LineAt text WriteFault out out' = GrowsByProperPrefix out.written out'.written t
 LineAt text other out out' = ⊥
 
 -- the plan of a scenario was gone through as far as the answer says, and then all peers that were started were stopped
-abbrev pub WasDriven : Setup → List Event → Result (Unit {0}) DriveFault → Told → Told → Option PeersTold → Option PeersTold → Type 0
+abbrev pub WasDriven : Setup → List Event → Result Ending DriveFault → Told → Told → Option PeersTold → Option PeersTold → Type 0
 WasDriven setup events answer out out' peers peers' =
     Driven (plan_of setup events) answer (outside out.written peers) (outside out'.written peers')
 
@@ -49,13 +52,11 @@ WasDriven setup events answer out out' peers peers' =
 abbrev pub calls_of : Setup → List Event → List Call
 calls_of setup events = calls (plan_of setup events).acts
 
--- All was done: the report is written, and whether it ends with a coincidence. The peers were started, were sent and gave
--- what the scenario says.
-pub record AllDriven (setup : Setup) (events : List Event) (answer : Result (Unit {0}) DriveFault) (coincides : Bool)
-    (out out' : Told) (peers peers' : Option PeersTold) : Type 0 where
-  pub driven : WasDriven setup events answer out out' peers peers'
+-- All was done: the report is written, and it ends so. The peers were started, were sent and gave what the scenario says.
+pub record AllDriven (setup : Setup) (events : List Event) (ended : Ending) (out out' : Told) (peers peers' : Option PeersTold) : Type 0 where
+  pub driven : WasDriven setup events (Ok ended) out out' peers peers'
   pub report : Grows out.written out'.written (report_of setup events).text
-  pub ends : (report_of setup events).coincides ≡ coincides
+  pub ends : ended ≡ (report_of setup events).ends
   pub made : WhereTold (Made (calls_of setup events)) peers peers'
 
 -- how far a report was written that a fault cut: where the output failed, something was still to be written
@@ -93,8 +94,8 @@ Untouched out out' peers peers' = (out' ≡ out) × (peers' ≡ peers)
 
 -- what is so of a scenario at each status; no other status comes
 abbrev pub ScenarioAt : Setup → List Event → Status → Told → Told → Option PeersTold → Option PeersTold → Type 0
-ScenarioAt setup events Done out out' peers peers' = AllDriven setup events (Ok tt) false out out' peers peers'
-ScenarioAt setup events Coincidence out out' peers peers' = AllDriven setup events (Err fault.Coincidence) true out out' peers peers'
+ScenarioAt setup events Done out out' peers peers' = AllDriven setup events ending.Done out out' peers peers'
+ScenarioAt setup events Coincidence out out' peers peers' = AllDriven setup events ending.Coincidence out out' peers peers'
 ScenarioAt setup events PeerFault out out' peers peers' = CallFailed setup events out out' peers peers'
 ScenarioAt setup events Differs out out' peers peers' = ReplyDiffers setup events Differs out out' peers peers'
 ScenarioAt setup events Memory out out' peers peers' = Untouched out out' peers peers' ⊎ CutOrDiffers setup events fault.Memory Memory out out' peers peers'
@@ -139,12 +140,11 @@ IsUnread ReadFault = Unit {0}
 IsUnread TooLong = Unit {0}
 IsUnread other = ⊥
 
--- Where each peer gives the local replies first, the scenario comes to no coincidence and no count rose, the status is Done,
--- unless memory ran out.
+-- Where each peer gives the local replies first and no count rose, the status is that of the report, unless memory ran out.
 abbrev pub AllGoes : Setup → List Event → Status → Told → Told → Option PeersTold → ℕ → ℕ → Type 0
 AllGoes setup events status out out' peers faults faults' =
-    IfSome peers (λ told. GivesAll (calls_of setup events) told → (report_of setup events).coincides ≡ false
-    → ¬ (Rose faults faults') → ¬ (Rose out.write_faults out'.write_faults) → (status ≡ Done) ⊎ (status ≡ Memory))
+    IfSome peers (λ told. GivesAll (calls_of setup events) told → ¬ (Rose faults faults') → ¬ (Rose out.write_faults out'.write_faults)
+    → (status ≡ report_status (report_of setup events).ends) ⊎ (status ≡ Memory))
 
 abbrev pub TextGoes : Result (Setup × List Event) ScenarioFault → Status → Told → Told → Option PeersTold → ℕ → ℕ → Type 0
 TextGoes (Ok scenario) status out out' peers faults faults' = AllGoes scenario.0 scenario.1 status out out' peers faults faults'

@@ -1,9 +1,11 @@
 -- What `run` writes for a scenario, and what holds of it.
-use Rattle.std.specs.Prelude.{◌≡◌, ◌≢◌, ℕ, Bool, true, false, List, Result, Ok, Err}
+use Rattle.std.specs.Prelude.{◌≡◌, ◌≢◌, ℕ, List, Result, Ok, Err}
 use Rattle.edge_io.specs.Told.{Told}
 use Rattle.lte_events.specs.declared.events.Event.{Event}
 use Rattle.lte_events.specs.declared.setups.Setup.{Setup}
 use Rattle.lte_properties.specs.Headline.{Headline}
+use Rattle.run_report.specs.declared.endings.Ending.{Ending}
+use Rattle.run_report.specs.declared.endings.Ending.TheVariants as ending
 use Rattle.run_report.specs.declared.unwritten.Unwritten.{Unwritten}
 use Rattle.run_report.specs.declared.unwritten.Unwritten.TheVariants as unwritten
 use Rattle.run_report.specs.Report.{Report, report_of}
@@ -15,13 +17,13 @@ use Rattle.lte_sec_app.specs.declared.status.Status.{Status}
 use Rattle.lte_sec_app.specs.declared.status.Status.TheVariants.{Done, Memory, Refused, WriteFault, Coincidence}
 use Rattle.lte_sec_app.specs.Run.{Output, WritesAt}
 
--- how a report ends
-abbrev pub ending : Bool → Status
-ending true = Coincidence
-ending false = Done
+-- the status of a report that ends so
+abbrev pub report_status : Ending → Status
+report_status ending.Done = Done
+report_status ending.Coincidence = Coincidence
 
 abbrev pub output_of_report : Report → Output
-output_of_report report = record { text = report.text; ends = ending report.coincides }
+output_of_report report = record { text = report.text; ends = report_status report.ends }
 
 -- why a text is no scenario
 abbrev pub refusal_output : ScenarioFault → Output
@@ -48,8 +50,8 @@ abbrev pub run_output : List ℕ → Output
 run_output octets = output_of (reading_of octets)
 
 -- the status at which the writing of a report ended
-abbrev pub status_of : Result Bool Unwritten → Status
-status_of (Ok coincides) = ending coincides
+abbrev pub status_of : Result Ending Unwritten → Status
+status_of (Ok ends) = report_status ends
 status_of (Err unwritten.Memory) = Memory
 status_of (Err unwritten.WriteFault) = WriteFault
 

@@ -20,6 +20,7 @@ use actor_drive::DriveFault;
 use actor_frames::Frame;
 use edge_io::{Peers, Sink, Source, write_all};
 use lte_events::{Events, Setup};
+use run_report::Ending;
 use scenario_file::read;
 use std::alloc::{AllocError, Global};
 
@@ -105,10 +106,10 @@ fn drive_scenario<P: Peers, W: Sink>(
     ensures out { UsedAsSink (W.told out.old) (W.told out.new) }
 {
     match actor_drive::drive(alloc, setup, events, peers, out) {
-        Ok(()) => Status::Done,
+        Ok(Ending::Done) => Status::Done,
+        Ok(Ending::Coincidence) => Status::Coincidence,
         Err(DriveFault::Memory) => Status::Memory,
         Err(DriveFault::PeerFault) => Status::PeerFault,
-        Err(DriveFault::Coincidence) => Status::Coincidence,
         Err(DriveFault::WriteFault) => Status::WriteFault,
         Err(DriveFault::Differs { step, wanted, got }) => write_difference(
             alloc, step, &wanted, &got, out,

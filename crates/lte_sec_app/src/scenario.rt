@@ -9,7 +9,7 @@ ghost use Rattle.lte_sec_app.specs.declared.command.TextCommand.{TextCommand};
 
 use crate::status::Status;
 use edge_io::{Sink, write_all};
-use run_report::{Unwritten, write_run};
+use run_report::{Ending, Unwritten, write_run};
 use scenario_file::{ScenarioFault, read};
 use std::alloc::Global;
 
@@ -70,13 +70,13 @@ fn write_refusal<W: Sink>(fault: &ScenarioFault, out: &mut W) -> Status
 }
 
 // The status with which a report ends.
-pub(crate) fn status_of(written: Result<bool, Unwritten>) -> Status
+pub(crate) fn status_of(written: Result<Ending, Unwritten>) -> Status
     ensures value { result ≡ status_of written }
     ensures memory { result ≡ Status.Memory → written ≡ Err Unwritten.Memory }
 {
     match written {
-        Ok(false) => Status::Done,
-        Ok(true) => Status::Coincidence,
+        Ok(Ending::Done) => Status::Done,
+        Ok(Ending::Coincidence) => Status::Coincidence,
         Err(Unwritten::Memory) => Status::Memory,
         Err(Unwritten::WriteFault) => Status::WriteFault,
     }

@@ -1,5 +1,5 @@
 -- The lines of a run, counted one after the other.
-use Rattle.std.proofs.Common.{◌≡◌, refl, sym, ap, subst, ◌∙◌, arith, ℕ, suc, ◌+◌, ◌≤◌, true, false, Ok, Err, List, [], ◌∷◌, ◌++◌, length, drop, length-append, drop_of_length-le}
+use Rattle.std.proofs.Common.{◌≡◌, refl, sym, ap, subst, ◌∙◌, arith, ℕ, suc, ◌+◌, ◌≤◌, Ok, Err, List, [], ◌∷◌, ◌++◌, length, drop, length-append, drop_of_length-le}
 use Rattle.lte_events.specs.declared.events.Event.{Event}
 use Rattle.lte_events.specs.declared.lines.Line.{Line}
 use Rattle.lte_events.specs.declared.setups.Setup.{Setup}
@@ -13,6 +13,7 @@ use Rattle.lte_world.specs.declared.faults.WorldFault.TheVariants as fault
 use Rattle.report_text.specs.Coincidence.{coincidence_text}
 use Rattle.report_text.specs.Summary.{Tallied, tally_of, figures_text}
 use Rattle.store_laws.specs.Rows.{world_rows}
+use Rattle.run_report.specs.declared.endings.Ending.TheVariants.{Done, Coincidence}
 use Rattle.run_report.specs.Events.{told_of, CanShow}
 use Rattle.run_report.specs.Counted.{Tells, Ended}
 use Rattle.lte_events.specs.Scenario.{IsScenario}
@@ -115,13 +116,13 @@ pub summary_ended : {setup : Setup} {events : List Event} {tally : Tallied} {run
     → IsScenario setup events
     → Ended setup events tally run
     → InRun (λ w. rows ≡ world_rows w) run
-    → summary_of setup events ≡ record { text = figures_text tally n; coincides = false }
+    → summary_of setup events ≡ record { text = figures_text tally n; ends = Done }
 summary_ended {setup} {events} {tally} {run} rows n many scenario e are =
     summary_is scenario ∙ ap (summary_with (rows_in (octet_run setup events))) e.all
-    ∙ (λ j. record { text = figures_text (sym e.tallied j) ((ap rows_in (sym e.state) ∙ rows_of run rows e.goes are ∙ sym many) j); coincides = false })
+    ∙ (λ j. record { text = figures_text (sym e.tallied j) ((ap rows_in (sym e.state) ∙ rows_of run rows e.goes are ∙ sym many) j); ends = Done })
 
 pub summary_coincidence : {setup : Setup} {events : List Event} (step : ℕ) (proof : Proof)
     → IsScenario setup events
     → outcome_from [] (octet_report setup events) ≡ Coincides step proof
-    → summary_of setup events ≡ record { text = coincidence_text step proof; coincides = true }
+    → summary_of setup events ≡ record { text = coincidence_text step proof; ends = Coincidence }
 summary_coincidence {setup} {events} step proof scenario e = summary_is scenario ∙ ap (summary_with (rows_in (octet_run setup events))) e

@@ -2,7 +2,7 @@ pub mod Partly
 pub mod Shown
 pub mod Telling
 pub mod Taking
-pub mod Ending
+pub mod EndText
 pub mod Ends
 pub mod Counting
 pub mod Figures

@@ -1,5 +1,5 @@
 -- A text or a report of which a part is written, and the rest is to be.
-use Rattle.std.proofs.Common.{◌≡◌, ◌≢◌, refl, sym, ap, subst, ◌∙◌, arith, Bool, true, false, Result, Ok, Err, List, [], ◌++◌, append_assoc, append-nil, ℕ}
+use Rattle.std.proofs.Common.{◌≡◌, ◌≢◌, refl, sym, ap, subst, ◌∙◌, arith, Result, Ok, Err, List, [], ◌++◌, append_assoc, append-nil, ℕ}
 use Rattle.std.specs.Prelude.{IsTrue}
 use Rattle.std.proofs.Math.Nat.{le_refl}
 use Rattle.edge_io.proofs.Known.{nothing_out, none_of, grows_twice, prefix_on, proper_prefix_on}
@@ -8,6 +8,8 @@ use Rattle.edge_io.specs.Cause.{NoFault}
 use Rattle.edge_io.specs.Octets.{Grows, GrowsByPrefix, GrowsByProperPrefix}
 use Rattle.edge_io.specs.Used.{UsedAsSink}
 use Rattle.growth.specs.Growth.{WasRefused}
+use Rattle.run_report.specs.declared.endings.Ending.{Ending}
+use Rattle.run_report.specs.declared.endings.Ending.TheVariants.{Done, Coincidence}
 use Rattle.run_report.specs.declared.unwritten.Unwritten.{Unwritten}
 use Rattle.run_report.specs.declared.unwritten.Unwritten.TheVariants.{Memory, WriteFault}
 use Rattle.run_report.specs.Report.{Report, before}
@@ -171,12 +173,12 @@ unwritten text now refused ready = record {
 -- A REPORT
 
 -- a piece of a report and what comes behind it, where no coincidence ends it
-abbrev pub followed_if : Bool → Report → Report → Report
-followed_if true piece rest = piece
-followed_if false piece rest = before piece.text rest
+abbrev pub followed_if : Ending → Report → Report → Report
+followed_if Coincidence piece rest = piece
+followed_if Done piece rest = before piece.text rest
 
 abbrev pub followed : Report → Report → Report
-followed piece rest = followed_if piece.coincides piece rest
+followed piece rest = followed_if piece.ends piece rest
 
 -- what is to be reported begins with a piece
 pub record Follows (rest piece left : Report) : Type 0 where
@@ -184,42 +186,42 @@ pub record Follows (rest piece left : Report) : Type 0 where
 
 pub record ReportPartly (whole rest : Report) (first now : Told) : Type 0 where
   pub text : Partly whole.text rest.text first now
-  pub coincidence : whole.coincides ≡ rest.coincides
+  pub ends : whole.ends ≡ rest.ends
 
 pub none_reported : {whole rest : Report} (first : Told) → IsTrue first.ready → whole ≡ rest → ReportPartly whole rest first first
 none_reported {whole} first ready is = subst (λ r. ReportPartly whole r first first) is
-    (record { text = none_written whole.text first ready; coincidence = refl })
+    (record { text = none_written whole.text first ready; ends = refl })
 
 -- a piece more, which is no coincidence
-pub more_reported : {b : Bool} {whole rest piece left : Report} {first mid now : Told}
+pub more_reported : {ending : Ending} {whole rest piece left : Report} {first mid now : Told}
     → ReportPartly whole rest first mid
     → Follows rest piece left
-    → b ≡ false
-    → WritesReport piece (Ok b) mid now
+    → ending ≡ Done
+    → WritesReport piece (Ok ending) mid now
     → ReportPartly whole left first now
 more_reported {rest} {piece} {left} s follows plain w =
-    let goes : piece.coincides ≡ false = sym w.coincidence ∙ plain in
-    let more = follows.is ∙ ap (λ b. followed_if b piece left) goes in
+    let goes : piece.ends ≡ Done = sym w.ends ∙ plain in
+    let more = follows.is ∙ ap (λ e. followed_if e piece left) goes in
     let begins : Begins rest.text piece.text left.text = record { is = ap (λ r. r.text) more } in
-    record { text = more_written s.text begins w.text; coincidence = s.coincidence ∙ ap (λ r. r.coincides) more }
+    record { text = more_written s.text begins w.text; ends = s.ends ∙ ap (λ r. r.ends) more }
 
 -- the coincidence that ends it
-pub coincidence_reported : {b : Bool} {whole rest piece left : Report} {first mid now : Told}
+pub coincidence_reported : {ending : Ending} {whole rest piece left : Report} {first mid now : Told}
     → ReportPartly whole rest first mid
     → Follows rest piece left
-    → b ≡ true
-    → WritesReport piece (Ok b) mid now
-    → WritesReport whole (Ok true) first now
-coincidence_reported {rest} {piece} {left} s follows ends w =
-    let coincides : piece.coincides ≡ true = sym w.coincidence ∙ ends in
-    let last = follows.is ∙ ap (λ b. followed_if b piece left) coincides in
+    → ending ≡ Coincidence
+    → WritesReport piece (Ok ending) mid now
+    → WritesReport whole (Ok Coincidence) first now
+coincidence_reported {rest} {piece} {left} s follows coincides w =
+    let stops : piece.ends ≡ Coincidence = sym w.ends ∙ coincides in
+    let last = follows.is ∙ ap (λ e. followed_if e piece left) stops in
     let begins : Begins rest.text piece.text [] = record { is = ap (λ r. r.text) last ∙ sym (append-nil piece.text) } in
-    record { text = all_written (more_written s.text begins w.text) refl; coincidence = sym (s.coincidence ∙ ap (λ r. r.coincides) last ∙ coincides) }
+    record { text = all_written (more_written s.text begins w.text) refl; ends = sym (s.ends ∙ ap (λ r. r.ends) last ∙ stops) }
 
 -- a piece that was cut
-begins_with : (piece left : Report) (b : Bool) → (more : List ℕ) × ((followed_if b piece left).text ≡ piece.text ++ more)
-begins_with piece left true = ([], sym (append-nil piece.text))
-begins_with piece left false = (left.text, refl)
+begins_with : (piece left : Report) (ending : Ending) → (more : List ℕ) × ((followed_if ending piece left).text ≡ piece.text ++ more)
+begins_with piece left Coincidence = ([], sym (append-nil piece.text))
+begins_with piece left Done = (left.text, refl)
 
 pub cut_reported : {fault : Unwritten} {whole rest piece left : Report} {first mid now : Told}
     → ReportPartly whole rest first mid
@@ -227,51 +229,51 @@ pub cut_reported : {fault : Unwritten} {whole rest piece left : Report} {first m
     → WritesReport piece (Err fault) mid now
     → WritesReport whole (Err fault) first now
 cut_reported {rest} {piece} {left} s follows w =
-    let more = begins_with piece left piece.coincides in
+    let more = begins_with piece left piece.ends in
     let begins : Begins rest.text piece.text more.0 = record { is = ap (λ r. r.text) follows.is ∙ more.1 } in
-    record { text = cut_written s.text begins w.text; coincidence = tt }
+    record { text = cut_written s.text begins w.text; ends = tt }
 
 -- nothing, for want of memory
 pub unreported : (report : Report) (now : Told) → WasRefused → IsTrue now.ready → WritesReport report (Err Memory) now now
-unreported report now refused ready = record { text = unwritten report.text now refused ready; coincidence = tt }
+unreported report now refused ready = record { text = unwritten report.text now refused ready; ends = tt }
 
 -- its end
 pub end_reported : {A : Type 0} {done : A} {whole rest : Report} {text : List ℕ} {first mid now : Told}
     → ReportPartly whole rest first mid
-    → rest ≡ record { text = text; coincides = false }
+    → rest ≡ record { text = text; ends = Done }
     → WritesText text (Ok done) mid now
-    → WritesReport whole (Ok false) first now
+    → WritesReport whole (Ok Done) first now
 end_reported {whole} {first} {mid} s is w =
-    record { text = last_written (subst (λ r. Partly whole.text r.text first mid) is s.text) w; coincidence = sym (s.coincidence ∙ ap (λ r. r.coincides) is) }
+    record { text = last_written (subst (λ r. Partly whole.text r.text first mid) is s.text) w; ends = sym (s.ends ∙ ap (λ r. r.ends) is) }
 
 pub end_cut : {A : Type 0} {fault : Unwritten} {whole rest : Report} {text : List ℕ} {first mid now : Told}
     → ReportPartly whole rest first mid
-    → rest ≡ record { text = text; coincides = false }
+    → rest ≡ record { text = text; ends = Done }
     → WritesText {A = A} text (Err fault) mid now
     → WritesReport whole (Err fault) first now
-end_cut {whole} {first} {mid} s is w = record { text = last_cut (subst (λ r. Partly whole.text r.text first mid) is s.text) w; coincidence = tt }
+end_cut {whole} {first} {mid} s is w = record { text = last_cut (subst (λ r. Partly whole.text r.text first mid) is s.text) w; ends = tt }
 
 -- a report of one piece
-pub one_piece : {A : Type 0} {done : A} {b : Bool} {report : Report} {text : List ℕ} {first now : Told}
-    → report ≡ record { text = text; coincides = b }
+pub one_piece : {A : Type 0} {done : A} {ending : Ending} {report : Report} {text : List ℕ} {first now : Told}
+    → report ≡ record { text = text; ends = ending }
     → WritesText text (Ok done) first now
-    → WritesReport report (Ok b) first now
-one_piece {b} {first} {now} is w =
-    subst (λ r. WritesReport r (Ok b) first now) (sym is) (record {
+    → WritesReport report (Ok ending) first now
+one_piece {ending} {first} {now} is w =
+    subst (λ r. WritesReport r (Ok ending) first now) (sym is) (record {
       text = record {
         written = w.written;
         no_fault = λ differs. w.no_fault (λ e. cc);
         refused = λ e. cc;
         used = w.used;
       };
-      coincidence = refl;
+      ends = refl;
     })
 
-pub one_cut : {A : Type 0} {fault : Unwritten} {b : Bool} {report : Report} {text : List ℕ} {first now : Told}
-    → report ≡ record { text = text; coincides = b }
+pub one_cut : {A : Type 0} {fault : Unwritten} {ending : Ending} {report : Report} {text : List ℕ} {first now : Told}
+    → report ≡ record { text = text; ends = ending }
     → IsTrue first.ready
     → WritesText {A = A} text (Err fault) first now
     → WritesReport report (Err fault) first now
 one_cut {fault} {text} {first} {now} is ready w =
     subst (λ r. WritesReport r (Err fault) first now) (sym is)
-    (record { text = last_cut (none_written text first ready) w; coincidence = tt })
+    (record { text = last_cut (none_written text first ready) w; ends = tt })

@@ -1,5 +1,5 @@
 -- A system to which the events of a list happen.
-use Rattle.std.proofs.Common.{◌≡◌, sym, ap, subst, ◌∙◌, arith, ℕ, suc, ◌+◌, ◌<◌, false, List, [], ◌∷◌, Some, length, drop, get_or, slice_get, length-append}
+use Rattle.std.proofs.Common.{◌≡◌, sym, ap, subst, ◌∙◌, arith, ℕ, suc, ◌+◌, ◌<◌, List, [], ◌∷◌, Some, length, drop, get_or, slice_get, length-append}
 use Rattle.std.proofs.lemmas.Option.{get_or_from_slice_get}
 use Rattle.std.proofs.Math.Seq.{drop-cons}
 use Rattle.lte_events.specs.Scenario.{CanHappen, IsScenario}
@@ -7,7 +7,8 @@ use Rattle.lte_events.specs.declared.events.Event.{Event}
 use Rattle.lte_events.specs.declared.setups.Setup.{Setup}
 use Rattle.lte_machine.specs.Run.{Running, first_world, GoesOn}
 use Rattle.lte_world.specs.Whole.{Whole, begun, run_of}
-use Rattle.run_report.specs.Events.{told_of, is_coincidence}
+use Rattle.run_report.specs.declared.endings.Ending.TheVariants.{Done}
+use Rattle.run_report.specs.Events.{told_of, event_ends}
 use Rattle.run_report.specs.Takes.{CanTake, Takes}
 use Rattle.run_report.proofs.Telling.{still_goes}
 
@@ -34,7 +35,7 @@ can_take {setup} {i} e scenario took within is = record {
 
 pub one_taken : {setup : Setup} {i : ℕ} {v w : Whole} (e : Event)
     → Took setup i v
-    → is_coincidence (told_of (run_of v) e) ≡ false
+    → event_ends (told_of (run_of v) e) ≡ Done
     → Takes v e w
     → Took setup (i + 1) w
 one_taken {v} e took plain takes = record {

@@ -1,5 +1,5 @@
 -- The report, event by event.
-use Rattle.std.proofs.Common.{◌≡◌, refl, sym, ap, ◌∙◌, arith, ℕ, suc, ◌+◌, ◌≤◌, true, false, Result, Ok, Err, List, ◌∷◌, length, map, drop, drop_of_length-le}
+use Rattle.std.proofs.Common.{◌≡◌, refl, sym, ap, ◌∙◌, arith, ℕ, suc, ◌+◌, ◌≤◌, Result, Ok, Err, List, ◌∷◌, length, map, drop, drop_of_length-le}
 use Rattle.lte_events.specs.declared.events.Event.{Event}
 use Rattle.lte_events.specs.declared.lines.Line.{Line}
 use Rattle.lte_events.specs.declared.setups.Setup.{Setup}
@@ -20,8 +20,9 @@ use Rattle.lte_world.specs.Whole.{answer_of}
 use Rattle.store_laws.specs.Proofs.{proof_of}
 use Rattle.report_text.specs.Line.{line_text}
 use Rattle.report_text.specs.Coincidence.{coincidence_text}
+use Rattle.run_report.specs.declared.endings.Ending.TheVariants.{Done, Coincidence}
 use Rattle.run_report.specs.Counted.{Tells}
-use Rattle.run_report.specs.Events.{told_of, told_report, is_coincidence, CanShow}
+use Rattle.run_report.specs.Events.{told_of, told_report, event_ends, CanShow}
 use Rattle.lte_events.specs.Scenario.{IsScenario}
 use Rattle.run_report.specs.Report.{Report, told_from, end_of, report_of}
 use Rattle.run_report.proofs.Partly.{followed, Follows}
@@ -59,11 +60,11 @@ report_is {events} scenario = in_octets (λ run told. told_from 0 told (end_of (
 -- ONE EVENT MORE
 
 -- an event that is told with a line is one by which the run goes on
-goes_by : (s : StepResult (List ℕ) ℕ Kept) → is_coincidence (reported s) ≡ false → GoesOn (after s)
+goes_by : (s : StepResult (List ℕ) ℕ Kept) → event_ends (reported s) ≡ Done → GoesOn (after s)
 goes_by (Continues w line) e = tt
 goes_by (Stops coincidence) e = cc
 
-pub still_goes : (run : RunState (List ℕ) ℕ Kept) (e : Event) → is_coincidence (told_of run e) ≡ false → GoesOn (turned run e)
+pub still_goes : (run : RunState (List ℕ) ℕ Kept) (e : Event) → event_ends (told_of run e) ≡ Done → GoesOn (turned run e)
 still_goes (Running w) e is = goes_by (next (open_octets annex_b) (machine_in_octets annex_b) w e) is
 still_goes (Stopped coincidence) e is = cc
 
@@ -88,10 +89,10 @@ pub report_ends : (i n : ℕ) (run : RunState (List ℕ) ℕ Kept) (events : Lis
     → n ≡ i
     → i ≤ length events
     → length events ≤ i
-    → report_from (length events) i run (drop i events) ≡ record { text = end_of n run; coincides = false }
+    → report_from (length events) i run (drop i events) ≡ record { text = end_of n run; ends = Done }
 report_ends i n run events number low past =
     let all : length events ≡ n = omega (arith, number, low, past) in
-    ap (report_from (length events) i run) (drop_of_length-le events past) ∙ ap (λ k. record { text = end_of k run; coincides = false }) all
+    ap (report_from (length events) i run) (drop_of_length-le events past) ∙ ap (λ k. record { text = end_of k run; ends = Done }) all
 
 -- WHAT A CALLER IS ANSWERED
 
@@ -107,20 +108,20 @@ tells (Coincided coincidence) (Ok line) is shows = cc
 
 pub a_line : (told : EventReport (List ℕ)) (line : Line) (step : ℕ)
     → Tells told (Ok line)
-    → told_report step told ≡ record { text = line_text line; coincides = false }
-a_line (Reported told) line step is = ap (λ l. record { text = line_text l; coincides = false }) (sym is)
+    → told_report step told ≡ record { text = line_text line; ends = Done }
+a_line (Reported told) line step is = ap (λ l. record { text = line_text l; ends = Done }) (sym is)
 a_line (Coincided coincidence) line step is = absurd is
 
 pub a_coincidence : (told : EventReport (List ℕ)) (proof : Proof) (step : ℕ)
     → Tells told (Err (fault.Coincidence proof))
-    → told_report step told ≡ record { text = coincidence_text step proof; coincides = true }
+    → told_report step told ≡ record { text = coincidence_text step proof; ends = Coincidence }
 a_coincidence (Reported told) proof step is = absurd is
-a_coincidence (Coincided coincidence) proof step is = ap (λ p. record { text = coincidence_text step p; coincides = true }) (sym is.0)
+a_coincidence (Coincided coincidence) proof step is = ap (λ p. record { text = coincidence_text step p; ends = Coincidence }) (sym is.0)
 
 pub can_show : (told : EventReport (List ℕ)) (proof : Proof) → Tells told (Err (fault.Coincidence proof)) → CanShow proof
 can_show (Reported told) proof is = absurd is
 can_show (Coincided coincidence) proof is = is.1
 
-pub is_plain : (told : EventReport (List ℕ)) (line : Line) → Tells told (Ok line) → is_coincidence told ≡ false
+pub is_plain : (told : EventReport (List ℕ)) (line : Line) → Tells told (Ok line) → event_ends told ≡ Done
 is_plain (Reported told) line is = refl
 is_plain (Coincided coincidence) line is = absurd is

@@ -1,5 +1,5 @@
 -- What is told of one event.
-use Rattle.std.specs.Prelude.{ℕ, ◌<◌, ◌^◌, Bool, true, false, List}
+use Rattle.std.specs.Prelude.{ℕ, ◌<◌, ◌^◌, List}
 use Rattle.hmac_kdf.specs.declared.input.KdfInput.{KdfInput}
 use Rattle.hmac_kdf.specs.declared.input.KdfInput.TheVariants.{Kenb}
 use Rattle.key_terms.specs.declared.proof.Proof.{Proof}
@@ -13,24 +13,26 @@ use Rattle.lte_machine.specs.Run.{RunState, EventReport, Reported, Coincided, ev
 use Rattle.report_text.specs.Line.{line_text}
 use Rattle.report_text.specs.Coincidence.{HasString, coincidence_text}
 use Rattle.store_laws.specs.Proofs.{proof_of}
+use Rattle.run_report.specs.declared.endings.Ending.{Ending}
+use Rattle.run_report.specs.declared.endings.Ending.TheVariants.{Done, Coincidence}
 use Rattle.run_report.specs.Report.{Report}
 
 -- in a run in octets
 abbrev pub told_of : RunState (List ℕ) ℕ Kept → Event → EventReport (List ℕ)
 told_of run e = event_report (open_octets annex_b) (machine_in_octets annex_b) run e
 
--- its text at this step, and whether it is a coincidence
+-- its text at this step, and how the report of it ends
 abbrev pub event_text : ℕ → EventReport (List ℕ) → List ℕ
 event_text step (Reported line) = line_text (line_out line)
 event_text step (Coincided coincidence) = coincidence_text step (proof_of coincidence)
 
-abbrev pub is_coincidence : EventReport (List ℕ) → Bool
-is_coincidence (Reported line) = false
-is_coincidence (Coincided coincidence) = true
+abbrev pub event_ends : EventReport (List ℕ) → Ending
+event_ends (Reported line) = Done
+event_ends (Coincided coincidence) = Coincidence
 
 -- and both
 abbrev pub told_report : ℕ → EventReport (List ℕ) → Report
-told_report step told = record { text = event_text step told; coincides = is_coincidence told }
+told_report step told = record { text = event_text step told; ends = event_ends told }
 
 -- a COUNT of 32 bits
 abbrev pub HasCount : KdfInput → Type 0

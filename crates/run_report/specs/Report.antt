@@ -1,6 +1,6 @@
 -- The report of a run: a line for each event up to the first coincidence, and where there is none, how much there was of
 -- everything and the rows of the ladder.
-use Rattle.std.specs.Prelude.{ℕ, suc, Bool, true, false, List, [], ◌∷◌, ◌++◌, length, map}
+use Rattle.std.specs.Prelude.{ℕ, suc, List, [], ◌∷◌, ◌++◌, length, map}
 use Rattle.lte_events.specs.declared.events.Event.{Event}
 use Rattle.lte_events.specs.declared.setups.Setup.{Setup}
 use Rattle.lte_machine.specs.BothRuns.{written_run, written_report}
@@ -16,11 +16,13 @@ use Rattle.report_text.specs.End.{end_text}
 use Rattle.report_text.specs.Ladder.{ladder_text}
 use Rattle.store_laws.specs.Proofs.{proof_of}
 use Rattle.store_laws.specs.Rows.{world_rows}
+use Rattle.run_report.specs.declared.endings.Ending.{Ending}
+use Rattle.run_report.specs.declared.endings.Ending.TheVariants.{Done, Coincidence}
 
--- a report, and whether a coincidence ends it
+-- a report, and how it ends
 pub record Report : Type 0 where
   pub text : List ℕ
-  pub coincides : Bool
+  pub ends : Ending
 
 -- the end of a run that met no coincidence: its events, records and rows by number, and the rows
 abbrev pub end_of_world : ℕ → World (List ℕ) ℕ Kept → List ℕ
@@ -32,13 +34,13 @@ end_of events (Stopped coincidence) = []
 
 -- a text before a report
 abbrev pub before : List ℕ → Report → Report
-before text report = record { text = text ++ report.text; coincides = report.coincides }
+before text report = record { text = text ++ report.text; ends = report.ends }
 
 -- what is told of each event, this step and those behind it, to the first coincidence; and then the end
 abbrev pub told_from : ℕ → List (EventReport (List ℕ)) → List ℕ → Report
-told_from step [] end = record { text = end; coincides = false }
+told_from step [] end = record { text = end; ends = Done }
 told_from step (Reported line ∷ rest) end = before (line_text (line_out line)) (told_from (suc step) rest end)
-told_from step (Coincided coincidence ∷ rest) end = record { text = coincidence_text step (proof_of coincidence); coincides = true }
+told_from step (Coincided coincidence ∷ rest) end = record { text = coincidence_text step (proof_of coincidence); ends = Coincidence }
 
 -- the report of the written machine's run over key terms, printed in values
 unfoldable pub report_of : Setup → List Event → Report

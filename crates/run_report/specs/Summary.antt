@@ -1,5 +1,5 @@
 -- The summary of a run: what its lines come to where no coincidence ends it, and otherwise the coincidence alone.
-use Rattle.std.specs.Prelude.{ℕ, true, false, List, [], ◌∷◌, ◌++◌, length, map}
+use Rattle.std.specs.Prelude.{ℕ, List, [], ◌∷◌, ◌++◌, length, map}
 use Rattle.lte_events.specs.declared.events.Event.{Event}
 use Rattle.lte_events.specs.declared.lines.Line.{Line}
 use Rattle.lte_events.specs.declared.setups.Setup.{Setup}
@@ -14,6 +14,7 @@ use Rattle.report_text.specs.Coincidence.{coincidence_text}
 use Rattle.report_text.specs.Summary.{summary_text}
 use Rattle.store_laws.specs.Proofs.{proof_of}
 use Rattle.store_laws.specs.Rows.{world_rows}
+use Rattle.run_report.specs.declared.endings.Ending.TheVariants.{Done, Coincidence}
 use Rattle.run_report.specs.Report.{Report}
 
 -- how a run comes out: all its lines, or a coincidence at a step
@@ -33,8 +34,8 @@ rows_in (Running w) = length (world_rows w)
 rows_in (Stopped coincidence) = 0
 
 abbrev pub summary_with : ℕ → Outcome → Report
-summary_with rows (AllLines lines) = record { text = summary_text lines rows; coincides = false }
-summary_with rows (Coincides step proof) = record { text = coincidence_text step proof; coincides = true }
+summary_with rows (AllLines lines) = record { text = summary_text lines rows; ends = Done }
+summary_with rows (Coincides step proof) = record { text = coincidence_text step proof; ends = Coincidence }
 
 -- the summary of the written machine's run over key terms, printed in values
 unfoldable pub summary_of : Setup → List Event → Report

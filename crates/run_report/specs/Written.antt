@@ -1,10 +1,11 @@
 -- How far a text was written.
-use Rattle.std.specs.Prelude.{◌≡◌, ◌≢◌, ℕ, Bool, List, Result, Ok, Err, IfOk}
+use Rattle.std.specs.Prelude.{◌≡◌, ◌≢◌, ℕ, List, Result, Ok, Err, IfOk}
 use Rattle.edge_io.specs.Told.{Told}
 use Rattle.edge_io.specs.Cause.{NoFault, Rose}
 use Rattle.edge_io.specs.Octets.{Grows, GrowsByPrefix, GrowsByProperPrefix}
 use Rattle.edge_io.specs.Used.{UsedAsSink}
 use Rattle.growth.specs.Growth.{WasRefused}
+use Rattle.run_report.specs.declared.endings.Ending.{Ending}
 use Rattle.run_report.specs.declared.unwritten.Unwritten.{Unwritten}
 use Rattle.run_report.specs.declared.unwritten.Unwritten.TheVariants.{Memory, WriteFault}
 use Rattle.run_report.specs.Report.{Report}
@@ -22,7 +23,7 @@ pub record WritesText {A : Type 0} (text : List ℕ) (result : Result A Unwritte
   pub refused : result ≡ Err Memory → WasRefused
   pub used : UsedAsSink out out'
 
--- And one that writes a report: its answer is whether a coincidence ends it.
-pub record WritesReport (report : Report) (result : Result Bool Unwritten) (out out' : Told) : Type 0 where
+-- And one that writes a report: its answer is how it ends.
+pub record WritesReport (report : Report) (result : Result Ending Unwritten) (out out' : Told) : Type 0 where
   pub text : WritesText report.text result out out'
-  pub coincidence : IfOk result (λ coincides. coincides ≡ report.coincides)
+  pub ends : IfOk result (λ ending. ending ≡ report.ends)

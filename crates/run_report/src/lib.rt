@@ -3,11 +3,13 @@
 #![tactic(auto)]
 
 mod courses;
+mod endings;
 mod reports;
 mod summaries;
 mod unwritten;
 
 pub use courses::{Course, run_through};
+pub use endings::Ending;
 pub use reports::{
     has_counts, write_coincidence, write_end, write_event, write_lines, write_run, write_text,
 };

@@ -1,5 +1,5 @@
 ghost use Rattle.growth.specs.Growth.{WasRefused};
-ghost use Rattle.std.specs.Prelude.{◌≡◌, ◌≤◌, ℕ, List, true, false, Ok, length, IfOk, OnErr, IsTrue};
+ghost use Rattle.std.specs.Prelude.{◌≡◌, ◌≤◌, ℕ, List, true, Ok, length, IfOk, OnErr, IsTrue};
 ghost use Rattle.edge_io.specs.Lines.{are_lines};
 ghost use Rattle.lte_world.specs.Whole.{run_of};
 ghost use Rattle.report_text.specs.Coincidence.{coincidence_text};
@@ -10,8 +10,8 @@ ghost use Rattle.lte_events.specs.Scenario.{IsScenario, most_events};
 ghost use Rattle.run_report.specs.Takes.{CanTake, Takes};
 ghost use Rattle.run_report.specs.Written.{WritesReport, WritesText};
 
-use crate::Unwritten;
 use crate::courses::happen;
+use crate::{Ending, Unwritten};
 use edge_io::{Sink, write_all};
 use hmac_kdf::KdfInput;
 use key_terms::Proof;
@@ -22,14 +22,14 @@ use std::alloc::Global;
 
 /// Lets these events happen to a system, and writes the report of them: a line for each event by one
 /// `write_all`, and after the last how many events, records and rows there were, and the rows. A coincidence
-/// ends the report, and the answer is whether there was one. `Memory` if std refuses memory, and `WriteFault`
-/// if the output fails; a prefix is then written.
+/// ends the report. The answer is how it ends. `Memory` if std refuses memory, and `WriteFault` if the output
+/// fails; a prefix is then written.
 pub fn write_run<W: Sink>(
     alloc: Global,
     setup: &Setup,
     events: &Events,
     out: &mut W,
-) -> Result<bool, Unwritten>
+) -> Result<Ending, Unwritten>
     requires out_ready { IsTrue (W.told out.old).ready }
     requires is_scenario { IsScenario setup.now events.now.items }
     ensures { WritesReport (report_of setup.now events.now.items) result (W.told out.old) (W.told out.new) }
@@ -40,41 +40,38 @@ pub fn write_run<W: Sink>(
     };
     for number in 0..events.len() {
         let event = events.at(number);
-        match write_event(alloc, &mut world, &event, out) {
-            Ok(false) => {}
-            Ok(true) => return Ok(true),
-            Err(fault) => return Err(fault),
+        match write_event(alloc, &mut world, &event, out)? {
+            Ending::Done => {}
+            Ending::Coincidence => return Ok(Ending::Coincidence),
         }
     }
-    match write_end(alloc, &world, out) {
-        Ok(()) => Ok(false),
-        Err(fault) => Err(fault),
-    }
+    write_end(alloc, &world, out)?;
+    Ok(Ending::Done)
 }
 
-/// Lets one event happen, and writes what is told of it. The answer is whether it is a coincidence. Its errors
-/// are those of `write_run`.
+/// Lets one event happen, and writes what is told of it. The answer is `Coincidence` if it is one, and else
+/// `Done`. Its errors are those of `write_run`.
 pub fn write_event<W: Sink>(
     alloc: Global,
     world: &mut World,
     event: &Event,
     out: &mut W,
-) -> Result<bool, Unwritten>
+) -> Result<Ending, Unwritten>
     requires out_ready { IsTrue (W.told out.old).ready }
     requires can { CanTake world.old event.now }
     ensures report { WritesReport (told_report (length world.old.journal) (told_of (run_of world.old) event.now)) result (W.told out.old) (W.told out.new) }
-    ensures takes { result ≡ Ok false → Takes world.old event.now world.new }
+    ensures takes { result ≡ Ok Ending.Done → Takes world.old event.now world.new }
 {
     let step = world.journal().len() as u32;
     match happen(world, event) {
-        Ok(told) => match write_text(line(alloc, &told), out) {
-            Ok(()) => Ok(false),
-            Err(fault) => Err(fault),
-        },
-        Err(WorldFault::Coincidence(proof)) => match write_coincidence(alloc, step, proof, out) {
-            Ok(()) => Ok(true),
-            Err(fault) => Err(fault),
-        },
+        Ok(told) => {
+            write_text(line(alloc, &told), out)?;
+            Ok(Ending::Done)
+        }
+        Err(WorldFault::Coincidence(proof)) => {
+            write_coincidence(alloc, step, proof, out)?;
+            Ok(Ending::Coincidence)
+        }
         Err(WorldFault::Memory) => Err(Unwritten::Memory),
     }
 }
@@ -117,10 +114,8 @@ pub fn write_end<W: Sink>(alloc: Global, world: &World, out: &mut W) -> Result<(
 {
     let events = world.journal().len() as u32;
     let rows = world.ladder().len() as u32;
-    match write_text(end(alloc, events, world.records(), rows), out) {
-        Ok(()) => write_text(ladder_text(alloc, world.ladder()), out),
-        Err(fault) => Err(fault),
-    }
+    write_text(end(alloc, events, world.records(), rows), out)?;
+    write_text(ladder_text(alloc, world.ladder()), out)
 }
 
 /// Writes a text, which is whole lines. `Memory` where std refused it to the text, and `WriteFault` where the

@@ -5,9 +5,9 @@ ghost use Rattle.lte_events.specs.Scenario.{IsScenario};
 ghost use Rattle.run_report.specs.Summary.{summary_of};
 ghost use Rattle.run_report.specs.Written.{WritesReport, WritesText};
 
-use crate::Unwritten;
 use crate::courses::{Course, run_through};
 use crate::reports::{write_coincidence, write_text};
+use crate::{Ending, Unwritten};
 use edge_io::Sink;
 use lte_events::{Events, Setup};
 use lte_world::World;
@@ -15,14 +15,14 @@ use report_text::{Figure, Tally, summary_line};
 use std::alloc::Global;
 
 /// Lets these events happen to a system, and writes the summary of them, each of its lines by one `write_all`.
-/// At a coincidence it writes only that line, and the answer is whether there was one. `Memory`
-/// if std refuses memory, and `WriteFault` if the output fails; a prefix is then written.
+/// At a coincidence it writes only that line. The answer is how it ends. `Memory` if std refuses memory, and
+/// `WriteFault` if the output fails; a prefix is then written.
 pub fn write_summary<W: Sink>(
     alloc: Global,
     setup: &Setup,
     events: &Events,
     out: &mut W,
-) -> Result<bool, Unwritten>
+) -> Result<Ending, Unwritten>
     requires out_ready { IsTrue (W.told out.old).ready }
     requires is_scenario { IsScenario setup.now events.now.items }
     ensures { WritesReport (summary_of setup.now events.now.items) result (W.told out.old) (W.told out.new) }
@@ -40,7 +40,7 @@ fn summarise<W: Sink>(
     world: &mut World,
     events: &Events,
     out: &mut W,
-) -> Result<bool, Unwritten>
+) -> Result<Ending, Unwritten>
     requires out_ready { IsTrue (W.told out.old).ready }
     requires begun { world.old ≡ begun world.old.setup }
     requires is_scenario { IsScenario world.old.setup events.now.items }
@@ -50,15 +50,13 @@ fn summarise<W: Sink>(
     match run_through(world, events, &mut tally) {
         Ok(Course::Ended) => {
             let rows = world.ladder().len() as u32;
-            match write_figures(alloc, &tally, rows, out) {
-                Ok(()) => Ok(false),
-                Err(fault) => Err(fault),
-            }
+            write_figures(alloc, &tally, rows, out)?;
+            Ok(Ending::Done)
         }
-        Ok(Course::Coincidence(step, proof)) => match write_coincidence(alloc, step, proof, out) {
-            Ok(()) => Ok(true),
-            Err(fault) => Err(fault),
-        },
+        Ok(Course::Coincidence(step, proof)) => {
+            write_coincidence(alloc, step, proof, out)?;
+            Ok(Ending::Coincidence)
+        }
         Err(_) => Err(Unwritten::Memory),
     }
 }
@@ -75,10 +73,7 @@ fn write_figures<W: Sink>(
 {
     let figures = Figure::all();
     for figure in &figures {
-        match write_text(summary_line(alloc, tally, rows, *figure), out) {
-            Ok(()) => {}
-            Err(fault) => return Err(fault),
-        }
+        write_text(summary_line(alloc, tally, rows, *figure), out)?;
     }
     Ok(())
 }

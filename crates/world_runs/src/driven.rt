@@ -3,6 +3,7 @@ use crate::kept::{CORE, PHONE, REPORT, SCENARIO, STATION_0, STATION_1};
 use crate::values::{same, same_at};
 use actor_drive::{DriveFault, drive};
 use edge_io::{MemPeers, MemSink};
+use run_report::Ending;
 use scenario_file::read;
 use std::process::Abort;
 
@@ -39,10 +40,10 @@ fn driven<R: Abort + AllocGlobal>(rt: &R, failing: Option<u64>) -> Option<(End, 
         &mut peers,
         &mut out,
     ) {
-        Ok(()) => End::Done,
+        Ok(Ending::Done) => End::Done,
         Err(DriveFault::Memory) => End::Memory,
         Err(DriveFault::PeerFault) => End::PeerFault,
-        Err(_) => End::Other,
+        Ok(Ending::Coincidence) | Err(_) => End::Other,
     };
     Some((end, out))
 }

@@ -1,7 +1,7 @@
 use Rattle.actor_drive.proofs.Gone.{all_stopped}
 use Rattle.actor_drive.specs.Driven.{Plan}
 use Rattle.run_report.specs.Report.{Report, report_of}
-use Rattle.actor_drive.proofs.Comes.{ok_text, ok_coincides, coincidence_text, fault_text, short_text, ok_made, coincidence_made, fault_named, all_is_done}
+use Rattle.actor_drive.proofs.Comes.{ok_text, ok_ends, fault_text, short_text, ok_made, fault_named, all_is_done}
 use Rattle.actor_drive.proofs.Texts.{Reports, plan_report}
 use Rattle.actor_drive.specs.Plan.{plan_of}
 use Rattle.actor_drive.proofs.driving.drive.Goals as goal
@@ -15,12 +15,10 @@ returns g c =
     record {
       driven = all.driven;
       report = ok_text plan r c.drive_plan.result _ _ is all.driven;
-      no_coincidence = ok_coincides plan r c.drive_plan.result _ _ is all.driven;
-      coincidence = coincidence_text plan r c.drive_plan.result _ _ is all.driven;
+      ends = ok_ends plan r c.drive_plan.result _ _ is all.driven;
       prefix = fault_text plan r c.drive_plan.result _ _ is all.driven;
       short = short_text plan r c.drive_plan.result _ _ is all.driven;
       made = ok_made plan c.drive_plan.result _ _ all.driven;
-      made_to_coincidence = coincidence_made plan c.drive_plan.result _ _ all.driven;
       failed = fault_named plan c.drive_plan.result _ _ all.driven;
       stopped = all_stopped all.driven.started all.driven.last _ all.driven.count all.driven.stopped (g.met.P.Peers.within c.drive_plan.new.peers);
       memory = all.memory;

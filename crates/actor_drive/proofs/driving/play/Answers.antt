@@ -1,5 +1,6 @@
-use Rattle.std.proofs.Common.{◌≡◌, inl, inr, None, length, Result, Err, IsErrOf, OnOk, subst, sym}
+use Rattle.std.proofs.Common.{◌≡◌, inl, inr, None, length, Result, Err, IsErrOf, OnOk, ap, subst, sym}
 use Rattle.lte_machine.specs.Run.{Running, first_world}
+use Rattle.run_report.specs.declared.endings.Ending.{Ending}
 use Rattle.actor_drive.proofs.Gone.{started_went, set_ups_start, started_did}
 use Rattle.actor_drive.proofs.Running.{all_run_went, all_run_did}
 use Rattle.actor_drive.specs.declared.faults.DriveFault.{DriveFault}
@@ -12,23 +13,27 @@ use Rattle.actor_drive.proofs.Planned.{starts_cut, set_ups_cut, whole_went, seed
 use Rattle.actor_drive.specs.Plan.{events_plan}
 use Rattle.actor_drive.proofs.driving.play.Goals as goal
 
+-- a fault that is handed on with another answer
+same_fault : (A B : Type 0) (fault other : DriveFault) → IsErrOf {T = A} (Err fault) other → IsErrOf {T = B} (Err fault) other
+same_fault A B fault other is = let one : fault ≡ other = cc in ap Err one
+
 pub returns-in-Err-clause-went : goal.returns-in-Err-clause-went
 returns-in-Err-clause-went g c =
     let written = (g.W.Edge.told c.args.out.now).written in
     let x : Outside = outside written (g.P.Peers.told c.args.peers.now) in
     let y : Outside = outside written (g.P.Peers.told c.start_all-count.new.peers) in
     let P : Result (Unit {0}) DriveFault → Type 0 = λ r. Went (starts (roles_of c.args.setup.now)) r x y in
-    starts_cut (Unit {0}) c.args.setup.now c.args.events.now.items c.in-Err.fault x y (subst P c.in-Err.is (c.start_all-count.ensures.went written))
+    starts_cut c.args.setup.now c.args.events.now.items c.in-Err.fault x y (subst P c.in-Err.is (c.start_all-count.ensures.went written))
 
 pub returns-in-Err-clause-write_cause : goal.returns-in-Err-clause-write_cause
 returns-in-Err-clause-write_cause g c = λ is.
     let P : Result (Unit {0}) DriveFault → Type 0 = λ r. IsErrOf r WriteFault in
-    absurd (c.start_all-count.ensures.no_write (subst P (sym c.in-Err.is) is))
+    absurd (c.start_all-count.ensures.no_write (subst P (sym c.in-Err.is) (same_fault Ending (Unit {0}) c.in-Err.fault _ is)))
 
 pub returns-in-Err-clause-memory : goal.returns-in-Err-clause-memory
 returns-in-Err-clause-memory g c = λ is.
     let P : Result (Unit {0}) DriveFault → Type 0 = λ r. IsErrOf r Memory in
-    inr (c.start_all-count.ensures.memory (subst P (sym c.in-Err.is) is))
+    inr (c.start_all-count.ensures.memory (subst P (sym c.in-Err.is) (same_fault Ending (Unit {0}) c.in-Err.fault _ is)))
 
 pub set_up_all-requires-clause-seeds : goal.set_up_all-requires-clause-seeds
 set_up_all-requires-clause-seeds g c = seeds_good c.args.setup.now c.requires.is_scenario.can_start c.requires.cells
@@ -41,7 +46,7 @@ returns-in-Err-set_up_all-clause-went g c =
     let z : Outside = outside written (g.P.Peers.told c.set_up_all.new.peers) in
     let P : Result (Unit {0}) DriveFault → Type 0 = λ r. Went (starts (roles_of c.args.setup.now)) r x y in
     let did : AllDone (starts (roles_of c.args.setup.now)) x y = subst P c.in-Ok.is (c.start_all-count.ensures.went written) in
-    set_ups_cut (Unit {0}) c.args.setup.now c.args.events.now.items c.in-Err-set_up_all.fault x y z did (c.in-Err-set_up_all.ensures.went written)
+    set_ups_cut c.args.setup.now c.args.events.now.items c.in-Err-set_up_all.fault x y z did (c.in-Err-set_up_all.ensures.went written)
 
 pub returns-in-Err-set_up_all-clause-running : goal.returns-in-Err-set_up_all-clause-running
 returns-in-Err-set_up_all-clause-running g c =
@@ -57,10 +62,12 @@ returns-in-Err-set_up_all-clause-count g c =
     (c.in-Err-set_up_all.ensures.went None)
 
 pub returns-in-Err-set_up_all-clause-write_cause : goal.returns-in-Err-set_up_all-clause-write_cause
-returns-in-Err-set_up_all-clause-write_cause g c = λ is. absurd (c.in-Err-set_up_all.ensures.no_write is)
+returns-in-Err-set_up_all-clause-write_cause g c = λ is.
+    absurd (c.in-Err-set_up_all.ensures.no_write (same_fault Ending (Unit {0}) c.in-Err-set_up_all.fault _ is))
 
 pub returns-in-Err-set_up_all-clause-memory : goal.returns-in-Err-set_up_all-clause-memory
-returns-in-Err-set_up_all-clause-memory g c = λ is. absurd (c.in-Err-set_up_all.ensures.no_memory is)
+returns-in-Err-set_up_all-clause-memory g c = λ is.
+    absurd (c.in-Err-set_up_all.ensures.no_memory (same_fault Ending (Unit {0}) c.in-Err-set_up_all.fault _ is))
 
 pub run_all-requires-clause-running : goal.run_all-requires-clause-running
 run_all-requires-clause-running g c =

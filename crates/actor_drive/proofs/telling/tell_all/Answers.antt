@@ -1,5 +1,6 @@
 use Rattle.std.proofs.Common.{◌≡◌, ℕ, ◌≤◌, Some, None, List, length, slice_get, refl, sym, subst, rules}
 use Rattle.std.proofs.lemmas.Option.{slice_get_read}
+use Rattle.std.proofs.lemmas.Result.{err_from_is_err_and}
 use Rattle.lte_events.specs.declared.inputs.ActorIn.{ActorIn}
 use Rattle.lte_events.specs.declared.replies.ActorOut.{ActorOut}
 use Rattle.actor_frames.specs.Reply.{reply_octets}
@@ -23,17 +24,20 @@ exchange-requires-clause-has_length g c =
     let P : List ℕ → Type 0 = λ octets. 2 ≤ length octets in
     subst P (sym c.reply_frame-reply.ensures) (has_length (reply_octets c.loop-input-item.result.1))
 
-pub returns-in-Err-clause-went : goal.returns-in-Err-clause-went
-returns-in-Err-clause-went g c = λ written.
+pub returns-in_err-exchange-clause-went : goal.returns-in_err-exchange-clause-went
+returns-in_err-exchange-clause-went g c =
+    let q = err_from_is_err_and c.from_residual.result c.from_residual.ensures.1 in
+    rw (q.1, q.2)
+    (λ written.
     let p : ActorIn × ActorOut = c.loop-input-item.result in
     let at : slice_get c.args.replies.now c.loop-input.input-index ≡ Some p =
     slice_get_read c.args.replies.now _ c.loop-input.input-index p refl (search rules) c.loop-input-item.is in
-    going_cut (replied c.args.setup.now c.args.step c.args.replies.now) _ _ _ c.in-Err.fault _ _ _
+    going_cut (replied c.args.setup.now c.args.step c.args.replies.now) _ _ _ _ _ _ _
     (c.loop-input.invariant.0 written)
     (replied_next c.args.setup.now c.args.step c.args.replies.now c.loop-input.input-index p.0 p.1 c.peer_of.result
     c.actor_frame-frame.result c.reply_frame-reply.result at c.peer_of.ensures c.actor_frame-frame.ensures.spelled
     c.reply_frame-reply.ensures)
-    (c.in-Err.ensures.went written)
+    (c.in_err-exchange.ensures.went written))
 
 pub loop-input-preserved : goal.loop-input-preserved
 loop-input-preserved g c =
@@ -46,8 +50,8 @@ loop-input-preserved g c =
           (replied_next c.args.setup.now c.args.step c.args.replies.now c.loop-input.input-index p.0 p.1
           c.peer_of.result c.actor_frame-frame.result c.reply_frame-reply.result at c.peer_of.ensures
           c.actor_frame-frame.ensures.spelled c.reply_frame-reply.ensures)
-          (c.in-Ok.ensures.went written),
-      all_run_did _ _ _ _ c.loop-input.invariant.1 (c.in-Ok.ensures.went None).did,
+          (c.in_ok-exchange.ensures.went written),
+      all_run_did _ _ _ _ c.loop-input.invariant.1 (c.in_ok-exchange.ensures.went None).did,
       search rules,
     )
 

@@ -1,4 +1,5 @@
 use Rattle.std.proofs.Common.{◌≡◌, ◌-◌, ap, subst, length, arith}
+use Rattle.std.proofs.lemmas.Result.{err_from_is_err_and}
 use Rattle.key_audit.specs.Local.{exact_mark}
 use Rattle.key_audit.specs.Text.{row_lines}
 use Rattle.run_report.proofs.Partly.{Partly, none_written, more_written, cut_written, all_written}
@@ -29,15 +30,17 @@ loop-k-preserved g c =
     more_written c.loop-k.invariant
     (row_more rows (exact_mark rows) c.loop-k.k (length rows)
     (omega (arith, c.loop-k-test.true, c.len-k-end.ensures.len)))
-    (c.in-Ok.ensures _ c.row_line.ensures.text)
+    (c.in_ok-write_text.ensures _ c.row_line.ensures.text)
 
-pub returns-in-Err : goal.returns-in-Err
-returns-in-Err g c =
+pub returns-in_err-write_text : goal.returns-in_err-write_text
+returns-in_err-write_text g c =
+    let p = err_from_is_err_and c.from_residual.result c.from_residual.ensures.1 in
     let rows = c.args.ladder.now.rows in
-    cut_written c.loop-k.invariant
+    rw (p.1, p.2)
+    (cut_written c.loop-k.invariant
     (row_more rows (exact_mark rows) c.loop-k.k (length rows)
     (omega (arith, c.loop-k-test.true, c.len-k-end.ensures.len)))
-    (c.in-Err.ensures _ c.row_line.ensures.text)
+    (c.in_err-write_text.ensures _ c.row_line.ensures.text))
 
 pub returns : goal.returns
 returns g c =

@@ -1,4 +1,5 @@
-use Rattle.std.proofs.Common.{◌≡◌, ap, ◌∙◌, false, true, Ok, rules}
+use Rattle.std.proofs.Common.{ap, ◌∙◌, Ok, rules}
+use Rattle.std.proofs.lemmas.Result.{err_from_is_err_and}
 use Rattle.run_report.proofs.Partly.{none_reported, more_reported, coincidence_reported, cut_reported, end_reported, end_cut}
 use Rattle.core_relocation.proofs.SoFar.{whole_is, follows, taken_more, ends}
 use Rattle.core_relocation.proofs.reports.write_two.Goals as goal
@@ -18,13 +19,12 @@ write_answer-requires-clause-out_ready g c = c.loop-number.invariant.report.text
 pub loop-number-preserved : goal.loop-number-preserved
 loop-number-preserved g c =
     let so_far = c.loop-number.invariant in
-    let flag : c.in-Ok-false.field-0 ≡ false = search (rules, c.in-Ok-false.field-0-test) in
-    let takes = c.write_answer.ensures.takes (c.in-Ok-false.is ∙ ap Ok flag) in
+    let takes = c.write_answer.ensures.takes (c.in_ok-write_answer.was ∙ ap Ok c.in-Done.is) in
     record {
       report = more_reported so_far.report
           (follows c.args.setup.now c.args.core_of.now c.args.events.now.items c.loop-number.two so_far.setup
           so_far.core_of c.loop-number.number so_far.events c.at-event.result c.at-event.ensures)
-          flag c.in-Ok-false.ensures.report;
+          c.in-Done.is c.in_ok-write_answer.ensures.report;
       events =
           taken_more c.args.setup.now c.args.core_of.now c.args.events.now.items c.loop-number.two so_far.setup
           so_far.core_of c.loop-number.number so_far.events c.at-event.result c.at-event.ensures _ takes.events;
@@ -33,40 +33,43 @@ loop-number-preserved g c =
       runs = takes.runs;
     }
 
-pub returns-in-Ok-true : goal.returns-in-Ok-true
-returns-in-Ok-true g c =
+pub returns-in-Coincidence : goal.returns-in-Coincidence
+returns-in-Coincidence g c =
     let so_far = c.loop-number.invariant in
-    let flag : c.in-Ok-true.field-0 ≡ true = search (rules, c.in-Ok-true.field-0-test) in
     coincidence_reported so_far.report
     (follows c.args.setup.now c.args.core_of.now c.args.events.now.items c.loop-number.two so_far.setup so_far.core_of
     c.loop-number.number so_far.events c.at-event.result c.at-event.ensures)
-    flag c.in-Ok-true.ensures.report
+    c.in-Coincidence.is c.in_ok-write_answer.ensures.report
 
-pub returns-in-Err-write_answer : goal.returns-in-Err-write_answer
-returns-in-Err-write_answer g c =
+pub returns-in_err-write_answer : goal.returns-in_err-write_answer
+returns-in_err-write_answer g c =
     let so_far = c.loop-number.invariant in
-    cut_reported so_far.report
+    let p = err_from_is_err_and c.from_residual.result c.from_residual.ensures.1 in
+    rw (p.1, p.2)
+    (cut_reported so_far.report
     (follows c.args.setup.now c.args.core_of.now c.args.events.now.items c.loop-number.two so_far.setup so_far.core_of
     c.loop-number.number so_far.events c.at-event.result c.at-event.ensures)
-    c.in-Err-write_answer.ensures.report
+    c.in_err-write_answer.ensures.report)
 
 pub write_end-requires-clause-out_ready : goal.write_end-requires-clause-out_ready
 write_end-requires-clause-out_ready g c = c.loop-number.invariant.report.text.used.ready
 
-pub returns-in-Ok-write_end : goal.returns-in-Ok-write_end
-returns-in-Ok-write_end g c =
+pub returns : goal.returns
+returns g c =
     let so_far = c.loop-number.invariant in
     end_reported so_far.report
     (ends c.args.setup.now c.args.core_of.now c.args.events.now.items c.loop-number.two so_far.setup so_far.core_of
     c.loop-number.number so_far.events c.world.result.now c.world.ensures.value
     (c.world.ensures.journal so_far.runs) (c.world.ensures.run so_far.runs) (search rules) (search rules))
-    c.in-Ok-write_end.ensures
+    c.in_ok-write_end.ensures
 
-pub returns : goal.returns
-returns g c =
+pub returns-in_err-write_end : goal.returns-in_err-write_end
+returns-in_err-write_end g c =
     let so_far = c.loop-number.invariant in
-    end_cut so_far.report
+    let p = err_from_is_err_and c.from_residual-in_err-write_end.result c.from_residual-in_err-write_end.ensures.1 in
+    rw (p.1, p.2)
+    (end_cut so_far.report
     (ends c.args.setup.now c.args.core_of.now c.args.events.now.items c.loop-number.two so_far.setup so_far.core_of
     c.loop-number.number so_far.events c.world.result.now c.world.ensures.value
     (c.world.ensures.journal so_far.runs) (c.world.ensures.run so_far.runs) (search rules) (search rules))
-    c.in-Err-write_end.ensures
+    c.in_err-write_end.ensures)

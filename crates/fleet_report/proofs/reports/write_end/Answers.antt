@@ -1,4 +1,5 @@
 use Rattle.std.proofs.Common.{◌≡◌, sym, ap, subst, ◌∙◌, Err, length, arith}
+use Rattle.std.proofs.lemmas.Result.{err_from_is_err_and}
 use Rattle.lte_world.specs.Whole.{run_of}
 use Rattle.report_text.specs.End.{end_text}
 use Rattle.run_report.specs.Written.{WritesText}
@@ -23,10 +24,10 @@ write_rows-requires g c =
     ∙ (λ j.
     end_text ((c.len-events.ensures ∙ ap length c.journal.ensures) j) c.records.result (c.len-rows.ensures.len j)))
     c.end.ensures.text in
-    (c.in-Ok.ensures _ line).used.ready
+    (c.in_ok-write_line.ensures _ line).used.ready
 
-pub returns-in-Ok : goal.returns-in-Ok
-returns-in-Ok g c =
+pub returns : goal.returns
+returns g c =
     let v = c.args.world.now in
     let p = c.args.phone in
     let rows = c.ladder-ladder.result.now.rows in
@@ -39,10 +40,10 @@ returns-in-Ok g c =
     subst (λ t. WritesText t c.write_rows.result (g.W.Edge.told c.args.out.now) (g.W.Edge.told c.write_rows.new.out))
     (sym (end_is p (length v.journal) c.records.result rows (run_of v) c.requires.goes_on c.ladder-ladder.ensures c.records.ensures))
     (both_written c.write_rows.result (phone_text p first) (texts (row_outputs p rows 0 rows)) c.requires.out_ready
-    (c.in-Ok.ensures first line) c.write_rows.ensures)
+    (c.in_ok-write_line.ensures first line) c.write_rows.ensures)
 
-pub returns-in-Err : goal.returns-in-Err
-returns-in-Err g c =
+pub returns-in_err-write_line : goal.returns-in_err-write_line
+returns-in_err-write_line g c =
     let v = c.args.world.now in
     let p = c.args.phone in
     let rows = c.ladder-ladder.result.now.rows in
@@ -52,6 +53,8 @@ returns-in-Err g c =
     ∙ (λ j.
     end_text ((c.len-events.ensures ∙ ap length c.journal.ensures) j) c.records.result (c.len-rows.ensures.len j)))
     c.end.ensures.text in
-    subst (λ t. WritesText {A = Unit {0}} t (Err c.in-Err.fault) (g.W.Edge.told c.args.out.now) (g.W.Edge.told c.write_line.new.out))
+    let out = err_from_is_err_and c.from_residual.result c.from_residual.ensures.1 in
+    rw (out.1, out.2)
+    (subst (λ t. WritesText {A = Unit {0}} t (Err c.in_err-write_line.field-0.0) (g.W.Edge.told c.args.out.now) (g.W.Edge.told c.write_line.new.out))
     (sym (end_is p (length v.journal) c.records.result rows (run_of v) c.requires.goes_on c.ladder-ladder.ensures c.records.ensures))
-    (first_cut (phone_text p first) (texts (row_outputs p rows 0 rows)) c.requires.out_ready (c.in-Err.ensures first line))
+    (first_cut (phone_text p first) (texts (row_outputs p rows 0 rows)) c.requires.out_ready (c.in_err-write_line.ensures first line)))

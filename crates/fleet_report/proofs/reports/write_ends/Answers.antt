@@ -1,4 +1,5 @@
 use Rattle.std.proofs.Common.{◌<◌, subst, Ok, Err, length, arith}
+use Rattle.std.proofs.lemmas.Result.{err_from_is_err_and}
 use Rattle.run_report.specs.Written.{WritesText}
 use Rattle.run_report.proofs.Partly.{none_written, more_written, cut_written, all_written}
 use Rattle.fleet_world.specs.Fleets.{owns_in}
@@ -32,21 +33,23 @@ loop-phone-preserved g c =
     let low : p < length (owns_in v) = omega (arith, c.loop-phone-test.true, c.requires.phones, many) in
     let sound = c.world.ensures.sound c.requires.goes_on in
     more_written c.loop-phone.invariant (end_next v.setup (owns_in v) p low)
-    (subst (λ t. WritesText {A = Unit {0}} t (Ok c.in-Ok.field-0) (g.W.Edge.told c.loop-phone.out)
+    (subst (λ t. WritesText {A = Unit {0}} t (Ok tt) (g.W.Edge.told c.loop-phone.out)
     (g.W.Edge.told c.write_end.new.out))
-    (text_is v p c.world.result.now (c.world.ensures.own c.requires.goes_on) sound.0 sound.1) c.in-Ok.ensures)
+    (text_is v p c.world.result.now (c.world.ensures.own c.requires.goes_on) sound.0 sound.1) c.in_ok-write_end.ensures)
 
-pub returns-in-Err : goal.returns-in-Err
-returns-in-Err g c =
+pub returns-in_err-write_end : goal.returns-in_err-write_end
+returns-in_err-write_end g c =
     let v = c.args.fleet.now in
     let p = c.loop-phone.phone in
     let many = many_owns v.setup (length v.worlds) v.journal in
     let low : p < length (owns_in v) = omega (arith, c.loop-phone-test.true, c.requires.phones, many) in
     let sound = c.world.ensures.sound c.requires.goes_on in
-    cut_written c.loop-phone.invariant (end_next v.setup (owns_in v) p low)
-    (subst (λ t. WritesText {A = Unit {0}} t (Err c.in-Err.fault) (g.W.Edge.told c.loop-phone.out)
+    let out = err_from_is_err_and c.from_residual.result c.from_residual.ensures.1 in
+    rw (out.1, out.2)
+    (cut_written c.loop-phone.invariant (end_next v.setup (owns_in v) p low)
+    (subst (λ t. WritesText {A = Unit {0}} t (Err c.in_err-write_end.field-0.0) (g.W.Edge.told c.loop-phone.out)
     (g.W.Edge.told c.write_end.new.out))
-    (text_is v p c.world.result.now (c.world.ensures.own c.requires.goes_on) sound.0 sound.1) c.in-Err.ensures)
+    (text_is v p c.world.result.now (c.world.ensures.own c.requires.goes_on) sound.0 sound.1) c.in_err-write_end.ensures))
 
 pub returns : goal.returns
 returns g c =

@@ -1,11 +1,12 @@
 use Rattle.std.proofs.Common.{◌≡◌, sym, ap, subst, ◌∙◌, length, Ok, Err, true}
+use Rattle.std.proofs.lemmas.Result.{err_from_is_err_and}
 use Rattle.lte_world.specs.Whole.{Whole}
 use Rattle.fleet_world.specs.Answers.{own_at}
-use Rattle.fleet_world.specs.Fleets.{owns_in, answer_of}
-use Rattle.fleet_report.specs.Events.{ends_it, event_report}
+use Rattle.fleet_world.specs.Fleets.{owns_in}
+use Rattle.fleet_report.specs.Events.{answer_report, event_report}
 use Rattle.fleet_report.specs.Lines.{output_text, answer_output}
 use Rattle.fleet_report.proofs.Telling.{if_ok}
-use Rattle.fleet_report.proofs.Shown.{fault_shown, fault_reported, never_false}
+use Rattle.fleet_report.proofs.Shown.{ended, fault_shown, fault_reported}
 use Rattle.fleet_report.proofs.Ends.{told_is}
 use Rattle.edge_io.specs.Lines.{are_lines}
 use Rattle.run_report.specs.Written.{WritesReport}
@@ -22,9 +23,9 @@ write_fault-requires-clause-shown g c =
     let sound = c.world.ensures.sound c.requires.goes_on in
     fault_shown c.args.fleet.now c.args.phone c.args.event.now c.in-Err.fault c.requires.goes_on sound.0 sound.1 c.requires.can c.in-Err.ensures.says
 
-pub returns-in-Ok-write_text-clause-report : goal.returns-in-Ok-write_text-clause-report
+pub returns-in_ok-write_text-in-Ok-clause-report : goal.returns-in_ok-write_text-in-Ok-clause-report
 unfolding event_report
-returns-in-Ok-write_text-clause-report g c =
+returns-in_ok-write_text-in-Ok-clause-report g c =
     let v = c.args.fleet.now in
     let own = length (own_at (owns_in v) c.args.phone) in
     let text = output_text (answer_output (length v.journal) own (Ok c.in-Ok.told)) in
@@ -34,15 +35,11 @@ returns-in-Ok-write_text-clause-report g c =
     (c.len-step.ensures ∙ ap length c.journal.ensures.journal))
     c.told_text.ensures.text in
     let answered = sym (c.in-Ok.ensures.says (λ same. cc)) in
-    one_piece (λ j. record {
-      text = output_text (answer_output (length v.journal) own (answered j));
-      coincides = ends_it (answered j);
-    })
-    (c.in-Ok-write_text.ensures text line)
+    one_piece (λ j. answer_report (length v.journal) own (answered j)) (c.in_ok-write_text-in-Ok.ensures text line)
 
-pub returns-in-Err-write_text-clause-report : goal.returns-in-Err-write_text-clause-report
+pub returns-in_err-write_text-in-Ok-clause-report : goal.returns-in_err-write_text-in-Ok-clause-report
 unfolding event_report
-returns-in-Err-write_text-clause-report g c =
+returns-in_err-write_text-in-Ok-clause-report g c =
     let v = c.args.fleet.now in
     let own = length (own_at (owns_in v) c.args.phone) in
     let text = output_text (answer_output (length v.journal) own (Ok c.in-Ok.told)) in
@@ -52,38 +49,37 @@ returns-in-Err-write_text-clause-report g c =
     (c.len-step.ensures ∙ ap length c.journal.ensures.journal))
     c.told_text.ensures.text in
     let answered = sym (c.in-Ok.ensures.says (λ same. cc)) in
-    one_cut (λ j. record {
-      text = output_text (answer_output (length v.journal) own (answered j));
-      coincides = ends_it (answered j);
-    })
-    c.requires.out_ready (c.in-Err-write_text.ensures text line)
+    let p = err_from_is_err_and c.from_residual.result c.from_residual.ensures.1 in
+    rw (p.1, p.2)
+    (one_cut (λ j. answer_report (length v.journal) own (answered j)) c.requires.out_ready (c.in_err-write_text-in-Ok.ensures text line))
 
-pub returns-in-Err-clause-report : goal.returns-in-Err-clause-report
-unfolding event_report
-returns-in-Err-clause-report g c =
+pub returns-in_ok-write_fault-in-Err-clause-report : goal.returns-in_ok-write_fault-in-Err-clause-report
+returns-in_ok-write_fault-in-Err-clause-report g c =
     let v = c.args.fleet.now in
     let e = c.args.event.now in
     let p = c.args.phone in
-    let steps = c.len-step.ensures ∙ ap length c.journal.ensures.journal in
     let own = c.len-own.ensures ∙ ap length (c.journal-2.ensures ∙ ap (λ (w : Whole). w.journal) (c.world.ensures.own c.requires.goes_on)) in
     let before = g.W.Edge.told c.args.out.now in
     let after = g.W.Edge.told c.write_fault.new.out in
     let written = fault_reported v p e c.in-Err.fault c.len-step.result c.len-own.result c.write_fault.result before after
-    c.in-Err.ensures.says c.write_fault.ensures.report
+    (c.len-step.ensures ∙ ap length c.journal.ensures.journal) own c.in-Err.ensures.says c.write_fault.ensures.text
     (λ is. let m = c.write_fault.ensures.memory is in (m.0, ap g.W.Edge.told m.1))
     (λ is. c.in-Err.ensures.refused c.requires.goes_on (ap Err is)) c.requires.out_ready in
-    subst (λ n. WritesReport (record {
-      text = output_text (answer_output (length v.journal) n (answer_of v p e));
-      coincides = ends_it (answer_of v p e);
-    })
-    c.write_fault.result before after)
-    own
-    (subst (λ n. WritesReport (record {
-      text = output_text (answer_output n c.len-own.result (answer_of v p e));
-      coincides = ends_it (answer_of v p e);
-    })
-    c.write_fault.result before after)
-    steps written)
+    subst (λ r. WritesReport (event_report v p e) r before after) (ap ended c.in_ok-write_fault-in-Err.was) written
 
-pub returns-in-Err-clause-takes : goal.returns-in-Err-clause-takes
-returns-in-Err-clause-takes g c is = never_false _ c.write_fault.result c.write_fault.ensures.ends is
+pub returns-in_err-write_fault-in-Err-clause-report : goal.returns-in_err-write_fault-in-Err-clause-report
+returns-in_err-write_fault-in-Err-clause-report g c =
+    let v = c.args.fleet.now in
+    let e = c.args.event.now in
+    let p = c.args.phone in
+    let own = c.len-own.ensures ∙ ap length (c.journal-2.ensures ∙ ap (λ (w : Whole). w.journal) (c.world.ensures.own c.requires.goes_on)) in
+    let before = g.W.Edge.told c.args.out.now in
+    let after = g.W.Edge.told c.write_fault.new.out in
+    let written = fault_reported v p e c.in-Err.fault c.len-step.result c.len-own.result c.write_fault.result before after
+    (c.len-step.ensures ∙ ap length c.journal.ensures.journal) own c.in-Err.ensures.says c.write_fault.ensures.text
+    (λ is. let m = c.write_fault.ensures.memory is in (m.0, ap g.W.Edge.told m.1))
+    (λ is. c.in-Err.ensures.refused c.requires.goes_on (ap Err is)) c.requires.out_ready in
+    let out = c.from_residual-in_err-write_fault-in-Err in
+    let fault = err_from_is_err_and out.result out.ensures.1 in
+    rw (fault.1, fault.2)
+    (subst (λ r. WritesReport (event_report v p e) r before after) (ap ended c.in_err-write_fault-in-Err.was) written)

@@ -1,6 +1,7 @@
-use Rattle.std.proofs.Common.{◌≡◌, ◌≤◌, ◌+◌, ap, sym, subst, ◌∙◌, false, true, Ok, length, length-append, rules, arith}
+use Rattle.std.proofs.Common.{◌≤◌, ◌+◌, ap, sym, subst, ◌∙◌, Ok, length, length-append, arith}
 use Rattle.std.proofs.lemmas.List.{length-replicate}
 use Rattle.std.proofs.lemmas.Option.{slice_get_within, get_or_from_slice_get}
+use Rattle.std.proofs.lemmas.Result.{err_from_is_err_and}
 use Rattle.fleet_world.specs.Fleets.{Fleeted}
 use Rattle.fleet_report.specs.Report.{fleet_report_of}
 use Rattle.fleet_report.proofs.Looping.{can_take, event_next, behind_is, end_is, first_is}
@@ -40,13 +41,12 @@ loop-number-preserved g c =
     let i = c.loop-number.number in
     let v = c.loop-number.fleet in
     let x = c.at-step.result in
-    let flag : c.in-Ok-false.field-0 ≡ false = search (rules, c.in-Ok-false.field-0-test) in
-    let takes = c.write_event.ensures.takes (c.in-Ok-false.is ∙ ap Ok flag) in
+    let takes = c.write_event.ensures.takes (c.in_ok-write_event.was ∙ ap Ok c.in-Done.is) in
     let next = event_next v events i x so_far.over so_far.count
     (slice_get_within c.args.events.now.items c.loop-number.number c.at-step.result c.at-step.ensures)
     (sym (get_or_from_slice_get c.args.events.now.items c.loop-number.number c.at-step.result c.at-step.result
     c.at-step.ensures)) in
-    let more = more_reported so_far.report next flag c.in-Ok-false.ensures.report in
+    let more = more_reported so_far.report next c.in-Done.is c.in_ok-write_event.ensures.report in
     record {
       report = subst (λ r. ReportPartly (fleet_report_of c.args.setup.now c.args.phones events) r
           (g.W.Edge.told c.args.out.now) (g.W.Edge.told c.write_event.new.out))
@@ -62,24 +62,25 @@ loop-number-preserved g c =
       phones = takes.worlds ∙ so_far.phones;
     }
 
-pub returns-in-Ok-true : goal.returns-in-Ok-true
-returns-in-Ok-true g c =
+pub returns-in-Coincidence : goal.returns-in-Coincidence
+returns-in-Coincidence g c =
     let so_far = c.loop-number.invariant in
-    let flag : c.in-Ok-true.field-0 ≡ true = search (rules, c.in-Ok-true.field-0-test) in
     let next = event_next c.loop-number.fleet c.args.events.now.items c.loop-number.number c.at-step.result so_far.over
     so_far.count (slice_get_within c.args.events.now.items c.loop-number.number c.at-step.result c.at-step.ensures)
     (sym (get_or_from_slice_get c.args.events.now.items c.loop-number.number c.at-step.result c.at-step.result
     c.at-step.ensures)) in
-    coincidence_reported so_far.report next flag c.in-Ok-true.ensures.report
+    coincidence_reported so_far.report next c.in-Coincidence.is c.in_ok-write_event.ensures.report
 
-pub returns-in-Err-write_event : goal.returns-in-Err-write_event
-returns-in-Err-write_event g c =
+pub returns-in_err-write_event : goal.returns-in_err-write_event
+returns-in_err-write_event g c =
     let so_far = c.loop-number.invariant in
     let next = event_next c.loop-number.fleet c.args.events.now.items c.loop-number.number c.at-step.result so_far.over
     so_far.count (slice_get_within c.args.events.now.items c.loop-number.number c.at-step.result c.at-step.ensures)
     (sym (get_or_from_slice_get c.args.events.now.items c.loop-number.number c.at-step.result c.at-step.result
     c.at-step.ensures)) in
-    cut_reported so_far.report next c.in-Err-write_event.ensures.report
+    let p = err_from_is_err_and c.from_residual.result c.from_residual.ensures.1 in
+    rw (p.1, p.2)
+    (cut_reported so_far.report next c.in_err-write_event.ensures.report)
 
 pub write_ends-requires-clause-out_ready : goal.write_ends-requires-clause-out_ready
 write_ends-requires-clause-out_ready g c = c.loop-number.invariant.report.text.used.ready
@@ -87,12 +88,14 @@ write_ends-requires-clause-out_ready g c = c.loop-number.invariant.report.text.u
 pub write_ends-requires-clause-few : goal.write_ends-requires-clause-few
 write_ends-requires-clause-few g c = let so_far = c.loop-number.invariant in omega (arith, so_far.count, c.requires.is_scenario.few)
 
-pub returns-in-Ok-write_ends : goal.returns-in-Ok-write_ends
-returns-in-Ok-write_ends g c =
-    let past : length c.args.events.now.items ≤ c.loop-number.number = omega (arith, c.loop-number-test.false, c.len-number-end.ensures) in
-    end_reported c.loop-number.invariant.report (end_is c.loop-number.fleet c.args.events.now.items c.loop-number.number past) c.in-Ok-write_ends.ensures
-
 pub returns : goal.returns
 returns g c =
     let past : length c.args.events.now.items ≤ c.loop-number.number = omega (arith, c.loop-number-test.false, c.len-number-end.ensures) in
-    end_cut c.loop-number.invariant.report (end_is c.loop-number.fleet c.args.events.now.items c.loop-number.number past) c.in-Err-write_ends.ensures
+    end_reported c.loop-number.invariant.report (end_is c.loop-number.fleet c.args.events.now.items c.loop-number.number past) c.in_ok-write_ends.ensures
+
+pub returns-in_err-write_ends : goal.returns-in_err-write_ends
+returns-in_err-write_ends g c =
+    let past : length c.args.events.now.items ≤ c.loop-number.number = omega (arith, c.loop-number-test.false, c.len-number-end.ensures) in
+    let p = err_from_is_err_and c.from_residual-in_err-write_ends.result c.from_residual-in_err-write_ends.ensures.1 in
+    rw (p.1, p.2)
+    (end_cut c.loop-number.invariant.report (end_is c.loop-number.fleet c.args.events.now.items c.loop-number.number past) c.in_err-write_ends.ensures)

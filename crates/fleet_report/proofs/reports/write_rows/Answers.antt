@@ -1,6 +1,7 @@
 use Rattle.std.proofs.Common.{◌≡◌, ◌<◌, sym, subst, [], length, get_or, arith}
 use Rattle.std.specs.Prelude.{slice_get, Some}
 use Rattle.std.proofs.lemmas.Option.{slice_get-get_or}
+use Rattle.std.proofs.lemmas.Result.{err_from_is_err_and}
 use Rattle.key_terms.specs.declared.row.Origin.{Origin}
 use Rattle.key_terms.specs.Ladder.{unheld}
 use Rattle.report_text.specs.Ladder.{row_text}
@@ -25,17 +26,19 @@ loop-number-preserved g c =
     let r = get_or rows k (unheld Origin.Root []) in
     let at : slice_get rows k ≡ Some r = slice_get-get_or rows k (unheld Origin.Root []) below in
     let line = if_ok _ (λ t. t.items ≡ row_text rows k r) c.row_line.result (λ t is. is r at) c.row_line.ensures.text in
-    more_written c.loop-number.invariant (row_next c.args.phone rows k r at) (c.in-Ok.ensures (row_text rows k r) line)
+    more_written c.loop-number.invariant (row_next c.args.phone rows k r at) (c.in_ok-write_line.ensures (row_text rows k r) line)
 
-pub returns-in-Err : goal.returns-in-Err
-returns-in-Err g c =
+pub returns-in_err-write_line : goal.returns-in_err-write_line
+returns-in_err-write_line g c =
     let rows = c.args.ladder.now.rows in
     let k = c.loop-number.number in
     let below : k < length rows = omega (arith, c.loop-number-test.true, c.len-number-end.ensures.len) in
     let r = get_or rows k (unheld Origin.Root []) in
     let at : slice_get rows k ≡ Some r = slice_get-get_or rows k (unheld Origin.Root []) below in
     let line = if_ok _ (λ t. t.items ≡ row_text rows k r) c.row_line.result (λ t is. is r at) c.row_line.ensures.text in
-    cut_written c.loop-number.invariant (row_next c.args.phone rows k r at) (c.in-Err.ensures (row_text rows k r) line)
+    let p = err_from_is_err_and c.from_residual.result c.from_residual.ensures.1 in
+    rw (p.1, p.2)
+    (cut_written c.loop-number.invariant (row_next c.args.phone rows k r at) (c.in_err-write_line.ensures (row_text rows k r) line))
 
 pub returns : goal.returns
 returns g c =

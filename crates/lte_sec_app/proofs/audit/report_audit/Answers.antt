@@ -20,7 +20,7 @@ returns-in-Ok-clause-holds g c =
     (headline_of setup events (IfOk-at_ok _ is read.is_scenario))
     c.write_audit.ensures.alone c.write_audit.result
     (λ ok. (c.write_audit.ensures.exact ok, c.write_audit.ensures.of_run ok))
-    c.write_audit.ensures.report.coincidence)
+    c.write_audit.ensures.report.ends)
 
 pub returns-in-Err-clause-text : goal.returns-in-Err-clause-text
 returns-in-Err-clause-text g c =
@@ -30,5 +30,5 @@ pub returns-in-Ok-clause-no_refusal : goal.returns-in-Ok-clause-no_refusal
 returns-in-Ok-clause-no_refusal g c memory refused =
     let s = c.in-Ok.scenario in
     absurd (read_never_refused (λ r. (output_of r).ends) (reading_of c.args.octets.now) _
-    (audit_report_of s.setup s.events.items).coincides
+    (audit_report_of s.setup s.events.items).ends
     (IfOk-at_ok _ c.in-Ok.ensures.read.0 c.read.ensures.scenario) refl refused)

@@ -36,5 +36,5 @@ pub returns-in-Ok-clause-no_refusal : goal.returns-in-Ok-clause-no_refusal
 returns-in-Ok-clause-no_refusal g c memory refused =
     let s = c.in-Ok.scenario in
     absurd (read_never_refused (λ r. (output_of r).ends) (fleet_reading_of c.args.octets.now) _
-    (fleet_report_of s.setup s.phones s.events.items).coincides
+    (fleet_report_of s.setup s.phones s.events.items).ends
     (IfOk-at_ok _ c.in-Ok.ensures.read.0 c.read_fleet.ensures.scenario) refl refused)

@@ -23,5 +23,5 @@ pub returns-in-Ok-clause-no_refusal : goal.returns-in-Ok-clause-no_refusal
 returns-in-Ok-clause-no_refusal g c memory refused =
     let s = c.in-Ok.scenario in
     absurd (read_never_refused (λ r. (output_of r).ends) (reading_of c.args.octets.now) _
-    (report_of s.setup s.events.items).coincides
+    (report_of s.setup s.events.items).ends
     (IfOk-at_ok _ c.in-Ok.ensures.read.0 c.read.ensures.scenario) refl refused)

@@ -35,5 +35,5 @@ pub returns-in-Ok-clause-no_refusal : goal.returns-in-Ok-clause-no_refusal
 returns-in-Ok-clause-no_refusal g c memory refused =
     let s = c.in-Ok.scenario in
     absurd (read_never_refused (λ r. (output_of r).ends) (two_reading_of c.args.octets.now) _
-    (two_report_of s.setup s.core_of s.events.items).coincides
+    (two_report_of s.setup s.core_of s.events.items).ends
     (IfOk-at_ok _ c.in-Ok.ensures.read.0 c.read_two.ensures.scenario) refl refused)

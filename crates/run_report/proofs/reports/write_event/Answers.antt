@@ -1,4 +1,5 @@
 use Rattle.std.proofs.Common.{sym, ap, subst, ◌∙◌, Err, length}
+use Rattle.std.proofs.lemmas.Result.{err_from_is_err_and}
 use Rattle.lte_world.specs.Whole.{run_of}
 use Rattle.edge_io.proofs.Ending.{is_lines, text_is}
 use Rattle.run_report.specs.Counted.{Tells}
@@ -11,33 +12,39 @@ use Rattle.run_report.proofs.reports.write_event.Goals as goal
 pub write_text-requires-clause-lines : goal.write_text-requires-clause-lines
 write_text-requires-clause-lines g c = text_is _ _ _ c.line.ensures.text (is_lines _ (line_ends _))
 
-pub returns-in-Ok-write_text-clause-report : goal.returns-in-Ok-write_text-clause-report
-returns-in-Ok-write_text-clause-report g c =
+pub returns-in_ok-write_text-in-Ok-clause-report : goal.returns-in_ok-write_text-in-Ok-clause-report
+returns-in_ok-write_text-in-Ok-clause-report g c =
     let told = told_of (run_of c.args.world.now) c.args.event.now in
-    one_piece (a_line told c.in-Ok.told (length c.args.world.now.journal) c.in-Ok.ensures.tells) (c.in-Ok-write_text.ensures _ c.line.ensures.text)
+    one_piece (a_line told c.in-Ok.told (length c.args.world.now.journal) c.in-Ok.ensures.tells) (c.in_ok-write_text-in-Ok.ensures _ c.line.ensures.text)
 
-pub returns-in-Err-clause-report : goal.returns-in-Err-clause-report
-returns-in-Err-clause-report g c =
+pub returns-in_err-write_text-in-Ok-clause-report : goal.returns-in_err-write_text-in-Ok-clause-report
+returns-in_err-write_text-in-Ok-clause-report g c =
+    let p = err_from_is_err_and c.from_residual.result c.from_residual.ensures.1 in
     let told = told_of (run_of c.args.world.now) c.args.event.now in
-    one_cut (a_line told c.in-Ok.told (length c.args.world.now.journal) c.in-Ok.ensures.tells) c.requires.out_ready (c.in-Err.ensures _ c.line.ensures.text)
+    rw (p.1, p.2)
+    (one_cut (a_line told c.in-Ok.told (length c.args.world.now.journal) c.in-Ok.ensures.tells) c.requires.out_ready
+    (c.in_err-write_text-in-Ok.ensures _ c.line.ensures.text))
 
 pub write_coincidence-requires-clause-string : goal.write_coincidence-requires-clause-string
 write_coincidence-requires-clause-string g c =
     let told = told_of (run_of c.args.world.now) c.args.event.now in
     can_show told c.in-Err-Coincidence.proof (subst (λ f. Tells told (Err f)) c.in-Err-Coincidence.field-0-is c.in-Err-Coincidence.ensures.tells)
 
-pub returns-in-Ok-write_coincidence-clause-report : goal.returns-in-Ok-write_coincidence-clause-report
-returns-in-Ok-write_coincidence-clause-report g c =
+pub returns-in_ok-write_coincidence-in-Err-Coincidence-clause-report : goal.returns-in_ok-write_coincidence-in-Err-Coincidence-clause-report
+returns-in_ok-write_coincidence-in-Err-Coincidence-clause-report g c =
     let told = told_of (run_of c.args.world.now) c.args.event.now in
     let tells = subst (λ f. Tells told (Err f)) c.in-Err-Coincidence.field-0-is c.in-Err-Coincidence.ensures.tells in
     one_piece (ap (λ step. told_report step told) (sym (c.len-step.ensures ∙ ap length c.journal.ensures))
     ∙ a_coincidence told c.in-Err-Coincidence.proof c.len-step.result tells)
-    c.in-Ok-write_coincidence.ensures
+    c.in_ok-write_coincidence-in-Err-Coincidence.ensures
 
-pub returns-in-Err-write_coincidence-clause-report : goal.returns-in-Err-write_coincidence-clause-report
-returns-in-Err-write_coincidence-clause-report g c =
+pub returns-in_err-write_coincidence-in-Err-Coincidence-clause-report : goal.returns-in_err-write_coincidence-in-Err-Coincidence-clause-report
+returns-in_err-write_coincidence-in-Err-Coincidence-clause-report g c =
+    let out = c.from_residual-in_err-write_coincidence-in-Err-Coincidence in
+    let p = err_from_is_err_and out.result out.ensures.1 in
     let told = told_of (run_of c.args.world.now) c.args.event.now in
     let tells = subst (λ f. Tells told (Err f)) c.in-Err-Coincidence.field-0-is c.in-Err-Coincidence.ensures.tells in
-    one_cut (ap (λ step. told_report step told) (sym (c.len-step.ensures ∙ ap length c.journal.ensures))
+    rw (p.1, p.2)
+    (one_cut (ap (λ step. told_report step told) (sym (c.len-step.ensures ∙ ap length c.journal.ensures))
     ∙ a_coincidence told c.in-Err-Coincidence.proof c.len-step.result tells)
-    c.requires.out_ready c.in-Err-write_coincidence.ensures
+    c.requires.out_ready c.in_err-write_coincidence-in-Err-Coincidence.ensures)

@@ -1,5 +1,6 @@
-use Rattle.std.proofs.Common.{◌≡◌, ◌≤◌, sym, ap, ◌∙◌, refl, Ok, false, true, length, rules, arith}
+use Rattle.std.proofs.Common.{◌≤◌, sym, ap, ◌∙◌, refl, Ok, length, rules, arith}
 use Rattle.std.proofs.lemmas.Option.{slice_get_within}
+use Rattle.std.proofs.lemmas.Result.{err_from_is_err_and}
 use Rattle.lte_world.specs.Whole.{run_of}
 use Rattle.run_report.proofs.Partly.{none_reported, more_reported, coincidence_reported, cut_reported, end_reported, end_cut}
 use Rattle.run_report.proofs.Taking.{none_taken, can_take, one_taken, item_at, left_at}
@@ -30,51 +31,42 @@ loop-number-preserved g c =
     let v = c.loop-number.world in
     let e = c.at-event.result in
     let left = left_at events i e (slice_get_within events i e c.at-event.ensures) (item_at events i e c.at-event.ensures) in
-    let flag : c.in-Ok-false.field-0 ≡ false = search (rules, c.in-Ok-false.field-0-test) in
-    let takes = c.write_event.ensures.takes (c.in-Ok-false.is ∙ ap Ok flag) in
+    let done = c.in-Done.is in
+    let takes = c.write_event.ensures.takes (c.in_ok-write_event.was ∙ ap Ok done) in
     let follows = report_more (length events) i (length v.journal) (run_of v) (run_of c.write_event.new.world) events e left so_far.took.count takes.run in
     record {
-      took = one_taken e so_far.took (sym c.in-Ok-false.ensures.report.coincidence ∙ flag) takes;
-      report = more_reported so_far.report follows flag c.in-Ok-false.ensures.report;
+      took = one_taken e so_far.took (sym c.in_ok-write_event.ensures.report.ends ∙ done) takes;
+      report = more_reported so_far.report follows done c.in_ok-write_event.ensures.report;
     }
 
-pub returns-in-Ok-true : goal.returns-in-Ok-true
-returns-in-Ok-true g c =
+pub returns-in-Coincidence : goal.returns-in-Coincidence
+returns-in-Coincidence g c =
     let so_far = c.loop-number.invariant in
     let events = c.args.events.now.items in
     let i = c.loop-number.number in
     let v = c.loop-number.world in
     let e = c.at-event.result in
     let left = left_at events i e (slice_get_within events i e c.at-event.ensures) (item_at events i e c.at-event.ensures) in
-    let flag : c.in-Ok-true.field-0 ≡ true = search (rules, c.in-Ok-true.field-0-test) in
     coincidence_reported so_far.report
-    (report_more (length events) i (length v.journal) (run_of v) _ events e left so_far.took.count refl) flag
-    c.in-Ok-true.ensures.report
+    (report_more (length events) i (length v.journal) (run_of v) _ events e left so_far.took.count refl)
+    c.in-Coincidence.is c.in_ok-write_event.ensures.report
 
-pub returns-in-Err-write_event : goal.returns-in-Err-write_event
-returns-in-Err-write_event g c =
+pub returns-in_err-write_event : goal.returns-in_err-write_event
+returns-in_err-write_event g c =
+    let p = err_from_is_err_and c.from_residual.result c.from_residual.ensures.1 in
     let so_far = c.loop-number.invariant in
     let events = c.args.events.now.items in
     let i = c.loop-number.number in
     let v = c.loop-number.world in
     let e = c.at-event.result in
     let left = left_at events i e (slice_get_within events i e c.at-event.ensures) (item_at events i e c.at-event.ensures) in
-    cut_reported so_far.report
+    rw (p.1, p.2)
+    (cut_reported so_far.report
     (report_more (length events) i (length v.journal) (run_of v) _ events e left so_far.took.count refl)
-    c.in-Err-write_event.ensures.report
+    c.in_err-write_event.ensures.report)
 
 pub write_end-requires-clause-few : goal.write_end-requires-clause-few
 write_end-requires-clause-few g c = let took = c.loop-number.invariant.took in omega (arith, took.count, c.requires.is_scenario.few)
-
-pub returns-in-Ok-write_end : goal.returns-in-Ok-write_end
-returns-in-Ok-write_end g c =
-    let so_far = c.loop-number.invariant in
-    let i = c.loop-number.number in
-    let events = c.args.events.now.items in
-    let v = c.loop-number.world in
-    let low : i ≤ length events = search rules in
-    let past : length events ≤ i = omega (arith, c.loop-number-test.false, c.len-number-end.ensures) in
-    end_reported so_far.report (report_ends i (length v.journal) (run_of v) events so_far.took.count low past) c.in-Ok-write_end.ensures
 
 pub returns : goal.returns
 returns g c =
@@ -84,4 +76,16 @@ returns g c =
     let v = c.loop-number.world in
     let low : i ≤ length events = search rules in
     let past : length events ≤ i = omega (arith, c.loop-number-test.false, c.len-number-end.ensures) in
-    end_cut so_far.report (report_ends i (length v.journal) (run_of v) events so_far.took.count low past) c.in-Err-write_end.ensures
+    end_reported so_far.report (report_ends i (length v.journal) (run_of v) events so_far.took.count low past) c.in_ok-write_end.ensures
+
+pub returns-in_err-write_end : goal.returns-in_err-write_end
+returns-in_err-write_end g c =
+    let p = err_from_is_err_and c.from_residual-in_err-write_end.result c.from_residual-in_err-write_end.ensures.1 in
+    let so_far = c.loop-number.invariant in
+    let i = c.loop-number.number in
+    let events = c.args.events.now.items in
+    let v = c.loop-number.world in
+    let low : i ≤ length events = search rules in
+    let past : length events ≤ i = omega (arith, c.loop-number-test.false, c.len-number-end.ensures) in
+    rw (p.1, p.2)
+    (end_cut so_far.report (report_ends i (length v.journal) (run_of v) events so_far.took.count low past) c.in_err-write_end.ensures)

@@ -1,4 +1,5 @@
 use Rattle.std.proofs.Common.{ap, drop_of_length-le}
+use Rattle.std.proofs.lemmas.Result.{err_from_is_err_and}
 use Rattle.std.specs.List.{flat_map}
 use Rattle.report_text.specs.Summary.{figures, figure_text, figures_text}
 use Rattle.run_report.proofs.Figures.{figure_more}
@@ -21,14 +22,16 @@ loop-figure-preserved g c =
     more_written c.loop-figure.invariant
     (figure_more c.args.tally.now c.args.rows c.loop-figure.figure-index c.all-figures.result _ c.all-figures.ensures
     c.loop-figure-test.true)
-    (c.in-Ok.ensures _ c.summary_line.ensures.text)
+    (c.in_ok-write_text.ensures _ c.summary_line.ensures.text)
 
-pub returns-in-Err : goal.returns-in-Err
-returns-in-Err g c =
-    cut_written c.loop-figure.invariant
+pub returns-in_err-write_text : goal.returns-in_err-write_text
+returns-in_err-write_text g c =
+    let p = err_from_is_err_and c.from_residual.result c.from_residual.ensures.1 in
+    rw (p.1, p.2)
+    (cut_written c.loop-figure.invariant
     (figure_more c.args.tally.now c.args.rows c.loop-figure.figure-index c.all-figures.result _ c.all-figures.ensures
     c.loop-figure-test.true)
-    (c.in-Err.ensures _ c.summary_line.ensures.text)
+    (c.in_err-write_text.ensures _ c.summary_line.ensures.text))
 
 pub returns : goal.returns
 returns g c =

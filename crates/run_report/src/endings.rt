@@ -1,0 +1,8 @@
+/// How a report ends.
+#[derive(Clone, Copy, Debug, PartialEq, Eq)]
+pub enum Ending {
+    /// After all events, with what it says of them as a whole.
+    Done,
+    /// At a coincidence, which was written.
+    Coincidence,
+}
