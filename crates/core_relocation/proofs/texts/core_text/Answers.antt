@@ -1,10 +1,8 @@
-use Rattle.std.proofs.Common.{◌≡◌, ◌∙◌, sym, ap, ◌++◌, List, ℕ, length, drop, rules}
+use Rattle.std.proofs.Common.{◌≡◌, ◌∙◌, ap, ◌++◌, rules}
 use Rattle.std.specs.Prelude.{codes}
 use Rattle.std.specs.Fmt.{decimal}
-use Rattle.std.specs.String.{string_bytes}
 use Rattle.lte_events.specs.declared.lines.Who.{Who}
 use Rattle.report_text.specs.Line.{line_text}
-use Rattle.core_relocation.specs.Report.{core_text}
 use Rattle.core_relocation.proofs.CoreText.{fits, numbered}
 use Rattle.core_relocation.proofs.texts.core_text.Goals as goal
 

@@ -1,4 +1,4 @@
-use Rattle.std.proofs.Common.{◌≡◌, ap, ◌∙◌, ◌∷◌, [], ◌++◌, length, Result, Ok, rules}
+use Rattle.std.proofs.Common.{◌≡◌, ap, ◌∙◌, ◌∷◌, [], ◌++◌, Result, Ok, rules}
 use Rattle.lte_world.specs.declared.faults.WorldFault.{WorldFault}
 use Rattle.core_relocation.specs.declared.lines.TwoLine.{TwoLine}
 use Rattle.lte_world.specs.Whole.{run_of, told_of}
