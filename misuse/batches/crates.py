@@ -92,9 +92,9 @@ def version() -> str:
     return subprocess.run(["rt", "version"], capture_output=True, text=True, check=True).stdout.strip()
 
 
-def words_of(crate: Crate) -> list[str]:
-    """The command that checks a crate over the libraries below it, in a folder with its files."""
-    words = [str(kit() / "bin/rattle"), "check", "--crate-name", crate.name, crate.root_file]
+def words_of(crate: Crate, work: str = "check") -> list[str]:
+    """The command that checks or builds a crate over the libraries below it, in a folder with its files."""
+    words = [str(kit() / "bin/rattle"), work, "--crate-name", crate.name, crate.root_file]
     for name in crate.of_kit:
         words += ["--extern", f"{name}={kit() / 'rlibs' / name}.rlib"]
     words += ["-L", f"dependency={kit() / 'rlibs'}"]
@@ -106,11 +106,17 @@ def words_of(crate: Crate) -> list[str]:
     return [*words, "--links", f"{crate.name}=", *(["--crate-type", "staticlib"] if crate.is_static else []), "--jobs", "1"]
 
 
-def build_libraries(crate: Crate) -> None:
-    """Sees to the libraries below a crate. Right after `rt ci` all stand there as it built them, with no stamp of a session's check and newer
-    than the files that they were built from. Else rt builds those that changed, and begins with what checks of the crate kept on this machine."""
+def is_left_by_gate(crate: Crate) -> bool:
+    """Whether the libraries below a crate stand there as `rt ci` built them, right after it: with no stamp of a session's check, and newer than
+    the files that they were built from."""
     stamped = any((it.folder / "out/rlib/stamp").exists() for it in crate.below)
-    if not stamped and all(it.library.is_dir() and is_newer(it) for it in crate.below):
+    return not stamped and all(it.library.is_dir() and is_newer(it) for it in crate.below)
+
+
+def build_libraries(crate: Crate) -> None:
+    """Sees to the libraries below a crate. Where `rt ci` has just built them, they are taken. Else rt builds those that changed, and begins with
+    what checks of the crate kept on this machine."""
+    if is_left_by_gate(crate):
         return
     words = ["rt", "check", "--only", ""]
     with tempfile.TemporaryDirectory(prefix="edits-") as room:
