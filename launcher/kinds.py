@@ -10,6 +10,7 @@ from collections.abc import Callable
 from document import Value
 
 MOST_CELLS, PCI, EARFCN = 4, 503, 262143
+Schema = dict[str, object]
 
 
 @dataclasses.dataclass
@@ -23,10 +24,11 @@ class Setup:
 @dataclasses.dataclass(frozen=True)
 class Kind:
     """What may stand, and what is wrong with a value in a scenario with this setup, which is nothing of a right one. The number
-    and the cells of a station join the setup."""
+    and the cells of a station join the setup. And the same as JSON Schema has it, as far as that goes."""
 
     may: str
     wrong: Callable[[Value, Setup], str]
+    schema: Schema
 
 
 def one_of(words: list[str], last: str = "or") -> str:
@@ -55,17 +57,21 @@ def is_whole(value: Value, low: int, high: int) -> bool:
     return type(value.is_) is int and low <= value.is_ <= high
 
 
-def kind(may: str, is_right: Callable[[Value, Setup], bool]) -> Kind:
-    return Kind(may, lambda value, setup: "" if is_right(value, setup) else f"is {shown(value)}")
+def kind(may: str, is_right: Callable[[Value, Setup], bool], schema: Schema) -> Kind:
+    return Kind(may, lambda value, setup: "" if is_right(value, setup) else f"is {shown(value)}", schema)
+
+
+def whole(low: int, high: int) -> Schema:
+    return {"type": "integer", "minimum": low, "maximum": high}
 
 
 def number(low: int, high: int) -> Kind:
     may = f"a number {low} to {high}" if high - low > 1 else one_of([str(it) for it in range(low, high + 1)])
-    return kind(may, lambda value, _: is_whole(value, low, high))
+    return kind(may, lambda value, _: is_whole(value, low, high), whole(low, high))
 
 
 def words(*these: str) -> Kind:
-    return kind(one_of([f'"{word}"' for word in these]), lambda value, _: value.is_ in these)
+    return kind(one_of([f'"{word}"' for word in these]), lambda value, _: value.is_ in these, {"enum": list(these)})
 
 
 def octets(count: int, exactly: bool = True) -> Kind:
@@ -77,7 +83,8 @@ def octets(count: int, exactly: bool = True) -> Kind:
         if other:
             return f"has '{other[0]}', which is not a hex digit"
         return f"has {digits} hex digits" if digits % 2 or digits > 2 * count or exactly and digits < 2 * count else ""
-    return Kind(f"{2 * count} hex digits in quotes" if exactly else f"hex digits in quotes, two for each of at most {count:,} octets", wrong)
+    may = f"{2 * count} hex digits in quotes" if exactly else f"hex digits in quotes, two for each of at most {count:,} octets"
+    return Kind(may, wrong, {"type": "string", "pattern": f"^([0-9a-fA-F]{{2}}){{{'' if exactly else '0,'}{count}}}$"})
 
 
 def wrong_cell(value: Value, setup: Setup) -> str:
@@ -115,9 +122,10 @@ def is_priority(value: Value, setup: Setup) -> bool:
 
 
 PAIR = f"PCI 0 to {PCI} and EARFCN 0 to {EARFCN}"
-PRIORITY = kind("one or two different ones of 0 (EEA0) and 2 (128-EEA2), as [2, 0]", is_priority)
-CELL = Kind(f"[PCI, EARFCN], {PAIR}", wrong_cell)
-CELLS = Kind(f"1 to {MOST_CELLS} cells [PCI, EARFCN] that no station has yet, {PAIR}", wrong_cells)
-NEW_STATION = kind("a number 0 to 7 that no station before it has", is_new_station)
-STATION = Kind("a station of the scenario", wrong_station)
-INTEGER = kind("a number, counted from 0, or back from the newest, which is -1", lambda value, _: type(value.is_) is int)
+ONE_CELL: Schema = {"type": "array", "prefixItems": [whole(0, PCI), whole(0, EARFCN)], "items": {"type": "integer"}, "minItems": 2, "maxItems": 2}
+PRIORITY = kind("one or two different ones of 0 (EEA0) and 2 (128-EEA2), as [2, 0]", is_priority, {"enum": [[2, 0], [0, 2], [2], [0]]})
+CELL = Kind(f"[PCI, EARFCN], {PAIR}", wrong_cell, ONE_CELL)
+CELLS = Kind(f"1 to {MOST_CELLS} cells [PCI, EARFCN] that no station has yet, {PAIR}", wrong_cells, {"type": "array", "items": ONE_CELL, "minItems": 1, "maxItems": MOST_CELLS})
+NEW_STATION = kind("a number 0 to 7 that no station before it has", is_new_station, whole(0, 7))
+STATION = Kind("a station of the scenario", wrong_station, whole(0, 7))
+INTEGER = kind("a number, counted from 0, or back from the newest, which is -1", lambda value, _: type(value.is_) is int, {"type": "integer"})

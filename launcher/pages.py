@@ -1,5 +1,5 @@
 #!/usr/bin/env python3
-"""Makes the man page and the completions for bash of the table `words`, and writes them where they belong: launcher/pages.py.
+"""Makes the man page and the completions for bash of the table `words`, and the schema of scenarios of the table of fields, and writes them where they belong: launcher/pages.py.
 
 `share` is laid out as below a prefix such as /usr, for whoever packages it. The exit statuses are those of README.md. A test wants
 both as they are made here.
@@ -7,14 +7,30 @@ both as they are made here.
 from __future__ import annotations
 
 import dataclasses
+import itertools
 import pathlib
 import re
-import tomllib
+
+import schema
 
 HERE = pathlib.Path(__file__).resolve().parent
 TOP = HERE.parent
 MAN, COMPLETIONS = TOP / "share/man/man1/lte_sec.1", TOP / "share/bash-completion/completions/lte_sec"
+SCENARIO = TOP / "share/schema/scenario.schema.json"
 # What may stand for a name in capitals, where it can be completed.
+KINDS = ("lost", "late", "twice", "again")
+OUTCOMES = (
+    "same", "better", "goes-on", "context-left", "packet-lost", "weaker-key", "not-made", "no-handover", "misrouted", "NAS-apart", "COUNTs-apart", "cut-off", "stuck", "keys-differ",
+    "coincidence",
+)
+# What may stand behind an option or a fixed argument, where it is one of a few.
+VALUES = {
+    "what-if --kinds": [",".join(some) for count in range(1, len(KINDS) + 1) for some in itertools.combinations(KINDS, count)],
+    "what-if --bad": list(OUTCOMES),
+    "what-if --faults": list("123"),
+    "drive --answers": ["done"],
+    "serve station": list("01234567"),
+}
 TAKES = {"FILE": "file", "SCENARIO": "file", "CAPTURE": "file", "FOLDER": "folder", "CMD": "command"}
 
 
@@ -81,11 +97,10 @@ def statuses() -> list[str]:
 
 
 def man() -> str:
-    project = tomllib.loads((TOP / "python/pyproject.toml").read_text())["project"]
     all_words = words()
     lines = [
         '.\\" Made by launcher/pages.py of the table launcher/words.',
-        f'.TH LTE_SEC 1 "" "lte_sec {project["version"]}" "User Commands"',
+        f'.TH LTE_SEC 1 "" "lte_sec {(TOP / "VERSION").read_text().strip()}" "User Commands"',
         ".SH NAME", "lte_sec \\- computes LTE access security (TS 33.401), and checks yours against it",
         ".SH SYNOPSIS", ".B lte_sec", "\\fIWORD\\fR [\\fIARGUMENT\\fR].\\|.",
         ".SH DESCRIPTION",
@@ -117,8 +132,8 @@ def completions() -> str:
     valued = {}
     for word in all_words:
         for option, _, argument in (name.partition(" ") for name, _ in word.below):
-            if option.startswith("--") and argument:
-                valued[f"'{word.name} {option}'"] = f"offered='' takes='{takes(argument)}'"
+            if argument:
+                valued[f"'{word.name} {option}'"] = f"offered='{' '.join(VALUES.get(f'{word.name} {option}', []))}' takes='{takes(argument)}'"
     names = " ".join(word.name for word in all_words)
     return "\n".join([
         "# Completions of lte_sec for bash: words, options, and files where one is taken. Made by launcher/pages.py of the table launcher/words.",
@@ -146,8 +161,13 @@ def completions() -> str:
     ]) + "\n"
 
 
+def made() -> dict[pathlib.Path, str]:
+    """The files, and what stands in each."""
+    return {MAN: man(), COMPLETIONS: completions(), SCENARIO: schema.text_of(schema.scenario()) + "\n"}
+
+
 def main() -> None:
-    for file, text in ((MAN, man()), (COMPLETIONS, completions())):
+    for file, text in made().items():
         file.parent.mkdir(parents=True, exist_ok=True)
         file.write_text(text)
 

@@ -137,6 +137,14 @@ class Lines(unittest.TestCase):
             process.stdin.close()
             self.assertEqual(3, len(process.stderr.read().splitlines()))
 
+    def test_the_mistake_of_a_mac_is_named_where_the_lines_are_a_file(self) -> None:
+        key = "000102030405060708090a0b0c0d0e0f101112131415161718191a1b1c1d1e1f"
+        with tempfile.NamedTemporaryFile() as file:
+            file.write(f"# a remark\n\nkenb {key} 0\nnas {key} 2 0 downlink 270a76966105e7a452c4b5\n".encode())
+            file.flush()
+            ran = launched("calc", "--strict", file.name)
+        self.assertEqual((1, "lte_sec: line 4: the MAC is wrong: it is that of the other direction\nlte_sec: status 1: 1 line with a MAC that fails\n"), (ran.returncode, ran.stderr.decode()))
+
     def test_a_mac_that_fails_is_a_status_where_it_is_asked_for(self) -> None:
         key = "000102030405060708090a0b0c0d0e0f101112131415161718191a1b1c1d1e1f"
         right, wrong = f"nas {key} 2 0 uplink 270a76966105e7a452c4b5\n".encode(), f"nas {key} 2 0 uplink 270a76966005e7a452c4b5\n".encode()
@@ -223,7 +231,7 @@ class Installed(unittest.TestCase):
         return ran.stdout.splitlines()
 
     def test_they_are_as_they_are_made(self) -> None:
-        for file, made in ((pages.MAN, pages.man()), (pages.COMPLETIONS, pages.completions())):
+        for file, made in pages.made().items():
             self.assertEqual(made, file.read_text(), f"{file} is out of date: launcher/pages.py makes it again")
 
     def test_each_word_that_is_answered_is_in_the_table(self) -> None:
@@ -233,14 +241,26 @@ class Installed(unittest.TestCase):
             {word.name for word in self.WORDS if not word.name.startswith("-")}, {word.name for word in self.WORDS if word.name.startswith("-")},
         ))
 
+    def test_each_word_with_json_says_by_it_why_it_fails(self) -> None:
+        case = re.search(r"^    case \$word in ([\w |-]+)\) ;; \*\) return ;; esac$", (HERE / "answers").read_text(), re.MULTILINE)
+        assert case
+        words = [word.name for word in self.WORDS if any(name == "--json" for name, _ in word.below)]
+        self.assertEqual(sorted(words), sorted(case[1].split(" | ")))
+        for word in words:
+            ran = launched(word, "--json", 'no "file"\tof that name', "and no other")
+            told = json.loads(ran.stdout)
+            self.assertEqual({"error", "status"}, told.keys(), word)
+            self.assertEqual(ran.returncode, told["status"], word)
+            self.assertIn(told["error"].split("no ")[0], ran.stderr.decode(), word)
+
     def test_each_option_that_is_taken_is_in_the_table(self) -> None:
         package = TOP / "python" / "lte_sec"
         of = {word.name: {name.split()[0] for name, _ in word.below if name.startswith("--")} for word in self.WORDS}
         for name, usage in re.findall(r'^    "([\w-]+)": "(.*)",$', (package / "words.py").read_text(), re.MULTILINE):
-            self.assertEqual(set(re.findall(r"--[a-z]+", usage)), of[name], name)
-        for name, file in (("what-if", "what_if.py"), ("drive", "drive.py")):
-            named = re.findall(r"^(?:VALUED|FLAGS|OPTIONS) = (.*)$", (package / file).read_text(), re.MULTILINE)
-            self.assertEqual(set(re.findall(r"--[a-z]+", " ".join(named))) | {"--json"}, of[name], name)
+            self.assertEqual(set(re.findall(r"--[a-z-]+", usage)), of[name], name)
+        for name, files in (("what-if", ["what_if.py"]), ("drive", ["drive.py", "suite.py"])):
+            named = [line for file in files for line in re.findall(r"^(?:VALUED|FLAGS|OPTIONS) = (.*)$", (package / file).read_text(), re.MULTILINE)]
+            self.assertEqual(set(re.findall(r"--[a-z-]+", " ".join(named))) | {"--json"}, of[name], name)
 
     def test_they_name_every_word_and_option(self) -> None:
         page = pages.MAN.read_text().replace("\\-", "-")
@@ -256,16 +276,84 @@ class Installed(unittest.TestCase):
         for given, offered in (
             (["ru"], ["run"]), (["what"], ["what-if"]), (["help", "che"], ["check-trace"]), (["run", "run/ord"], ["run/ordinary.out", "run/ordinary.toml"]),
             (["serve", "p"], ["phone"]), (["draw", "messages", "run/ordinary.t"], ["run/ordinary.toml"]), (["what-if", "--save", "what-i"], ["what-if"]),
-            (["what-if", "--faults", ""], []), (["library", "lad"], ["ladder"]), (["explain", "--keys", "ladder/fi"], ["ladder/first.out", "ladder/first.txt"]),
+            (["what-if", "--faults", ""], ["1", "2", "3"]), (["library", "lad"], ["ladder"]), (["explain", "--keys", "ladder/fi"], ["ladder/first.out", "ladder/first.txt"]),
             (["check-trace", "--pl"], ["--plain"]), (["gen", ""], []), (["--program", "lte_c"], ["lte_calc"]),
         ):
             self.assertEqual(offered, sorted(self.completed(*given)), given)
         self.assertIn("python3", self.completed("drive", "--phone", "python3"))
 
+    def test_values_are_completed_where_there_are_few(self) -> None:
+        for given, offered in (
+            (["what-if", "--bad", "keys"], ["keys-differ"]), (["what-if", "--kinds", "twice"], ["twice", "twice,again"]), (["serve", "station", "7"], ["7"]),
+            (["drive", "--answers", ""], ["done"]),
+        ):
+            self.assertEqual(offered, self.completed(*given), given)
+        said = launched("what-if", "--bad", "x", given=b"").stderr.decode()
+        self.assertIn(f"one of {', '.join(word.replace('-', ' ') for word in pages.OUTCOMES)}, and", said)
+        said = launched("what-if", "--kinds", "x", given=b"").stderr.decode()
+        self.assertIn(f"--kinds takes {', '.join(pages.KINDS)}, with", said)
+
     @unittest.skipUnless(shutil.which("man"), "man is not here")
     def test_the_page_is_shown_without_a_warning(self) -> None:
         ran = subprocess.run(["man", "--warnings", "-l", pages.MAN], capture_output=True, text=True, env={**os.environ, "LC_ALL": "C.UTF-8", "MANWIDTH": "200"})
         self.assertEqual((0, ""), (ran.returncode, ran.stderr))
+
+
+class Version(unittest.TestCase):
+    """The version, which stands in one file, and what the library has beside it."""
+
+    VERSION = (TOP / "VERSION").read_text().strip()
+
+    def test_all_tell_the_version_of_one_file(self) -> None:
+        self.assertRegex(self.VERSION, r"^[0-9]+\.[0-9]+\.[0-9]+$")
+        newest = re.search(r"^## (\S+), .*$", (TOP / "CHANGELOG.md").read_text(), re.MULTILINE)
+        self.assertEqual(self.VERSION, newest and newest[1], "the newest part of CHANGELOG.md is of another version")
+        self.assertTrue(launched("--version").stdout.decode().startswith(f"lte_sec {self.VERSION} ("))
+        self.assertIn(f'"lte_sec {self.VERSION}"', pages.man())
+        self.assertNotRegex((TOP / "python/pyproject.toml").read_text(), r"(?m)^version")
+
+    def test_the_page_tells_the_numbers_of_the_library(self) -> None:
+        header = re.search(r"LTESEC_VERSION ([0-9]+)", (TOP / "crates/lte_sec_c/include/lte_sec.h").read_text())
+        soname = re.search(r"^soname=liblte_sec\.so\.([0-9]+)$", (HERE / "library").read_text(), re.MULTILINE)
+        native = re.search(r"^VERSION = ([0-9]+)", (TOP / "python/lte_sec/native.py").read_text(), re.MULTILINE)
+        assert header and soname and native
+        self.assertEqual(header[1], native[1])
+        page = (TOP / "docs/VERSIONS.md").read_text()
+        self.assertIn(f"`LTESEC_VERSION` {header[1]} is SONAME {soname[1]}", page)
+        self.assertIn(f"liblte_sec.so.{soname[1]}", page)
+
+    def test_the_programs_are_those_of_the_table(self) -> None:
+        programs = [line.split(" | ") for line in (HERE / "programs").read_text().splitlines() if not line.startswith("#")]
+        for word in (word for word in pages.words() if word.name in ("--proved", "--program")):
+            self.assertEqual([(name, f"asks for the program of {answers}") for name, answers in programs], word.below)
+
+
+class Pictures(unittest.TestCase):
+    def width_and_names(self, scenario: bytes) -> tuple[int, int, str]:
+        """The width of a picture of messages, how often it has the name of an actor, and the picture."""
+        with tempfile.NamedTemporaryFile() as file:
+            file.write(scenario)
+            file.flush()
+            drawn = launched("draw", "messages", file.name).stdout.decode()
+        found = re.search(r'<svg [^>]*width="(\d+)"', drawn)
+        assert found, drawn[:200]
+        return int(found[1]), drawn.count(">station 1</text>"), drawn
+
+    def test_a_long_text_is_shortened(self) -> None:
+        octets = (EXAMPLES / "run/ordinary.toml").read_bytes()
+        long = re.sub(rb'(do = "user".*?text = ")[0-9a-f]*', lambda found: found[1] + b"0123456789" * 60, octets, count=1)
+        width, _, drawn = self.width_and_names(long)
+        self.assertEqual(self.width_and_names(octets)[0], width)
+        self.assertIn(">sends 0123456789012345.. (300 octets) on drb1<", drawn)
+        self.assertIn(">opens to 0123456789012345.. (300 octets)<", drawn)
+
+    def test_a_long_name_is_shortened(self) -> None:
+        width, _, drawn = self.width_and_names(b"# " + b"a scenario with a long name " * 20 + b"\n" + SETUP.encode() + b'step = [{ do = "idle" }]\n')
+        self.assertLess(width, 1200)
+        self.assertIn(" ..</text>", drawn)
+
+    def test_the_actors_names_stand_again_each_screen(self) -> None:
+        self.assertEqual(5, self.width_and_names((EXAMPLES / "what-if/ten-handovers.toml").read_bytes())[1])
 
 
 class Verdicts(unittest.TestCase):

@@ -2,41 +2,10 @@
 
 The chain runs down (KeNB, and each NH with the key above it as SYNC-input, dashed), and to the right the keys of cells.
 """
+from lte_sec.ladders import algorithm, rows_of, title_of
 from lte_sec.picture import MONO, Picture
 
 FILLS = {"root": "#e4e7eb", "kenb": "#cfe3ff", "nh": "#cdeed6", "star": "#ffe8c7"}
-NAMES = {"1": "NAS encryption", "2": "NAS integrity", "3": "RRC encryption", "4": "RRC integrity", "5": "user plane encryption"}
-
-
-class Row:
-    def __init__(self, line):
-        _, number, form, self.key, self.holders = line.split()
-        self.number = int(number)
-        self.word, _, rest = form.partition("(")
-        self.values = rest.rstrip(")").split(",") if rest else []
-        self.parent = int(self.values[0]) if rest else None
-        self.algs, self.stars = [], []
-
-
-def rows_of(report):
-    rows = {}
-    for row in map(Row, (line for line in report if line.startswith("row "))):
-        rows[row.number] = row
-        if row.word == "alg":
-            rows[row.parent].algs.append(row)
-        elif row.word == "star":
-            rows[row.parent].stars.append(row)
-    return rows
-
-
-def title_of(row, chain_number):
-    if row.word == "root":
-        return "KASME"
-    if row.word == "kenb":
-        return f"KeNB, uplink NAS COUNT {row.values[1]}"
-    if row.word == "nh":
-        return f"NH {chain_number}, NCC {chain_number % 8}"
-    return f"KeNB*, PCI {row.values[1]}, EARFCN {row.values[2]}"
 
 
 BOX, STEP, GAP = 300, 344, 22  # the width of a box, of a column, and the space between boxes
@@ -54,7 +23,7 @@ def draw_row(picture, row, x, y, number):
     picture.text(x + BOX - 9, y + 35, row.holders, 11, MONO, weight="bold", anchor="end")
     for place, alg in enumerate(row.algs):
         at = y + 54 + 15 * place
-        picture.text(x + 9, at, f"{NAMES[alg.values[1]]}, EIA{alg.values[2]}" if alg.values[1] in "24" else f"{NAMES[alg.values[1]]}, EEA{alg.values[2]}", 9.5)
+        picture.text(x + 9, at, algorithm(alg.values), 9.5)
         picture.text(x + 186, at, f"..{alg.key[-8:]}", 9.5, MONO)
         picture.text(x + BOX - 9, at, alg.holders, 9.5, MONO, anchor="end")
 
@@ -83,12 +52,6 @@ def draw(text, name):
 
 def picture_of(report, name):
     rows, picture = rows_of(report), Picture()
-    numbers = {}
-    for row in rows.values():
-        if row.word == "kenb":
-            numbers[row.number] = 0
-        elif row.word == "nh":
-            numbers[row.number] = numbers.get(int(row.values[1]), 0) + 1
     picture.text(20, 26, name, 16, weight="bold")
     picture.text(20, 45, "Each key stands right of or below the key it is derived from; dashed: the SYNC-input of an NH (TS 33.401 A.3 to A.7).", 11, colour="#52606d")
     picture.text(20, 60, "Its first and last four octets, and who has held it: P phone, C core, S0 .. stations.", 11, colour="#52606d")
@@ -101,7 +64,7 @@ def picture_of(report, name):
         for row in chain:
             places[row.number] = at
             picture.line([(20 + BOX, top), (trunk, top), (trunk, at + 28), (20 + STEP, at + 28)])
-            at = draw_from(picture, row, 20 + STEP, at, numbers[row.number])
+            at = draw_from(picture, row, 20 + STEP, at, row.chain)
         for before, row in zip([None, *chain], chain):
             if row.word != "nh":
                 continue

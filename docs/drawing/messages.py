@@ -4,66 +4,27 @@ Each arrow is a delivery, at the step that brought it. A report does not say wha
 what made its sender send it.
 """
 import re
+import textwrap
 
-from lte_sec.messages import LINE, Line, Names
+from lte_sec.charted import lanes_of, octets, said, steps_of
+from lte_sec.ladders import names_of, rows_of
+from lte_sec.messages import LINE
 from lte_sec.picture import INK, MONO, PALE, RED, Picture
+from lte_sec.remarks import named
 
 KEY_FILLS = ["#cfe3ff", "#ffe8c7", "#cdeed6", "#f6d5e6", "#e3d9f7", "#f3f0b5", "#c9eef0", "#f5cfc5", "#d9e8c4", "#d7dbe0"]
 
-KINDS = {"kenb": "KeNB", "star": "KeNB*", "nh": "NH"}
-ROW = re.compile(r"row (\d+) (\w+)(?:\([\d,]*\))? ([0-9a-f]{64}) ")
-DOES = {
-    "smc": "starts NAS security", "connect": "sets up a connection", "release": "releases the connection", "service": "asks for service",
-    "resend": "sends its Complete again", "idle": "leaves the connection", "x2": "opens a handover over X2", "s1": "opens a handover over S1",
-    "intra": "opens a handover within itself", "command": "commands it", "cancel": "cancels it", "ask": "asks again for the path switch",
-}
+
+LANE, LETTER, MARGIN = 262, 0.62, 880  # the distance between lanes; a letter's width by its size; the width of what stands above them
+SCREEN, HEIGHT = 900, 44  # the actors' names stand again after so much, and take so much
+HEAD = (
+    "Each arrow is a delivery, at its step, with the number of the record. A key that an actor comes by or tells stands on its line,",
+    "with its kind, its row of the ladder, NCC and way. One number is one key.",
+)
 
 
-def steps_of(report, scenario):
-    """Of each step its line, its event, what came in it (record, sender, name) and what it sent (record, name)."""
-    records, names, steps = [], Names(), []
-    for event, text in zip(scenario.get("step", []), report):
-        if not LINE.match(text):
-            break
-        line, came, sent = Line.read(text), None, None
-        cause = event["do"]
-        if cause == "deliver":
-            at = event["record"] if event["record"] >= 0 else len(records) + event["record"]
-            if 0 <= at < len(records):
-                came = (at, *records[at])
-                cause = came[2]
-        name = names.of(line, cause)
-        if line.sent is not None:
-            records.append((line.who, name))
-            sent = (line.sent, name)
-        steps.append((line, event, came, sent))
-    return steps, records
-
-
-def said(event):
-    """What an actor does of its own, in words."""
-    do = event["do"]
-    if do == "auth":
-        return f"authentication, KSI {event['ksi']}"
-    if do in ("user", "rrc", "nas"):
-        return f"sends {event['text'] or 'an empty text'}" + (f" on {event['bearer']}" if do != "nas" else " on NAS")
-    if do == "skip":
-        return f"skips {event['n']} COUNTs on {event['bearer']}"
-    where = f" to PCI {event['cell'][0]}" if "cell" in event and do != "intra" else ""
-    return DOES.get(do, do) + where
-
-
-LANE = 262  # the distance between lanes
-
-
-def names_of(report):
-    """Of each key of the ladder its kind and its row."""
-    rows = [ROW.match(line) for line in report if line.startswith("row ")]
-    return {row[3]: f"{KINDS.get(row[2], row[2])} {row[1]}" for row in rows if row}
-
-
-def draw(text, scenario, name):
-    """The picture of a report of this scenario, under its name, and why there is none."""
+def draw(text, scenario, name, frames):
+    """The picture of a report of this scenario, under its name and with the frames of its steps, and why there is none."""
     report = text.splitlines()
     if not report or not LINE.match(report[0]):
         return None, "it has no steps"
@@ -71,67 +32,79 @@ def draw(text, scenario, name):
     steps = len(scenario.get("step", []))
     if ends and int(ends[0]) != steps:
         return None, f"it has {ends[0]} steps, and the scenario {steps}"
-    return picture_of(report, scenario, name), None
+    return picture_of(report, scenario, name, frames), None
 
 
-def picture_of(report, scenario, name):
-    names = names_of(report)
-    steps, records = steps_of(report, scenario)
-    cores = sorted({line.who for line, *_ in steps if line.who.startswith("core")}) or ["core"]
-    lanes = ["phone", *(f"station {s['id']}" for s in sorted(scenario["station"], key=lambda s: s["id"])), *cores]
+def picture_of(report, scenario, name, frames):
+    names = names_of(rows_of(report).values())
+    steps = steps_of(report, scenario)
+    lanes = lanes_of(scenario, steps)
     x_of = {lane: 150 + LANE * place for place, lane in enumerate(lanes)}
-    picture, fills, y = Picture(), {}, 78
+    right = x_of[lanes[-1]] + 150
+    picture, fills = Picture(), {}
     delivered = {came[0] for _, _, came, _ in steps if came}
-    picture.text(20, 26, name, 16, weight="bold")
-    picture.text(20, 45, "Each arrow is a delivery, at its step, with the number of the record. A key that an actor comes by or tells stands on its line,", 11, colour="#52606d")
-    picture.text(20, 60, "with its kind, its row of the ladder, NCC and way. One number is one key.", 11, colour="#52606d")
-    begin, later = y, []
-    y += 44
+    picture.text(20, 26, textwrap.shorten(name, int(max(right, MARGIN) / LETTER / 16), placeholder=" .."), 16, weight="bold")
+    for place, words in enumerate(HEAD):
+        picture.text(20, 45 + 15 * place, words, 11, colour="#52606d")
+    begin = y = screen = 78
+    later, heads = [], [begin]
+    y += HEIGHT
     for number, (line, event, came, sent) in enumerate(steps):
-        at = [x_of["phone"], x_of[cores[0]]] if line.who == "both" else [x_of.get(line.who, x_of["phone"])]
-        later.append(("step", 20, y, number))
-        if came:
-            source = x_of[came[1]]
-            later.append(("arrow", source, at[0], y, f"{came[0]} {came[2]}"))
-        elif event["do"] == "inject":
-            later.append(("arrow", at[0] - 0.7 * LANE, at[0], y, "injected octets"))
-        else:
-            words = said(event) if event["do"] != "deliver" else "no such record"
-            for x in at:
-                later.append(("act", x, y, words))
-        below = y + 7
-        if line.answer != "done":
-            below += 14
-            later.append(("refusal", at[0], below, line.answer))
-        if line.text is not None:
-            below += 14
-            later.append(("opened", at[0], below, f"opens to {line.text or 'an empty text'}"))
-        if line.note:
-            fill = fills.setdefault(line.note.key, KEY_FILLS[len(fills) % len(KEY_FILLS)])
-            key, way, ncc = line.note.key, line.note.way, line.note.ncc
-            later.append(("key", at[0], below + 4, (f"{names.get(key, '')} {key[:8]}..".strip(), way, ncc), fill))
-            below += 24
-        if sent and sent[0] not in delivered:
-            below += 16
-            later.append(("lost", at[0], below, f"{sent[0]} {sent[1]}, not delivered"))
-        y = max(y + 30, below + (26 if line.text is not None else 20))
+        if y - screen > SCREEN:
+            heads.append(y - 14)
+            screen, y = y, y + HEIGHT
+        at = [x_of["phone"], x_of[next(lane for lane in lanes if lane.startswith("core"))]] if line.who == "both" else [x_of.get(line.who, x_of["phone"])]
+        later.append(("step", 20, y, named(number, frames)))
+        later += brought(event, came, at, y, x_of)
+        is_lost = sent and sent[0] not in delivered
+        y = below_of(later, line, sent if is_lost else None, at[0], y, lambda key: (fills.setdefault(key, KEY_FILLS[len(fills) % len(KEY_FILLS)]), names.get(key, "")))
     for lane in lanes:
         picture.line([(x_of[lane], begin + 26), (x_of[lane], y)], PALE, arrow=False)
-        picture.box(x_of[lane] - 52, begin, 104, 26, "#e4e7eb")
-        picture.text(x_of[lane], begin + 17, lane, 12.5, weight="bold", anchor="middle")
+        for head in heads:
+            picture.box(x_of[lane] - 52, head, 104, 26, "#e4e7eb")
+            picture.text(x_of[lane], head + 17, lane, 12.5, weight="bold", anchor="middle")
     for item in later:
         draw_item(picture, *item)
     for text in report[len(steps):]:
         if " coincidence " in text:
             picture.text(20, y + 16, text.split(" coincidence ")[0] + " coincidence: the run ends here", 12, colour=RED, weight="bold")
-    picture.reach(x_of[lanes[-1]] + 150, y)
+    picture.reach(right, y)
     return picture.svg(name)
+
+
+def brought(event, came, at, y, x_of):
+    """What brings a step: a delivery, or what an actor does of its own."""
+    if came:
+        return [("arrow", x_of[came[1]], at[0], y, f"{came[0]} {came[2]}")]
+    if event["do"] == "inject":
+        return [("arrow", at[0] - 0.7 * LANE, at[0], y, "injected octets")]
+    words = said(event) if event["do"] != "deliver" else "no such record"
+    return [("act", x, y, words) for x in at]
+
+
+def below_of(later, line, lost, x, y, key_of):
+    """Puts what stands below a step into `later`: a refusal, a text, a key, what is not delivered; where the next step stands."""
+    below = y + 7
+    if line.answer != "done":
+        below += 14
+        later.append(("refusal", x, below, line.answer))
+    if line.text is not None:
+        below += 14
+        later.append(("opened", x, below, f"opens to {octets(line.text)}"))
+    if line.note:
+        fill, name = key_of(line.note.key)
+        later.append(("key", x, below + 4, (f"{name} {line.note.key[:8]}..".strip(), line.note.way, line.note.ncc), fill))
+        below += 24
+    if lost:
+        below += 16
+        later.append(("lost", x, below, f"{lost[0]} {lost[1]}, not delivered"))
+    return max(y + 30, below + (26 if line.text is not None else 20))
 
 
 def draw_item(picture, what, *values):
     if what == "step":
         x, y, number = values
-        picture.text(x, y + 4, str(number), 11, MONO, "#52606d")
+        picture.text(x, y + 4, number, 11, MONO, "#52606d")
     elif what == "arrow":
         source, target, y, words = values
         if source == target:

@@ -28,10 +28,10 @@ class Calls(Protocol):
 
 def calls() -> Calls:
     try:
-        from lte_sec import library  # type: ignore[attr-defined]
+        from lte_sec import library
 
         library.kenb(bytes(32), 0)
-        return library  # type: ignore[return-value]
+        return library
     except Exception:  # the library says in its own way that it is not built
         from tests.standin import StandIn
 

@@ -8,6 +8,9 @@ What a core does in other scenarios is left to be written: it ends with a line t
 """
 from __future__ import annotations
 
+from collections.abc import Callable
+from typing import Any
+
 import serving
 from calls import DOWN, UP, calls
 from lte_sec.frames import Input, Note, Reply, spelled_cell
@@ -26,15 +29,17 @@ class Core:
     """What the core has: cells, the last authentication, NAS keys, the connection, and the present pair of its chain."""
 
     def __init__(self, setup: Input):
-        self.sites = {pair: station for station, pair in setup.fields["cells"]}
-        self.eea, self.conn = setup.fields["priority"][0], setup.fields["first"]
+        fields: dict[str, Any] = setup.fields
+        self.sites: dict[tuple[int, int], int] = {pair: station for station, pair in fields["cells"]}
+        self.eea: int = fields["priority"][0]
+        self.conn: int = fields["first"]
         self.auth: tuple[int, bytes, bytes] | None = None
         self.nas: tuple[bytes, bytes] | None = None  # the keys of 16 octets, encryption and integrity
         self.trigger: int | None = None
         self.ncc, self.sync = 0, b""  # the NCC of the present pair, and the SYNC-input of the next NH (A.4)
 
     def __call__(self, told: Input) -> Reply:
-        answer = getattr(self, told.name, None)
+        answer: Callable[..., Reply] | None = getattr(self, told.name, None)
         if answer is None:
             raise NotImplementedError(f"not written yet: {told}")
         return answer(**told.fields)

@@ -9,6 +9,7 @@ message is not one of those, it answers with what docs/FRAMES.md says, so that a
 from __future__ import annotations
 
 import dataclasses
+from collections.abc import Callable
 
 import serving
 from calls import DOWN, UP, calls
@@ -87,7 +88,7 @@ class Phone:
         self.ncc, self.sync = 0, b""  # the chain number, and the SYNC-input of its next step (A.4)
 
     def __call__(self, told: Input) -> Reply:
-        answer = getattr(self, told.name, None)
+        answer: Callable[..., Reply] | None = getattr(self, told.name, None)
         if answer is None:
             raise NotImplementedError(f"not written yet: {told}")
         return answer(**told.fields)
@@ -105,10 +106,12 @@ class Phone:
         (whole_enc, enc), (whole_int, int_key) = key(kasme, 1, eea), key(kasme, 2, 2)
         wanted = CALLS.eia2(int_key, count, 0, DOWN, pdu[5:])
         if ksi != held or text[3:5] != self.caps or got_mac != wanted:
-            reject = {"to": b"\2", "record": b"\x07\x03\x18"}  # a Security Mode Reject, cause 24
+            reject = Reply(to=b"\2", record=b"\x07\x03\x18")  # a Security Mode Reject, cause 24
             if ksi != held:
-                return Reply(WRONG_KSI, bytes([held, ksi]), **reject)
-            return Reply(MAC_FAILS, number(count, 4) + wanted + got_mac, **reject) if got_mac != wanted else self.unwritten("other capabilities", pdu)
+                return dataclasses.replace(reject, answer=WRONG_KSI, values=bytes([held, ksi]))
+            if got_mac != wanted:
+                return dataclasses.replace(reject, answer=MAC_FAILS, values=number(count, 4) + wanted + got_mac)
+            return self.unwritten("other capabilities", pdu)
         self.kenb = CALLS.kenb(kasme, 0)
         self.ncc, self.sync = 0, self.kenb
         covered = b"\0" + ciphered(eea, enc, 0, 0, UP, b"\2")

@@ -9,8 +9,10 @@ import socket
 import sys
 from typing import Callable
 
-import calls  # noqa: F401  (where the package of this repository is)
+from calls import PYTHON
 from lte_sec import frames
+
+assert PYTHON in sys.path, "the package of this repository"
 
 Actor = Callable[[frames.Input], frames.Reply]
 

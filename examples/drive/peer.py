@@ -23,14 +23,14 @@ SAYS = {
 }
 
 
-def frames_of(role):
+def frames_of(role: str) -> list[tuple[bytes, bytes]]:
     """The frames of a role's session, each with its reply."""
     with open(f"{HERE}/../serve/{role}.frames") as file:
         octets = [bytes.fromhex(line.split()[1]) for line in file if line.strip()]
     return list(zip(octets[0::2], octets[1::2]))
 
 
-def take(connection, size):
+def take(connection: socket.socket, size: int) -> bytes:
     """So many octets of a connection, or as many as there are."""
     octets = b""
     while len(octets) < size:
@@ -41,7 +41,7 @@ def take(connection, size):
     return octets
 
 
-def answered(connection, reply, how):
+def answered(connection: socket.socket, reply: bytes, how: str) -> bool:
     """Replies so, and says whether the session goes on."""
     if how == "closes":
         return False
@@ -58,7 +58,7 @@ def answered(connection, reply, how):
     return True
 
 
-def serve(pairs, number, how):
+def serve(pairs: list[tuple[bytes, bytes]], number: int, how: str) -> None:
     """One session, in which the reply with this number is wrong. It ends where the program ends it, read or not."""
     with socket.create_server(("127.0.0.1", 0)) as listener:
         print(listener.getsockname()[1], flush=True)
@@ -73,14 +73,14 @@ def serve(pairs, number, how):
         connection.recv(1)
 
 
-def main():
+def main() -> None:
     folder, wrong, number, how, word, *words = sys.argv[1:]
     open(f"{folder}/{os.getpid()}", "w").close()
     role = "-".join(words)
     if word != "serve" or role not in ("phone", "core", "station-0", "station-1"):
         sys.exit(2)
     if role != wrong:
-        number, how = 0, "is right"
+        number, how = "0", "is right"
     if how in SAYS or how == "says nothing":
         if how in SAYS:
             print(SAYS[how], flush=True)

@@ -9,7 +9,7 @@ import pathlib
 import sys
 
 
-def main():
+def main() -> None:
     file, program, *words = sys.argv[1:]
     pathlib.Path(file).write_text(json.dumps(words), encoding="utf-8")
     os.execv(program, [program, *words[-3:]])

@@ -6,28 +6,35 @@ import pathlib
 import signal
 import subprocess
 import sys
+import time
 
 sys.dont_write_bytecode = True
 sys.path.insert(0, str(pathlib.Path(__file__).resolve().parent.parent / "actor"))
 import phone  # noqa: E402
 import serving  # noqa: E402
+from lte_sec.frames import Reply  # noqa: E402
 
 FOLDER, HOW = sys.argv[1:3]
 
 
 class WrongPhone(phone.Phone):
-    def secured(self, pdu):
+    def secured(self, pdu: bytes) -> Reply:
         reply = super().secured(pdu)
+        assert reply.record
         if HOW == "dies":
             os._exit(1)
+        if HOW == "falls":
+            raise SystemExit("it fell\nat the third line\nof what it says")
         if HOW == "hangs":
             signal.pause()
+        if HOW == "thinks":
+            time.sleep(12)
         if HOW == "changes":
             return dataclasses.replace(reply, record=reply.record[:-1] + bytes([reply.record[-1] ^ 1]))
         return dataclasses.replace(reply, record=reply.record + b"\0") if HOW == "lengthens" else reply
 
 
-def main():
+def main() -> None:
     # A process of its own below it, as a product's program may have: it is not to be left either.
     helper = subprocess.Popen(["sleep", "60"])
     for number in (os.getpid(), helper.pid):

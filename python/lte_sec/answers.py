@@ -7,7 +7,9 @@ from dataclasses import dataclass, field
 from itertools import groupby
 from typing import Any
 
-from .outcomes import GOES_ON, RANK, limit
+from .charted import Chart, with_numbers
+from .outcomes import GOES_ON, RANK, USUAL_BAD, limit
+from .remarks import named, with_frames
 from .study import Variant
 from .variants import KINDS, Fault
 
@@ -31,6 +33,8 @@ class Answer:
     counts: dict[int, Counter[str]] = field(default_factory=dict)
     part: tuple[int, int] | None = None
     whole: bool = True
+    frames: dict[int, str] = field(default_factory=dict)  # of steps, where the scenario has them
+    chart: Chart | None = None  # its own course, where those of the variants are kept
 
     def take(self, variants: Iterable[Variant]) -> None:
         for variant in variants:
@@ -55,18 +59,23 @@ def order(variant: Variant) -> tuple[int, list[tuple[int, int, int]]]:
 # As JSON
 
 def to_json(answer: Answer) -> dict[str, Any]:
+    variants, chart = [*answer.singles, *answer.together], answer.chart
+    steps, runs = with_numbers(variant.run for variant in variants)
+    charted = {} if chart is None else {"name": chart.name, "lanes": chart.lanes, "base": chart.base, "steps": steps}
     return {
         "version": VERSION,
         "tried": answer.tried,
         "part": f"{answer.part[0]}/{answer.part[1]}" if answer.part else None,
         "whole": answer.whole,
-        "messages": [{"step": int(step), "message": message} for step, message in answer.messages.items()],
-        "variants": [variant_json(variant, answer.messages) for variant in [*answer.singles, *answer.together]],
+        "messages": [{"step": int(step), "message": message, "frame": answer.frames.get(int(step))} for step, message in answer.messages.items()],
+        "variants": [variant_json(variant, answer) | ({"run": run, "gone": variant.gone} if chart else {}) for variant, run in zip(variants, runs)],
         "counts": {str(faults): {word: counts[word] for word in RANK if counts[word]} for faults, counts in sorted(answer.counts.items())},
+        **charted,
     }
 
 
-def variant_json(variant: Variant, messages: dict[str, str]) -> dict[str, Any]:
+def variant_json(variant: Variant, answer: Answer) -> dict[str, Any]:
+    messages = answer.messages
     faults = [
         {"kind": fault.kind, "step": int(fault.item), "message": messages[fault.item]} | ({"after": int(fault.after)} if fault.after else {})
         for fault in variant.faults
@@ -79,10 +88,13 @@ def from_json(it: dict[str, Any]) -> Answer:
     part = it["part"]
     numbers = part.split("/") if part else []
     answer = Answer(it["tried"], {str(each["step"]): each["message"] for each in it["messages"]}, whole=it["whole"])
+    answer.frames = {each["step"]: each["frame"] for each in it["messages"] if each.get("frame")}
     answer.part = (int(numbers[0]), int(numbers[1])) if numbers else None
+    answer.chart = Chart(it["name"], it["lanes"], it["base"]) if "base" in it else None
     for each in it["variants"]:
         faults = tuple(Fault(one["kind"], str(one["step"]), str(one["after"]) if "after" in one else None) for one in each["faults"])
-        variant = Variant(faults, {one["is"]: one["what"] for one in each["outcomes"]}, each["answers"])
+        variant = Variant(faults, {one["is"]: one["what"] for one in each["outcomes"]}, each["answers"], gone=each.get("gone", []))
+        variant.run = [it["steps"][entry] if isinstance(entry, int) else entry for entry in each.get("run", [])]
         (answer.singles if len(faults) == 1 else answer.together).append(variant)
     answer.counts = {int(faults): Counter(counts) for faults, counts in it["counts"].items()}
     return answer
@@ -99,7 +111,7 @@ def merged(parts: list[Answer]) -> Answer:
     have = sorted(part.part or (1, 1) for part in parts)
     if have != [(each, number) for each in range(1, number + 1)]:
         raise NoParts(f"the parts are {', '.join(f'{each}/{of}' for each, of in have)}, and each of 1/{number} to {number}/{number} is wanted once")
-    whole = Answer(first.tried, first.messages)
+    whole = Answer(first.tried, first.messages, frames=first.frames, chart=first.chart)
     for part in parts:
         whole.singles += part.singles
         whole.together += part.together
@@ -116,15 +128,16 @@ def table(answer: Answer) -> Iterator[str]:
     kinds: list[str] = [kind for kind in KINDS if kind in answer.tried["kinds"]]
     cells = {place: list(variants) for place, variants in groupby(answer.singles, lambda it: (it.faults[0].item, it.faults[0].kind))}
     width = max([len("message"), *map(len, answer.messages.values())])
-    yield f"{'step':>4} {'message':<{width}}" + "".join(f"  {kind:<20}" for kind in kinds).rstrip()
+    steps = max([4, *(len(named(step, answer.frames)) for step in answer.messages)])
+    yield f"{'step':>{steps}} {'message':<{width}}" + "".join(f"  {kind:<20}" for kind in kinds).rstrip()
     for step, message in answer.messages.items():
-        yield f"{step:>4} {message:<{width}}" + "".join(f"  {cell(cells.get((step, kind), [])):<20}" for kind in kinds).rstrip()
-    told = [*tellings(answer.singles, answer.messages), *tellings(answer.together, answer.messages)]
+        yield f"{named(step, answer.frames):>{steps}} {message:<{width}}" + "".join(f"  {cell(cells.get((step, kind), [])):<20}" for kind in kinds).rstrip()
+    told = [*tellings(answer.singles, answer), *tellings(answer.together, answer)]
     if told:
         yield ""
         yield from told
     yield ""
-    if any(" (here; " in line for line in told):
+    if any(" (here" in line for line in told):
         yield f"here: a limit of this profile and not of LTE, see {LINK}"
     yield "; ".join(counted(faults, answer) for faults in sorted(answer.counts)) or "no variant"
 
@@ -138,15 +151,17 @@ def cell(variants: list[Variant]) -> str:
     return worst if at == len(variants) else f"{worst} {at}/{len(variants)}"
 
 
-def tellings(variants: list[Variant], messages: dict[str, str]) -> Iterator[str]:
+def tellings(variants: list[Variant], answer: Answer) -> Iterator[str]:
     """A line for variants that differ only in places, if they are worse than `goes on`."""
+    messages, frames = answer.messages, answer.frames
     bad = [variant for variant in variants if RANK[variant.worst] > RANK[GOES_ON]]
     told: list[tuple[Variant, list[list[Fault]]]] = [(variant, [[fault] for fault in variant.faults]) for variant in bad]
     for at in reversed(range(max((len(variant.faults) for variant in bad), default=0))):
         told = together(told, at)
     for first, faults in told:
-        outcomes = "; ".join(outcome(first, word, messages) for word in first.outcomes)
-        yield f"{' and '.join(of_faults(each, messages) for each in faults)}: {outcomes}" + (f", from {', '.join(first.answers)}" if first.answers else "")
+        outcomes = "; ".join(outcome(first, word, answer) for word in first.outcomes)
+        answers = f", from {with_frames(', '.join(first.answers), frames)}" if first.answers else ""
+        yield f"{' and '.join(of_faults(each, messages, frames) for each in faults)}: {outcomes}{answers}"
 
 
 def together(told: list[tuple[Variant, list[list[Fault]]]], at: int) -> list[tuple[Variant, list[list[Fault]]]]:
@@ -165,17 +180,18 @@ def together(told: list[tuple[Variant, list[list[Fault]]]], at: int) -> list[tup
     return list(groups.values())
 
 
-def outcome(variant: Variant, word: str, messages: dict[str, str]) -> str:
-    """An outcome with its limit and what it is about."""
-    here, what = limit(variant, word, messages), variant.outcomes[word]
+def outcome(variant: Variant, word: str, answer: Answer) -> str:
+    """An outcome with its limit and what it is about. The steps of keys that differ are the variant's own, which have no frames."""
+    here, what = limit(variant, word, answer.messages), variant.outcomes[word]
+    what = what if word == USUAL_BAD else with_frames(what, answer.frames)
     return word + (f" (here; {here})" if here else "") + (f" [{what}]" if what else "")
 
 
-def of_faults(faults: list[Fault], messages: dict[str, str]) -> str:
+def of_faults(faults: list[Fault], messages: dict[str, str], frames: dict[int, str]) -> str:
     """Faults of one message and kind, in words."""
     first = faults[0]
-    after = f" after {', '.join(str(fault.after) for fault in faults)}" if first.after is not None else ""
-    return f"{first.item} {messages[first.item]} {first.kind}{after}"
+    after = f" after {', '.join(named(fault.after or 0, frames) for fault in faults)}" if first.after is not None else ""
+    return f"{named(first.item, frames)} {messages[first.item]} {first.kind}{after}"
 
 
 def counted(faults: int, answer: Answer) -> str:

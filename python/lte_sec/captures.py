@@ -16,6 +16,7 @@ from dataclasses import replace
 from pathlib import Path
 
 from .decoding import Message, Pairs, diameter, fresh, gtpv2, is_tree, pdu, rrc
+from .progress import told
 from .terms import TraceError
 
 LAYERS = "frame ip ipv6 sctp s1ap x2ap lte_rrc exported_pdu diameter gtpv2 _ws.malformed"
@@ -41,6 +42,8 @@ def packets(lines: Iterable[str], named: str) -> Iterator[Pairs]:
             text.append(line)
         elif line.strip() in ("[", "]", ",", ""):
             begun, ended = begun or line.strip() == "[", ended or line.strip() == "]"
+        elif line.strip() == "[]":  # nothing that it was asked for
+            begun = ended = True
         else:
             raise TraceError(f"{named} is not what tshark -T json prints: {line.strip()[:40]}")
     if not begun or not ended:
@@ -73,12 +76,22 @@ def address(layers: Pairs, end: str) -> str:
     return f"{ip}:{last(layers, 'sctp', f'sctp.{end}port')}"
 
 
+def tsns(layers: Pairs) -> Iterator[int]:
+    """The numbers of SCTP's DATA chunks in a frame; a bundle shows each chunk in a tree of its own."""
+    for layer, value in layers:
+        for _, chunk in value if layer == "sctp" and is_tree(value) else []:  # type: ignore[attr-defined]
+            text = str(member(chunk, "sctp.data_tsn_raw"))
+            if text.isdigit():
+                yield int(text)
+
+
 def messages(lines: Iterable[str], label: str = "", named: str = "the text") -> Iterator[Message]:
     """The messages of a capture, from the lines of tshark's JSON; `label` stands before the number of each frame."""
     for layers in packets(lines, named):
         frame, time = last(layers, "frame", "frame.number"), last(layers, "frame", "frame.time_epoch")
         try:
-            base = Message(label + frame, float(time), "", "", address(layers, "src"), address(layers, "dst"), last(layers, "sctp", "sctp.verification_tag"))
+            tag = last(layers, "sctp", "sctp.verification_tag")
+            base = Message(label + frame, float(time), "", "", address(layers, "src"), address(layers, "dst"), tag, tuple(tsns(layers)))
         except ValueError:
             raise TraceError(f"{named} is not what tshark -T json prints: a packet without its time") from None
         yield from of_frame(base, layers)
@@ -154,7 +167,7 @@ def read_capture(capture: Path, label: str) -> Iterator[Message]:
 
 def read_all(captures: list[Path]) -> list[Message]:
     """The messages of one capture, or of several in the order of their times; frames of all but the first have its file's name."""
-    found = [message for place, capture in enumerate(captures) for message in read(capture, f"{capture.name} " if place else "")]
+    found = [message for place, capture in enumerate(captures) for message in told(read(capture, f"{capture.name} " if place else ""), "read")]
     if len(captures) > 1:
         found.sort(key=lambda message: message.time)
     return found

@@ -7,6 +7,8 @@ from pathlib import Path
 
 from .terms import TraceError
 
+GREATEST_PCI, GREATEST_EARFCN = 503, 262143
+RANGES = f"PCI is 0 to {GREATEST_PCI}, EARFCN-DL 0 to {GREATEST_EARFCN}"
 WIDE, DOWN_EXTENSION, TDD_EXTENSION = 65535, 96, 94  # TS 36.423 9.3.7: id-DL-EARFCNExtension, id-eARFCNExtension
 
 
@@ -21,6 +23,11 @@ class Site:
     station: str = ""
 
 
+def is_cell(pci: int, earfcn: int) -> bool:
+    """Whether a cell may have this PCI and EARFCN-DL."""
+    return 0 <= pci <= GREATEST_PCI and 0 <= earfcn <= GREATEST_EARFCN
+
+
 class Cells:
     """The cells that are known, and which station has which cell and address."""
 
@@ -29,6 +36,8 @@ class Cells:
         self.given: set[int] = set()
         self.names: dict[int, str] = {}  # by eNB identity
         self.addresses: dict[str, str] = {}
+        self.changes: dict[int, list[tuple[int, Site]]] = {}  # of a cell, from places of the trace on
+        self.now = 0  # the place that is read
         for site in sites:
             self.learn(site)
             self.given.add(site.eci)
@@ -40,6 +49,14 @@ class Cells:
             if site.station:
                 self.names.setdefault(site.eci >> 8, site.station)
 
+    def changed(self, site: Site, place: int) -> None:
+        """From this place of the trace on a cell has another PCI or EARFCN."""
+        self.changes.setdefault(site.eci, []).append((place, site))
+
+    def at(self, eci: int) -> Site | None:
+        """A cell as it is at the place that is read."""
+        return next((site for place, site in reversed(self.changes.get(eci, [])) if place <= self.now), self.sites.get(eci))
+
     def station(self, eci: int | None) -> str:
         """The name of the station that has a cell."""
         if eci is None:
@@ -48,19 +65,23 @@ class Cells:
         return site.station if site and site.station else self.names.get(eci >> 8) or self.names.get(eci) or f"eNB {eci >> 8:x}"
 
     def of(self, station: str) -> list[Site]:
-        return [site for site in self.sites.values() if self.station(site.eci) == station]
+        return [self.at(site.eci) or site for site in self.sites.values() if self.station(site.eci) == station]
+
+    def every(self) -> list[Site]:
+        """All cells, with what they were before and after."""
+        return [*self.sites.values(), *(site for changes in self.changes.values() for _, site in changes)]
 
     def pcis(self) -> list[int]:
-        return sorted({site.pci for site in self.sites.values()})
+        return sorted({site.pci for site in self.every()})
 
     def earfcns(self) -> list[int]:
         """EARFCN-DLs, and what is taken in their place: EARFCN-ULs, and of wide ones the low 16 bits and 65535."""
-        down = {site.earfcn for site in self.sites.values()}
+        down = {site.earfcn for site in self.every()}
         wide = {earfcn for earfcn in down if earfcn > WIDE}
-        return sorted(down | {site.up for site in self.sites.values() if site.up is not None} | {e & WIDE for e in wide} | ({WIDE} if wide else set()))
+        return sorted(down | {site.up for site in self.every() if site.up is not None and site.up <= GREATEST_EARFCN} | {e & WIDE for e in wide} | ({WIDE} if wide else set()))
 
     def pairs(self) -> set[tuple[int, int]]:
-        return {(site.pci, site.earfcn) for site in self.sites.values()}
+        return {(site.pci, site.earfcn) for site in self.every()}
 
 
 def read_cells(file: Path) -> list[Site]:
@@ -79,8 +100,8 @@ def read_cells(file: Path) -> list[Site]:
             site = Site(int(eci, 16), int(pci), int(earfcn), int(more[0]) if more else None, station)
         except ValueError:
             raise TraceError(f"{file}:{place}: a cell is: station, ECI in hex, PCI, EARFCN-DL, EARFCN-UL") from None
-        if not (0 <= site.pci <= 503 and 0 <= site.earfcn <= 262143 and site.eci < 1 << 28):
-            raise TraceError(f"{file}:{place}: PCI is 0 to 503, EARFCN-DL 0 to 262143, ECI has 28 bits")
+        if not (is_cell(site.pci, site.earfcn) and site.eci < 1 << 28):
+            raise TraceError(f"{file}:{place}: {RANGES}, ECI has 28 bits")
         found.append(site)
     return found
 
@@ -117,6 +138,6 @@ def site_of(pairs: list[tuple[str, object]]) -> Site | None:
     earfcn = found.get("x2ap.dL_EARFCN", found.get("x2ap.eARFCN"))
     if earfcn == WIDE:
         earfcn = found.get(f"wide {DOWN_EXTENSION}", found.get(f"wide {TDD_EXTENSION}", earfcn))
-    if earfcn is None or found.get("x2ap.pCI", 504) > 503 or "x2ap.eUTRANcellIdentifier" not in found:
+    if earfcn is None or "x2ap.pCI" not in found or "x2ap.eUTRANcellIdentifier" not in found:
         return None
     return Site(found["x2ap.eUTRANcellIdentifier"], found["x2ap.pCI"], earfcn, found.get("x2ap.uL_EARFCN"))

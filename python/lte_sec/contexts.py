@@ -3,7 +3,7 @@ from __future__ import annotations
 
 from dataclasses import dataclass, field
 
-from .report import Verdict
+from .report import DIFFERS, Verdict
 from .terms import DOWN, UP
 
 NAMES = {
@@ -14,7 +14,8 @@ NAMES = {
     0x51: "GUTI reallocation complete", 0x52: "Authentication request", 0x53: "Authentication response", 0x54: "Authentication reject",
     0x55: "Identity request", 0x56: "Identity response", 0x5C: "Authentication failure", 0x5D: "Security mode command",
     0x5E: "Security mode complete", 0x5F: "Security mode reject", 0x60: "EMM status", 0x61: "EMM information",
-    0x62: "Downlink NAS transport", 0x63: "Uplink NAS transport",
+    0x62: "Downlink NAS transport", 0x63: "Uplink NAS transport", 0x64: "CS service notification",
+    0x68: "Downlink generic NAS transport", 0x69: "Uplink generic NAS transport",
 }
 PLAIN, COMMAND, COMPLETE, PARTLY = 0, 3, 4, 5  # security header types (TS 24.301 9.3.1)
 CIPHERED = (2, 4)
@@ -31,8 +32,9 @@ class NasContext:
     eia: int = 2
     ksi: int | None = None
     next: dict[int, int] = field(default_factory=lambda: {UP: 0, DOWN: 0})
-    seen: dict[tuple[int, int], bytes] = field(default_factory=dict)
+    seen: dict[tuple[int, int], tuple[bytes, NasSide]] = field(default_factory=dict)
     capabilities: tuple[int, int] | None = None  # of the phone, as S1 has them
+    resumed: bool = False  # it was in use before, under other algorithms
     guessed: bool = False  # no Command told its algorithms: the ciphering shows at the first ciphered message
 
     @property
@@ -69,9 +71,14 @@ class NasSide:
     ciphered: bool = False  # ciphering has begun (4.4.5)
     completed: bool = False  # a Complete came that could not be judged
     authenticated: bool = False  # an authentication whose Security Mode exchange did not come yet
+    offered: int | None = None  # the KSI of an Authentication Request that no Command has used yet
+    fresh: bool = False  # the trace shows that the phone has no key yet, or an authentication: the next KASME begins
+    commands: int = 0  # Security Mode Commands of the connection
+    rejected: set[int] = field(default_factory=set)  # KASMEs whose Command the phone refused
     told: bytes | None = None  # EEA, EIA, UEA and UIA of the phone's own Attach or Tracking Area Update Request
     capabilities: tuple[int, int] | None = None  # of the phone, as S1 has them: ciphering, integrity
     emergency: bool = False
+    away: bool = False  # the phone was where the trace shows nothing: it may have come by another KASME
 
 
 @dataclass
@@ -89,6 +96,11 @@ class NasSeen:
     note: str = ""
     faults: list[str] = field(default_factory=list)
     warning: str = ""
+    text_right: bool = False  # the text was ciphered, and reads as NAS
+
+    def blame(self, fault: str) -> None:
+        self.faults.append(fault)
+        self.verdict = DIFFERS
 
     @property
     def name(self) -> str:

@@ -10,7 +10,7 @@ from dataclasses import dataclass, field, replace
 from .cells import Site, sites_of
 
 # numbers of protocol IEs: TS 36.413 9.3.7, TS 36.423 9.3.7
-NEW_X2, OLD_X2, NEW_SECURITY_CONTEXT = 9, 10, 157
+NEW_X2, OLD_X2 = 9, 10
 WIDE = 65535  # an EARFCN that stands in an extension instead (TS 36.331 6.2.2, TS 36.423 9.2.26)
 KEY_OCTETS = 32
 
@@ -46,6 +46,7 @@ class MmContext:
     ksi: int | None
     nh: bytes | None
     ncc: int | None
+    old: MmContext | None = None  # the context that stations go on from, where KASME is a new one (TS 33.401 7.2.10)
 
 
 @dataclass
@@ -59,6 +60,7 @@ class Message:
     source: str = ""  # address and port
     target: str = ""
     tag: str = ""  # SCTP's verification tag: it names the receiving end, whatever its addresses
+    tsns: tuple[int, ...] = ()  # SCTP's numbers of the DATA chunks in the frame
     enb_id: int | None = None  # eNB-UE-S1AP-ID
     mme_id: int | None = None  # MME-UE-S1AP-ID
     old_x2: int | None = None
@@ -81,13 +83,17 @@ class Message:
     capabilities: tuple[int, int] | None = None  # of the phone, ciphering and integrity: bits for algorithms 1, 2 and 3
     reestablishment: list[Reestablishment] = field(default_factory=list)
     secrets: list[tuple[str, bytes]] = field(default_factory=list)  # keys that are not judged, by name
-    new_context: bool = False  # the New Security Context Indicator (TS 36.413 9.2.3.30)
     kind: int | None = None  # of a handover: 0 is intra-LTE (TS 36.413 9.2.1.13)
     cause: int | None = None  # RRC Establishment Cause: 0 is emergency (9.2.1.3a)
     sites: list[Site] = field(default_factory=list)
     kasmes: list[bytes] = field(default_factory=list)
     mm: MmContext | None = None
     fault: str = ""  # why the message is not read as it stands
+
+
+def title(message: Message) -> str:
+    """The name of a message in a line: X2's have it before them, as some are named as S1's."""
+    return {"X2": f"X2 {message.name}", "RRC": "RRC", "S6a": f"S6a {message.name}", "GTPv2": f"GTPv2 {message.name}"}.get(message.link, message.name)
 
 
 def octets(text: object) -> bytes:
@@ -201,7 +207,6 @@ def fill(message: Message, fields: Pairs) -> None:
     for path, ie, name, value in leaves(fields):
         if any(part.endswith(OTHER_CELLS) for part in path):
             continue
-        message.new_context |= ie == NEW_SECURITY_CONTEXT
         if name.startswith("lte-rrc."):
             radio.append((path, name, value))
         if REESTABLISHMENT in path:
@@ -289,6 +294,10 @@ def gtpv2(base: Message, value: Pairs) -> Iterator[Message]:
     ksi = next((number(found[name]) for name in ("mm_context_ksi_a", "mm_context_ksi") if name in found), None)
     nh = key(found["mm_context_nh"]) if "mm_context_nh" in found else None
     kasme = key(found["mm_context_kasme"])
-    context = MmContext(kasme, ksi, nh, number(found["mm_context_ncc"]) if "mm_context_ncc" in found else None)
+    old = None
+    if {"mm_context_old_kasme", "mm_context.old_nh", "old_ncc"} <= set(found):
+        old_ksi = number(found["old_ksiasme"]) if "old_ksiasme" in found else None
+        old = MmContext(key(found["mm_context_old_kasme"]), old_ksi, key(found["mm_context.old_nh"]), number(found["old_ncc"]))
+    context = MmContext(kasme, ksi, nh, number(found["mm_context_ncc"]) if "mm_context_ncc" in found else None, old)
     name = GTP_NAMES.get(str(found.get("message_type", "")), "message with an MM context")
-    yield replace(fresh(base, "GTPv2", name), kasmes=[kasme], mm=context)
+    yield replace(fresh(base, "GTPv2", name), kasmes=[kasme, *([old.kasme] if old else [])], mm=context)

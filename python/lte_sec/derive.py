@@ -43,7 +43,7 @@ class Calc:
             self.program.stdin.flush()
             return bytes.fromhex(self.program.stdout.readline().strip().removeprefix("-"))
         except (OSError, ValueError):
-            raise TraceError(f"calc does not answer the line: {line[:60]}") from None
+            raise TraceError(f"calc does not answer a line {words[0]}") from None  # the line has keys
 
     def close(self) -> None:
         for pipe in (self.program.stdin, self.program.stdout):

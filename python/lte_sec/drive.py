@@ -1,4 +1,4 @@
-"""`./lte_sec drive` with actors of one's own: `[--json] [--phone CMD] [--station [N=]CMD] [--core CMD] -- PROGRAM drive`, with the scenario as input.
+"""`./lte_sec drive` with actors of one's own: `[--json] [--timeout SECONDS] [--phone CMD] [--station [N=]CMD] [--core CMD] -- PROGRAM drive`, with the scenario as input.
 
 The program takes an actor's command from a variable, a word in a line (docs/COOKBOOK.md). Its output and status stay as they are.
 A reply that differs is told in words and in parts on standard error. With --json one document is printed in place of the report, and has both.
@@ -14,15 +14,28 @@ import re
 import shlex
 import shutil
 import signal
+import stat
 import subprocess
 import sys
+import tempfile
 import threading
+import time
 from typing import IO
 
-from lte_sec import frames, records
+from lte_sec import frames, mistakes, records, scenarios
+from lte_sec.ending import READING, WRITING, InputFails, answers
+from lte_sec.patient import Relays
+from lte_sec.peers import PeerFault
 
 VERSION = 1  # of the document that --json prints
+FAULT, DIFFERS_AT = 6, 8  # statuses: an actor failed, a reply differs
+ANSWERS = (0, FAULT, 7, DIFFERS_AT)  # statuses with a report
+NO_ANSWER = {1: "memory ran out", READING: "reading the input failed", 9: "the input has more than 16,777,216 octets"}
+MOST = 16_777_216  # octets of a scenario
 OPTIONS = {"--phone": "LTE_SEC_PHONE", "--station": "LTE_SEC_STATION", "--core": "LTE_SEC_CORE"}
+STATIONS = [str(number) for number in range(8)]
+OTHER = re.compile(rb"lte_sec: (phone|core|station [0-7]): (.*)\n")  # how an actor failed before its first reply
+FAILED = re.compile(rb"lte_sec: (phone|core|station [0-7]): it gave no whole reply: .*\n")
 TOLD = re.compile(rb"lte_sec: (phone|core|station [0-7]): its reply differs\n")
 REST = re.compile(rb"lte_sec: (?:phone|core|station [0-7]): it had still to say ([0-9a-f]+)\n")
 DIFFERS = re.compile(rb"(setup|[0-9]+) differs ([0-9a-f]+) ([0-9a-f]+)\n")
@@ -32,13 +45,44 @@ class WrongWords(Exception):
     """The words are wrong, and why."""
 
 
+@dataclasses.dataclass
+class Options:
+    """What the words ask for: the variables of commands, and for how long an actor may be silent where it is not the program that says so."""
+
+    more: dict[str, str]
+    is_json: bool = False
+    seconds: float | None = None
+
+    @classmethod
+    def read(cls, words: list[str]) -> Options:
+        found, left = cls({}), list(words)
+        while left:
+            option = left.pop(0)
+            if option == "--json":
+                found.is_json = True
+            elif option == "--timeout":
+                found.seconds = seconds(left.pop(0))
+            else:
+                found.more |= variables([option, left.pop(0)])
+        return found
+
+
+def seconds(word: str) -> float:
+    """The value of --timeout."""
+    if not re.fullmatch(r"[0-9]+(\.[0-9]+)?", word) or float(word) == 0:
+        raise WrongWords(f"--timeout needs a number of seconds above 0, and not '{word}'")
+    return float(word)
+
+
 def variables(words: list[str]) -> dict[str, str]:
     """The variables of options and commands."""
     found = {}
     for option, command in zip(words[0::2], words[1::2]):
         name = OPTIONS[option]
-        station = re.fullmatch(r"([0-7])=(.*)", command, re.S) if option == "--station" else None
+        station = re.fullmatch(r"(\d+)=(.*)", command, re.S) if option == "--station" else None
         if station:
+            if station[1] not in STATIONS:
+                raise WrongWords(f"there is no station {station[1]}: --station N=CMD takes N {STATIONS[0]} to {STATIONS[-1]}")
             name, command = f"{name}_{station[1]}", station[2]
         try:
             parts = shlex.split(command)
@@ -53,6 +97,17 @@ def variables(words: list[str]) -> dict[str, str]:
     return found
 
 
+# A shell between the program, which stops an actor that failed at once, and the actor, which may still be writing why it did.
+OUTLIVES = ("/bin/sh", "-c", '"$@" & wait', "sh")
+TIME_TO_SAY = 1  # seconds that what an actor writes to standard error may take when the program has ended
+PATIENCE = 10  # seconds that the program waits for a reply
+
+
+def outliving(found: dict[str, str]) -> dict[str, str]:
+    """The variables with commands that are not ended where their actor failed, before it has said why."""
+    return {name: "\n".join((*OUTLIVES, command)) for name, command in found.items()}
+
+
 def put(descriptor: int, octets: bytes) -> None:
     while octets:
         octets = octets[os.write(descriptor, octets):]
@@ -61,20 +116,32 @@ def put(descriptor: int, octets: bytes) -> None:
 class Driven:
     """The program, in a group of processes of its own, so that it ends with all that it started."""
 
-    def __init__(self, command: list[str], more: dict[str, str], is_kept: bool):
-        self.last, self.whose, self.rest = b"", b"", b""
+    def __init__(self, command: list[str], more: dict[str, str], is_kept: bool, text: IO[bytes] | None = None, printed: int = 0):
+        """Starts it, with this text or the standard input; so many lines of the report are printed already."""
+        self.last, self.whose, self.rest, self.failed = b"", b"", b"", b""
+        self.said: list[str] = []
+        self.printed, self.how = printed, ""
+        self.lines: list[bytes] = []
+        self.read_last = self.failed_at = time.monotonic()
         self.report: list[str] | None = [] if is_kept else None
-        self.process = subprocess.Popen(command, stdout=subprocess.PIPE, stderr=subprocess.PIPE, env=os.environ | more, start_new_session=True)
+        if text is not None:
+            text.seek(0)
+        self.process = subprocess.Popen(command, stdin=text, stdout=subprocess.PIPE, stderr=subprocess.PIPE, env=os.environ | more, start_new_session=True)
 
     def print_on(self, source: IO[bytes]) -> None:
-        """Hands on what the program prints, or keeps it, and its last line. Where that fails the program is to see it."""
+        """Hands on what the program prints, or keeps it, but for its last line. Where that fails the program is to see it."""
         with contextlib.suppress(OSError), source:
             for line in source:
-                self.last = line
-                if self.report is None:
-                    put(1, line)
-                else:
-                    self.report.append(line.decode().removesuffix("\n"))
+                if self.last:
+                    self.hand_on(self.last)
+                self.last, self.read_last = line, time.monotonic()
+
+    def hand_on(self, line: bytes) -> None:
+        self.lines.append(line)
+        if self.report is None:
+            put(1, line if len(self.lines) > self.printed else b"")
+        else:
+            self.report.append(line.decode().removesuffix("\n"))
 
     def hear(self, source: IO[bytes]) -> None:
         """Hands on what is said on standard error, but for what is told of a reply that differs."""
@@ -83,7 +150,11 @@ class Driven:
                 self.whose = told[1]
             elif rest := REST.fullmatch(line):
                 self.rest = bytes.fromhex(rest[1].decode())
+            elif failed := FAILED.fullmatch(line):
+                self.failed, self.failed_at = failed[1], time.monotonic()
             else:
+                if other := OTHER.fullmatch(line):
+                    self.said = [part.decode(errors="replace") for part in other.groups()]
                 put(2, line)
 
     def run(self) -> int:
@@ -92,14 +163,44 @@ class Driven:
         hearing.start()
         self.print_on(self.process.stdout)
         status = self.process.wait()
+        if status == 6:
+            hearing.join(TIME_TO_SAY)
         self.end()
         hearing.join(1)
         return status if status >= 0 else 128 - status
+
+    def tell(self) -> None:
+        """Says how an actor failed, or prints the last line."""
+        with contextlib.suppress(OSError):
+            if self.failed:
+                put(2, f"lte_sec: {self.failure()}\n".encode())
+            elif self.last:
+                self.hand_on(self.last)
+
+    def step(self) -> int | None:
+        """The step of the last line, which is not done and not handed on where an actor failed; None for the setup."""
+        return int(self.last.split()[0]) if self.last else None
+
+    def failure(self) -> str:
+        """How an actor failed, and where."""
+        is_silent = self.failed_at - self.read_last >= PATIENCE
+        how = f"it was silent for {PATIENCE} seconds, where a reply was due" if is_silent else "it closed the connection before it gave a whole reply"
+        return f"{place_of(self.step())}, {self.failed.decode()}: {self.how or how}"
+
+    def fault(self) -> dict[str, object] | None:
+        """The actor that failed as --json has it: the step, None for the setup and where it did not come to one, the actor, and how."""
+        if self.failed:
+            return {"step": self.step(), "actor": self.failed.decode(), "how": self.failure().partition(": ")[2]}
+        return {"step": None, "actor": self.said[0], "how": self.said[1]} if self.said else None
 
     def end(self) -> None:
         """Ends what is left of the group."""
         with contextlib.suppress(ProcessLookupError, PermissionError):
             os.killpg(self.process.pid, signal.SIGKILL)
+
+
+def place_of(step: int | None) -> str:
+    return "setup" if step is None else f"step {step}"
 
 
 INITIAL, CHAINED = (frames.WAYS.index(way) for way in ("initial", "chained"))
@@ -128,53 +229,172 @@ class Difference:
     told: list[str]
 
     def lines(self) -> list[str]:
-        place = "setup" if self.step is None else f"step {self.step}"
-        return [f"{place}, {self.actor}: {part}" for part in self.told]
+        return [f"{place_of(self.step)}, {self.actor}: {part}" for part in self.told]
 
 
-def difference_of(line: bytes, whose: bytes, rest: bytes) -> Difference | None:
-    """What the last line tells where a reply differs: the reply is read as far as its length says."""
+def given(descriptor: int = 0) -> bytes:
+    """The scenario, where it is a file, which can be read a second time."""
+    try:
+        size = os.fstat(descriptor).st_size if stat.S_ISREG(os.fstat(descriptor).st_mode) else 0
+        return os.pread(descriptor, size, 0)
+    except OSError:
+        return b""
+
+
+def steps_of(scenario: bytes) -> list[scenarios.Step]:
+    try:
+        return scenarios.read(scenario).steps
+    except (scenarios.NoScenario, UnicodeDecodeError):
+        return []
+
+
+def commanded(steps: list[scenarios.Step], lines: list[bytes], place: int) -> list[int] | None:
+    """The cell of the handover command that this step delivers: that of the last handover that its station began."""
+    made = [number for number, line in enumerate(lines[:place]) if b" sent=" in line]
+    record = steps[place].get("record") if place < len(steps) else None
+    if not isinstance(record, int) or not -len(made) <= record < len(made):
+        return None
+    maker = steps[made[record]]
+    begun = [step for step, line in zip(steps[:made[record]], lines) if step["do"] in ("x2", "s1", "intra") and b" done" in line and step["station"] == maker.get("station")]
+    cell: list[int] | None = begun[-1]["cell"] if maker["do"] == "command" and begun else None
+    return cell
+
+
+def with_cell(found: Difference, steps: list[scenarios.Step], lines: list[bytes]) -> Difference:
+    """The difference, with the cell of a phone's KeNB*, which its reply does not tell."""
+    cell = commanded(steps, lines, found.step) if found.step is not None and found.actor == "phone" else None
+    if cell is None:
+        return found
+    return dataclasses.replace(found, told=[re.sub(r"^KeNB\*:", f"KeNB* for PCI {cell[0]}, EARFCN-DL {cell[1]}:", line) for line in found.told])
+
+
+def replies_of(line: bytes, rest: bytes) -> tuple[int | None, bytes, bytes] | None:
+    """The step, None for the setup, the wanted reply and the one that came, of a last line that tells them: the reply is read as far as its length says."""
     form = DIFFERS.fullmatch(line)
     if not form:
         return None
     wanted, got = bytes.fromhex(form[2].decode()), bytes.fromhex(form[3].decode())
     if len(got) == 2:
         got += rest[:int.from_bytes(got, "big")]
-    told = records.differences(wanted, got)
+    return None if form[1] == b"setup" else int(form[1]), wanted, got
+
+
+def difference_of(line: bytes, whose: bytes, rest: bytes) -> Difference | None:
+    """What the last line tells where a reply differs."""
+    replies = replies_of(line, rest)
+    if replies is None:
+        return None
+    step, wanted, got = replies
+    told = records.differences(wanted, got, whose.decode())
     hint = [STANDARD] if whose == b"core" and is_one_ahead(wanted, got) else []
-    return Difference(None if form[1] == b"setup" else int(form[1]), whose.decode(), told + hint)
+    return Difference(step, whose.decode(), told + hint)
 
 
-def document(status: int, report: list[str], found: Difference | None) -> dict[str, object]:
-    """The document that --json prints: the status, the lines of the report, and the reply that differs."""
-    return {"version": VERSION, "status": status, "report": report, "differs": dataclasses.asdict(found) if found else None}
+def with_mistake(found: Difference, driven: Driven, program: str, scenario: bytes) -> Difference:
+    """The difference, with the mistake by which the first key that differs was made."""
+    replies = replies_of(driven.last, driven.rest)
+    if replies is None or not scenario:
+        return found
+    return dataclasses.replace(found, told=[*found.told, *mistakes.of_reply(mistakes.rows_by_run(program, scenario), replies[1], replies[2], found.actor.split()[0])])
+
+
+def document(status: int, report: list[str], found: Difference | None, failed: dict[str, object] | None) -> dict[str, object]:
+    """The document that --json prints: the status, the lines of the report, the reply that differs, and the actor that failed."""
+    return {"version": VERSION, "status": status, "report": report, "differs": dataclasses.asdict(found) if found else None, "failed": failed}
+
+
+def commands(more: dict[str, str], octets: bytes) -> dict[str, list[str]]:
+    """The command of each actor of a scenario that has one of one's own; none where the scenario does not read."""
+    try:
+        stations = scenarios.read(octets).stations
+    except (scenarios.NoScenario, UnicodeDecodeError, LookupError, TypeError):
+        return {}
+    usual = {f"station {number}": more.get("LTE_SEC_STATION") for number in stations} | {"phone": None, "core": None}
+    found = {actor: more.get(f"LTE_SEC_{actor.upper().replace(' ', '_')}", command) for actor, command in usual.items()}
+    return {actor: command.split("\n") for actor, command in found.items() if command}
+
+
+class Run:
+    """A run of the program, or several where an actor takes longer than it waits; what was started is ended with it."""
+
+    def __init__(self, command: list[str], options: Options):
+        self.command, self.options = command, options
+        self.driven: Driven | None = None
+        self.relays: Relays | None = None
+
+    def once(self) -> tuple[int, Driven, bytes]:
+        self.driven = Driven(self.command, outliving(self.options.more), self.options.is_json)
+        return self.driven.run(), self.driven, given()
+
+    def patiently(self, seconds: float) -> tuple[int, Driven, bytes]:
+        """As `once`, where actors may be silent for so long."""
+        with tempfile.TemporaryFile() as text:
+            octets = sys.stdin.buffer.read(MOST + 1)
+            text.write(octets)
+            text.flush()
+            self.relays = Relays(commands(self.options.more, octets), seconds)
+            printed = 0
+            while True:
+                self.driven = Driven(self.command, self.options.more | self.relays.variables(), self.options.is_json, text, printed)
+                self.relays.begin()
+                status = self.driven.run()
+                self.relays.finish()
+                late = self.relays.of.get(self.driven.failed.decode()) if status == FAULT else None
+                if late is None or not late.comes():
+                    self.driven.how = late.failure() if late else ""
+                    return status, self.driven, given(text.fileno())
+                printed = len(self.driven.lines)
+
+    def end(self) -> None:
+        if self.driven:
+            self.driven.end()
+        if self.relays:
+            self.relays.end()
+
+
+def answered(run: Run) -> int:
+    """Runs, and tells what there is to tell; the status."""
+    seconds = run.options.seconds
+    status, driven, scenario = run.once() if seconds is None else run.patiently(seconds)
+    driven.tell()
+    found = difference_of(driven.last, driven.whose, driven.rest) if status == DIFFERS_AT else None
+    found = with_mistake(with_cell(found, steps_of(scenario), driven.lines), driven, run.command[0], scenario) if found else None
+    for line in found.lines() if found else ():
+        print(f"lte_sec: {line}", file=sys.stderr)
+    if driven.report is not None:
+        failed = driven.fault() if status == FAULT else None
+        told = document(status, driven.report, found, failed) if status in ANSWERS else {"error": NO_ANSWER.get(status) or "".join(driven.report[-1:]), "status": status}
+        answers()
+        try:
+            put(1, json.dumps(told, indent=1).encode() + b"\n")
+        except OSError:
+            return WRITING  # the launcher says so
+    return status
 
 
 def main() -> int:
     parts = sys.argv.index("--")
-    words = sys.argv[1:parts]
-    is_json = words[:1] == ["--json"]
     try:
-        more = variables(words[is_json:])
+        run = Run(sys.argv[parts + 1:], Options.read(sys.argv[1:parts]))
     except WrongWords as why:
         print(f"lte_sec: status 2: {why}", file=sys.stderr)
         return 2
-    driven = Driven(sys.argv[parts + 1:], more, is_json)
 
     def stopped(number: int, _: object) -> None:
-        driven.end()
+        run.end()
         os._exit(128 + number)
 
     for number in (signal.SIGINT, signal.SIGTERM, signal.SIGHUP):
         signal.signal(number, stopped)
-    status = driven.run()
-    found = difference_of(driven.last, driven.whose, driven.rest) if status == 8 else None
-    for line in found.lines() if found else ():
-        print(f"lte_sec: {line}", file=sys.stderr)
-    if driven.report is not None:
-        with contextlib.suppress(OSError):  # whoever read what is printed has read enough
-            put(1, json.dumps(document(status, driven.report, found), indent=1).encode() + b"\n")
-    return status
+    try:
+        return answered(run)
+    except PeerFault as why:
+        print(f"lte_sec: {why}", file=sys.stderr)
+        return FAULT
+    except InputFails:
+        return READING  # the launcher says so
+    finally:
+        run.end()
 
 
 if __name__ == "__main__":

@@ -9,8 +9,10 @@ import re
 from collections.abc import Callable, Iterable, Iterator
 from dataclasses import dataclass
 
-GROUP = re.compile(r"(?<![0-9A-Za-z])(?:0[xX])?((?:[0-9a-fA-F]{2})+)(?![0-9A-Za-z])")
-BETWEEN = re.compile(r" |:|-|, ?|  ")  # groups of one row stand so
+GROUP = re.compile(r"(?:(?<![0-9A-Za-z])(?:0[xX])?|(?<=[A-Za-z_])0[xX])((?:[0-9a-fA-F]{2})+)(?:[hH]?(?![0-9A-Za-z]))")
+BETWEEN = re.compile(r" |:|-|, ?|  | - ")  # groups of one row stand so
+MIDDLE = ("  ", " - ")  # stands so only in the middle of a row of 16 octets
+ESCAPE = re.compile(r"\\x([0-9a-fA-F]{2})")
 OFFSET = re.compile(r"(?<![0-9A-Za-z])(?:0[xX])?([0-9a-fA-F]{4,8}):?\s+$")
 LABEL = re.compile(r"[A-Za-z_][\w*/() -]*\s*[:=]\s*[\[{(\"']?\s*$")
 KEY, HALF, ROWS = 32, 16, (32, 16, 8)
@@ -44,7 +46,7 @@ def runs(text: str) -> Iterator[tuple[list[str], str]]:
     begin = end = 0
     for found in GROUP.finditer(text):
         gap = text[end:found.start()]
-        joins = bool(run) and len(run[-1]) == len(found[1]) and bool(BETWEEN.fullmatch(gap)) and (gap != "  " or len(run) * len(run[0]) == HALF)
+        joins = bool(run) and len(run[-1]) == len(found[1]) and bool(BETWEEN.fullmatch(gap)) and (gap not in MIDDLE or len(run) * len(run[0]) == HALF)
         if not joins:
             if run:
                 yield run, text[:begin]
@@ -62,17 +64,18 @@ def row_of(run: list[str], before: str, line: int) -> Row | None:
     place = int(offset[1], 16) if offset else None
     if place is None and width >= HEX and len(run) * width == HALF + width and int(run[0], 16) % HALF == 0:
         place, run = int(run[0], 16), run[1:]
-    value = bytes.fromhex("".join(run))
+    value, has_label = bytes.fromhex("".join(run)), place is None and bool(LABEL.search(before))
     if len(value) % KEY == 0:
-        return Row(line, value, place, bool(LABEL.search(before)))
+        return Row(line, value, place, has_label)
     size = next((size for size in ROWS if len(value) >= size and size % width == 0), 0)
     whole = len(run) == 1 and len(value) != size
-    return Row(line, value[len(value) - size:], place, bool(LABEL.search(before))) if size and not whole else None
+    return Row(line, value[len(value) - size:], place, has_label) if size and not whole else None
 
 
 def rows_of(lines: Iterable[str]) -> Iterator[list[Row]]:
     """The rows of each line."""
     for number, text in enumerate(lines, 1):
+        text = ESCAPE.sub(r" \1", text)
         cut = text.rstrip("\n").split("|")[0] if re.search(r"\|[^|]*\|?\s*$", text.rstrip("\n")) and GROUP.search(text.split("|")[0]) else text.rstrip("\n")
         yield [row for run, before in runs(cut) if (row := row_of(run, before, number)) is not None]
 

@@ -4,26 +4,41 @@ Keys have 32 octets, or 16 (the half of an algorithm key that is used); `dumps` 
 """
 from __future__ import annotations
 
+import itertools
+import re
 from collections.abc import Callable, Iterable, Iterator
 from dataclasses import dataclass
 
+from . import reasons
 from .cells import Cells
 from .dumps import Block, candidates, resolved
 from .search import Search
-from .terms import Derivations, Key
+from .terms import Derivations, Key, Term, counted
 
 NAS_TYPES, STATION_TYPES, IDENTITIES = (1, 2), (3, 4, 5, 6), range(16)
+OTHER_COUNT = re.compile(r"COUNT is \d")  # KeNB of another COUNT is found by itself
+CONSTANT = ("all octets", "it is KASME")  # mistakes that do not tell which key was to be made
+MOST_COUNTS = 301  # KeNBs for which a mistake is sought
 COMMON = range(4)  # identities that algorithms have today
 
 
 @dataclass(frozen=True)
+class Mistake:
+    """Why a key that nothing gives is what it is: the mistake, and the key that it was to be."""
+
+    name: str
+    wanted: Key
+
+
+@dataclass(frozen=True)
 class Found:
-    """A key of a text, the line that it begins in, and its derivation."""
+    """A key of a text, the line that it begins in, and its derivation, or the mistake by which it was made."""
 
     line: int
     value: bytes
     key: Key | None
     mixed: bool = False
+    why: Mistake | None = None
 
 
 class Explanation:
@@ -41,14 +56,55 @@ class Explanation:
         left = [block for block in text if not block.sure and not all(value in self.found for value in candidates(block)[::2])]
         self.seek({row.value for block in left for row in block.rows})
         found = [one for block in text for one in resolved(block, lambda value: value in self.found)]
-        return [Found(line, key, self.found.get(key), self.is_mixed(self.found.get(key))) for line, key in found]
+        whys = self.mistakes({key for _, key in found} - set(self.found))
+        return [Found(line, key, self.found.get(key), self.is_mixed(self.found.get(key)), whys.get(key)) for line, key in found]
+
+    def mistakes(self, keys: set[bytes]) -> dict[bytes, Mistake]:
+        """Of keys that nothing gives those that a mistake of an implementation gives (`reasons`)."""
+        found: dict[bytes, Mistake] = {}
+        for wanted, name, made in self.mistaken() if keys else ():
+            if made in keys and made not in found:
+                found[made] = Mistake(name, wanted)
+                if len(found) == len(keys):
+                    break
+        return found
+
+    def mistaken(self) -> Iterator[tuple[Key, str, bytes]]:
+        """What mistakes give, each with the key that was wanted and the name of the mistake: from the keys that were found and their chains, or
+        where none was from each KeNB."""
+        at_hand = [key for key in self.found.values() if key.term.kind in ("kenb", "nh", "star")]
+        bases = sorted({(key.kasme, counted(key.term.base())) for key in self.found.values() if counted(key.term.base()) >= 0})
+        kenbs = [self.derivations.kenb(kasme, count) for kasme, count in bases] or list(itertools.islice(self.search.kenbs(), MOST_COUNTS))
+        chains = [[kenb, *self.search.chain(kenb.kasme, kenb)] for kenb in kenbs] if bases else [[kenb] for kenb in kenbs]
+        parents = list({key.value: key for key in [*(key for chain in chains for key in chain), *at_hand]}.values())
+        for place, kasme in enumerate(self.derivations.kasmes):
+            root = Key(kasme.value, Term("kasme"), place)
+            yield from self.mistaken_algorithms(root, NAS_TYPES)
+            for count in range(min(self.search.counts + 1, MOST_COUNTS)):
+                wanted = self.derivations.kenb(place, count)
+                yield from ((wanted, *one) for one in reasons.kenb_mistakes(kasme.value, count) if not OTHER_COUNT.match(one[0]))
+        for sync in (key for chain in chains for key in chain):
+            wanted = self.derivations.next_nh(sync.kasme, sync)
+            yield from ((wanted, *one) for one in reasons.nh_mistakes(self.derivations.kasmes[sync.kasme].value, sync.value))
+        for parent in parents:
+            for cell in sorted(self.cells.pairs()):
+                wanted = self.derivations.star(parent, *cell)
+                yield from ((wanted, *one) for one in reasons.star_mistakes(parent.value, *cell))
+        for parent in (key for key in parents if key.term.kind != "nh"):
+            yield from self.mistaken_algorithms(parent, STATION_TYPES)
+
+    def mistaken_algorithms(self, parent: Key, types: Iterable[int]) -> Iterator[tuple[Key, str, bytes]]:
+        for type, identity in itertools.product(types, COMMON):
+            wanted = self.derivations.algorithm(parent, type, identity)
+            for size in (len(wanted.value), len(wanted.value) // 2):
+                yield from ((wanted, *one) for one in reasons.algorithm_mistakes(parent.value, type, identity, size))
 
     def seek(self, keys: set[bytes]) -> None:
         """Searches for all of these keys together."""
         self.open = keys - set(self.found)
         if not self.open:
             return
-        roots = [Key(kasme.value, "kasme", "", place) for place, kasme in enumerate(self.derivations.kasmes)]
+        roots = [Key(kasme.value, Term("kasme"), place) for place, kasme in enumerate(self.derivations.kasmes)]
         self.take([*roots, *(key for root in roots for key in self.algorithms(root, NAS_TYPES, IDENTITIES))])
         self.take(self.search.roots())
         self.spread()
@@ -62,11 +118,11 @@ class Explanation:
 
     def is_mixed(self, key: Key | None) -> bool:
         """Whether a key is for a PCI and an EARFCN of two cells."""
-        return key is not None and any(f",{pci},{earfcn})" in key.form for pci, earfcn in self.search.mixed())
+        return key is not None and not self.search.mixed().isdisjoint(key.term.cells())
 
     def take(self, candidates: Iterable[Key]) -> None:
         for key in candidates:
-            for value in (key.value, key.value[16:]) if key.form.startswith("alg(") else (key.value,):
+            for value in (key.value, key.value[16:]) if key.term.kind == "alg" else (key.value,):
                 if value in self.open:
                     self.open.discard(value)
                     self.found[value] = key
@@ -77,9 +133,9 @@ class Explanation:
         """What the keys that were found give, again and again: their chains, KeNB*s and algorithm keys."""
         done: set[bytes] = set()
         while self.open:
-            found = [key for key in self.found.values() if key.form.startswith(("kenb(", "nh(", "star("))]
-            bases = {(key.kasme, key.base) for key in self.found.values() if key.base.startswith("kenb(")}
-            kenbs = [self.derivations.kenb(kasme, int(base[5:-1])) for kasme, base in sorted(bases)]
+            found = [key for key in self.found.values() if key.term.kind in ("kenb", "nh", "star")]
+            bases = {(key.kasme, counted(key.term.base())) for key in self.found.values()}
+            kenbs = [self.derivations.kenb(kasme, count) for kasme, count in sorted(bases) if count >= 0]
             chains = [key for kenb in kenbs for key in (kenb, *self.search.chain(kenb.kasme, kenb))]
             fresh = [key for key in {key.value: key for key in [*found, *chains]}.values() if key.value not in done]
             if not fresh:
@@ -87,7 +143,7 @@ class Explanation:
             done |= {key.value for key in fresh}
             stars = list(self.search.stars(fresh, 1))
             self.take(stars)
-            self.take(self.of(parent for parent in [*fresh, *stars] if not parent.form.startswith("nh(")))
+            self.take(self.of(parent for parent in [*fresh, *stars] if parent.term.kind != "nh"))
             if self.open:
                 self.take(self.search.stars(fresh, self.search.deep))
 
@@ -97,15 +153,26 @@ class Explanation:
     def of(self, parents: Iterable[Key]) -> Iterator[Key]:
         """The keys of a station's algorithms: from KeNBs with each identity, from KeNB*s with those that algorithms have."""
         for parent in parents:
-            yield from self.algorithms(parent, STATION_TYPES, IDENTITIES if parent.form.startswith("kenb(") else COMMON)
+            yield from self.algorithms(parent, STATION_TYPES, IDENTITIES if parent.term.kind == "kenb" else COMMON)
 
 
 def told(derivations: Derivations, found: Found) -> str:
     """The line of a key: where it stands, its octets, and the derivation with KeNB and KASME where they do not stand in it."""
     key, head = found.key, f"line {found.line}: {found.value.hex()}"
-    if key is None:
+    if key is None and found.why is None:
         return f"{head} none"
+    if key is None and found.why is not None:
+        if found.why.name.startswith(CONSTANT):
+            return f"{head} none ({found.why.name})"
+        wanted = found.why.wanted.value[-len(found.value) :].hex()
+        return f"{head} none ({found.why.name}; wanted {wanted}, which is {formed(derivations, found.why.wanted)})"
+    assert key is not None
+    return f"{head} {formed(derivations, key)}" + (" mixed cell" if found.mixed else "")
+
+
+def formed(derivations: Derivations, key: Key) -> str:
+    """A derivation, with KeNB and KASME where they do not stand in it."""
     text = key.form + (f" on {key.base}" if key.base and key.base not in key.form else "")
     if len(derivations.kasmes) > 1:
         text += f" of {derivations.kasmes[key.kasme].name}"
-    return f"{head} {text}" + (" mixed cell" if found.mixed else "")
+    return text

@@ -4,8 +4,7 @@ from __future__ import annotations
 from dataclasses import replace
 
 from .cells import Cells
-from .chains import title
-from .decoding import Command, Message
+from .decoding import Command, Message, title
 from .judge import KeyJudge
 from .report import DIFFERS, RIGHT, Line, unknown_line
 from .service import ServiceBook
@@ -13,6 +12,8 @@ from .state import Attempt, Connection
 from .terms import Derivations, Key
 
 FROM_TARGET = ("HandoverRequestAcknowledge", "HandoverPreparationFailure", "UEContextRelease")  # of X2AP
+WAITING, NEAREST = 64, 1024  # commands that RRC may still show; connections in which a handover without a container is sought
+ANY_CORE = ""  # the end of a core that no message has told yet
 INTRA_LTE = 0  # TS 36.413 9.2.1.13
 
 Leg = tuple[str, int | None]
@@ -30,20 +31,29 @@ class Handovers:
     connections: list[Connection]
     legs: dict[Leg, Connection]  # by station's end of S1 and eNB-UE-S1AP-ID
     mmes: dict[int, dict[str, Connection]]  # by MME-UE-S1AP-ID and core's end
+    gummeis: dict[tuple[int, int], str]  # core's ends by MME group and code
 
     def __init__(self) -> None:
-        self.sources: dict[bytes, Connection] = {}  # by the container of a handover over S1
+        self.at = 0  # the place of the message that is read
+        self.owners: dict[int, Connection] = {}  # by the place of a message
+        self.handovers: dict[int, Attempt] = {}
+        self.sources: dict[bytes, list[Connection]] = {}  # that wait, by the container of a handover over S1
         self.targets: dict[Leg, Pair] = {}  # by core's end and the target's MME-UE-S1AP-ID
-        self.answers: dict[bytes, Pair] = {}  # by the container that comes back
+        self.answers: dict[bytes, list[Pair]] = {}  # by the container that comes back
         self.x2: dict[tuple[str, str, int | None], Pair] = {}
         self.retrieved: dict[tuple[str, str, int | None], int | None] = {}  # cells that phones resume in, by the ends and the new station's identity
         self.commands: list[Pair] = []  # RRC may still show their command
-        self.gummeis: dict[tuple[int, int], str] = {}  # core's ends by MME group and code
 
     def new(self, station: str, eci: int | None = None) -> Connection:
         connection = Connection(station=station, eci=eci)
         self.connections.append(connection)
         return connection
+
+    def belongs(self, connection: Connection, attempt: Attempt | None = None) -> None:
+        """The message that is read is of this connection, and of this handover."""
+        self.owners[self.at] = connection
+        if attempt is not None:
+            self.handovers[self.at] = attempt
 
     def arrived(self, connection: Connection, station: str, frame: str) -> None:
         """The phone is at the target of a handover whose end the trace lacks, or where no handover that it shows leads to."""
@@ -57,6 +67,7 @@ class Handovers:
             self.judge.came_unseen(connection, frame, station)
         else:
             connection.station = station
+            self.judge.moves.came(connection, station)
 
     def unasked(self, connection: Connection, attempt: Attempt) -> None:
         """A handover over X2 is done and the trace shows no path switch for it yet: the core was asked all the same."""
@@ -73,13 +84,12 @@ class Handovers:
         connection.asked += 1
         connection.algorithms = message.algorithms or connection.algorithms
         if message.container is not None:
-            self.sources[message.container] = connection
+            self.sources[message.container] = [*self.sources.get(message.container, [])[-WAITING:], connection]
         self.judge.prepared(connection, message, None)
 
     def handover_request(self, message: Message, core: str, end: str) -> None:
-        connection = self.sources.get(message.container or b"")
-        if connection is None:
-            connection = self.steps_to(message) or self.new("")
+        connection = self.waiting(message) or self.steps_to(message) or self.new("")
+        self.belongs(connection)
         if message.nh is None or message.ncc is None:
             return
         pairs = self.forwarded(connection, message) if connection.forwarded else self.judge.nh(connection, message)
@@ -88,19 +98,31 @@ class Handovers:
         connection.capabilities = message.capabilities or connection.capabilities
         station = self.cells.addresses.get(end) or self.cells.station(message.eci)
         attempt = Attempt("S1", message.frame, station, message.eci, [], [ncc for _, ncc in pairs], self.judge.cell(message.eci))
-        attempt.change = message.new_context
         attempt.pairs = pairs
         attempt.capabilities = message.capabilities
         self.judge.target_keys(attempt, attempt.cell)
         connection.attempts.append(attempt)
+        self.belongs(connection, attempt)
         self.targets[core, message.mme_id] = (connection, attempt)
+
+    def waiting(self, message: Message) -> Connection | None:
+        """The connection whose container this is: of several with the same octets, the one whose next NH this is, else the last."""
+        found = self.sources.get(message.container or b"", [])
+        if len(found) < 2:
+            return next(iter(found), None)
+        chosen = next((one for one in found if self.is_due(one, message)), found[-1])
+        found.remove(chosen)
+        return chosen
+
+    def is_due(self, connection: Connection, message: Message) -> bool:
+        return any(after.sync.value == message.nh for chain in connection.cores() for after in self.judge.due(connection, chain))
 
     def steps_to(self, message: Message) -> Connection | None:
         """The connection that waits for a handover over S1 and whose next NH this is, where no container tells."""
         station = self.cells.station(message.source_eci)
-        for connection in self.connections:
+        for connection in self.connections[-NEAREST:]:
             waits = connection.station == station if station else connection.asked
-            if waits and any(chain.step(self.derivations, steps).sync.value == message.nh for chain in connection.core for steps in self.judge.steps(connection, chain)):
+            if waits and self.is_due(connection, message):
                 return connection
         return None
 
@@ -108,8 +130,9 @@ class Handovers:
         pair = self.targets.get(at_core)
         if pair is None:
             return
+        self.belongs(*pair)
         if message.container is not None:
-            self.answers[message.container] = pair
+            self.answers[message.container] = [*self.answers.get(message.container, [])[-WAITING:], pair]
         self.commanded(pair, message)
 
     def handover_command(self, connection: Connection, message: Message, station: str, at_core: Leg) -> None:
@@ -117,11 +140,13 @@ class Handovers:
             self.lines.append(unknown_line(message.frame, title(message), "command", "to another radio technology, which is left out"))
             return
         opened = [attempt for attempt in connection.open_attempts() if attempt.kind == "S1"]
-        pair = self.answers.get(message.container or b"") or ((connection, opened[-1]) if opened else None)
+        answered = self.answers.get(message.container or b"", [])
+        pair = next((one for one in reversed(answered) if one[0] is connection), answered[-1] if answered else (connection, opened[-1]) if opened else None)
         if pair is None:
             if message.command is not None or message.container is not None:
                 self.lines.append(unknown_line(message.frame, title(message), "command", "the trace does not show its handover"))
             return
+        self.belongs(*pair)
         self.commanded(pair, message)
         if pair[1].command is None:
             self.judge.undecoded(*pair, message, "its RRC message does not decode")
@@ -132,10 +157,12 @@ class Handovers:
         if message.command is not None and attempt.command is None:
             self.judge.command(connection, attempt, message, message.command)
             self.judge.agreement(connection, attempt)
-            self.commands.append(pair)
+            self.commands = [*self.commands[-WAITING:], pair]
 
     def handover_notify(self, connection: Connection, message: Message, station: str, at_core: Leg) -> None:
         pair = self.targets.get(at_core)
+        if pair is not None:
+            self.belongs(*pair)
         if pair is not None and not pair[1].over:
             pair[0].mme = at_core[0]
             pair[1].eci = message.eci if pair[1].eci is None else pair[1].eci
@@ -143,11 +170,13 @@ class Handovers:
 
     def handover_failure(self, connection: Connection, message: Message, station: str, at_core: Leg) -> None:
         if at_core in self.targets:
+            self.belongs(*self.targets[at_core])
             self.targets[at_core][1].over = "refused"
 
     def handover_cancelled(self, connection: Connection, message: Message, station: str, at_core: Leg) -> None:
         for attempt in connection.open_attempts():
             if attempt.kind == "S1":
+                self.belongs(connection, attempt)
                 attempt.over = "cancelled"
 
     # -- between cores
@@ -162,13 +191,15 @@ class Handovers:
             self.lines.append(unknown_line(message.frame, title(message), "MM context", "no connection of the trace stands under its KASME"))
             return
         connection = next((one for one in reversed(known) if one.asked), known[-1])
+        self.belongs(connection)
         self.mm_ksi(connection, message, place)
-        if context.nh is None or context.ncc is None:
+        stations = context.old or context  # where KASME is new and not in use at stations, they go on from the old one
+        if stations.nh is None or stations.ncc is None:
             return
-        message = replace(message, nh=context.nh, ncc=context.ncc)
+        message = replace(message, nh=stations.nh, ncc=stations.ncc)
         if message.name == "ForwardRelocationRequest":
             connection.forwarded = self.judge.nh(connection, message)
-        elif not any(chain.sync.value == context.nh for chain in connection.core):
+        elif not any(chain.sync.value == stations.nh for chain in connection.cores()):
             self.judge.unjudged(message, "NH", "only that of a Forward Relocation Request is the next of the chain")
 
     def mm_ksi(self, connection: Connection, message: Message, place: int) -> None:
@@ -202,6 +233,10 @@ class Handovers:
             self.judge.moved(connection, attempt)
         elif last is not None and last.over == "unasked":
             self.judge.elsewhere(connection, last, message.eci)
+        elif not self.judge.coverage.closed(station):
+            self.judge.came_back(connection, message.frame, message.eci)
+        if connection.attempts:
+            self.belongs(connection, connection.attempts[-1])
         told = connection.attempts[-1].capabilities if connection.attempts else None
         self.judge.capabilities(message, [told or connection.capabilities])
         if connection.attempts and connection.attempts[-1].over == "unasked" and connection.attempts[-1].station == station:
@@ -215,7 +250,9 @@ class Handovers:
         if message.nh is None or message.ncc is None:
             connection.asked = max(0, connection.asked - 1)
             return
-        self.judge.given(connection, self.judge.nh(connection, message), station)
+        pairs = self.judge.nh(connection, message)
+        if station == connection.station:
+            self.judge.given(connection, pairs)
 
     # -- suspension
 
@@ -249,10 +286,13 @@ class Handovers:
         attempt = self.judge.asked(connection, message, made, self.cells.station(message.eci) or self.cells.addresses.get(way[1], ""))
         self.judge.prepared(connection, message, made)
         connection.attempts.append(attempt)
+        self.belongs(connection, attempt)
         connection.algorithms = message.algorithms or connection.algorithms
         self.x2[*way, message.old_x2] = (connection, attempt)
 
     def x2_rest(self, message: Message, pair: Pair | None) -> None:
+        if pair is not None:
+            self.belongs(*pair)
         if pair is None or pair[1].over:
             if message.command is not None:
                 self.lines.append(unknown_line(message.frame, title(message), "command", "the trace does not show its handover"))
@@ -274,16 +314,25 @@ class Handovers:
         cores = {self.gummeis[one] for one in message.gummeis if one in self.gummeis}
         found = [one for core, one in known.items() if not cores or core in cores] or list(known.values())
         there = [one for one in found if one.station == station] or (found if len(found) == 1 else [])
-        connection = (self.fitting(there, message) if len(there) > 1 else there[0]) if there else self.new(station, message.source_eci)
+        connection = (self.fitting(there, message) if len(there) > 1 else there[0]) if there else self.began_before(station, message)
         self.arrived(connection, station, message.frame)
+        return connection
+
+    def began_before(self, station: str, message: Message) -> Connection:
+        """A connection whose beginning the trace lacks: the core's identity names it, whichever core that is."""
+        connection = self.new(station, message.source_eci)
+        if message.mme_id is not None:
+            self.mmes.setdefault(message.mme_id, {})[ANY_CORE] = connection
         return connection
 
     def fitting(self, connections: list[Connection], message: Message) -> Connection:
         """Of connections that have the same identity at several cores, the one whose KeNB* this is; else the last."""
         cell = self.judge.cell(message.eci)
         for connection in connections if cell else []:
-            bases = [one.base()[0] for one in connection.held.get(connection.station, [])]
-            if cell and any(base.value and self.derivations.star(base, *cell).value == message.key for base in bases):
+            if cell and any(self.derivations.star(one.base()[0], *cell).value == message.key for one in connection.states()):
+                return connection
+        for connection in connections if cell else []:
+            if cell and connection.away and self.judge.moves.of_star(connection, message.key or b"", message.ncc or 0, cell) is not None:
                 return connection
         return connections[-1]
 
@@ -303,7 +352,8 @@ class Handovers:
         if not chosen:
             return self.rrc_within(message, told)
         chosen[0][1].aired = True
-        self.commands = [pair for pair in self.commands if not pair[1].aired][-64:]
+        self.commands = [pair for pair in self.commands if not pair[1].aired][-WAITING:]
+        self.belongs(*chosen[0])
         self.judge.command(*chosen[0], message, told)
 
     def rrc_within(self, message: Message, told: Command) -> None:
@@ -312,6 +362,7 @@ class Handovers:
         for connection in active:
             sites = [site for site in self.cells.of(connection.station) if site.pci == told.pci and told.earfcn in (None, site.earfcn)]
             others = [one for one in active if one.station == connection.station]
-            if sites and len(others) == 1 and connection.held.get(connection.station) and not told.key_change:
-                return self.judge.within(connection, message, told, sites[0])
+            if sites and len(others) == 1 and connection.states() and not told.key_change:
+                self.judge.within(connection, message, told, sites[0])
+                return self.belongs(connection, connection.attempts[-1])
         self.lines.append(unknown_line(message.frame, "RRC", "command", "it is not clear which handover or phone it is of"))

@@ -5,6 +5,7 @@ from __future__ import annotations
 from .answers import Answer
 from .outcomes import WORDS
 from .picture import MONO, Picture
+from .remarks import named
 from .study import Variant
 from .variants import KINDS
 
@@ -12,6 +13,14 @@ from .variants import KINDS
 LOOKS = dict(zip(WORDS, (
     ("=", "#eef1f4"), ("+", "#c9eef0"), ("~", "#dde3ea"), ("c", "#d9e8c4"), ("p", "#f3f0b5"), ("w", "#ffe08a"), ("m", "#ffc98a"), ("h", "#f9b27c"),
     ("r", "#e3d9f7"), ("n", "#cbb8ee"), ("o", "#f6b8d8"), ("x", "#f08f80"), ("s", "#e0604f"), ("K", "#b3261e"), ("!", "#7b8794"),
+)))
+# Of each outcome what it means, in a few words; docs/WHATIF.md defines it.
+MEANS = dict(zip(WORDS, (
+    "Each line is as in the scenario, but those of the fault itself.", "User packets pass here, and not in the scenario.", "A line differs, and nothing worse comes of it.",
+    "A station that does not serve the phone still has its context.", "A text that arrives in the scenario does not arrive here.", "A key is horizontal that is vertical in the scenario, or more stations can derive it.",
+    "The phone does not come by a key that it has in the scenario.", "The next handover or its path switch fails.", "The core has the phone at another station than the one that serves it.",
+    "NAS texts no longer arrive as they were sent.", "A user packet opens to other octets: the COUNTs differ.", "User packets fail until the phone asks for service.", "User packets fail even after the phone asked for service.",
+    "Phone and station have different keys.", "The run ends at a coincidence.",
 )))
 ROW, BOX, TOP, LEFT, GAP = 20, 16, 96, 20, 18
 
@@ -25,7 +34,8 @@ def draw(answer: Answer) -> str:
         cells.setdefault((variant.faults[0].item, variant.faults[0].kind), []).append(variant)
     picture.text(LEFT, 26, "What if a message is lost, late, or comes twice?", 16, weight="bold")
     picture.text(LEFT, 45, "A box is a variant of the scenario, with its worst outcome; the boxes of late and twice are places, the earliest first.", 11, colour="#52606d")
-    column = LEFT + 40 + 7 * max([len("message"), *map(len, answer.messages.values())])
+    place = 32 if not answer.frames else 12 + 7 * max(len(named(step, answer.frames)) for step in answer.messages)
+    column = LEFT + place + 8 + 7 * max([len("message"), *map(len, answer.messages.values())])
     for kind in kinds:
         most = max([len(variants) for (_, each), variants in cells.items() if each == kind] + [3])
         picture.text(column, TOP - 20, kind, 12, weight="bold")
@@ -34,8 +44,8 @@ def draw(answer: Answer) -> str:
                 box(picture, column + BOX * place, TOP + ROW * row - 12, variant.worst)
         column += BOX * most + GAP
     for row, (step, message) in enumerate(answer.messages.items()):
-        picture.text(LEFT, TOP + ROW * row, step, 11, MONO, "#52606d")
-        picture.text(LEFT + 32, TOP + ROW * row, message, 12)
+        picture.text(LEFT, TOP + ROW * row, named(step, answer.frames), 11, MONO, "#52606d")
+        picture.text(LEFT + place, TOP + ROW * row, message, 12)
     legend(picture, answer, TOP + ROW * len(answer.messages) + 12)
     return picture.svg("What if a message is lost, late, or comes twice?")
 

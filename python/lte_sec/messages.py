@@ -8,6 +8,8 @@ from __future__ import annotations
 import re
 from dataclasses import dataclass
 
+from .contexts import NAMES as NAMES_OF_NAS
+
 LINE = re.compile(r"(\d+) (both|phone|core(?: \d)?|world|station \d) (\w+)(.*)")
 SENT = re.compile(r" sent=(\d+):(\w+)")
 NOTE = re.compile(r" ncc=(\d) way=(\w+) key=([0-9a-f]{64})")
@@ -41,6 +43,15 @@ NAMES = {
     ("station", "Handover Request"): "Handover Request Acknowledge",
     ("station", "Path Switch Request Acknowledge"): "X2 UE Context Release",
 }
+
+
+NAS_TEXT, EMM = "NAS text", 7
+
+
+def nas_name(text: str) -> str:
+    """What a NAS text is, by its type, where it is one of EMM (TS 24.301 9.8)."""
+    octets = bytes.fromhex(text)
+    return NAMES_OF_NAS.get(octets[1], NAS_TEXT) if len(octets) > 1 and octets[0] == EMM else NAS_TEXT
 
 
 @dataclass(frozen=True, slots=True)

@@ -6,14 +6,16 @@ also looks at the COUNTs before and after that, since a trace may lack messages 
 from __future__ import annotations
 
 import re
-from collections.abc import Callable, Collection, Iterable
+from collections.abc import Callable, Iterable
 from dataclasses import replace
 
-from .contexts import CIPHERED, COMMAND, COMPLETE, FOREIGN, NAMES, PARTLY, PLAIN, SERVICE_REQUEST, NasContext, NasSeen, NasSide, Trigger
+from . import reasons
+from .contexts import CIPHERED, COMMAND, COMPLETE, FOREIGN, PARTLY, PLAIN, SERVICE_REQUEST, NasContext, NasSeen, NasSide, Trigger
 from .counts import WRAP, Effort, estimate, near
-from .plain import EMM, ESM, MODE_COMMAND, capability_fault, learn, of_octets, plain_verdict, replayed
+from .plain import EMM, ESM, MODE_COMMAND, learn, plain_verdict
 from .report import DIFFERS, RIGHT, UNKNOWN
 from .terms import COMPUTED, DOWN, NAS_ENCRYPTION, NAS_INTEGRITY, UP, Derivations
+from .texts import NEVER_CIPHERED, OTHER_CIPHER, is_emm, is_nas, text_fault
 
 GUTI = re.compile(rb"\x0b\xf6.{6}(.{4})", re.DOTALL)  # TS 24.301 9.9.3.12, with its length
 WITH_GUTI = (b"\x07\x42", b"\x07\x49", b"\x07\x50")
@@ -24,6 +26,7 @@ PATIENCE = 3  # messages of a connection for which a beginning before the trace 
 AHEAD = 16  # messages of a connection that are looked at for a KASME
 NEW = 16  # COUNTs of a context whose Security Mode exchange a trace lacks
 NOT_GIVEN = "no KASME that was given fits"
+AWAY = "the phone was where the trace has no S1, and may have come by a KASME that was not given"
 LOST_MODE = "after a Security Mode exchange that the trace lacks"
 
 # What comes later in the same connection: NAS messages with their directions, and KeNBs.
@@ -83,13 +86,10 @@ class NasBook:
 
     def guess(self, context: NasContext, direction: int, count: int, pdu: bytes) -> None:
         """The ciphering of a context whose Command the trace lacks: that under which the text reads as a NAS message (9.2)."""
-        def is_message(text: bytes, kinds: Collection[int]) -> bool:
-            return len(text) > 1 and (text[0] == EMM and text[1] in kinds or text[0] & 15 == ESM and text[0] != EMM)
-
-        context.guessed = False
-        for kinds in (NAMES, range(256)):
-            for context.eea in (*COMPUTED, 0):
-                if is_message(self.deciphered(context, direction, count, pdu) if context.eea else pdu[6:], kinds):
+        for reads in (is_emm, is_nas):
+            for eea in (*COMPUTED, 0):
+                if reads(self.deciphered(replace(context, eea=eea), direction, count, pdu) if eea else pdu[6:]):
+                    context.eea, context.guessed = eea, False
                     return
         context.eea = COMPUTED[0]
 
@@ -103,16 +103,23 @@ class NasBook:
             return None
         return next((count for count in near(context, direction, pdu[5]) if self.has_mac(context, direction, count, pdu)), None)
 
-    def accept(self, context: NasContext, direction: int, count: int, pdu: bytes) -> str:
-        """Takes a message whose MAC is right; answers a remark, which begins with `COUNT` where a COUNT was used twice."""
+    def accept(self, side: NasSide, context: NasContext, direction: int, count: int, pdu: bytes, first: bool = False) -> str:
+        """Takes a message whose MAC is right; answers a remark, which begins with `COUNT` where a COUNT was used twice.
+
+        The same octets come again only at the newest COUNT, in their connection; a first message up also in another (TS 24.301 4.4.3.2).
+        """
         before, least = context.seen.get((direction, count)), context.next[direction]
-        context.seen[direction, count] = pdu
+        context.seen[direction, count] = pdu, side
         if count >= least:
             context.next[direction] = count + 1
             return "after messages that the trace lacks" if count >= least + WRAP else ""
         if before is None:
             return "late"
-        return "sent again" if before == pdu else "COUNT used twice"
+        if before[0] != pdu:
+            return "COUNT used twice"
+        if first or count == least - 1 and before[1] is side:
+            return "sent again"
+        return f"COUNT used again: a replay, {f'{least - 1 - count} COUNTs behind' if before[1] is side else 'of another connection'}"
 
     # -- one message
 
@@ -139,6 +146,15 @@ class NasBook:
     def service_request(self, side: NasSide, pdu: bytes, later: Later) -> NasSeen | None:
         raise NotImplementedError  # of `ServiceBook`
 
+    def command(self, side: NasSide, pdu: bytes, later: Later) -> NasSeen:
+        raise NotImplementedError  # this and the next two are of `ModeBook`
+
+    def commanded(self, side: NasSide, context: NasContext, plain: bytes, seen: NasSeen) -> None:
+        raise NotImplementedError
+
+    def completed(self, side: NasSide, context: NasContext, count: int) -> list[str]:
+        raise NotImplementedError
+
     def reserved(self, seen: NasSeen) -> None:
         if PARTLY < seen.header < SERVICE_REQUEST:
             seen.faults = [f"header type differs: is {seen.header}, which TS 24.301 9.3.1 reserves"]
@@ -154,15 +170,20 @@ class NasBook:
 
     def found(self, side: NasSide, context: NasContext, direction: int, pdu: bytes, count: int, note: str = "") -> NasSeen:
         """The finding for a message whose MAC is right under a context and COUNT."""
-        header = pdu[0] >> 4
-        note = self.accept(context, direction, count, pdu) or note
-        plain = self.text(context, direction, count, pdu)
-        seen = NasSeen(direction, header, RIGHT, pdu[1:5].hex(), count, "", context.kasme if context.given else None, plain, note)
+        header, is_first = pdu[0] >> 4, direction == UP and side.initial and side.messages == 1
+        note = self.accept(side, context, direction, count, pdu, is_first) or note
+        fault, plain = text_fault(self.derivations, context, direction, count, pdu, self.text(context, direction, count, pdu))
+        if side.away and OTHER_CIPHER in fault:  # an exchange where the trace shows nothing may have changed it
+            context.eea, fault = int(fault[-1]), ""
+        seen = NasSeen(direction, header, RIGHT, pdu[1:5].hex(), count, "", context.kasme if context.given else None, plain or None, note)
+        seen.text_right = not fault and header in CIPHERED and context.eea in COMPUTED and not context.guessed and bool(plain)
         if note.startswith("COUNT"):
             seen.note, seen.faults = "", [note]
-        wanted = self.header_wanted(side, context, direction, pdu, plain)
-        if wanted != header:
-            seen.faults.append(f"header type differs: is {header}, wanted {wanted}")
+        wanted = self.header_wanted(side, context, direction, pdu, plain, is_first)
+        seen.faults += [f"header type differs: is {header}, wanted {wanted}"] if wanted != header else []
+        seen.faults += [fault] if fault else []
+        if context.kasme in side.rejected:
+            seen.faults.append("under a context that the phone refused")
         if plain:
             self.learn(side, context, direction, plain)
         if plain and len(plain) > 1 and plain[:2] == bytes([EMM, MODE_COMMAND]):
@@ -170,7 +191,7 @@ class NasBook:
         seen.verdict = DIFFERS if seen.faults else RIGHT
         return seen
 
-    def header_wanted(self, side: NasSide, context: NasContext, direction: int, pdu: bytes, plain: bytes | None) -> int:
+    def header_wanted(self, side: NasSide, context: NasContext, direction: int, pdu: bytes, plain: bytes | None, is_first: bool) -> int:
         """The header type that a message must have (TS 24.301 4.4.5, 5.4.3); where several may stand, its own."""
         header, text = pdu[0] >> 4, pdu[6:8] if pdu[0] >> 4 == PARTLY else (plain or b"")[:2]
         kind = text[1] if len(text) == 2 and text[0] == EMM else None
@@ -180,26 +201,16 @@ class NasBook:
             return PARTLY if header in (COMMAND, COMPLETE) else header
         if text and header in (COMMAND, COMPLETE, PARTLY):
             return 1 if direction == UP and not side.established else 2
+        if kind in NEVER_CIPHERED and direction == UP:
+            return 1 if header == 2 and context.eea and not context.guessed else header
         told = context.eea and not context.guessed
-        return 2 if header == 1 and direction == DOWN and side.ciphered and told else header
+        return 2 if header == 1 and not is_first and side.ciphered and told else header
 
     def learn(self, side: NasSide, context: NasContext, direction: int, plain: bytes) -> None:
         learn(side, direction, plain)
         if direction == DOWN and plain[:2] in WITH_GUTI:
             for tmsi in GUTI.findall(plain):
                 self.knows(int.from_bytes(tmsi, "big"), context.kasme)
-
-    def commanded(self, side: NasSide, context: NasContext, plain: bytes, seen: NasSeen) -> None:
-        """What a Security Mode Command says beside its algorithms."""
-        back = replayed(plain)
-        fault = capability_fault(side, plain)
-        if fault:
-            seen.faults.append(fault)
-        if back is not None and (fault or side.capabilities is None):  # the core goes on from what it took
-            side.capabilities = of_octets(back)
-        side.authenticated = False
-        if context.eia == 0 and not side.emergency:
-            seen.warning = "EIA0 outside an emergency call, which TS 33.401 5.1.4.2 does not allow"
 
     def refused(self, context: NasContext, direction: int, pdu: bytes, count: int, note: str = "") -> NasSeen:
         """The finding for a message whose MAC is wrong at the COUNT that its receiver takes."""
@@ -214,64 +225,6 @@ class NasBook:
 
     def nothing(self, direction: int, pdu: bytes, why: str = NOT_GIVEN) -> NasSeen:
         return NasSeen(direction, pdu[0] >> 4, UNKNOWN, pdu[1:5].hex(), note=why)
-
-    # -- Security Mode Command
-
-    def command(self, side: NasSide, pdu: bytes, later: Later) -> NasSeen:
-        """A Security Mode Command: its own octets tell algorithms and KSI; the KASME is the one under which its MAC is right."""
-        plain, seq = pdu[6:], pdu[5]
-        octet, ksi = (plain[2], plain[3] & 7) if len(plain) >= 4 and plain[:2] == bytes([EMM, MODE_COMMAND]) else (0x22, None)
-        eea, eia = octet >> 4 & 7, octet & 7
-        if eia == 0:
-            side.pending = NasContext(FOREIGN, eea, 0, ksi)
-            right = pdu[1:5] == bytes(4)
-            return self.found(side, side.pending, DOWN, pdu, seq) if right else self.refused(side.pending, DOWN, pdu, seq)
-        fresh = [NasContext(kasme, eea, eia, ksi) for kasme in self.kasmes()]
-        context = next((one for one in fresh if self.judged(one) and self.has_mac(one, DOWN, seq, pdu)), None)
-        old = self.contexts.get(context.kasme) if context else side.current
-        if old is not None and old.given and eia in COMPUTED:  # a context in use may go on under other algorithms: its COUNTs do too
-            count = self.opens(replace(old, eia=eia), DOWN, pdu)
-            if count is not None:
-                side.pending = replace(old, eea=eea, eia=eia, ksi=ksi, guessed=False)
-                return self.found(side, side.pending, DOWN, pdu, count)
-        if context is not None:
-            side.pending, self.turn = context, context.kasme + 1
-            return self.found(side, context, DOWN, pdu, seq)
-        return self.wrong_command(side, pdu, fresh, ksi, later)
-
-    def wrong_command(self, side: NasSide, pdu: bytes, fresh: list[NasContext], ksi: int | None, later: Later) -> NasSeen:
-        """A Command under no KASME that was given, unless what follows it stands under one."""
-        context = next((one for one in fresh if self.evidence(one, later)), None)
-        side.authenticated = False
-        if context is None:
-            side.pending = NasContext(FOREIGN, fresh[0].eea if fresh else 2, fresh[0].eia if fresh else 2, ksi)
-            return self.nothing(DOWN, pdu)
-        side.pending = context
-        context.next[DOWN] = pdu[5] + 1
-        seen = self.refused(context, DOWN, pdu, pdu[5])
-        if self.judged(context):  # what a message with a wrong MAC says of its context is not believed
-            context.ksi, context.guessed = None, True
-        return seen
-
-    def evidence(self, context: NasContext, later: Later) -> bool:
-        """Whether what comes later in the connection stands under this new context; a MAC that is right tells its algorithm."""
-        for place, one in enumerate(later()):
-            if place == AHEAD:
-                break
-            if isinstance(one, bytes):
-                if any(self.derivations.kenb(context.kasme, count).value == one for count in range(4)):
-                    return True
-                continue
-            direction, pdu = one
-            if is_protected(pdu) and pdu[0] >> 4 == COMMAND:
-                break
-            right = self.under(context, direction, pdu[5], pdu) if is_protected(pdu) else None
-            if right is not None:
-                context.eia = right.eia
-                return True
-            if is_protected(pdu) and direction == UP and pdu[0] >> 4 == COMPLETE:
-                break  # the Complete of another KASME: what comes behind it stands under that
-        return False
 
     def under(self, context: NasContext, direction: int, count: int, pdu: bytes) -> NasContext | None:
         """The context with the integrity algorithm under which the MAC of a message is right: its own first, then the others."""
@@ -288,9 +241,17 @@ class NasBook:
             held = self.likely(side, direction, pdu, later)
         for context in held:
             count = self.opens(context, direction, pdu)
+            due = self.fewer(side, context, direction, pdu, count, later) if count is not None else None
+            if due is not None:
+                self.takes(side, context, complete, direction, (due,), False)
+                return self.refused(context, direction, pdu, due, self.whose(context, direction, pdu, due))
             if count is not None:
+                faults = self.completed(side, context, count) if complete else []
                 self.takes(side, context, complete, direction, (count,), True)
-                return self.settled(side, context, direction, pdu, count)
+                seen = self.settled(side, context, direction, pdu, count)
+                for fault in faults:
+                    seen.blame(fault)
+                return seen
         if not held:
             return self.without(side, direction, pdu, complete, later)
         if all(not context.given for context in held) or complete and not held[0].given:
@@ -301,6 +262,24 @@ class NasBook:
             self.takes(side, context, complete, direction, (count,), False)
             return self.refused(context, direction, pdu, count)
         return self.unopened(side, context, direction, pdu, complete, later)
+
+    def fewer(self, side: NasSide, context: NasContext, direction: int, pdu: bytes, count: int, later: Later) -> int | None:
+        """The COUNT that is due, where a message with a wrong MAC there has no more faults than one at the COUNT that its MAC has.
+
+        At its own COUNT a message may have been used with other octets, its text may not read, and KeNB may be of another COUNT; at the one
+        that is due its MAC is wrong. The same octets again are a replay.
+        """
+        due, before = estimate(context.next[direction], pdu[5]), context.seen.get((direction, count))
+        if count == due or before is not None and before[0] == pdu:
+            return None
+        first = direction == UP and side.initial and side.messages == 1
+        key = next((one for one in later() if isinstance(one, bytes)), None) if first and context.given else None
+
+        def faults(at: int) -> int:
+            reads = pdu[0] >> 4 not in CIPHERED or context.guessed or is_nas(self.text(context, direction, at, pdu) or pdu[6:])
+            return (not reads) + (key is not None and self.derivations.kenb(context.kasme, at).value != key)
+
+        return due if 1 + faults(due) <= (before is not None) + faults(count) else None
 
     def settled(self, side: NasSide, context: NasContext, direction: int, pdu: bytes, count: int, note: str = "") -> NasSeen:
         """The finding for a right message, which may establish the secure exchange (TS 24.301 4.4.2.3)."""
@@ -356,6 +335,8 @@ class NasBook:
             if far is not None:
                 self.takes(side, context, complete, direction, (far[1],), True)
                 return self.settled(side, context, direction, pdu, far[1])
+            if side.away:
+                return self.came_back(side, context, direction, pdu)
             if not other and (side.authenticated or failing == {UP, DOWN}):
                 self.leaves(side, context)
                 return self.nothing(direction, pdu)
@@ -363,6 +344,16 @@ class NasBook:
                 return self.nothing(direction, pdu, "its COUNT is not near the last one, and the search for it was ended")
         self.takes(side, context, complete, direction, (count,), False)
         return self.refused(context, direction, pdu, count, self.whose(context, direction, pdu, count))
+
+    def came_back(self, side: NasSide, context: NasContext, direction: int, pdu: bytes) -> NasSeen:
+        """A message of a phone that was where the trace shows nothing: it may stand under another KASME by now."""
+        for kasme in self.kasmes():
+            other = self.contexts.get(kasme) or NasContext(kasme, guessed=True)
+            count = self.opens(other, direction, pdu) if kasme != context.kasme else None
+            if count is not None:
+                return self.renewed(side, other, count, direction, pdu)
+        self.leaves(side, context)
+        return self.nothing(direction, pdu, AWAY)
 
     def leaves(self, side: NasSide, context: NasContext) -> None:
         """The connection goes on under a KASME that was not given, until one that is known is in use again."""
@@ -447,17 +438,10 @@ class NasBook:
             self.contexts[side.current.kasme] = side.current
 
     def whose(self, context: NasContext, direction: int, pdu: bytes, count: int) -> str:
-        """What else a wrong MAC is right for, in words, or nothing."""
-        names = self.derivations.kasmes
-        for kasme in range(len(names)):
-            other = replace(self.contexts.get(kasme, NasContext(kasme)), eia=context.eia)
-            for tried in {count, pdu[5], estimate(other.next[direction], pdu[5])}:
-                if kasme != context.kasme and self.has_mac(other, direction, tried, pdu):
-                    return f"it is that of {names[kasme].name} at COUNT {tried}"
-        for tried in range(max(0, count - 300), count + 300):
-            if self.has_mac(context, direction, tried, pdu):
-                return f"it is that of COUNT {tried}"
-        return "it is that of the other direction" if self.has_mac(context, 1 - direction, count, pdu) else ""
+        """The mistake behind a wrong MAC, or nothing."""
+        kasmes = self.derivations.kasmes
+        others = ((one.name, one.value) for place, one in enumerate(kasmes) if place != context.kasme)
+        return reasons.mac(self.derivations.calls, reasons.Nas(kasmes[context.kasme].value, context.eea, context.eia, direction, count, pdu), others)
 
     # -- identities
 

@@ -8,6 +8,7 @@ from typing import Protocol
 
 from . import probe
 from .courses import Course, Item
+from .dropped import Dropped
 from .messages import Line, Names
 from .probe import named
 from .scenarios import Scenario
@@ -21,13 +22,15 @@ WORDS = (
 )
 RANK = {word: rank for rank, word in enumerate(WORDS)}
 GOES_ON, USUAL_BAD = "goes on", "keys differ"
+HERE = " (here)"  # behind what an outcome is about, where the standard has it otherwise
 ROW = re.compile(r"row \d+ (\w+)(?:\((\d+),([\d,]+)\))? ([0-9a-f]{64}) (\S+)")
 
 
 @dataclass(frozen=True, slots=True)
 class Row:
-    """A key: its form, the row above it, the row or cell behind that, and its holders."""
+    """A key: its octets, its form, the row above it, the row or cell behind that, and its holders."""
 
+    key: str
     form: str
     parent: int | None
     more: str
@@ -47,7 +50,8 @@ class Standing:
         self.nas = [self.opens("nas up arrives", probe.NAS_UP), self.opens("nas down arrives", probe.NAS_DOWN)]
         self.passes = self.up is True and self.down is True
         self.view = self.core_view()
-        self.different = different(course.report) if course.report.find("\nend ") >= 0 else []
+        self.dropped = Dropped(course)
+        self.different = different(course.report, self.dropped) if course.report.find("\nend ") >= 0 else []
 
     def opens(self, name: str, text: str) -> bool | None:
         """Whether a packet or text of the probe is opened to what was sent; None if it is opened to something else."""
@@ -92,15 +96,16 @@ class Standing:
                 key = line.note.key
         return key
 
-    def reach(self) -> set[str]:
-        """The stations that can derive the phone's key: that held it, or a key above it from which steps of KeNB* lead to it."""
+    def reach(self, by_standard: bool = False) -> set[str]:
+        """The stations that can derive the phone's key: that held it, or a key above it from which steps of KeNB* lead to it. By the standard
+        such steps end at a handover that is vertical there."""
         found: set[str] = set()
         key = self.phone_key()
         number = self.by_key.get(key) if key else None
         while number is not None:
             row = self.rows[number]
             found |= {holder for holder in row.holders if holder.startswith("S")}
-            number = row.parent if row.form == "star" else None
+            number = None if row.form != "star" or by_standard and row.key in self.dropped.instead else row.parent
         return found
 
     def station_of(self, key: str, item: Item) -> int | None:
@@ -122,11 +127,12 @@ class Standing:
         return found
 
 
-def different(report: str) -> list[str]:
-    """What `verdict` says of keys that differ: at handovers and key changes, and at a connection."""
+def different(report: str, dropped: Dropped) -> list[tuple[str, bool]]:
+    """What `verdict` says of keys that differ, at handovers and key changes, and at a connection; and of each whether they differ in the standard,
+    too."""
     told = read(report)
-    found = [str(item) for item in items(told) if item.outcome is Outcome.DIFFER]
-    return [*found, *(["phone and station have different keys of a connection"] if connected(told) is False else [])]
+    found = [(str(item), not dropped.brings(item, told)) for item in items(told) if item.outcome is Outcome.DIFFER]
+    return [*found, *([("phone and station have different keys of a connection", True)] if connected(told) is False else [])]
 
 
 def rows_of(report: str) -> tuple[list[Row], dict[str, int]]:
@@ -138,7 +144,7 @@ def rows_of(report: str) -> tuple[list[Row], dict[str, int]]:
         if found:
             form, parent, more, key, holders = found.groups()
             keys[key] = len(rows)
-            rows.append(Row(form, int(parent) if parent else None, more or "", frozenset(holders.split(","))))
+            rows.append(Row(key, form, int(parent) if parent else None, more or "", frozenset(holders.split(","))))
     return rows, keys
 
 
@@ -185,7 +191,9 @@ class Comparison:
                 if before and not now:
                     yield "NAS apart", name
         if len(here.different) > len(usual.different):
-            yield "keys differ", here.different[-1]
+            alike = [what for what, is_alike in here.different if is_alike]
+            is_so = len(alike) > sum(is_alike for _, is_alike in usual.different)
+            yield "keys differ", alike[-1] if is_so else here.different[-1][0] + HERE
 
     def of_packets(self) -> Iterator[tuple[str, str]]:
         usual, here = self.usual, self.here
@@ -216,10 +224,12 @@ class Comparison:
         for name, line in usual.lines.items():
             now = here.lines.get(name)
             if line.note and now and now.note and (line.note.way, now.note.way) == ("vertical", "horizontal") and line.who == "phone":
-                yield "weaker key", "horizontal at the next handover" if name.startswith(probe.PROBE) else f"horizontal at step {name}"
+                at = "horizontal at the next handover" if name.startswith(probe.PROBE) else f"horizontal at step {name}"
+                yield "weaker key", at + (HERE if now.note.key in here.dropped.instead else "")
         reach = here.reach()
         if len(reach) > len(usual.reach()):
-            yield "weaker key", f"{' '.join(sorted(reach))} can derive the phone's key"
+            is_so = len(here.reach(by_standard=True)) > len(usual.reach(by_standard=True))
+            yield "weaker key", f"{' '.join(sorted(reach))} can derive the phone's key{'' if is_so else HERE}"
         made = here.made()
         for name, what in usual.made().items():
             if name not in made:
@@ -267,7 +277,13 @@ def limit(variant: Judged, word: str, messages: dict[str, str]) -> str | None:
     """What a product does where an outcome is a limit of this profile and not of LTE."""
     what = variant.outcomes[word]
     if word == "cut off":
-        return "a phone asks again at its timer" if "NotConnected" in what else "a phone re-establishes"
+        if "NotConnected" in what:
+            return "a phone asks again at its timer"
+        return "the station has no context, so that a phone goes idle and asks for service" if "NoUe" in what else "a phone re-establishes"
+    if word in ("weaker key", "keys differ"):
+        return "a station keeps its pair at a handover within it" if all(part.endswith(HERE) for part in what.split(", ")) else None
+    if word == "context left" and any(fault.kind == "lost" and messages[fault.item] == "Path Switch Request" for fault in variant.faults):
+        return "a core does not know the new station, and answers a handover over S1 from it with Error Indication"
     if word in ("stuck", "NAS apart") and any(fault.kind == "lost" and messages[fault.item].startswith("NAS Security Mode") for fault in variant.faults):
         return "the core sends its command again at T3460"
     if word == "no handover" and "AttemptOpen" in what:

@@ -7,6 +7,7 @@ from .terms import DOWN, UP
 
 EMM, ESM = 7, 2  # protocol discriminators (TS 24.007 11.2.3.1.1)
 ATTACH_REQUEST, TRACKING_REQUEST, AUTHENTICATION, MODE_COMMAND, MODE_REJECT = 0x41, 0x48, 0x52, 0x5D, 0x5F
+NO_KEY = 7  # a KSI (9.9.3.21)
 EMERGENCY_ATTACH = 6  # TS 24.301 9.9.3.11
 NETWORK_CAPABILITY = 0x58  # of a Tracking Area Update Request (TS 24.301 8.2.29)
 MAY_BE_PLAIN = {
@@ -38,11 +39,14 @@ def learn(side: NasSide, direction: int, text: bytes) -> None:
     if len(text) < 3 or text[0] != EMM:
         return
     if text[1] == AUTHENTICATION and direction == DOWN:
-        side.authenticated = True
+        side.authenticated, side.fresh, side.offered = True, True, text[2] & 7
     elif text[1] == MODE_REJECT:
-        side.pending, side.authenticated = None, False
+        if side.pending is not None and side.pending.given and (side.current is None or side.current.kasme != side.pending.kasme):
+            side.rejected.add(side.pending.kasme)
+        side.pending, side.authenticated, side.offered = None, False, None
     elif text[1] in (ATTACH_REQUEST, TRACKING_REQUEST) and direction == UP:
         side.emergency |= text[1] == ATTACH_REQUEST and text[2] & 7 == EMERGENCY_ATTACH
+        side.fresh |= text[2] >> 4 & 7 == NO_KEY
         told = network_capability(text)
         if told is not None:
             side.told = told

@@ -2,6 +2,7 @@
 from __future__ import annotations
 
 import dataclasses
+import re
 
 from lte_sec import frames
 
@@ -28,6 +29,23 @@ X2: dict[int, Form] = {
     0x31: ("X2 Handover Request Acknowledge", (CONNECTION, ATTEMPT, CELL, ALGORITHMS, AIR)),
     0x32: ("X2 Handover Cancel", (CONNECTION, SOURCE, ATTEMPT)),
     0x33: ("X2 UE Context Release", (CONNECTION, ATTEMPT)),
+}
+# NAS and RRC texts; a width of 0 is that of what is left, at most 200 octets.
+TEXT = ("text", 0)
+NAS: dict[int, Form] = {
+    0x01: ("Security Mode Command", (("KSI", 1), ALGORITHMS, CAPABILITIES)),
+    0x02: ("Security Mode Complete", ()),
+    0x03: ("Security Mode Reject", (("cause", 1),)),
+    0x04: ("Service Request", ()),
+    0x05: ("data", (TEXT,)),
+}
+RRC: dict[int, Form] = {
+    0x01: ("Security Mode Command", (ALGORITHMS, STATION, AIR)),
+    0x02: ("Security Mode Complete", ()),
+    0x03: ("Reconfiguration", (CELL, NCC, ALGORITHMS, STATION, AIR)),
+    0x04: ("Reconfiguration Complete", ()),
+    0x05: ("data", (TEXT,)),
+    0x06: ("key change", (CELL, ALGORITHMS, STATION, AIR)),
 }
 OTHERS = {"connection", "next connection", "station", "source", "attempt", "number", "air"}  # fields told in decimal
 NAMES = {1: "NAS", 2: "NAS", 3: "S1", 5: "S1", 6: "X2"}  # what an address of this tag gets
@@ -120,10 +138,41 @@ def in_words(wanted: frames.Reply, got: frames.Reply) -> str | None:
     return f"{want.message}: {'; '.join(told)}"
 
 
-def differences(wanted: bytes, got: bytes) -> list[str]:
-    """The differences of two replies: first what differs in the record, in words, then a line for each part, in hex."""
+NAS_KEYS, RADIO_KEYS = ["KNASenc", "KNASint"], ["KRRCenc", "KRRCint", "KUPenc"]
+# The derivations of a step (docs/FRAMES.md), by the role, the way of the note and how many there are.
+DERIVED: dict[tuple[str, str, int], list[str]] = {
+    ("phone", "", 1): ["KeNB"], ("phone", "", 2): NAS_KEYS, ("phone", "", 3): ["KeNB", *NAS_KEYS],
+    ("phone", "initial", 3): RADIO_KEYS, ("phone", "initial", 5): ["KeNB", "KeNB*", *RADIO_KEYS], ("phone", "horizontal", 4): ["KeNB*", *RADIO_KEYS],
+    ("station", "given", 3): RADIO_KEYS, ("station", "given", 4): ["KeNB*", *RADIO_KEYS],
+    ("station", "horizontal", 1): ["KeNB*"], ("station", "vertical", 1): ["KeNB*"],
+    ("station", "horizontal", 4): ["KeNB*", *RADIO_KEYS], ("station", "vertical", 4): ["KeNB*", *RADIO_KEYS],
+    ("core", "", 2): NAS_KEYS, ("core", "initial", 1): ["KeNB"], ("core", "initial", 2): ["KeNB", "NH"], ("core", "chained", 1): ["NH"],
+}
+
+
+def derivation_names(role: str, reply: frames.Reply) -> list[str]:
+    """What each derivation of a reply makes, KeNB* with its cell where the record names it; nothing where a step derives otherwise."""
+    way, count = frames.WAYS[reply.note.way] if reply.note else "", len(reply.derived)
+    names = DERIVED.get((role, way, count), [])
+    if role == "phone" and way == "vertical" and count > 4:
+        names = [f"NH {place} of {count - 4}" for place in range(1, count - 3)] + ["KeNB*", *RADIO_KEYS]
+    record = read(reply.to, reply.record) if reply.record is not None else None
+    cell = record.fields.get("cell") if record else None
+    return [f"{name} for PCI {cell.replace(',', ', EARFCN-DL ')}" if name == "KeNB*" and cell else name for name in names]
+
+
+def named(told: list[str], wanted: frames.Reply, got: frames.Reply, role: str) -> list[str]:
+    """The lines of derivations, each by what it makes."""
+    names = derivation_names(role, max(wanted, got, key=lambda reply: len(reply.derived)))
+    return [re.sub("^derivation ([0-9]+):", lambda it: f"{names[int(it[1])]}:" if int(it[1]) < len(names) else it[0], line) for line in told]
+
+
+def differences(wanted: bytes, got: bytes, actor: str = "") -> list[str]:
+    """The differences of two replies: first what differs in the record, in words, then a line for each part, in hex; derivations by name where the actor is known."""
+    told = frames.differences(wanted, got)
     try:
-        words = in_words(frames.read_reply(frames.unframed(wanted)), frames.read_reply(frames.unframed(got)))
+        want, have = (frames.read_reply(frames.unframed(octets)) for octets in (wanted, got))
     except frames.BadFrame:
-        words = None
-    return ([words] if words else []) + frames.differences(wanted, got)
+        return told
+    words = in_words(want, have)
+    return ([words] if words else []) + named(told, want, have, actor.split(" ")[0])

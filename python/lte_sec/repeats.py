@@ -5,16 +5,26 @@ PDU after them, as `tshark -T fields` prints them. The same octets again are the
 """
 from __future__ import annotations
 
+import itertools
 from collections.abc import Iterable, Iterator
 from dataclasses import dataclass, field
+from typing import IO
 
 from .terms import TraceError
 
 FIELDS = ("pdcp-lte.ueid", "pdcp-lte.security-config.bearer", "pdcp-lte.security-config.direction", "pdcp-lte.security-config.count")
 WAYS = {"uplink": "0", "up": "0", "ul": "0", "downlink": "1", "down": "1", "dl": "1"}
 NUMBER = 10  # the most digits of a number: what is longer is a key
+COUNTS = 1 << 32
+LONGEST, MOST = 65_536, 4_000_000  # characters of a line, and uses, that are read
 
 Use = tuple[str, str, str, int]
+
+
+class TooMuch(TraceError):
+    """The text is longer than what is read."""
+
+    status = 9
 
 
 @dataclass
@@ -39,7 +49,7 @@ def plain(word: str) -> str:
     """A value in one spelling: `0x00` and `0`, `uplink` and `0` are the same."""
     text = word.lower()
     digits = text.removeprefix("0x")
-    if text.isdigit() and len(text) <= NUMBER or text.startswith("0x") and len(digits) <= NUMBER and not set(digits) - set("0123456789abcdef"):
+    if text.isdecimal() and text.isascii() and len(text) <= NUMBER or text.startswith("0x") and len(digits) <= NUMBER and not set(digits) - set("0123456789abcdef"):
         return str(int(text, 0 if text.startswith("0x") else 10))
     return WAYS.get(text, text.replace(":", ""))
 
@@ -66,6 +76,17 @@ def pdus(line: str, place: int) -> tuple[list[list[str]], int] | None:
     return [[*row, *texts[number:number + 1]] for number, row in enumerate(rows)], max(0, len(cells[0]) - found)
 
 
+def bounded(text: IO[str]) -> Iterator[str]:
+    """The lines of a text; a fault where one is too long."""
+    for place in itertools.count(1):
+        line = text.readline(LONGEST + 1)
+        if not line:
+            return
+        if len(line) > LONGEST:
+            raise TooMuch(f"line {place} has more than {LONGEST:,} characters; a use has a key or UE id, bearer, direction, COUNT and a PDU")
+        yield line
+
+
 def uses(lines: Iterable[str], result: Repeats) -> Iterator[tuple[int, Use, str]]:
     """Each use with its line and the octets of its PDU."""
     for place, line in enumerate(lines, 1):
@@ -78,8 +99,8 @@ def uses(lines: Iterable[str], result: Repeats) -> Iterator[tuple[int, Use, str]
         result.passed += found[1]
         for words in found[0]:
             count = plain(words[3])
-            if not count.isdigit():
-                raise TraceError(f"line {place}: COUNT is a number: {words[3]}")
+            if not count.isdecimal() or not count.isascii() or int(count) >= COUNTS:
+                raise TraceError(f"line {place}: COUNT is a number 0 to {COUNTS - 1}, and not {words[3][:40]}")
             yield place, (plain(words[0]), plain(words[1]), plain(words[2]), int(count)), words[4].replace(":", "").lower() if len(words) == 5 else ""
 
 
@@ -88,6 +109,8 @@ def first_repeat(lines: Iterable[str]) -> Repeats:
     seen: dict[Use, tuple[int, str]] = {}
     result = Repeats()
     for place, use, octets in uses(lines, result):
+        if len(seen) == MOST:
+            raise TooMuch(f"line {place}: repeats reads {MOST:,} uses; part the text by key")
         before = seen.get(use)
         if before is None:
             seen[use] = (place, octets)

@@ -5,6 +5,9 @@ from collections import Counter
 from collections.abc import Iterable
 from dataclasses import dataclass
 from enum import Enum
+from typing import Protocol
+
+from .terms import Key
 
 
 class Verdict(str, Enum):
@@ -17,6 +20,19 @@ class Verdict(str, Enum):
 
 
 RIGHT, DIFFERS, UNKNOWN, NOTE = Verdict.RIGHT, Verdict.DIFFERS, Verdict.UNKNOWN, Verdict.NOTE
+
+
+@dataclass(frozen=True)
+class NasPart:
+    """What a line says of a NAS message beside its MAC: direction, header type and name, and the context that it stands under."""
+
+    is_up: bool
+    header: int
+    name: str
+    ksi: int | None = None
+    eea: int | None = None
+    eia: int | None = None
+    kasme: int = -1  # its place among those given
 
 
 @dataclass
@@ -40,12 +56,24 @@ class Line:
     cell: tuple[int, int] | None = None  # PCI and EARFCN-DL
     reason: str = ""
     time: float | None = None
+    wanted_hex: str = ""  # of a key
+    nas: NasPart | None = None
+    place: int | None = None  # of its message in the trace
+    key: Key | None = None
+    wanted_key: Key | None = None
 
     def __str__(self) -> str:
         return self.text
 
 
-def status(lines: Iterable[Line]) -> int:
+class Judged(Protocol):
+    """What has a verdict."""
+
+    @property
+    def verdict(self) -> Verdict: ...
+
+
+def status(lines: Iterable[Judged]) -> int:
     """0: all agree. 1: something differs. 3: something could not be judged, or there is nothing to judge."""
     verdicts = {line.verdict for line in lines}
     if not verdicts - {NOTE}:
@@ -53,13 +81,13 @@ def status(lines: Iterable[Line]) -> int:
     return 1 if DIFFERS in verdicts else 3 if UNKNOWN in verdicts else 0
 
 
-def counts(lines: Iterable[Line]) -> dict[str, int]:
+def counts(lines: Iterable[Judged]) -> dict[str, int]:
     """How many lines have each verdict."""
     found = Counter(line.verdict for line in lines)
     return {verdict.value: found[verdict] for verdict in (RIGHT, DIFFERS, UNKNOWN)}
 
 
-def summary(lines: Iterable[Line]) -> str:
+def summary(lines: Iterable[Judged]) -> str:
     """The last line of a report."""
     return ", ".join(f"{number} {verdict}" for verdict, number in counts(lines).items())
 

@@ -87,7 +87,7 @@ class Search:
 
     def near(self, keys: list[Key]) -> Iterator[Key]:
         """What the keys at hand give."""
-        chains = [nh for key in keys if key.form.startswith("kenb(") for nh in self.chain(key.kasme, key)]
+        chains = [nh for key in keys if key.term.kind == "kenb" for nh in self.chain(key.kasme, key)]
         yield from keys
         yield from chains
         yield from self.stars(keys, 1)

@@ -10,9 +10,10 @@ from dataclasses import dataclass
 
 from .contexts import FOREIGN, NasContext, NasSeen, NasSide, Trigger
 from .counts import SHORT_WRAP, near
-from .nas import NOT_GIVEN, Later, NasBook
+from .modes import ModeBook
+from .nas import NEW, NOT_GIVEN, Later
 from .report import DIFFERS, RIGHT, UNKNOWN
-from .terms import UP
+from .terms import DOWN, UP
 
 SIZE = 4  # octets of a Service Request
 REJECT = b"\x07\x4e"  # a plain Service Reject
@@ -27,7 +28,7 @@ class Owner:
     proved: bool = False
 
 
-class ServiceBook(NasBook):
+class ServiceBook(ModeBook):
     """The NAS contexts of a trace, for Service Requests too."""
 
     def short_mac(self, context: NasContext, count: int, pdu: bytes) -> bytes:
@@ -54,7 +55,7 @@ class ServiceBook(NasBook):
         if side.tmsi is not None:
             self.knows(side.tmsi, context.kasme)
         side.trigger = Trigger(context, (owner.count,), right)
-        note = self.accept(context, UP, owner.count, pdu) if right else ""
+        note = self.accept(side, context, UP, owner.count, pdu, True) if right else ""
         seen = NasSeen(UP, pdu[0] >> 4, RIGHT if right else DIFFERS, pdu[2:4].hex(), owner.count, wanted.hex(), context.kasme, pdu, note)
         if not self.judged(context):
             seen.verdict, seen.note = UNKNOWN, f"128-EIA{context.eia} is not computed here"
@@ -79,13 +80,24 @@ class ServiceBook(NasBook):
             others = [] if fits else [one for one in self.contexts.values() if one is not known]
             proved = self.proved([*([known] if known else []), *others], low, key)
             if proved is not None:
-                return proved
-        again = next((Owner(one, count, True) for one in allowed for count in near(one, UP, low, SHORT_WRAP) if one.seen.get((UP, count)) == pdu), None)
+                return self.fewest(proved, pdu, low) if fits else self.explained(proved, pdu, low, allowed)
+        again = next((Owner(one, count, True) for one in allowed for count in near(one, UP, low, SHORT_WRAP) if one.seen.get((UP, count), (b"", side))[0] == pdu), None)
         if again is not None:
             return again
         if known is not None and known.ksi in (None, ksi):
             return self.known_owner(known, pdu, low, key, later)
-        return self.by_short_mac(allowed, pdu, low) if key is None else self.began(low, key)
+        return self.by_short_mac(allowed, pdu, low) if key is None else self.began(pdu, low, key)
+
+    def fewest(self, proved: Owner, pdu: bytes, low: int) -> Owner:
+        """Of the COUNT that the KeNB has and the one that the short MAC has, the one with fewer faults; on a tie the short MAC's.
+
+        At its own COUNT the short MAC is right and KeNB is not: one fault. At that of KeNB the short MAC may be wrong, and the COUNT used.
+        """
+        context = proved.context
+        wrong = self.judged(context) and self.short_mac(context, proved.count, pdu) != pdu[2:4]
+        used = context.seen.get((UP, proved.count), (pdu, None))[0] != pdu
+        right = self.right_near(context, pdu, low)
+        return proved if right is None or not (wrong or used) else Owner(context, right)
 
     def may_be(self, context: NasContext, ksi: int, place: int | None) -> bool:
         """Whether S-TMSI and KSI of a request allow a context: its phone has no other S-TMSI, and this S-TMSI is of no other phone."""
@@ -123,8 +135,24 @@ class ServiceBook(NasBook):
         kenb, kasmes = self.derivations.calls.kenb, self.derivations.kasmes
         return lambda kasme, count: kenb(kasmes[kasme].value, count) == key
 
-    def began(self, low: int, key: bytes) -> Owner | None:
+    def began(self, pdu: bytes, low: int, key: bytes) -> Owner | None:
         """A request of a context that began before the trace, by the KeNB that it brings."""
         unused = self.unused()
         found = self.cold.find(unused, low, SHORT_WRAP, self.kenb_is(key)) if unused else None
-        return None if found is None else Owner(NasContext(found[0], next={0: found[1], 1: 0}, guessed=True), found[1], True)
+        return None if found is None else self.explained(Owner(self.begun_at(found[0], found[1]), found[1], True), pdu, low, [])
+
+    def begun_at(self, kasme: int, count: int) -> NasContext:
+        return NasContext(kasme, next={UP: count, DOWN: 0}, guessed=True)
+
+    def explained(self, owner: Owner, pdu: bytes, low: int, allowed: list[NasContext]) -> Owner:
+        """KeNB proves a COUNT, and the short MAC is wrong there: where it is right at a COUNT near that, under another KASME at that COUNT, or
+        under a context that is allowed, KeNB is what is wrong. By chance a short MAC fits once in 65,536."""
+        context, count = owner.context, owner.count
+        if not self.judged(context) or self.short_mac(context, count, pdu) == pdu[2:4]:
+            return owner
+        right = self.right_near(context, pdu, low)
+        others = (self.begun_at(kasme, count) for kasme in self.unused()[:NEW] if kasme != context.kasme)
+        other = next((one for one in others if self.short_mac(one, count, pdu) == pdu[2:4]), None)
+        if right is not None or other is not None:
+            return Owner(context, right) if right is not None else Owner(other or context, count)
+        return self.by_short_mac([one for one in allowed[-NEW:] if one is not context], pdu, low) or owner

@@ -1,129 +1,185 @@
-"""KeNB* against TS 33.401: for the target of a handover over X2, and for the cells that are prepared for re-establishment."""
+"""KeNB* against TS 33.401 for the target of a handover over X2: the lawful histories that give it, the likeliest first.
+
+They are tried in this order: as the trace shows it, what a trace lacks one half of, what was on links that it does not cover, what only
+the air shows. The first that gives the key says what the line rests on; those that do not give it are gone.
+"""
 from __future__ import annotations
 
 from collections.abc import Iterator
 from dataclasses import dataclass, field, replace
 
-from .chains import LOST_CHANGE, ChainJudge, title
-from .decoding import Message, Reestablishment
-from .report import DIFFERS, RIGHT, Line, unknown_line
-from .state import CHAIN, Chain, Connection, Held, Phone, refreshed, renewed
-from .terms import COMPUTED, NONE, RRC_INTEGRITY, Key
+from . import reasons
+from .cells import is_cell
+from .chains import LOST_CHANGE, ChainJudge
+from .decoding import Message
+from .histories import CHAIN, Chain, Held, History, Pair, Phone, Radio, renewed
+from .state import Attempt, Connection, Given
+from .terms import NONE, Key, unknown
 
+BASES = 4  # keys for which a mistake is sought
 MANY, MIXED, WIDE = 16, 6, 1024  # refreshes that are tried: so many in turn, in so many cells, through so many ways of them
 LOST_ANSWER = "its NH came in an answer that the trace lacks"
-ONES, BEARER_ONES, DIRECTION_ONE = (1 << 32) - 1, 31, 1  # COUNT, BEARER and DIRECTION of shortMAC-I (TS 36.331 5.3.7.4)
 
 
 @dataclass
 class Made:
-    """What came of a KeNB*: what the target may hold (as sent, then as wanted), and from what it was made."""
+    """What came of a KeNB*: what the target may have been given, and from what it was made."""
 
-    held: list[Held]
-    bases: list[tuple[Key, int]] = field(default_factory=list)
-    source: Held | None = None
+    given: list[Given]
+    bases: list[Pair] = field(default_factory=list)
     doubt: str = ""  # why it is not known whether it is right
-    phone: Phone | None = None  # the phone before it, where it is another than the connection's
 
 
 class StarJudge(ChainJudge):
     """Judges KeNB* too."""
 
-    def after_unseen(self, connection: Connection, held: list[Held], message: Message) -> list[Held]:
+    def after_unseen(self, connection: Connection, message: Message) -> None:
         """Where the source names another own cell than the known one, there was a handover within it that the trace lacks."""
         eci = message.source_eci if message.source_eci is not None else connection.told_eci
         cell = self.cell(eci)
         connection.eci = eci if connection.eci is None else connection.eci
-        if eci is None or cell is None or eci == connection.eci or self.cells.station(eci) != connection.station or not held:
-            return held
+        if eci is None or cell is None or eci == connection.eci or self.cells.station(eci) != connection.station or not connection.states():
+            return
         if any(attempt.kind == "within" and attempt.eci == eci for attempt in connection.attempts[-1:]):
-            return held
+            return
         connection.eci = eci
         if connection.resumed:
-            return held
+            return
         self.note(message.frame, f"the phone is in another cell of {connection.station} now: a handover within it that the trace does not show")
-        moved = [refreshed(self.derivations, one, connection.phone, cell) for one in held]
-        stayed = [replace(one, phone=one.phone or connection.phone) for one in held]
-        return [*moved, *stayed]
+        moved = [one.refreshed(self.derivations, cell) for one in connection.histories if one.held.known]
+        last = connection.attempts[-1] if connection.attempts else None
+        came = self.came_there(last, cell) if last is not None and last.station == connection.station else []
+        cores = connection.cores()
+        connection.keeps([*moved, *(one for one in came if one.core in cores), *connection.histories])
+
+    def came_there(self, attempt: Attempt, cell: Radio) -> list[History]:
+        """The phone came to another cell of the target than was prepared, and KeNB* was made for that (TS 33.401 7.4.3, 7.2.8.4)."""
+        return [one.stores(pair).refreshed(self.derivations, cell) for pair in attempt.bases or attempt.pairs for one in attempt.before if pair[0].value]
 
     def star(self, connection: Connection, message: Message) -> Made:
-        """Judges a KeNB* and its NCC."""
+        """Judges a KeNB* and its NCC, and keeps the histories that give it."""
         assert message.key is not None
         ncc, cell = message.ncc or 0, self.cell(message.eci)
-        held = self.after_unseen(connection, connection.held.get(connection.station, []), message)
-        held = [one for one in held if one.base()[0].value]
-        if not held or cell is None:
-            bases = [one.base()[0] for one in held]
-            found = self.named(message.key, connection, [])
-            why = "the trace does not show the key in use" if not bases else "the target cell is not known; name it with --cells"
-            self.unjudged(message, "KeNB*", why if found.known or bases else "no KASME that was given fits", found)
-            self.begins_at(connection, found)
-            return Made([Held(found, ncc)], doubt=why)
-        wanted = [(self.derivations.star(key, *cell), number) for key, number in (one.base() for one in held)]
-        match = next((one for one in wanted if one == (one[0], ncc) and one[0].value == message.key), None)
-        match = match or next((one for one in wanted if one[0].value == message.key), None)
-        if match is not None:
-            self.judged(message, "KeNB*", match[0], match[0], (ncc, match[1]), cell=cell)
-            chosen = [one for one, made in zip(held, wanted) if made == match]
-            self.goes_on(connection, chosen[0], [*chosen[1:], *(one for one in held if one not in chosen)])
-            at_target = [Held(match[0], ncc)] if ncc == match[1] else [Held(match[0], ncc), Held(match[0], match[1])]
-            return Made(at_target, [chosen[0].base()], chosen[0])
-        first = next((one[0], one[1]) for one in [*(one for one in wanted if NONE not in one[0].form), wanted[0]])
-        if not connection.core and connection.asked and ncc != first[1]:
+        self.after_unseen(connection, message)
+        bases = list(dict.fromkeys(one.base() for one in connection.states()))
+        if not bases or cell is None:
+            return self.star_of_nothing(connection, message, bases)
+        wanted = [(self.derivations.star(key, *cell), number) for key, number in bases]
+        fits = [place for place, (key, _) in enumerate(wanted) if key.value == message.key]
+        if fits:
+            exact = [place for place in fits if wanted[place][1] == ncc] or fits[:1]
+            return self.right_star(connection, message, bases[exact[0]], wanted[exact[0]], cell)
+        first = next((one for one in wanted if not unknown(one[0].term)), wanted[0])
+        if not connection.cores() and connection.asked and ncc != first[1]:
             found = self.named(message.key, connection, [])
             self.unjudged(message, "KeNB*", "its NH may have come in an answer that the trace lacks, and the trace does not show where the chain begins", found)
             self.begins_at(connection, found)
-            return Made([Held(found, ncc)], doubt="the KeNB* is not judged")
-        made = self.star_of_unseen(connection, message, cell) or self.star_of_refreshed(connection, message, held, first, cell)
-        return made or self.star_of_foreign(connection, message, held) or self.other_star(connection, message, held, first, cell)
+            return Made([Given(Held(found, ncc))], doubt="the KeNB* is not judged")
+        made = self.star_of_changed_cell(connection, message, bases) or self.star_of_elsewhere(connection, message, cell) or self.star_of_unseen(connection, message, cell)
+        made = made or self.star_of_refreshed(connection, message, first, cell) or self.star_of_nobody(connection, message, bases)
+        return made or self.star_of_foreign(connection, message, bases) or self.other_star(connection, message, bases, first, cell)
 
-    def goes_on(self, connection: Connection, chosen: Held, others: list[Held]) -> None:
-        """A reading of what the source has fits: it is likelier than the others from here on."""
-        if chosen.phone is not None:
-            connection.phone = chosen.phone
-        connection.held[connection.station] = [replace(chosen, phone=None), *others]
+    def star_of_nothing(self, connection: Connection, message: Message, bases: list[Pair]) -> Made:
+        """A KeNB* of a source whose key is not known, or for a cell that is not."""
+        found = self.named(message.key or b"", connection, [])
+        why = "the trace does not show the key in use" if not bases else "the target cell is not known; name it with --cells"
+        self.unjudged(message, "KeNB*", why if found.known or bases else "no KASME that was given fits", found)
+        self.begins_at(connection, found)
+        return Made([Given(Held(found, message.ncc or 0))], doubt=why)
 
-    def unseen_chains(self, connection: Connection, ncc: int) -> list[Chain]:
-        """The chains with this NCC that the source may have been told in answers that the trace lacks: no station makes an NH itself."""
-        chains = [self.numbered(connection, number) for number in sorted(connection.missed)]
-        for chain in connection.core:
+    def right_star(self, connection: Connection, message: Message, base: Pair, made: Pair, cell: Radio) -> Made:
+        """A KeNB* that the histories with this base give, with its NCC or another."""
+        key, number = made
+        ncc = message.ncc or 0
+        self.judged(message, "KeNB*", key, key, (ncc, number), cell=cell)
+        connection.keeps(one for one in connection.histories if one.held.base() == base)
+        return Made([Given(Held(key, one)) for one in dict.fromkeys((ncc, number))], [base])
+
+    def made_by(self, connection: Connection, histories: list[History], made: Key, ncc: int) -> Made:
+        """What the target is given by these histories, which are left."""
+        connection.keeps(histories)
+        return Made([Given(Held(made, ncc))], [connection.histories[0].held.base()])
+
+    def star_of_nobody(self, connection: Connection, message: Message, bases: list[Pair]) -> Made | None:
+        """A KeNB* that no lawful course of a phone without S1 gives: one under a KASME that was not given would."""
+        if not connection.away or self.named(message.key or b"", connection, [key for key, _ in bases]).known:
+            return None
+        why = self.moves.why(connection)
+        self.unjudged(message, "KeNB*", why)
+        self.moves.lost(connection)
+        return Made([Given(Held(Key(message.key or b"", NONE), message.ncc or 0))], doubt=why)
+
+    def star_of_changed_cell(self, connection: Connection, message: Message, bases: list[Pair]) -> Made | None:
+        """A KeNB* for another PCI of the target cell than is known, which the target's own answer has too: the cell has changed."""
+        told, site = self.replies.get(id(message)), self.cells.at(message.eci) if message.eci is not None else None
+        if told is None or site is None or told.pci is None or told.pci in self.cells.pcis() or site.eci in self.cells.given:
+            return None
+        now = replace(site, pci=told.pci, earfcn=told.earfcn if told.earfcn is not None else site.earfcn)
+        for base in bases if is_cell(now.pci, now.earfcn) else []:
+            made = self.derivations.star(base[0], now.pci, now.earfcn)
+            if made.value == message.key:
+                self.cells.changed(now, self.cells.now)
+                self.judged(message, "KeNB*", made, made, (message.ncc or 0, base[1]), f"the cell has PCI {now.pci} now, as the target answers", (now.pci, now.earfcn))
+                return self.made_by(connection, [one for one in connection.histories if one.held.base() == base], made, message.ncc or 0)
+        return None
+
+    def star_of_unknown_pci(self, message: Message, found: Key, bases: list[Pair], cell: Radio) -> str:
+        """Why a KeNB* for a PCI of no known cell may be right: the target may have told its source of it where the trace does not show X2."""
+        made_for = found.term.cells()[:1] if found.term.kind == "star" else []
+        lawful = any(found.term.above == key.term and number == message.ncc for key, number in bases)
+        target = self.cells.station(message.eci)
+        told = self.coverage.x2(target, self.cells.station(message.source_eci) or self.cells.addresses.get(message.source, ""))
+        if not lawful or told or not made_for or made_for[0][0] in self.cells.pcis() or made_for[0][1] != cell[1]:
+            return ""
+        return f"right if the cell has PCI {made_for[0][0]} now: the trace does not have X2 from {target}"
+
+    def star_of_elsewhere(self, connection: Connection, message: Message, cell: Radio) -> Made | None:
+        """A KeNB* of a phone that was where the trace has no S1."""
+        if not connection.away or not connection.cores():
+            return None
+        ncc = message.ncc or 0
+        found = self.moves.of_star(connection, message.key or b"", ncc, cell)
+        if found is None:
+            return None
+        made = self.derivations.star(found.held.base()[0], *cell)
+        self.judged(message, "KeNB*", made, made, (ncc, ncc), self.moves.remark(connection), cell)
+        self.moves.takes(connection, found)
+        return self.made_by(connection, connection.histories, made, ncc)
+
+    # -- where the trace lacks one half
+
+    def unseen_chains(self, connection: Connection, ncc: int) -> Iterator[tuple[Chain, list[History]]]:
+        """The chains with this NCC that the source may have been told in answers that the trace lacks, and the histories behind each: no
+        station makes an NH itself."""
+        for number in sorted(connection.missed):
+            late = self.numbered(connection, number)
+            if late is not None and late.ncc == ncc:
+                yield late, [one.stores((late.sync, ncc)) for one in connection.histories]
+        for begun in connection.cores():
+            chain = begun
             for _ in range(CHAIN):
                 chain = chain.step(self.derivations)
-                chains.append(chain)
-        return [chain for chain in chains if chain is not None and chain.number % CHAIN == ncc]
+                if chain.ncc == ncc:
+                    yield chain, [replace(one.stores((chain.sync, ncc)), core=chain) for one in connection.histories if one.core == begun]
 
     def told_unseen(self, connection: Connection, chain: Chain) -> None:
-        """The source was told this NH."""
+        """The source was told this NH, in an answer that may come yet: X2 and S1 may be captured in another order than they were sent."""
         if chain.number not in connection.missed:
-            connection.core, connection.asked = [chain], 0
-        connection.missed.discard(chain.number)
+            connection.asked = 0
+        connection.missed.add(chain.number)
 
-    def star_of_unseen(self, connection: Connection, message: Message, cell: tuple[int, int]) -> Made | None:
+    def star_of_unseen(self, connection: Connection, message: Message, cell: Radio) -> Made | None:
         """A KeNB* from an NH that the source was to get, in an answer that the trace lacks, or after a key change that it lacks."""
-        for chain in self.unseen_chains(connection, message.ncc or 0):
-            made, number = self.derivations.star(chain.sync, *cell), chain.number % CHAIN
+        ncc = message.ncc or 0
+        for chain, histories in self.unseen_chains(connection, ncc):
+            made = self.derivations.star(chain.sync, *cell)
             if made.value == message.key:
-                self.judged(message, "KeNB*", made, made, (number, number), LOST_ANSWER, cell)
+                self.judged(message, "KeNB*", made, made, (ncc, ncc), LOST_ANSWER, cell)
                 self.told_unseen(connection, chain)
-                source = [replace(one, pair=(chain.sync, number)) for one in connection.held[connection.station]]
-                connection.held[connection.station] = source
-                return Made([Held(made, number)], [source[0].base()], source[0])
+                return self.made_by(connection, histories, made, ncc)
         return self.star_of_change(connection, message, cell)
 
-    def star_of_foreign(self, connection: Connection, message: Message, held: list[Held]) -> Made | None:
-        """A KeNB* of a phone whose KASME was not given: a key change that the trace lacks may have brought its key, and NCC 0."""
-        begun = not message.ncc and all(one.base()[1] for one in held)
-        if connection.phone is not None and not begun and not self.is_foreign(connection):
-            return None
-        found, why = self.named(message.key or b"", connection, []), "the trace may lack a key change to a KASME that was not given"
-        if begun and connection.phone is not None and found.known:
-            return None
-        self.unjudged(message, "KeNB*", why, found)
-        connection.core, connection.asked, connection.phone = [], 0, None
-        self.begins_at(connection, found)
-        return Made([Held(found, message.ncc or 0)], doubt=why)
-
-    def star_of_change(self, connection: Connection, message: Message, cell: tuple[int, int]) -> Made | None:
+    def star_of_change(self, connection: Connection, message: Message, cell: Radio) -> Made | None:
         """A KeNB* from the key of a key change that the trace lacks."""
         own = self.cell(connection.eci)
         for kenb in self.unseen_changes(connection) if own is not None and not message.ncc else []:
@@ -131,117 +187,104 @@ class StarJudge(ChainJudge):
             made = self.derivations.star(phone.key, *cell)
             if made.value == message.key:
                 self.judged(message, "KeNB*", made, made, (0, 0), LOST_CHANGE, cell)
-                self.changed_unseen(connection, kenb, phone)
-                source = Held(phone.key, 0)
-                connection.held[connection.station] = [source]
-                return Made([Held(made, 0)], [source.base()], source)
+                self.changed_unseen(connection, kenb, [History(phone.chain, Held(phone.key), phone)])
+                return self.made_by(connection, connection.histories, made, 0)
         return None
+
+    def star_of_foreign(self, connection: Connection, message: Message, bases: list[Pair]) -> Made | None:
+        """A KeNB* of a phone whose KASME was not given: a key change that the trace lacks may have brought its key, and NCC 0."""
+        begun = not message.ncc and all(number for _, number in bases)
+        if connection.phone is not None and not begun and not self.is_foreign(connection):
+            return None
+        found, why = self.named(message.key or b"", connection, []), "the trace may lack a key change to a KASME that was not given"
+        if begun and connection.phone is not None and found.known:
+            return None
+        self.unjudged(message, "KeNB*", why, found)
+        connection.asked = 0
+        connection.keeps(History(None, one.held) for one in connection.histories)
+        self.begins_at(connection, found)
+        return Made([Given(Held(found, message.ncc or 0))], doubt=why)
 
     # -- refreshes that S1 and X2 do not show
 
-    def own_cells(self, connection: Connection) -> list[tuple[int, int]]:
+    def own_cells(self, connection: Connection) -> list[Radio]:
         """The cells of the station that the phone is at, its own first."""
         own = self.cell(connection.eci)
         others = sorted({(site.pci, site.earfcn) for site in self.cells.of(connection.station)} - {own})
         return ([own] if own else []) + [one for one in others if one is not None][:MIXED]
 
-    def refreshes(self, connection: Connection, held: list[Held]) -> Iterator[tuple[Held, list[tuple[int, int]]]]:
-        """What the source may have after steps to cells of its own: re-establishments and handovers within it (TS 33.401 7.2.8.4.1,
+    def refreshes(self, connection: Connection, histories: list[History]) -> Iterator[tuple[History, list[Radio]]]:
+        """The histories behind steps to cells of the station: re-establishments and handovers within it (TS 33.401 7.2.8.4.1,
         7.2.9.3, TS 36.331 5.3.7). They end in the phone's own cell."""
         cells = self.own_cells(connection)
         if not cells or self.cell(connection.eci) is None:
             return
-        level: list[tuple[Held, list[tuple[int, int]]]] = [(one, []) for one in held]
+        level: list[tuple[History, list[Radio]]] = [(one, []) for one in histories if one.held.known]
         for _ in range(MANY):
             ways = cells
             if len(level) * len(cells) > WIDE:  # from here on only in its own cell
                 level, ways = [(one, path) for one, path in level if set(path) == {cells[0]}], cells[:1]
-            level = [(refreshed(self.derivations, one, connection.phone, cell), [*path, cell]) for one, path in level for cell in ways]
+            level = [(one.refreshed(self.derivations, cell), [*path, cell]) for one, path in level for cell in ways]
             yield from ((one, path) for one, path in level if path[-1] == cells[0])
 
-    def star_of_refreshed(self, connection: Connection, message: Message, held: list[Held], wanted: tuple[Key, int], cell: tuple[int, int]) -> Made | None:
+    def star_of_refreshed(self, connection: Connection, message: Message, wanted: Pair, cell: Radio) -> Made | None:
         """A KeNB* that is right if the phone was refreshed in its cell before; nothing on S1 and X2 tells."""
         ncc = message.ncc or 0
-        unseen = [] if any(one.base()[1] == ncc for one in held) else self.unseen_chains(connection, ncc)
-        starts: list[tuple[list[Held], Chain | None, str]] = [(held, None, "")]
-        starts += [([replace(one, pair=(chain.sync, ncc)) for one in held], chain, LOST_ANSWER) for chain in unseen]
+        starts: list[tuple[list[History], Chain | None, str]] = [(connection.histories, None, "")]
+        if all(one.base()[1] != ncc for one in connection.states()):
+            starts += [(histories, chain, LOST_ANSWER) for chain, histories in self.unseen_chains(connection, ncc)]
         for kenb in self.unseen_changes(connection):
             begun = Chain(kenb.kasme, kenb)
-            starts.append(([Held(kenb, 0, None, Phone(kenb, 0, begun))], begun, LOST_CHANGE))
-        for sources, chain, also in starts:
-            for one, path in self.refreshes(connection, sources):
-                made = self.derivations.star(one.key, *cell)
+            starts.append(([History(begun, Held(kenb), Phone(kenb, 0, begun))], begun, LOST_CHANGE))
+        for histories, chain, also in starts:
+            for one, path in self.refreshes(connection, distinct(histories)):
+                made = self.derivations.star(one.held.key, *cell)
                 if made.value == message.key:
                     if chain is not None and chain.number:
                         self.told_unseen(connection, chain)
-                    elif chain is not None and one.phone is not None:
-                        self.changed_unseen(connection, chain.sync, one.phone)
-                    return self.refreshed_star(connection, message, held, wanted, one, path, made, also)
+                    elif chain is not None:
+                        self.changed_unseen(connection, chain.sync, histories)
+                    connection.keeps(self.gone(histories, path, one.held))
+                    return self.refreshed_star(connection, message, wanted, one, path, made, also)
         return None
 
-    def refreshed_star(self, connection: Connection, message: Message, held: list[Held], wanted: tuple[Key, int], one: Held, path: list[tuple[int, int]], made: Key, also: str) -> Made:
+    def gone(self, histories: list[History], path: list[Radio], held: Held) -> Iterator[History]:
+        """The histories that come to this state of the station through these cells."""
+        for one in histories:
+            for cell in path if one.held.known else []:
+                one = one.refreshed(self.derivations, cell)
+            if one.held == held:
+                yield one
+
+    def refreshed_star(self, connection: Connection, message: Message, wanted: Pair, one: History, path: list[Radio], made: Key, also: str) -> Made:
         """The line of a KeNB* that is right if the phone was refreshed; NCC is judged all the same."""
         times = f" ({len(path)} times)" if len(path) > 1 else ""
         cells = " ".join(f"({pci},{earfcn})" for pci, earfcn in path)
         how = f"refreshed in its cell before{times}" if set(path) == {path[-1]} else f"in the cells {cells} before"
-        why = f"right if the phone was {how}" + (f"; {also}" if also else "")
-        if message.ncc != one.ncc:
-            self.judged(message, "KeNB*", made, made, (message.ncc or 0, one.ncc), why)
+        why, ncc = f"right if the phone was {how}" + (f"; {also}" if also else ""), message.ncc or 0
+        if ncc != one.held.ncc:
+            self.judged(message, "KeNB*", made, made, (ncc, one.held.ncc), why)
         else:
             self.unjudged(message, "KeNB*", f"{why}; else wanted {self.show(wanted[0], made)}", made)
-        connection.held[connection.station] = [one, *held]
-        return Made([Held(made, message.ncc or 0), Held(wanted[0], wanted[1])], [one.base()], one, why, one.phone)
+        return Made([Given(Held(made, ncc))], [one.held.base()], why)
 
-    def other_star(self, connection: Connection, message: Message, held: list[Held], wanted: tuple[Key, int], cell: tuple[int, int]) -> Made:
-        """A KeNB* that is not the wanted one."""
+    # -- what no history gives
+
+    def other_star(self, connection: Connection, message: Message, bases: list[Pair], wanted: Pair, cell: Radio) -> Made:
+        """A KeNB* that no lawful history gives."""
         assert message.key is not None
         ncc = message.ncc or 0
-        found = self.named(message.key, connection, [one.base()[0] for one in held], cell)
-        self.judged(message, "KeNB*", found, wanted[0], (ncc, wanted[1]), cell=cell)
-        bases = list(dict.fromkeys(one.base() for one in held))
-        return Made([Held(found, ncc), Held(wanted[0], wanted[1])], bases, held[0])
+        found = self.named(message.key, connection, [key for key, _ in bases], cell)
+        given = [Given(Held(found, ncc)), Given(Held(wanted[0], wanted[1]))]
+        doubt = self.star_of_unknown_pci(message, found, bases, cell)
+        if doubt:
+            self.unjudged(message, "KeNB*", doubt, found)
+            return Made(given, bases, doubt)
+        why = self.reason(found, lambda: (reasons.star(found.value, key.value, *cell) for key, _ in bases[:BASES]))
+        self.judged(message, "KeNB*", found, wanted[0], (ncc, wanted[1]), why, cell)
+        return Made(given, bases)
 
-    # -- cells for re-establishment
 
-    def prepared(self, connection: Connection, message: Message, made: Made | None) -> None:
-        """KeNB* and short MAC of each cell that the source prepares for re-establishment (TS 33.401 7.4.3, TS 36.331 10.3)."""
-        for one in message.reestablishment:
-            cell = self.cell(one.eci)
-            name = f"for ({cell[0]},{cell[1]})" if cell else f"for ECI {one.eci:07x}"
-            if cell is None or made is not None and (made.source is None or made.doubt):
-                why = "the cell is not known; name it with --cells" if cell is None else "the key that it is made from is not judged"
-                self.lines += [unknown_line(message.frame, title(message), f"{what} {name}", why) for what in ("KeNB*", "short MAC")]
-                continue
-            if made is not None:
-                self.prepared_key(connection, message, one, made, cell, name)
-            self.short_mac(connection, message, one, name)
-
-    def prepared_key(self, connection: Connection, message: Message, one: Reestablishment, made: Made, cell: tuple[int, int], name: str) -> None:
-        wanted = [self.derivations.star(key, *cell) for key, _ in made.bases]
-        match = next((key for key in wanted if key.value == one.key), None)
-        found = match or self.named(one.key, connection, [key for key, _ in made.bases], cell)
-        self.judged(message, f"KeNB* {name}", found, match or wanted[0], cell=cell)
-
-    def short_mac(self, connection: Connection, message: Message, one: Reestablishment, name: str) -> None:
-        algorithms = message.algorithms or connection.algorithms
-        source = self.cell(message.source_eci)
-        pci = source[0] if source else message.source_pci
-        keys = [held.key for held in connection.held.get(connection.station, []) if held.key.value]
-        why = ""
-        if algorithms is None or algorithms[1] not in COMPUTED:
-            why = "the algorithm is not told, or not computed here"
-        elif pci is None or message.rnti is None or not keys:
-            why = "the source cell, the C-RNTI or the key in use is not known"
-        if why or pci is None or message.rnti is None or algorithms is None:
-            self.lines.append(unknown_line(message.frame, title(message), f"short MAC {name}", why))
-            return
-        macs = [self.computed_short_mac(key, algorithms[1], one.eci, pci, message.rnti) for key in keys]
-        right, head = one.short_mac in macs, f"frame {message.frame} {title(message)} short MAC {name} "
-        text = f"right: {one.short_mac.hex()}" if right else f"differs: is {one.short_mac.hex()}, wanted {macs[0].hex()}"
-        self.lines.append(Line(message.frame, title(message), f"short MAC {name}", RIGHT if right else DIFFERS, head + text, one.short_mac.hex(), macs[0].hex()))
-
-    def computed_short_mac(self, key: Key, eia: int, eci: int, pci: int, rnti: bytes) -> bytes:
-        """shortMAC-I over VarShortMAC-Input: cell identity (28 bits), PCI (9) of the source, C-RNTI (16), filled to seven octets (TS 36.331 5.3.7.4)."""
-        text = ((eci << 25 | pci << 16 | int.from_bytes(rnti, "big")) << 3).to_bytes(7, "big")
-        integrity = self.derivations.algorithm(key, RRC_INTEGRITY, eia).value[16:]
-        return self.derivations.macs[eia](integrity, ONES, BEARER_ONES, DIRECTION_ONE, text)[2:]
+def distinct(histories: list[History]) -> list[History]:
+    """The first history of each state of the station."""
+    return list({one.held: one for one in reversed(histories)}.values())[::-1]

@@ -3,7 +3,9 @@ from __future__ import annotations
 
 from collections.abc import Iterator
 from dataclasses import dataclass, field
+from typing import Any
 
+from .charted import Charts
 from .courses import Course, Item, Runs, act, delivery
 from .outcomes import Comparison, Standing
 from .probe import PROBE, Prober
@@ -23,6 +25,7 @@ class Choice:
     kinds: tuple[str, ...] = KINDS
     packets: bool = False
     follow: bool = False
+    charts: bool = False  # whether the course of each variant is kept
 
 
 @dataclass(slots=True)
@@ -35,6 +38,8 @@ class Variant:
     runs: int = 0
     sends: dict[str, bool] = field(default_factory=dict)
     serving: int = 0
+    run: list[Any] = field(default_factory=list)  # of one fault: its course beside the scenario's, and what falls away
+    gone: list[str] = field(default_factory=list)
 
     @property
     def worst(self) -> str:
@@ -56,6 +61,7 @@ class Study:
         self.course, self.serving = self.prober.probed(self.original.items, usual, {}, first)
         self.usual = usual | self.course.sends()
         self.standing = Standing(scenario, self.course, self.serving)
+        self.charts = Charts(scenario, self.course) if choice.charts else None
 
     def messages(self) -> list[str]:
         """The deliveries that a fault may happen to."""
@@ -114,7 +120,8 @@ class Study:
         own = own_items(items, self.faults.of) | {fault.item for fault in faults if fault.kind == "lost"}
         outcomes = Comparison(self.standing, standing, own).outcomes()
         sends = {name: sends for name, sends in course.sends().items() if sends != self.usual.get(name, False)}
-        return Variant(faults, outcomes, self.answers(course), self.runs.count - before, sends, serving), course
+        run, gone = self.charts.run(course) if self.charts and len(faults) == 1 else ([], [])
+        return Variant(faults, outcomes, self.answers(course), self.runs.count - before, sends, serving, run, gone), course
 
     def is_sent(self, fault: Fault, course: Course) -> bool:
         """Whether the message of a fault is sent, by the actor that sends it in the scenario."""

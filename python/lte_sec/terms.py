@@ -8,7 +8,7 @@
 from __future__ import annotations
 
 from collections.abc import Callable, Iterable
-from dataclasses import dataclass
+from dataclasses import dataclass, field
 from typing import Protocol
 
 DOWN, UP = 1, 0
@@ -16,7 +16,9 @@ NAS_ENCRYPTION, NAS_INTEGRITY, RRC_ENCRYPTION, RRC_INTEGRITY, UP_ENCRYPTION = 1,
 
 
 class TraceError(Exception):
-    """What cannot be read, in one line that says what to do."""
+    """What cannot be read, in one line that says what to do; and the status with which a word ends for it."""
+
+    status = 2
 
 
 class Calls(Protocol):
@@ -37,20 +39,88 @@ class Calls(Protocol):
 
 
 @dataclass(frozen=True, slots=True)
+class Term:
+    """A derivation as a tree: its kind, its numbers, and the key that it is made from. Above an NH stands the KeNB of its chain."""
+
+    kind: str  # kenb, nh, star, alg, kasme or none
+    numbers: tuple[int, ...] = ()
+    above: Term | None = None
+
+    def __str__(self) -> str:
+        before, after = "", ""
+        term: Term | None = self
+        while term is not None:  # a long connection without NHs makes KeNB* of KeNB* of ..
+            inner = term.above if term.kind != "nh" else None
+            numbers = ",".join(map(str, term.numbers))
+            if inner is not None:
+                before, after = f"{before}{term.kind}(", f",{numbers}){after}" if numbers else f"){after}"
+            else:
+                before += f"{term.kind}({numbers})" if numbers else term.kind
+            term = inner
+        return before + after
+
+    def base(self) -> Term | None:
+        """The KeNB of its chain, or what was taken for one."""
+        term: Term | None = self
+        while term is not None and term.kind in ("star", "alg"):
+            term = term.above
+        return term if term is None or term.kind == "kenb" else term.above
+
+    def cells(self) -> list[tuple[int, int]]:
+        """The cells that it is for, the last one first."""
+        found, term = [], self
+        while term.above is not None:
+            if term.kind == "star":
+                found.append((term.numbers[0], term.numbers[1]))
+            term = term.above
+        return found
+
+
+NONE = Term("none")
+
+
+def counted(term: Term | None) -> int:
+    """The COUNT of a KeNB, -1 of another key."""
+    return term.numbers[0] if term is not None and term.kind == "kenb" else -1
+
+
+def numbered(term: Term) -> int:
+    """The number of the NH that a key is made from, 0 where it is made from none."""
+    while term.kind in ("star", "alg") and term.above is not None:
+        term = term.above
+    return term.numbers[0] if term.kind == "nh" else 0
+
+
+def unknown(term: Term) -> bool:
+    """Whether a derivation begins at a key that none gives."""
+    while term.above is not None:
+        term = term.above
+    return term == NONE
+
+
+@dataclass(frozen=True, slots=True)
 class Key:
-    """A key and its derivation: `base` is the KeNB of its chain, `kasme` the place of its KASME among those given."""
+    """A key and its derivation; `kasme` is the place of its KASME among those given. The same octets are the same key."""
 
     value: bytes
-    form: str
-    base: str = ""
+    term: Term = field(compare=False)
     kasme: int = -1
 
     @property
     def known(self) -> bool:
-        return self.form != NONE
+        return self.term.kind != "none"
+
+    @property
+    def form(self) -> str:
+        return str(self.term)
+
+    @property
+    def base(self) -> str:
+        """The KeNB of its chain."""
+        base = self.term.base()
+        return "" if base is None else str(base)
 
 
-NONE = "none"
 KEPT = 65_536  # KeNBs that are kept
 
 
@@ -79,20 +149,19 @@ class Derivations:
         if key is None:
             if len(self._kenbs) > KEPT:
                 self._kenbs.clear()
-            form = f"kenb({count})"
-            key = self._kenbs[kasme, count] = Key(self.calls.kenb(self.kasmes[kasme].value, count), form, form, kasme)
+            key = self._kenbs[kasme, count] = Key(self.calls.kenb(self.kasmes[kasme].value, count), Term("kenb", (count,)), kasme)
         return key
 
     def next_nh(self, kasme: int, sync: Key) -> Key:
         """The NH whose SYNC-input is this key: the next of a chain, or the first of the chain that begins here."""
-        number, base = (int(sync.form[3:-1]) + 1, sync.base) if sync.form.startswith("nh(") else (1, sync.form)
-        return Key(self.calls.nh(self.kasmes[kasme].value, sync.value), f"nh({number})", base, kasme)
+        number, begun = (sync.term.numbers[0] + 1, sync.term.above) if sync.term.kind == "nh" else (1, sync.term)
+        return Key(self.calls.nh(self.kasmes[kasme].value, sync.value), Term("nh", (number,), begun), kasme)
 
     def star(self, key: Key, pci: int, earfcn: int) -> Key:
-        return Key(self.calls.kenb_star(key.value, pci, earfcn), f"star({key.form},{pci},{earfcn})", key.base, key.kasme)
+        return Key(self.calls.kenb_star(key.value, pci, earfcn), Term("star", (pci, earfcn), key.term), key.kasme)
 
     def algorithm(self, key: Key, type: int, identity: int) -> Key:
-        return Key(self.calls.algorithm_key(key.value, type, identity), f"alg({key.form},{type},{identity})", key.base, key.kasme)
+        return Key(self.calls.algorithm_key(key.value, type, identity), Term("alg", (type, identity), key.term), key.kasme)
 
     def nas_key(self, kasme: int, type: int, identity: int) -> bytes:
         """The 16 octets of a NAS key that are used."""
@@ -108,7 +177,7 @@ class Derivations:
         return self.form(key, beside) + ("" if same else self.whose(key))
 
     def form(self, key: Key, beside: Key | None = None) -> str:
-        if key.known and key.base == NONE:
+        if key.known and key.term.base() == NONE:
             return key.form + " on the key sent before"
         other = beside is not None and beside.known and key.base not in ("", key.form, beside.base)
         return f"{key.form} on {key.base}" if other else key.form
@@ -120,6 +189,7 @@ class Derivations:
 DIGITS = 64  # of a KASME
 HEX = frozenset("0123456789abcdefABCDEF")
 LIKE_A_KEY = 32  # so many digits of a word are no name of a file
+ALMOST, MISTYPED = range(DIGITS - 2, DIGITS + 3), 4  # a word of about so many letters, of which at most so many are no digits, was meant for a KASME
 
 
 def is_kasme(word: str) -> bool:
@@ -134,7 +204,10 @@ def kasme_fault(word: str) -> str:
     bare = digits.replace(" ", "").replace(":", "").replace("-", "")
     if digits[:2].lower() == "0x" and not set(digits[2:]) - HEX:
         return f"write a KASME without 0x before its {DIGITS} hex digits: {word}"
-    if len(bare) < LIKE_A_KEY or set(bare) - HEX:
+    others = [place for place, digit in enumerate(bare) if digit not in HEX]
+    if others and len(bare) in ALMOST and len(others) <= MISTYPED and not set(bare) & {"/", "."}:
+        return f"a KASME has {DIGITS} hex digits, and letter {others[0] + 1} of this word is '{bare[others[0]]}': {word}"
+    if len(bare) < LIKE_A_KEY or others:
         return ""
     if bare != digits and len(bare) == DIGITS:
         return f"write the {DIGITS} hex digits of a KASME without colons, hyphens or blanks between them: {word}"

@@ -6,27 +6,23 @@ from collections.abc import Callable, Iterator
 
 from .captures import CUT, UNREADABLE
 from .cells import Cells
-from .chains import title
 from .contexts import PLAIN, NasSeen
-from .decoding import Message
-from .handovers import Handovers, Leg
+from .coverage import Coverage
+from .decoding import Command, Message, title
+from .escaped import shown
+from .handovers import ANY_CORE, WAITING, Handovers, Leg
+from .progress import told
 from .judge import KeyJudge
-from .report import DIFFERS, UNKNOWN, Line, note_line, unknown_line
+from .report import DIFFERS, UNKNOWN, Line, NasPart, note_line, unknown_line
 from .search import Search
+from .seen import Account, Membership, Use, account
 from .service import ServiceBook
+from .stations import FROM_STATION, TELLS_CELL, Stations, station_end
 from .state import Connection
+from .taps import gaps
 from .terms import DOWN, UP, Derivations
 
-FROM_STATION = {  # S1AP messages that a station sends (TS 36.413 9.1)
-    "InitialUEMessage", "UplinkNASTransport", "NASNonDeliveryIndication", "InitialContextSetupResponse", "InitialContextSetupFailure",
-    "UEContextReleaseRequest", "UEContextReleaseComplete", "UEContextModificationResponse", "UEContextModificationFailure",
-    "UEContextModificationIndication", "HandoverRequired", "HandoverRequestAcknowledge", "HandoverFailure", "HandoverNotify", "HandoverCancel",
-    "ENBStatusTransfer", "PathSwitchRequest", "S1SetupRequest", "ENBConfigurationUpdate", "UECapabilityInfoIndication", "E_RABSetupResponse",
-    "E_RABModifyResponse", "E_RABReleaseResponse", "E_RABReleaseIndication", "E_RABModificationIndication", "LocationReport",
-    "UEContextSuspendRequest", "UEContextResumeRequest", "CellTrafficTrace", "UERadioCapabilityMatchResponse",
-}
 FROM_PHONE = ("InitialUEMessage", "UplinkNASTransport")
-TELLS_CELL = ("InitialUEMessage", "UplinkNASTransport", "PathSwitchRequest", "HandoverNotify")
 SERVED = (  # only the station that serves the phone has these
     "UplinkNASTransport", "HandoverRequired", "PathSwitchRequestAcknowledge", "UEContextSuspendRequest", "UEContextSuspendResponse",
     "UEContextResumeRequest", "UEContextResumeResponse",
@@ -40,37 +36,55 @@ Handler = Callable[["Trace", Connection, Message, str, Leg], None]
 class Trace(Handovers):
     """The messages of a trace in their order, and what became of each connection."""
 
-    def __init__(self, derivations: Derivations, cells: Cells, firsts: dict[str, int], budget: int):
+    def __init__(self, derivations: Derivations, cells: Cells, firsts: dict[str, int], budget: int, stations: Stations, coverage: Coverage):
         super().__init__()
+        self.stations, self.gummeis, self.coverage = stations, stations.gummeis, coverage
         self.cells, self.derivations = cells, derivations
         self.book = ServiceBook(derivations, 10 * budget)
-        self.judge = KeyJudge(self.book, cells, Search(derivations, cells, budget=budget), firsts)
+        self.judge = KeyJudge(self.book, cells, Search(derivations, cells, budget=budget), firsts, coverage)
         self.lines = self.judge.lines
         self.legs = {}
         self.mmes = {}
-        self.ends: dict[str, str] = {}
-        self.alias: dict[str, str] = {}
         self.connections = []
         self.by_leg: dict[Leg, list[int]] = {}
         self.messages: list[Message] = []
+        self.seen = Account(())
 
     # -- reading
 
-    def read(self, messages: list[Message], notes: list[Line]) -> None:
+    def read(self, messages: list[Message], notes: list[Line], head: list[str]) -> None:
         self.messages = messages
         self.lines += notes
         for place, message in enumerate(messages):
-            self.place(message)
             if message.link == "S1" and message.enb_id is not None:
-                self.by_leg.setdefault((self.station_end(message), message.enb_id), []).append(place)
-        for place, message in enumerate(messages):
-            before = len(self.lines)
+                self.by_leg.setdefault((station_end(message), message.enb_id), []).append(place)
+        self.judge.replies, self.judge.gaps = replies(messages), gaps(messages)
+        for place, message in enumerate(told(messages, "judged", len(messages))):
+            before, self.at, self.cells.now = len(self.lines), place, place
             self.one(message, place)
             self.left_over(message, before)
+            for line in self.lines[before:]:
+                line.place = place if line.frame == message.frame else None
         first = {message.frame: (place, message.time) for place, message in reversed(list(enumerate(messages)))}
         self.lines.sort(key=lambda line: first.get(line.frame, (0, 0.0))[0])
         for line in self.lines:
             line.time = first[line.frame][1] if line.frame in first else None
+        self.seen = account(messages, self.lines, self.membership(), self.cells.addresses, FROM_STATION, [*self.coverage.head(), *head], self.derivations, self.uses())
+
+    def membership(self) -> Membership:
+        """The numbers of the connection and the handover of each message."""
+        numbers = {id(connection): place for place, connection in enumerate(self.connections)}
+        attempts: dict[int, int] = {}
+        handovers = {place: attempts.setdefault(id(attempt), len(attempts)) for place, attempt in sorted(self.handovers.items())}
+        tmsis = {place: one.side.tmsi for place, one in enumerate(self.connections) if one.side.tmsi is not None}
+        return Membership({place: numbers[id(one)] for place, one in self.owners.items()}, handovers, tmsis)
+
+    def uses(self) -> Iterator[Use]:
+        """The keys that stations had in use."""
+        for number, connection in enumerate(self.connections, 1):
+            eea, eia = connection.algorithms or (None, None)
+            for frame, station, key in connection.keys:
+                yield Use(number, shown(frame), shown(station), shown(self.derivations.shown(key)), key.value, eea, eia)
 
     def one(self, message: Message, place: int) -> None:
         if message.link == "S1":
@@ -93,29 +107,9 @@ class Trace(Handovers):
         if message.link in ("S1", "X2") and (message.key or message.nh) and not any(line.what in KEYS for line in self.lines[before:]):
             self.lines.append(unknown_line(message.frame, title(message), "key", "no rule here is for keys of this message"))
 
-    def place(self, message: Message) -> None:
-        """Gives both ends of an association one name each: a verification tag names an end with several addresses."""
-        if message.tag:
-            known = self.ends.setdefault(message.tag, message.target)
-            if known != message.target:
-                self.alias[message.target] = known
-        message.source = self.alias.get(message.source, message.source)
-        message.target = self.alias.get(message.target, message.target)
-        if message.name in ("S1SetupRequest", "X2SetupRequest", "X2SetupResponse") and message.station is not None:
-            name = self.cells.names.setdefault(message.station, message.station_name or f"eNB {message.station:x}")
-            self.cells.addresses[message.source] = name
-        elif message.link == "S1" and message.name in TELLS_CELL and message.eci is not None:
-            self.cells.addresses.setdefault(message.source, self.cells.station(message.eci))
-        elif message.name in ("S1SetupResponse", "MMEConfigurationUpdate"):
-            for one in message.gummeis:
-                self.gummeis[one] = message.source
-
-    def station_end(self, message: Message) -> str:
-        return message.source if message.name in FROM_STATION else message.target
-
     def later(self, message: Message, place: int) -> Iterator[tuple[int, bytes] | bytes]:
         """What comes after a message in the same connection at the same station: NAS messages and KeNBs."""
-        places = self.by_leg.get((self.station_end(message), message.enb_id), [])
+        places = self.by_leg.get((station_end(message), message.enb_id), [])
         for after in places[bisect_right(places, place):]:
             one = self.messages[after]
             if one.name == "InitialUEMessage":
@@ -128,9 +122,9 @@ class Trace(Handovers):
     # -- S1
 
     def s1(self, message: Message, place: int) -> None:
-        end = self.station_end(message)
+        end = station_end(message)
         core = message.target if end == message.source else message.source
-        station = self.cells.addresses.get(end) or end
+        station = self.stations.at(place)
         if message.name == "Reset":
             return self.reset(end, core)
         if message.name == "HandoverRequest":
@@ -139,8 +133,9 @@ class Trace(Handovers):
         connection = self.connection(message, station, leg, at_core)
         if connection is None:
             return
+        self.owners[place] = connection
         self.binds(connection, leg, at_core)
-        if message.name in SERVED:
+        if message.name in SERVED and not self.is_late(connection, message, station):
             self.arrived(connection, station, message.frame)
         if message.name == "UplinkNASTransport" and station == connection.station:
             connection.told_eci = message.eci
@@ -148,6 +143,10 @@ class Trace(Handovers):
         if handler is not None:
             handler(self, connection, message, station, at_core)
         self.nas(connection, message, place)
+
+    def is_late(self, connection: Connection, message: Message, station: str) -> bool:
+        """Whether an answer comes to a station that the phone has left since: its NH is overdue, and says nothing of where the phone is."""
+        return station != connection.station and station in connection.left and message.nh is not None and self.judge.late(connection, message) is not None
 
     def connection(self, message: Message, station: str, leg: Leg, at_core: Leg) -> Connection | None:
         """The connection that a message belongs to."""
@@ -160,7 +159,8 @@ class Trace(Handovers):
             return self.targets[at_core][0]
         new_leg = message.name == "PathSwitchRequest"  # its eNB-UE-S1AP-ID is a fresh one
         found = self.legs.get(leg) if message.enb_id is not None and not new_leg else None
-        found = found or self.mmes.get(-1 if message.mme_id is None else message.mme_id, {}).get(at_core[0])
+        known = self.mmes.get(-1 if message.mme_id is None else message.mme_id, {})
+        found = found or known.get(at_core[0]) or known.get(ANY_CORE)
         if found is None and (message.enb_id is not None or message.mme_id is not None):
             found = self.new(station, message.eci if message.name in TELLS_CELL else None)
         return found
@@ -170,11 +170,15 @@ class Trace(Handovers):
             self.legs[leg] = connection
             connection.legs[leg] = at_core[1] if at_core[1] is not None else connection.legs.get(leg)
         if at_core[1] is not None:
-            self.mmes.setdefault(at_core[1], {})[at_core[0]] = connection
+            known = self.mmes.setdefault(at_core[1], {})
+            known[at_core[0]] = connection
+            if known.get(ANY_CORE) is connection:
+                del known[ANY_CORE]
             connection.mme = connection.mme or at_core[0]
 
     def nas(self, connection: Connection, message: Message, place: int) -> None:
         direction = UP if message.name in FROM_PHONE else DOWN
+        connection.side.away |= bool(connection.away)
         for pdu in message.nas:
             seen = self.book.judge(connection.side, direction, pdu, lambda: self.later(message, place))
             if seen is not None:
@@ -186,7 +190,8 @@ class Trace(Handovers):
         way = "up" if seen.direction == UP else "down"
         head = f"frame {message.frame} NAS {way}" + (f" COUNT {seen.count}" if seen.count is not None else "") + f" header {seen.header} "
         wrong = seen.verdict == DIFFERS and bool(seen.wanted) and seen.wanted != seen.mac
-        mac = f"MAC wrong: is {seen.mac}, wanted {seen.wanted}" if wrong else "MAC right" if seen.count is not None else "MAC not judged"
+        right = "MAC right, text right" if seen.text_right else "MAC right"
+        mac = f"MAC wrong: is {seen.mac}, wanted {seen.wanted}" if wrong else right if seen.count is not None else "MAC not judged"
         if seen.header == PLAIN:
             mac = "not judged" if seen.verdict == UNKNOWN else "differs"
         elif seen.verdict == UNKNOWN:
@@ -198,7 +203,9 @@ class Trace(Handovers):
         kasme = self.derivations.kasmes[seen.kasme].name if seen.kasme is not None else ""
         text += f" of {kasme}" if kasme and len(self.derivations.kasmes) > 1 else ""
         reason = "; ".join([*seen.faults, *([seen.note] if seen.note else [])])
-        return Line(message.frame, "NAS", "MAC", seen.verdict, text, seen.mac, seen.wanted, kasme=kasme, count=seen.count, plain=seen.plain, reason=reason)
+        context = self.book.contexts.get(seen.kasme) if seen.kasme is not None else None
+        part = NasPart(seen.direction == UP, seen.header, seen.name, *((context.ksi, context.eea, context.eia) if context else (None, None, None)), -1 if seen.kasme is None else seen.kasme)
+        return Line(message.frame, "NAS", "MAC", seen.verdict, text, seen.mac, seen.wanted, kasme=kasme, count=seen.count, plain=seen.plain, reason=reason, nas=part)
 
     def context_setup(self, connection: Connection, message: Message, station: str, at_core: Leg) -> None:
         self.told_capabilities(connection, message)
@@ -218,16 +225,23 @@ class Trace(Handovers):
         if message.key is not None:
             self.judge.change(connection, message)
             if connection.attempts:
-                self.commands.append((connection, connection.attempts[-1]))
+                self.commands = [*self.commands[-WAITING:], (connection, connection.attempts[-1])]
 
     def change_done(self, connection: Connection, message: Message, station: str, at_core: Leg) -> None:
-        connection.before = None
+        self.judge.changed(connection)
+        self.judge.comes_into_use(connection)
+
+    def set_up(self, connection: Connection, message: Message, station: str, at_core: Leg) -> None:
+        self.judge.comes_into_use(connection)
+
+    def setup_failed(self, connection: Connection, message: Message, station: str, at_core: Leg) -> None:
+        self.judge.refused(connection)
 
     def change_failed(self, connection: Connection, message: Message, station: str, at_core: Leg) -> None:
         self.judge.change_failed(connection)
 
     def released(self, connection: Connection, message: Message, station: str, at_core: Leg) -> None:
-        leg = (self.station_end(message), message.enb_id)
+        leg = (station_end(message), message.enb_id)
         if self.legs.get(leg) is connection:
             del self.legs[leg]
         connection.legs.pop(leg, None)
@@ -241,8 +255,24 @@ class Trace(Handovers):
             del self.legs[leg]
 
 
+def replies(messages: list[Message]) -> dict[int, Command]:
+    """The command that answers each handover over X2, by its request."""
+    asked: dict[tuple[str, str, int | None], Message] = {}
+    found: dict[int, Command] = {}
+    for message in messages:
+        if message.link == "X2" and message.name == "HandoverRequest":
+            asked[message.source, message.target, message.old_x2] = message
+        elif message.link == "X2" and message.name == "HandoverRequestAcknowledge" and message.command is not None:
+            request = asked.pop((message.target, message.source, message.old_x2), None)
+            if request is not None:
+                found[id(request)] = message.command
+    return found
+
+
 HANDLERS: dict[str, Handler] = {
     "InitialContextSetupRequest": Trace.context_setup,
+    "InitialContextSetupResponse": Trace.set_up,
+    "InitialContextSetupFailure": Trace.setup_failed,
     "UEContextModificationRequest": Trace.context_changed,
     "UEContextModificationResponse": Trace.change_done,
     "UEContextModificationFailure": Trace.change_failed,

@@ -5,7 +5,7 @@ from collections.abc import Iterator, Mapping
 from dataclasses import dataclass
 
 from .courses import Course, Item, Runs, act, delivery
-from .messages import Line, Names
+from .messages import Line, Names, nas_name
 from .scenarios import Scenario, Step, value
 
 KINDS = ("lost", "late", "twice", "again")
@@ -61,7 +61,7 @@ class Original:
                 who = "core" if cause == "connect" else f"station {step.get('station')}"
                 made = causes.pop(who, None) if cause in ("command", "connect", "x2", "s1", "intra", "cancel") else None
                 yield act(name, step, made if cause in ("command", "connect") else None)
-            sends = names.of(line, cause)
+            sends = nas_name(step["text"]) if cause == "nas" else names.of(line, cause)
             if line.sent is not None:
                 records.append(name)
                 named[name] = sends

@@ -1,4 +1,4 @@
-"""What became of each handover and key change of a report of `run`: `./lte_sec verdict [--json] < REPORT`.
+"""What became of each handover and key change of a report of `run`: `./lte_sec verdict [--json] [--scenario FILE] < REPORT`.
 
 All is read from the report: the notes of its steps, and the rows of its ladder, in which a KeNB* has its cell. Status 0 where all
 keys agree, 1 where keys differ, 3 where the report does not tell, where nothing was set up, and where the text is no report of `run`.
@@ -8,9 +8,12 @@ from __future__ import annotations
 import dataclasses
 import enum
 import json
+import pathlib
 import re
 import sys
 from collections.abc import Iterator
+
+from .remarks import frames_of, with_frames
 
 STEP = re.compile(r"(\d+) (both|phone|core(?: [01])?|world|station ([0-7])) (\w+)(.*)")
 SENT = re.compile(r" sent=\d+:(\w+)")
@@ -42,7 +45,7 @@ NOT_MADE = (Outcome.NOT_PREPARED, Outcome.NOT_COMMANDED, Outcome.NOT_OBEYED, Out
 @dataclasses.dataclass(frozen=True)
 class Row:
     """A row of the ladder: its place, its form, the rows of its root and of the key above it, the step of its chain that it comes from,
-    and its cell if it has one."""
+    its cell if it has one, and the row with which its chain begins."""
 
     place: int
     form: str
@@ -50,6 +53,7 @@ class Row:
     above: int
     chain: int
     cell: str
+    first: int
 
 
 @dataclasses.dataclass(frozen=True)
@@ -90,7 +94,8 @@ def rows_of(lines: list[str]) -> dict[str, Row]:
         above = rows[int(parent)] if parent else None
         root = above.root if above else len(rows)
         chain = rows[int(more)].chain + 1 if form == "nh" else above.chain if above and form == "star" else 0
-        rows.append(Row(len(rows), form, root, int(parent or len(rows)), chain, more if form == "star" else ""))
+        first = rows[int(more)].first if form == "nh" else above.first if above and form == "star" else len(rows)
+        rows.append(Row(len(rows), form, root, int(parent or len(rows)), chain, more if form == "star" else "", first))
         keys[key] = rows[-1]
     return keys
 
@@ -108,7 +113,9 @@ def step_of(number: int, line: str) -> Step:
 def read(text: str) -> Report:
     """A report; a reason if the text is not one."""
     lines = text.splitlines()
-    if lines and re.match(r"\d+ 0 (both|phone|core|world|station)", lines[0]):
+    if not lines:
+        raise NoReport("it is empty; ./lte_sec run writes a report")
+    if re.match(r"\d+ 0 (both|phone|core|world|station)", lines[0]):
         raise NoReport("it is one of fleet; sed -n 's/^0 //p' gives that of phone 0")
     if re.search(r"^(phone *=|\[phone\])", text, re.MULTILINE):
         raise NoReport("it is a scenario; ./lte_sec run writes its report")
@@ -297,13 +304,19 @@ class Verdict:
     items: list[Item]
     last: str
     status: int
+    frames: dict[int, str] = dataclasses.field(default_factory=dict)  # of the steps, where the scenario has them
 
     def lines(self) -> list[str]:
-        return [*map(str, self.items), *([] if self.items else ["no handover and no key change"]), self.last]
+        told = [with_frames(str(item), self.frames) for item in self.items]
+        return [*told, *([] if told else ["no handover and no key change"]), self.last]
 
     def document(self) -> dict[str, object]:
         """The document that --json prints."""
-        told = [dataclasses.asdict(item) | {"outcome": item.outcome.value, "cell": [int(part) for part in item.cell.split(",") if part]} for item in self.items]
+        told = [
+            dataclasses.asdict(item) | {
+                "outcome": item.outcome.value, "cell": [int(part) for part in item.cell.split(",") if part],
+            } | ({"first_frame": self.frames.get(item.first), "last_frame": self.frames.get(item.last)} if self.frames else {}) for item in self.items
+        ]
         return {"version": VERSION, "items": told, "verdict": self.last, "status": self.status}
 
 
@@ -322,16 +335,29 @@ def judged(text: str) -> Verdict:
     return Verdict(found, f"all agree; {count} of {len(found)} not made" if count else "all agree", 0)
 
 
-def main(words: list[str]) -> int:
+def text_of(octets: bytes) -> str:
+    """The text of a report."""
     try:
-        verdict = judged(sys.stdin.buffer.read().decode())
-    except (NoReport, UnicodeDecodeError) as wrong:
+        return octets.decode()
+    except UnicodeDecodeError as fault:
+        line = octets[: fault.start].count(b"\n") + 1
+        raise NoReport(f"it is no text, since octet {octets[fault.start]:02x} in line {line} is not UTF-8; ./lte_sec run writes a report") from None
+
+
+def main(words: list[str]) -> int:
+    """Words: --json, and --scenario FILE, whose remarks name the frames of its steps."""
+    scenario = words[words.index("--scenario") + 1] if "--scenario" in words else ""
+    try:
+        frames = frames_of(pathlib.Path(scenario).read_text(encoding="utf-8")) if scenario else {}
+    except (OSError, UnicodeDecodeError) as fault:
+        print(f"lte_sec: status 2: the scenario {scenario} cannot be read: {fault}", file=sys.stderr)
+        return 2
+    try:
+        verdict = dataclasses.replace(judged(text_of(sys.stdin.buffer.read())), frames=frames)
+    except NoReport as wrong:
         print(f"lte_sec: this is not a report of run: {wrong}", file=sys.stderr)
         return 3
-    try:
-        print(json.dumps(verdict.document(), indent=1) if words == ["--json"] else "\n".join(verdict.lines()), flush=True)
-    except BrokenPipeError:  # whoever read what is printed has read enough
-        sys.stderr.close()
+    print(json.dumps(verdict.document(), indent=1) if "--json" in words else "\n".join(verdict.lines()))
     return verdict.status
 
 

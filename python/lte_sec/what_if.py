@@ -8,17 +8,22 @@ import subprocess
 import sys
 from dataclasses import dataclass, field
 from pathlib import Path
+from typing import Any
 
+from . import matrix_page, pages
 from .answers import Answer, NoParts, from_json, merged, table, to_json
+from .charted import name_of
 from .courses import ProgramFails
 from .matrix import draw
 from .outcomes import RANK, USUAL_BAD
+from .remarks import frames_of
 from .scenarios import NoScenario, read
 from .spread import Gathering, Share
 from .study import Choice, Study
+from .terms import TraceError
 from .variants import KINDS, Coincidence
 
-VALUED = ("--faults", "--kinds", "--bad", "--jobs", "--part", "--save", "--picture")
+VALUED = ("--faults", "--kinds", "--bad", "--jobs", "--part", "--save", "--picture", "--html")
 FLAGS = ("--packets", "--follow", "--json", "--lines", "--merge")
 MOST_FAULTS, MOST_JOBS, BAD, WORDS, REFUSED, ENDED, STOPPED = 3, 256, 1, 2, 3, 7, 130
 REASONS = Path(__file__).resolve().parents[2] / "launcher" / "reasons"
@@ -112,12 +117,14 @@ def scenario_of(program: str, words: Words) -> tuple[bytes, int]:
         print("lte_sec: what-if reads a scenario from here, up to Ctrl-D; or name a file", file=sys.stderr)
     octets = opened(words.files[0]) if words.files else sys.stdin.buffer.read()
     ran = subprocess.run([program, "run"], input=octets, stdout=subprocess.PIPE, stderr=subprocess.DEVNULL)
+    out = sys.stderr if "--json" in words.flags else sys.stdout  # with --json nothing but JSON is printed
     if ran.returncode == REFUSED:
-        sys.stdout.write(ran.stdout.decode(errors="replace"))
-        sys.stdout.flush()
-        subprocess.run([sys.executable, str(REASONS), "text", program, "run"], input=octets)
+        out.write(ran.stdout.decode(errors="replace"))
+        out.flush()
+        said = subprocess.run([sys.executable, str(REASONS), "text", program, "run"], input=octets, stderr=subprocess.PIPE).stderr
+        sys.stderr.write(said.decode(errors="replace"))
     elif ran.returncode == ENDED:
-        print(ran.stdout.decode().splitlines()[-1])
+        print(ran.stdout.decode().splitlines()[-1], file=out)
         print("lte_sec: status 7: the scenario itself ends at a coincidence, so that nothing can be compared with it", file=sys.stderr)
     elif ran.returncode:
         print(f"lte_sec: status {ran.returncode}: the program does not run the scenario", file=sys.stderr)
@@ -126,16 +133,22 @@ def scenario_of(program: str, words: Words) -> tuple[bytes, int]:
 
 def tried(program: str, words: Words) -> tuple[Answer | None, int]:
     """The answer for a scenario, and a status where there is none."""
-    choice = Choice(words.kinds(), "--packets" in words.flags, "--follow" in words.flags)
+    choice = Choice(words.kinds(), "--packets" in words.flags, "--follow" in words.flags, "--json" in words.flags or "--html" in words.values)
     jobs = words.number("--jobs", len(os.sched_getaffinity(0)), MOST_JOBS)
     share = Share(jobs, words.part(), words.number("--faults", 1, MOST_FAULTS), words.folder(), "--lines" in words.flags and "--json" not in words.flags)
     octets, status = scenario_of(program, words)
     if status:
         return None, status
-    gathering = Gathering(Study(program, read(octets), choice), share)
+    scenario = read(octets)
+    study = Study(program, scenario, choice)
+    gathering = Gathering(study, share)
+    if study.charts:
+        gathering.answer.chart = study.charts.chart(name_of(octets.decode(errors="replace"), words.files[0].stem if words.files else "a scenario"))
     gathering.answer.tried = {
         "scenario": hashlib.sha256(octets).hexdigest(), "faults": share.faults, "kinds": list(choice.kinds), "packets": choice.packets, "follow": choice.follow,
+        "within": any(step.get("do") == "intra" for step in scenario.steps),
     }
+    gathering.answer.frames = frames_of(octets.decode(errors="replace"))
     gathering.gather()
     print(f"lte_sec: {gathering.cost()}", file=sys.stderr)
     return gathering.answer, 0
@@ -153,6 +166,12 @@ def merged_of(words: Words) -> Answer:
     return merged(parts)
 
 
+def write_page(file: Path, document: dict[str, Any]) -> None:
+    if "base" not in document:
+        raise Wrong("--html wants parts that have the course of each variant, as --json writes them now")
+    pages.write(file, pages.html(matrix_page.page(document), matrix_page.told(document), matrix_page.of_note(document)))
+
+
 def tell(answer: Answer, words: Words) -> int:
     """Writes the answer as it is wanted; the status."""
     if "--picture" in words.values:
@@ -160,6 +179,8 @@ def tell(answer: Answer, words: Words) -> int:
             Path(words.values["--picture"]).write_text(draw(answer), encoding="utf-8")
         except OSError as fault:
             raise Wrong(f"{words.values['--picture']} cannot be written: {fault.strerror}") from None
+    if "--html" in words.values:
+        write_page(Path(words.values["--html"]), to_json(answer))
     if "--json" in words.flags:
         print(json.dumps(to_json(answer), indent=1))
     elif "--lines" not in words.flags:
@@ -175,9 +196,11 @@ def tell(answer: Answer, words: Words) -> int:
 def answered(program: str, given: list[str]) -> int:
     words = Words.read(given)
     words.bad()
-    picture = Path(words.values.get("--picture", "."))
-    if not os.access(picture if picture.exists() else picture.parent, os.W_OK):
+    picture = Path(words.values["--picture"]) if "--picture" in words.values else None
+    if picture and not os.access(picture if picture.exists() else picture.parent, os.W_OK):
         raise Wrong(f"{picture} cannot be written")
+    if "--html" in words.values:
+        pages.writable(Path(words.values["--html"]))
     if "--merge" in words.flags:
         return tell(merged_of(words), words)
     answer, status = tried(program, words)
@@ -187,7 +210,7 @@ def answered(program: str, given: list[str]) -> int:
 def main(words: list[str]) -> int:
     try:
         return answered(words[0], words[1:])
-    except (Wrong, NoParts) as fault:
+    except (Wrong, NoParts, TraceError) as fault:
         print(f"lte_sec: status 2: what-if: {fault}", file=sys.stderr)
         return WORDS
     except NoScenario as fault:
@@ -199,9 +222,6 @@ def main(words: list[str]) -> int:
     except ProgramFails as fault:
         print(f"lte_sec: status 6: {fault}", file=sys.stderr)
         return 6
-    except BrokenPipeError:  # whoever read what is printed has read enough
-        sys.stderr.close()
-        return 0
     except KeyboardInterrupt:
         return STOPPED
 

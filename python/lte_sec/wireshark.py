@@ -3,25 +3,24 @@ from __future__ import annotations
 
 from collections.abc import Iterator
 
-from .terms import RRC_ENCRYPTION, RRC_INTEGRITY, UP_ENCRYPTION, Derivations, Key
-from .trace import Trace
+from .seen import Account
+from .terms import RRC_ENCRYPTION, RRC_INTEGRITY, UP_ENCRYPTION, Calls
+
+USUAL = 2  # the algorithms that are taken where a trace does not tell them: 128-EEA2 and 128-EIA2
 
 
-def rows(trace: Trace) -> Iterator[str]:
+def rows(seen: Account, calls: Calls) -> Iterator[str]:
     """A remark and a row for each key that a connection had in use; the n-th key of the trace has the UE id n."""
-    ue = 0
-    for place, connection in enumerate(trace.connections, 1):
-        eea, eia = connection.algorithms or (2, 2)
-        names = f"EEA{eea} and EIA{eia}{'' if connection.algorithms else ', which the trace does not tell'}"
-        for frame, station, key in connection.keys:
-            ue += 1
-            yield f"# UE id {ue}: connection {place}, from frame {frame} on at {station}: {trace.derivations.shown(key)}; {names}"
-            yield row(trace.derivations, ue, key, eea, eia)
+    for number, use in enumerate(seen.uses, 1):
+        eea, eia = (USUAL, USUAL) if use.eea is None or use.eia is None else (use.eea, use.eia)
+        names = f"EEA{eea} and EIA{eia}{', which the trace does not tell' if use.eea is None else ''}"
+        yield f"# UE id {number}: connection {use.connection}, from frame {use.frame} on at {use.station}: {use.term}; {names}"
+        yield row(calls, number, use.key, eea, eia)
 
 
-def row(derivations: Derivations, ue: int, key: Key, eea: int, eia: int) -> str:
+def row(calls: Calls, number: int, key: bytes, eea: int, eia: int) -> str:
     """A row of the table; a plane without ciphering (EEA0) has no key."""
     def used(type: int, identity: int) -> str:
-        return derivations.algorithm(key, type, identity).value[16:].hex() if identity else ""
+        return calls.algorithm_key(key, type, identity)[16:].hex() if identity else ""
 
-    return f'"{ue}","{used(RRC_ENCRYPTION, eea)}","{used(UP_ENCRYPTION, eea)}","{used(RRC_INTEGRITY, eia)}"'
+    return f'"{number}","{used(RRC_ENCRYPTION, eea)}","{used(UP_ENCRYPTION, eea)}","{used(RRC_INTEGRITY, eia)}"'

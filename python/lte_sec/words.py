@@ -1,33 +1,39 @@
 """The words of the launcher on traces: check-trace, explain, wireshark, repeats; and vectors."""
 from __future__ import annotations
 
+import contextlib
 import json
 import sys
 from collections.abc import Callable
 from pathlib import Path
+from typing import IO
 
+from . import about, pages, trace_page
 from .captures import read_all
-from .cells import Cells, Site, read_cells
+from .cells import Cells, Site, is_cell, read_cells
 from .derive import proved_calls
 from .dumps import HALF, KEY, blocks, has_hex
 from .explain import Explanation, told
-from .repeats import first_repeat
-from .reading import check
-from .report import NOTE, status, summary
+from .logged import cells_of
+from .repeats import bounded, first_repeat
+from .reading import Said, check
+from .report import status
+from .seen import judged_anything
 from .terms import Derivations, TraceError, is_kasme, kasme_fault, kasmes_of
 from .trace import Trace
 from .vectors import MOST, SEEDS, USUAL, document
 from .wireshark import rows
-from .written import annotate, as_json
+from .written import annotate, document as trace_document, lines
 
 USAGE = {
-    "check-trace": "check-trace [--plain] [--json] [--annotate FILE] [--cells FILE] CAPTURE.. KASME..   judges each KeNB, KeNB* and NH, and each NAS message, of a capture",
+    "check-trace": "check-trace [--plain] [--json] [--annotate FILE] [--html FILE] [--html-keys no] [--cells FILE] [--covers LINK].. [--not-covered LINK].. CAPTURE.. KASME..   judges each KeNB, KeNB* and NH, and each NAS message, of a capture",
     "explain": "explain [--cells FILE] [--cell PCI,EARFCN].. [--counts N] [--depth N] [--keys FILE] KASME..   says which derivation each key of a text is",
     "wireshark": "wireshark [--cells FILE] CAPTURE.. KASME..   prints the PDCP keys of a capture as Wireshark's table",
     "vectors": "vectors [--seed N] [--count N]   prints test vectors",
     "repeats": "repeats [FILE]   tells the first key, bearer, direction and COUNT that come twice",
 }
-READ, BAD_WORDS, NOT_JUDGED = 2, 2, 3
+BAD_WORDS, NOT_JUDGED = 2, 3
+LINKS = ("--covers", "--not-covered")  # what the user says of the links of a trace
 
 
 class Words:
@@ -66,7 +72,7 @@ class Words:
         sites = [site for file in self.options.get("--cells", []) for site in read_cells(Path(file))]
         for place, text in enumerate(self.options.get("--cell", [])):
             pci, comma, earfcn = text.partition(",")
-            if not (comma and pci.isdigit() and earfcn.isdigit() and int(pci) <= 503 and int(earfcn) <= 262143):
+            if not (comma and pci.isdecimal() and earfcn.isdecimal() and is_cell(int(pci), int(earfcn))):
                 raise TraceError(f"--cell is PCI,EARFCN-DL, as 301,1575: {text}")
             sites.append(Site((1 << 28) - 1 - place, int(pci), int(earfcn)))
         return Cells(sites)
@@ -79,47 +85,68 @@ def traced(words: Words) -> Trace:
     kasmes = kasmes_of(words.kasmes)
     if not kasmes and not any(message.kasmes for message in messages):
         raise TraceError("the KASMEs of its phones are wanted, 64 hex digits each: the capture has no S6a and no GTPv2-C that tells one")
-    return check(Derivations(proved_calls(), kasmes), words.cells(), messages)
+    said = Said(*(tuple(words.options.get(name, [])) for name in LINKS))
+    return check(Derivations(proved_calls(), kasmes), words.cells(), messages, said=said)
 
 
 def check_trace(words: list[str]) -> int:
-    given = Words(words, ("--cells", "--annotate"), ("--plain", "--json"))
-    lines = traced(given).lines
-    empty = all(line.verdict == NOTE for line in lines)
-    for file in given.options.get("--annotate", []):
-        annotate(given.files[0], Path(file), lines)
+    given = Words(words, ("--cells", "--annotate", "--html", "--html-keys", *LINKS), ("--plain", "--json"))
+    has_keys = pages.chosen(given.options.get("--html-keys", ["yes"])[-1])
+    html = [Path(file) for file in given.options.get("--html", [])]
+    for file in html:
+        pages.writable(file)
+    seen = traced(given).seen
+    for name in given.options.get("--annotate", []):
+        annotate(given.files[0], Path(name), seen)
+    found = trace_document(seen, about.trace(given.files, told_options(given))) if html or "--json" in given.options else {}
+    for file in html:
+        made = trace_page.page(found)
+        pages.write(file, pages.html(made, trace_page.told(found, made), trace_page.of_note(found), has_keys))
     if "--json" in given.options:
-        print(as_json(lines))
+        print(json.dumps(found, indent=1))
     else:
-        for line in lines:
-            plain = f" plain {line.plain.hex()}" if "--plain" in given.options and line.plain is not None else ""
-            print(f"{line}{plain}")
-        print(summary(lines))
-    if empty:
+        for line in lines(seen, "--plain" in given.options):
+            print(line)
+    if not judged_anything(seen):
         print("lte_sec: the capture has no key and no protected NAS message", file=sys.stderr)
-    return status(lines)
+    return status(value for _, value in seen.values())
+
+
+def told_options(given: Words) -> list[str]:
+    """The options that a verdict depends on, as they were given."""
+    return [f"{name} {value}" for name in ("--cells", *LINKS) for value in given.options.get(name, [])]
 
 
 def explain(words: list[str]) -> int:
     given = Words(words, ("--cells", "--cell", "--counts", "--depth", "--keys"))
     if not given.kasmes or given.files:
         raise TraceError(f"a KASME is 64 hex digits: {given.files[0] if given.files else 'there is none'}")
+    cells, counts, depth = given.cells(), given.number("--counts", 300, (1 << 24) - 1), given.number("--depth", 16, 4096)
     files = given.options.get("--keys", [])
     text = [line for file in files for line in opened(Path(file))] if files else sys.stdin.readlines()
     keys = blocks(text)
-    if not keys and has_hex(text):
-        print(f"lte_sec: the text has hex and no key in it: a key has {2 * KEY} hex digits, or {2 * HALF}", file=sys.stderr)
+    if not keys:
+        why = f"hex and no key in it: a key has {2 * KEY} hex digits, or {2 * HALF}" if has_hex(text) else "no key" if any(map(str.strip, text)) else "nothing in it"
+        print(f"lte_sec: the text has {why}", file=sys.stderr)
         return NOT_JUDGED
     derivations = Derivations(proved_calls(), kasmes_of(given.kasmes))
-    explanation = Explanation(derivations, given.cells(), given.number("--counts", 300, (1 << 24) - 1), given.number("--depth", 16, 4096))
+    logged = [] if cells.sites else cells_of(text)
+    for site in logged:
+        cells.learn(site)
+    explanation = Explanation(derivations, cells, counts, depth)
     found = explanation.find(keys)
     for one in found:
         print(told(derivations, one))
+    if logged:
+        print(f"lte_sec: no cell is given; those of the text are tried: {' '.join(f'{site.pci},{site.earfcn}' for site in logged)}", file=sys.stderr)
+    elif not cells.sites and not all(one.key for one in found):
+        print("lte_sec: no cell is given, and a KeNB* needs one: --cell PCI,EARFCN", file=sys.stderr)
     return 0 if all(one.key for one in found) else 1
 
 
 def wireshark(words: list[str]) -> int:
-    for row in rows(traced(Words(words, ("--cells",)))):
+    trace = traced(Words(words, ("--cells",)))
+    for row in rows(trace.seen, trace.derivations.calls):
         print(row)
     return 0
 
@@ -128,7 +155,12 @@ def repeats(words: list[str]) -> int:
     given = Words(words)
     if len(given.files) > 1 or given.kasmes:
         raise TraceError("repeats takes one file of uses, or none to read standard input")
-    found = first_repeat(opened(given.files[0]) if given.files else sys.stdin)
+    try:
+        with contextlib.ExitStack() as left:
+            text: IO[str] = left.enter_context(given.files[0].open(encoding="utf-8", errors="replace")) if given.files else sys.stdin
+            found = first_repeat(bounded(text))
+    except OSError as fault:
+        raise TraceError(f"{given.files[0]} cannot be read: {fault.strerror}") from None
     print(found)
     return found.status
 
@@ -161,13 +193,8 @@ def main(words: list[str]) -> int:
     try:
         return COMMANDS[words[0]](words[1:])
     except TraceError as fault:
-        print(f"lte_sec: status 2: {words[0]}: {fault}", file=sys.stderr)
-        return READ
-    except BrokenPipeError:  # whoever read what is printed has read enough
-        sys.stderr.close()
-        return 0
-    except KeyboardInterrupt:
-        return 130
+        print(f"lte_sec: status {fault.status}: {words[0]}: {fault}", file=sys.stderr)
+        return fault.status
 
 
 if __name__ == "__main__":

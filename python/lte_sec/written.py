@@ -5,10 +5,12 @@ import json
 import shutil
 import subprocess
 import tempfile
-from collections.abc import Iterable
+from collections.abc import Iterator, Mapping
 from pathlib import Path
 
-from .report import Line, counts, status
+from .derived import Numbers, Row, numbered
+from .report import NOTE, counts, status, summary
+from .seen import Account, Seen, Value
 from .terms import TraceError
 
 VERSION = 1  # of the document; it goes up where a field goes or changes its meaning, and stays where one is added
@@ -16,37 +18,76 @@ EDITCAP = "editcap is not here; it comes with Wireshark, in the package wireshar
 AT_ONCE = 500  # comments that one call of editcap takes: the words of a call are bounded
 
 
-def record(line: Line) -> dict[str, object]:
-    """The fields of a line."""
+def lines(seen: Account, plain: bool = False) -> Iterator[str]:
+    """The lines of a report: the head, a line for each value, and the numbers."""
+    yield from seen.head
+    for _, value in seen.values():
+        yield value.text + (f" plain {value.plain.hex()}" if plain and value.plain is not None else "")
+    yield summary(value for _, value in seen.values())
+
+
+def record(number: int, seen: Seen, value: Value, keys: Numbers) -> dict[str, object]:
+    """The fields of a value; `is` and `wanted` are derivations, of MACs and numbers the octets themselves."""
+    nas = value.nas
     return {
-        "frame": line.frame, "time": line.time, "message": line.message, "what": line.what, "verdict": line.verdict.value,
-        "is": line.found, "wanted": line.wanted, "ncc": line.ncc, "wanted_ncc": line.wanted_ncc, "base": line.base, "kasme": line.kasme,
-        "count": line.count, "cell": list(line.cell) if line.cell else None, "plain": line.plain.hex() if line.plain is not None else None,
-        "reason": line.reason, "text": line.text,
+        "frame": seen.frame, "time": seen.time, "message": value.message, "what": value.what, "verdict": value.verdict.value,
+        "is": value.term, "wanted": value.wanted_term, "ncc": value.ncc, "wanted_ncc": value.wanted_ncc, "base": value.base, "kasme": value.kasme,
+        "count": value.count, "cell": list(value.cell) if value.cell else None, "plain": value.plain.hex() if value.plain is not None else None,
+        "reason": value.reason, "text": value.text, "number": number, "hex": value.got, "wanted_hex": value.wanted, "clause": value.clause or None,
+        "nas": None if nas is None else {"direction": "up" if nas.is_up else "down", "header": nas.header, "name": nas.name, "ksi": nas.ksi, "eea": nas.eea, "eia": nas.eia},
+        "key": keys.key, "wanted_key": keys.wanted, "mac_key": keys.chain, "warning": value.verdict == NOTE and value.reason.startswith("warning: "),
     }
 
 
-def as_json(lines: list[Line]) -> str:
-    """The document of a trace."""
-    return json.dumps({"version": VERSION, "lines": [record(line) for line in lines], "summary": counts(lines), "status": status(lines)}, indent=1)
+def message(seen: Seen) -> dict[str, object]:
+    """The fields of a message."""
+    link = seen.link
+    return {
+        "frame": seen.frame, "time": seen.time, "link": link.kind, "name": seen.kind, "source": seen.source.name, "target": seen.target.name,
+        "source_address": seen.source.address, "target_address": seen.target.address, "way": link.way,
+        "connection": seen.connection, "handover": seen.handover, "phone": seen.phone, "title": seen.title, "tmsi": seen.decoded.tmsi,
+        "nas": len(seen.decoded.nas),
+    }
 
 
-def comments(lines: Iterable[Line]) -> dict[int, str]:
+def derived(row: Row) -> dict[str, object]:
+    """The fields of a key."""
+    return {"hex": row.value.hex(), "name": row.name, "form": row.form, "from": row.above, "by": row.by, "in": row.given, "at": row.at}
+
+
+def document(seen: Account, about: Mapping[str, object] | None = None) -> dict[str, object]:
+    """The document of a trace; `about` says of what and by whom it is."""
+    places = {id(one): place for place, one in enumerate(seen.messages)}
+    values = [value for _, value in seen.values()]
+    rows, numbers = numbered(seen)
+    told = [record(places[id(one)], one, value, keys) for (one, value), keys in zip(seen.values(), numbers)]
+    return {
+        "version": VERSION, "head": list(seen.head), "messages": [message(one) for one in seen.messages], "lines": told, "summary": counts(values), "status": status(values),
+        "keys": [derived(row) for row in rows], **(about or {}),
+    }
+
+
+def as_json(seen: Account, about: Mapping[str, object] | None = None) -> str:
+    """The document of a trace as a text."""
+    return json.dumps(document(seen, about), indent=1)
+
+
+def comments(seen: Account) -> dict[int, str]:
     """The comment of each frame of the first capture: its lines, each with its verdict before it."""
     found: dict[int, list[str]] = {}
-    for line in lines:
-        if line.frame.isdigit():
-            found.setdefault(int(line.frame), []).append(f"{line.verdict.value}: {line.text.removeprefix(f'frame {line.frame} ')}")
+    for one, value in seen.values():
+        if one.frame.isdigit():
+            found.setdefault(int(one.frame), []).append(f"{value.verdict.value}: {value.text.removeprefix(f'frame {one.frame} ')}")
     return {frame: "; ".join(texts) for frame, texts in found.items()}
 
 
-def annotate(capture: Path, file: Path, lines: Iterable[Line]) -> None:
+def annotate(capture: Path, file: Path, seen: Account) -> None:
     """Writes a copy of a capture, as pcapng, with the comments."""
     if shutil.which("editcap") is None:
         raise TraceError(EDITCAP)
     if capture.name.endswith((".json", ".json.gz")):
         raise TraceError(f"--annotate wants a capture first, and not what tshark made of it: {capture}")
-    told = sorted(comments(lines).items())
+    told = sorted(comments(seen).items())
     with tempfile.TemporaryDirectory() as room:
         source = capture
         for turn, begin in enumerate(range(0, max(1, len(told)), AT_ONCE)):

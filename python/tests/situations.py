@@ -18,8 +18,8 @@ def star(key: bytes, eci: int) -> bytes:
     return CALLS.kenb_star(key, cell_of(eci).pci, cell_of(eci).earfcn)
 
 
-def attached(first: int = 2, eci: int = ENB1) -> tuple[RarerWorld, Phone]:
-    world, phone = RarerWorld(first), Phone("phone", KASMES[0])
+def attached(first: int = 2, eci: int = ENB1, eea: int = 2) -> tuple[RarerWorld, Phone]:
+    world, phone = RarerWorld(first), Phone("phone", KASMES[0], eea=eea)
     world.attach(phone, eci)
     return world, phone
 
@@ -258,6 +258,30 @@ def pool(broken: bool, named: bool = True) -> Made:
             wrong = star(phones[1 - place].own.key, ENB2) if broken and place == 1 else None
             asked = world.x2(phone, ENB2 if phone.eci == ENB1 else ENB1, key=wrong)
             asked.gummeis = [(32769, place + 1)] if named else []
+        return world
+    return made
+
+
+def alike(broken: bool) -> Made:
+    """Two phones are handed over S1 at one time, in containers of the same octets."""
+    def made() -> World:
+        world, phones = RarerWorld(), [Phone("one", KASMES[0]), Phone("two", KASMES[1])]
+        for phone in phones:
+            world.attach(phone, ENB1)
+        begin, turns = len(world.messages), []
+        for phone in phones:
+            world.s1(phone, ENB2, nh=bytes(32) if broken and phone is phones[1] else None)
+            turns.append(world.messages[begin:])
+            del world.messages[begin:]
+        one, two = turns
+        for message in one + two:
+            message.container = message.container and message.container.split()[0]
+        world.messages += [one[0], two[0], two[1], one[1], two[2], one[2], one[3], two[3], *one[4:], *two[4:]]
+        if broken:
+            world.faults = world.apart = [str(world.messages.index(two[1]) + 1)]
+        for place, message in enumerate(world.messages):
+            message.frame, message.time = str(place + 1), float(place + 1)
+        world.x2(phones[0], ENB3)
         return world
     return made
 

@@ -9,12 +9,11 @@ from pathlib import Path
 from lte_sec.captures import messages
 from lte_sec.decoding import Command, Message, Pairs, Radio, command, pdu
 from lte_sec.cells import Cells, Site, read_cells, sites_of
-from lte_sec.terms import Derivations, TraceError
-from lte_sec.trace import Trace
+from lte_sec.terms import TraceError
+from lte_sec.stations import Stations, station_end
 from lte_sec.reading import learn
 from lte_sec.report import UNKNOWN
 
-from .standin import StandIn
 from .test_traces import TRACES, traced
 
 
@@ -58,6 +57,10 @@ class Captures(unittest.TestCase):
         self.assertEqual(command(radio, b"a"), Command(3, 77, 66436, False, b"a"))
         self.assertIsNone(command(radio[4:], b""))
 
+    def test_nothing_that_tshark_was_asked_for(self) -> None:
+        self.assertEqual(list(messages(["[]\n"])), [])
+        self.assertEqual(list(messages(["[\n", "\n", "]\n"])), [])
+
     def test_several_nas_messages_of_one(self) -> None:
         items = [("s1ap.id", "24"), ("s1ap.item_element", [("s1ap.nAS_PDU", "27:01"), ("s1ap.nAS_PDU", "27:02")]), ("s1ap.ENB_UE_S1AP_ID", "7")]
         tree: Pairs = [("s1ap.S1AP_PDU_tree", [("s1ap.initiatingMessage_element", [("s1ap.value_element", [("s1ap.E_RABSetupRequest_element", items)])])])]
@@ -70,12 +73,10 @@ class Captures(unittest.TestCase):
         self.assertEqual([text[:39] for text in told if "tshark" in text], ["frame 24 message of this frame not judg"])
 
     def test_an_end_with_two_addresses_is_one(self) -> None:
-        trace = Trace(Derivations(StandIn(), []), Cells(), {}, 0)
         told = [Message("1", 1.0, "S1", "DownlinkNASTransport", "core:1", "first:1", "0x1"), Message("2", 2.0, "S1", "DownlinkNASTransport", "core:1", "second:1", "0x1"),
                 Message("3", 3.0, "S1", "UplinkNASTransport", "second:1", "core:1", "0x2")]
-        for message in told:
-            trace.place(message)
-        self.assertEqual([trace.station_end(message) for message in told], ["first:1"] * 3)
+        Stations(Cells(), told)
+        self.assertEqual([station_end(message) for message in told], ["first:1"] * 3)
 
     def test_cells_of_commands_where_nothing_else_tells_them(self) -> None:
         told = [Message("1", 1.0, "X2", "HandoverRequest", "a", "b", old_x2=4, eci=0x10301),

@@ -1,9 +1,10 @@
 """What is told of a reply that differs, and the variables of commands."""
 import os
+import sys
 import unittest
 from unittest import mock
 
-from lte_sec import drive, frames
+from lte_sec import drive, frames, patient
 
 DONE = "00088000000000000000"
 
@@ -45,19 +46,71 @@ class Drive(unittest.TestCase):
 
     def test_the_document_has_the_report_and_what_differs(self) -> None:
         found = drive.difference_of(f"3 differs {DONE} 00088001000000000000\n".encode(), b"core", b"")
-        told = {"version": 1, "status": 8, "report": ["0 both done"], "differs": {"step": 3, "actor": "core", "told": ["answer: wanted 0 (done), got 1 (NoContext)"]}}
-        self.assertEqual(told, drive.document(8, ["0 both done"], found))
-        self.assertIsNone(drive.document(0, [], None)["differs"])
+        told = {"version": 1, "status": 8, "report": ["0 both done"], "differs": {"step": 3, "actor": "core", "told": ["answer: wanted 0 (done), got 1 (NoContext)"]}, "failed": None}
+        self.assertEqual(told, drive.document(8, ["0 both done"], found, None))
+        self.assertIsNone(drive.document(0, [], None, None)["differs"])
 
     def test_commands_become_variables_with_a_word_in_each_line(self) -> None:
         with mock.patch("shutil.which", lambda name: f"/bin/{name}"):
             found = drive.variables(["--phone", "actor 'two words'", "--station", "3=actor", "--station", "any", "--core", "a b"])
         self.assertEqual(found, {"LTE_SEC_PHONE": "/bin/actor\ntwo words", "LTE_SEC_STATION_3": "/bin/actor", "LTE_SEC_STATION": "/bin/any", "LTE_SEC_CORE": "/bin/a\nb"})
 
+    def test_an_actor_that_failed_is_told_with_its_step_and_how(self) -> None:
+        for program, told, report in (
+            ("print('0 both done\\n1 core done', flush=True)", "step 1, station 3: it closed the connection before it gave a whole reply", ["0 both done"]),
+            ("pass", "setup, station 3: it closed the connection before it gave a whole reply", []),
+        ):
+            fails = "import sys; sys.stderr.write('lte_sec: station 3: it gave no whole reply: ..\\n'); sys.exit(6)"
+            driven = drive.Driven([sys.executable, "-c", f"{program}\n{fails}"], {}, True)
+            with mock.patch("lte_sec.drive.put") as said:
+                self.assertEqual((6, told, report), (driven.run(), driven.failure(), driven.report))
+                driven.tell()
+            self.assertEqual({"step": driven.step(), "actor": "station 3", "how": "it closed the connection before it gave a whole reply"}, driven.fault())
+            said.assert_called_once_with(2, f"lte_sec: {told}\n".encode())
+            assert driven.process.stderr
+            driven.process.stderr.close()
+            driven.failed_at = driven.read_last + drive.PATIENCE
+            self.assertIn("it was silent for 10 seconds", driven.failure())
+
+    def test_an_actor_that_did_not_start_is_in_the_document(self) -> None:
+        fails = "import sys; sys.stderr.write('lte_sec: core: its program did not start\\n'); sys.exit(6)"
+        driven = drive.Driven([sys.executable, "-c", fails], {}, True)
+        with mock.patch("lte_sec.drive.put"):
+            self.assertEqual((6, {"step": None, "actor": "core", "how": "its program did not start"}), (driven.run(), driven.fault()))
+        assert driven.process.stderr
+        driven.process.stderr.close()
+
+    def test_the_words_of_a_call(self) -> None:
+        found = drive.Options.read(["--timeout", "2.5", "--phone", sys.executable, "--json"])
+        self.assertEqual((2.5, True, [sys.executable]), (found.seconds, found.is_json, found.more["LTE_SEC_PHONE"].split("\n")))
+        for word in ("0", "-1", "soon"):
+            self.assertRaisesRegex(drive.WrongWords, "--timeout needs a number of seconds above 0", drive.Options.read, ["--timeout", word])
+
+    def test_frames_are_counted_as_they_come(self) -> None:
+        frames_of = patient.Frames()
+        counts = []
+        for piece in (b"\0", b"\2a", b"b\0\0\0", b"\1", b"c"):
+            frames_of.take(piece)
+            counts.append(frames_of.count)
+        self.assertEqual(([0, 0, 2, 2, 3], b"\0\2ab\0\0\0\1c"), (counts, bytes(frames_of.octets)))
+
+    def test_commands_are_those_of_the_stations_of_the_scenario(self) -> None:
+        octets = b'phone = { caps = "a020" }\nstation = [{ id = 1, cells = [[10, 100]] }, { id = 4, cells = [[11, 100]] }]\n'
+        self.assertEqual({"station 1": ["any"], "station 4": ["own", "x"], "core": ["c"]},
+                         drive.commands({"LTE_SEC_STATION": "any", "LTE_SEC_STATION_4": "own\nx", "LTE_SEC_STATION_5": "no", "LTE_SEC_CORE": "c"}, octets))
+        self.assertEqual({}, drive.commands({"LTE_SEC_CORE": "c"}, b"phone = "))
+
+    def test_an_actor_outlives_the_program_that_stops_it(self) -> None:
+        self.assertEqual({"LTE_SEC_PHONE": '/bin/sh\n-c\n"$@" & wait\nsh\n/bin/a\nb'}, drive.outliving({"LTE_SEC_PHONE": "/bin/a\nb"}))
+
     def test_wrong_commands_are_told(self) -> None:
         for command in ("", "'", "no-such-program-anywhere", "a\nb"):
             with self.assertRaises(drive.WrongWords):
                 drive.variables(["--core", command])
+
+    def test_a_station_that_cannot_be_is_told_with_those_that_can(self) -> None:
+        for command in ("8=cat", "10=cat", "12=cat", "9=python3 actor.py"):
+            self.assertRaisesRegex(drive.WrongWords, "there is no station .*: --station N=CMD takes N 0 to 7", drive.variables, ["--station", command])
 
     def test_a_path_is_made_whole(self) -> None:
         with mock.patch("shutil.which", lambda name: name):

@@ -5,9 +5,10 @@ import re
 import unittest
 from pathlib import Path
 
+from lte_sec import reasons
 from lte_sec.cells import Cells, Site
 from lte_sec.dumps import blocks, candidates
-from lte_sec.explain import Explanation, Found, told
+from lte_sec.explain import CONSTANT, OTHER_COUNT, Explanation, Found, told
 from lte_sec.terms import Derivations, Kasme
 
 from .standin import StandIn
@@ -57,8 +58,8 @@ class Explained(unittest.TestCase):
         ])
 
     def test_a_key_that_nothing_gives(self) -> None:
-        derivations, found = explained("00" * 32, LOG_KASME, [(10, 100)])
-        self.assertEqual(told(derivations, found[0]), "line 1: " + "00" * 32 + " none")
+        derivations, found = explained("12" * 32, LOG_KASME, [(10, 100)])
+        self.assertEqual(told(derivations, found[0]), "line 1: " + "12" * 32 + " none")
 
     def test_deep_and_far_keys(self) -> None:
         calls, kasme = StandIn(), bytes.fromhex(LOG_KASME)
@@ -77,6 +78,30 @@ class Explained(unittest.TestCase):
             "star(nh(16),10,100)", "alg(star(kenb(17),10,100),4,2)", "kenb(299)", "star(star(star(kenb(299),10,100),11,100),10,100)",
         ])
 
+    def test_each_mistake_is_named_with_the_key_that_was_wanted(self) -> None:
+        """Each entry of the catalogue, made of KeNB 5, its NH 2, a cell and an algorithm: its line, where no right derivation gives those octets."""
+        calls, kasme, cell = StandIn(), bytes.fromhex(LOG_KASME), (301, 70000)
+        kenb = calls.kenb(kasme, 5)
+        first = calls.nh(kasme, kenb)
+        second = calls.nh(kasme, first)
+        entries = [(kenb, "kenb(5)", reasons.kenb_mistakes(kasme, 5)), (second, "nh(2) on kenb(5)", reasons.nh_mistakes(kasme, first))]
+        entries += [(calls.kenb_star(second, *cell), "star(nh(2),301,70000) on kenb(5)", reasons.star_mistakes(second, *cell))]
+        entries += [(calls.algorithm_key(kenb, 4, 2), "alg(kenb(5),4,2)", reasons.algorithm_mistakes(kenb, 4, 2, size)) for size in (32, 16)]
+        made = [(wanted, form, *one) for wanted, form, mistakes in entries for one in mistakes if not OTHER_COUNT.match(one[0])]
+        derivations = Derivations(calls, [Kasme("KASME 1", kasme)])
+        text = "\n\n".join([kenb.hex(), *(value.hex() for *_, value in made)])
+        lines = {one.value: (one, told(derivations, one)) for one in Explanation(derivations, Cells([Site(1, *cell)]), 8, 2).find(blocks(text.splitlines()))}
+        named = 0
+        for wanted, form, name, value in made:
+            found, line = lines[value]
+            if found.key is not None:  # KASME, another algorithm key: a right derivation
+                continue
+            named += 1
+            is_of_any = "the key that it is made of" in name or name == "the identity is left out"  # then the first algorithm is named
+            end = f" none ({name})" if name.startswith(CONSTANT) else f" none ({name}; wanted {wanted[-len(value):].hex()}, which is {form})"
+            self.assertTrue(line.endswith(end) or is_of_any and " none (" in line, f"{name}: {line}")
+        self.assertGreater(named, 45)
+
     def test_logs_as_products_write_them(self) -> None:
         value, other = bytes(range(0x53, 0x73)), bytes(range(0xA0, 0xC0))
         rows = [value[place:place + 16] for place in (0, 16)]
@@ -93,6 +118,9 @@ class Explained(unittest.TestCase):
             "hexdump -C": "".join(f"{place:08x}  {row[:8].hex(' ')}  {row[8:].hex(' ')}  |face ad be beef.|\n" for place, row in zip((0, 16), rows)) + "00000020",
             "8 octets a line": "\n".join(value[place:place + 8].hex(" ") for place in range(0, 32, 8)),
             "8 octets with offsets": "\n".join(f"{place:04x} {value[place:place + 8].hex(' ')}" for place in range(0, 32, 8)),
+            "0x": f"kenb=0x{value.hex()}", "a name before 0x": f"kenb0x{value.hex()}", "h behind": f"K_eNB: {value.hex().upper()}H", "escapes": "".join(f"\\x{octet:02x}" for octet in value),
+            "a hyphen in the middle": "\n".join(f"{16 * at:04x}  {row[:8].hex(' ')} - {row[8:].hex(' ')}" for at, row in enumerate(rows)),
+            "0x before offsets": "\n".join(f"0x{16 * at:04x}:  {row.hex(' ', 2)}  ...." for at, row in enumerate(rows)),
             "a word before": f"face {value.hex(' ')}", "two digits before": f"be {value.hex(' ')}", "a time before": f"10:36:15.410 [ad] key {value.hex(' ')}",
         }
         for name, text in whole.items():

@@ -62,6 +62,27 @@ class Records(unittest.TestCase):
         wanted = sent(0x30)
         self.assertEqual("X2 Handover Request: it goes to station x2 station=3, wanted station x2 station=1", records.in_words(wanted, dataclasses.replace(wanted, to=bytes([6, 3]))))
 
+    def test_a_derivation_is_told_by_what_it_makes(self) -> None:
+        files = {role: [line.split()[1] for line in (SESSIONS / f"{name}.frames").read_text().splitlines() if line.startswith("<")]
+                 for role, name in (("phone", "phone"), ("station", "station-0"), ("core", "core"))}
+        found = {role: {name for text in texts for name in records.derivation_names(role, frames.read_reply(bytes.fromhex(text)[2:]))} for role, texts in files.items()}
+        radio = {"KRRCenc", "KRRCint", "KUPenc"}
+        self.assertEqual({"KeNB", "KNASenc", "KNASint", "KeNB*", "NH 1 of 1"} | radio, found["phone"])
+        self.assertEqual({"KeNB* for PCI 11, EARFCN-DL 101"} | radio, {name for name in found["station"] if "PCI 10" not in name})
+        self.assertEqual({"KeNB", "KNASenc", "KNASint", "NH"}, found["core"])
+
+    def test_each_derivation_of_the_kept_sessions_has_a_name(self) -> None:
+        for file in sorted(SESSIONS.glob("*.frames")):
+            for text in (line.split()[1] for line in file.read_text().splitlines() if line.startswith("<")):
+                reply = frames.read_reply(bytes.fromhex(text)[2:])
+                self.assertEqual(len(reply.derived), len(records.derivation_names(file.stem.split("-")[0], reply)), text)
+
+    def test_a_key_that_differs_is_told_by_its_name(self) -> None:
+        wanted = sent(0x30)
+        told = records.differences(wanted.spelled(), dataclasses.replace(wanted, derived=(bytes(32),)).spelled(), "station 0")
+        self.assertTrue(told[0].startswith("KeNB* for PCI 11, EARFCN-DL 101: wanted "), told)
+        self.assertTrue(records.differences(wanted.spelled(), dataclasses.replace(wanted, derived=(bytes(32),)).spelled())[0].startswith("derivation 0: wanted "))
+
 
 if __name__ == "__main__":
     unittest.main()

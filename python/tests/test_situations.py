@@ -16,7 +16,7 @@ from lte_sec.terms import Derivations, Kasme
 
 from .simulated import CALLS, CELLS, World
 from .situations import (
-    KASMES, Made, able, again, attach_without_commands, begun, command_without_ncc, first_nh, foreign, gap, high, null_integrity, other_cell,
+    KASMES, Made, able, again, alike, attach_without_commands, begun, command_without_ncc, first_nh, foreign, gap, high, null_integrity, other_cell,
     other_cell_over_s1, pool, prepared, refreshed, replays, resumed_with_another_key, secondary_keys, sound, suspended, through_cells, turned,
     unknown_kasme, with_message, without_commands,
 )
@@ -67,6 +67,7 @@ SITUATIONS: dict[str, Situation] = {
     "a short MAC that fits by chance": Situation(foreign(False), 12, foreign(True), "MAC wrong: is 0000"),
     "one identity at two cores": Situation(pool(False), 0, pool(True), "KeNB* differs: is star(star(kenb(0),301,6300),301,6300) of k0, wanted star(kenb(0),301,6300) of k1"),
     "one identity at two cores, without GUMMEI": Situation(pool(False, False), 0, pool(True), "KeNB* differs"),
+    "containers of the same octets": Situation(alike(False), 0, alike(True), "HandoverRequest NH differs: is none, wanted nh(2)"),
     "a Service Request after a reroute": Situation(again(False, True), 0, again(True, True), "MAC wrong", seen="sent again"),
     "a Service Request sent again": Situation(again(False, False), 0, again(True, False), "MAC wrong", seen="sent again"),
     "plain behind security, down": Situation(sound, 0, with_message(begun("075501")), "differs; plain behind security, which TS 24.301 4.4.4.2 does not allow Identity request"),

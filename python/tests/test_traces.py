@@ -69,7 +69,8 @@ class Truth(unittest.TestCase):
                     (line.count, line.found, line.kasme, (line.plain or b"").hex(), line.verdict == "right"),
                     (one["count"], one["mac"], one["kasme"], one["plain"], one["mac_right"]), (name, frame),
                 )
-                self.assertIn(f"NAS {one['direction']} COUNT {one['count']} header {one['header']} MAC right {one['name']}", line.text)
+                text = ", text right" if one["header"] in (2, 4) else ""
+                self.assertIn(f"NAS {one['direction']} COUNT {one['count']} header {one['header']} MAC right{text} {one['name']}", line.text)
 
     def test_phone_and_station_agree_where_they_do(self) -> None:
         for name in NAMES:

@@ -90,6 +90,10 @@ class Verdicts(unittest.TestCase):
         for text in ("", "end 0 0\n", ordinary[:500], ordinary.replace("\n5 station", "\n7 station"), ordinary[:-200], ordinary.replace("row 5", "row 6")):
             self.assertRaises(verdict.NoReport, verdict.judged, text)
 
+    def test_octets_that_are_no_text_are_no_report(self) -> None:
+        self.assertRaisesRegex(verdict.NoReport, "it is no text, since octet ff in line 2 is not UTF-8", verdict.text_of, b"0 both done\n\xff")
+        self.assertRaisesRegex(verdict.NoReport, "it is empty", verdict.judged, "")
+
     def test_the_page_names_each_outcome(self) -> None:
         page = (EXAMPLES.parent / "docs" / "SCENARIOS.md").read_text()
         table = page[page.index("## Verdicts"):].split("\n## ")[0]

@@ -2,6 +2,7 @@
 from __future__ import annotations
 
 import contextlib
+import dataclasses
 import io
 import json
 import signal
@@ -10,6 +11,7 @@ import tempfile
 import time
 import tomllib
 import unittest
+import unittest.mock
 import xml.dom.minidom
 from functools import lru_cache
 from pathlib import Path
@@ -18,7 +20,7 @@ from lte_sec import scenarios, what_if
 from lte_sec.answers import from_json, merged, to_json
 from lte_sec.courses import Course, Item, act, delivery
 from lte_sec.messages import Line
-from lte_sec.outcomes import RANK, WORDS, Comparison, Standing, signature
+from lte_sec.outcomes import RANK, WORDS, Comparison, Standing, limit, signature
 from lte_sec.probe import PROBE
 from lte_sec.saving import save
 from lte_sec.scenarios import text
@@ -242,6 +244,38 @@ class Outcomes(unittest.TestCase):
             assert tried
             self.assertEqual(tried[0].worst, word, str(faults))
 
+    def test_what_a_dropped_pair_brings_is_marked(self) -> None:
+        """By hand: at steps 28 to 31 station 2 hands the phone on within, and at 34 the answer to what it asked at 32 comes to it."""
+        mark = "a station keeps its pair at a handover within it"
+        whole = study("what-if/handover-within")
+        for kind, item, after, expected in (
+            ("late", "31", "34", mark),  # the pair comes before the Complete of the handover within, and goes with the old context
+            ("late", "31", "32", mark),  # the request goes out before it, and its answer is Stale
+            ("late", "15", "20", None),  # the pair comes behind the handover within, which is horizontal in the standard, too
+            ("late", "34", "36", None),  # the pair comes behind the begin of the next handover
+            ("lost", "30", None, None),  # the handover within is not completed
+        ):
+            tried = whole.tried((Fault(kind, item, after),))
+            assert tried
+            self.assertIn("weaker key", tried[0].outcomes)
+            self.assertEqual(limit(tried[0], "weaker key", whole.original.messages), expected, f"{kind} {item} {after}")
+
+    def test_a_dropped_pair_is_marked_at_the_probes_handover(self) -> None:
+        scenario = study("what-if/handover-within").scenario
+        whole = Study(PROGRAM, dataclasses.replace(scenario, steps=scenario.steps[:36]), Choice())
+        for fault, expected in ((Fault("late", "31", "34"), "horizontal at the next handover (here)"), (Fault("lost", "34"), "horizontal at the next handover")):
+            tried = whole.tried((fault,))
+            assert tried
+            self.assertEqual(tried[0].outcomes["weaker key"], expected)
+
+    def test_keys_that_differ_by_dropped_pairs_are_marked(self) -> None:
+        """Seven pairs are dropped by handovers within; an answer that is lost and sent again is the eighth step ahead. Without handovers within
+        it is no limit of the profile."""
+        scenario = scenarios.read((EXAMPLES / "procedures/eight-steps-and-nothing-lost.toml").read_bytes().replace(b"first_ncc = 2", b"first_ncc = 1"))
+        for whole, expected in ((Study(PROGRAM, scenario, Choice(("again",))), [True] * 7), (study("run/seven-ahead", Choice(("again",))), [False])):
+            found = [variant for variant, _ in singles(whole) if "keys differ" in variant.outcomes]
+            self.assertEqual([limit(variant, "keys differ", whole.original.messages) is not None for variant in found], expected)
+
     def test_a_handover_is_begun_by_the_station_that_serves(self) -> None:
         tried = study("what-if/ten-handovers", Choice(follow=True)).tried((Fault("lost", "11"),))
         plain = study("what-if/ten-handovers").tried((Fault("lost", "11"),))
@@ -314,6 +348,24 @@ class Answers(unittest.TestCase):
             status, out, err = called(*words)
             self.assertEqual((status, out, err.count("\n")), (2, "", 1), f"{words} {err}")
             self.assertIn(line, err)
+
+    def test_no_folder_is_written_unless_one_is_named(self) -> None:
+        with unittest.mock.patch("os.access", return_value=False):
+            self.assertEqual(called("--kinds", "lost", EXAMPLES / "run/wrong-ksi.toml")[0], 0)
+            for option in ("--picture", "--save"):
+                with tempfile.TemporaryDirectory() as room:
+                    status, _, err = called(option, Path(room) / "x", EXAMPLES / "run/wrong-ksi.toml")
+                self.assertEqual(status, 2, err)
+                self.assertIn("cannot be written", err)
+
+    def test_with_json_nothing_else_is_printed(self) -> None:
+        for name, status, why in (
+            ("ladder/first.txt", 3, "this is a ladder text: ./lte_sec ladder takes it"),
+            ("run/coincidence.toml", 7, "the scenario itself ends at a coincidence, so that nothing can be compared with it"),
+        ):
+            ran = launched("--json", EXAMPLES / name)
+            self.assertEqual((ran.returncode, json.loads(ran.stdout)), (status, {"error": why, "status": status}))
+            self.assertIn(why.encode(), ran.stderr)
 
     def test_a_scenario_may_come_on_standard_input(self) -> None:
         octets = (EXAMPLES / "run/wrong-ksi.toml").read_bytes()

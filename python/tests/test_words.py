@@ -2,6 +2,7 @@
 from __future__ import annotations
 
 import contextlib
+import gzip
 import io
 import json
 import os
@@ -16,6 +17,7 @@ from unittest import mock
 
 from lte_sec import derive, words
 from lte_sec.captures import read
+from lte_sec.logged import cells_of
 from lte_sec.repeats import first_repeat
 from lte_sec.terms import TraceError
 from lte_sec.wireshark import rows
@@ -44,7 +46,7 @@ class Words(unittest.TestCase):
 
     def test_plain_texts(self) -> None:
         _, out, _ = run("check-trace", "--plain", str(TRACES / "A.json.gz"), f"ue1={KASME}")
-        self.assertIn("frame 26 NAS up COUNT 1 header 2 MAC right Attach complete plain 074300035200c2\n", out)
+        self.assertIn("frame 26 NAS up COUNT 1 header 2 MAC right, text right Attach complete plain 074300035200c2\n", out)
 
     def test_what_is_wrong_is_told_in_one_line(self) -> None:
         there = str(TRACES / "A.json.gz")
@@ -77,6 +79,39 @@ class Words(unittest.TestCase):
         self.assertEqual(run("repeats", text="a 1 0 1\na 1 0 1\n")[0], 1)
         self.assertEqual(run("repeats", text="a 1 0 1\na 1 0 2\n")[:2], (0, "none\n"))
 
+    def test_what_repeats_reads_has_bounds(self) -> None:
+        for count, status in ((f"{2**32 - 1}", 0), (f"{2**32}", 2), ("-1", 2), ("\u00b2", 2), ("9" * 30, 2)):
+            self.assertEqual(run("repeats", text=f"a 1 0 {count}\n")[0], status, count)
+        status, out, err = run("repeats", text="a 1 0 1 " + "00" * 40_000 + "\n")
+        self.assertEqual((status, out, err.count("\n")), (9, "", 1))
+        self.assertIn("status 9: repeats: line 1 has more than 65,536 characters", err)
+        with mock.patch("lte_sec.repeats.MOST", 2):
+            status, _, err = run("repeats", text="a 1 0 1\na 1 0 2\na 1 0 3\n")
+        self.assertEqual(status, 9)
+        self.assertIn("line 3: repeats reads 2 uses", err)
+
+    def test_a_cell_that_is_none_is_a_fault_of_its_line(self) -> None:
+        told = gzip.decompress((TRACES / "A.json.gz").read_bytes()).decode()
+        for old, new, line in (
+            ('"x2ap.dL_EARFCN": "6300"', '"x2ap.dL_EARFCN": "300000"', "frame 18 X2 X2SetupResponse tells of cell 0010201 (301,300000), which is none: PCI is 0 to 503, EARFCN-DL 0 to 262143"),
+            ('"x2ap.pCI": "301"', '"x2ap.pCI": "504"', "tells of cell 0010201 (504,6300), which is none"),
+            ('"lte-rrc.dl_CarrierFreq": "6300"', '"lte-rrc.dl_CarrierFreq": "300000"', "frame 29 X2 HandoverRequestAcknowledge command differs: cell is (301,300000), wanted (301,6300); (301,300000) is no cell"),
+        ):
+            with tempfile.NamedTemporaryFile("w", suffix=".json") as file:
+                self.assertIn(old, told)
+                file.write(told.replace(old, new))
+                file.flush()
+                status, out, err = run("check-trace", file.name, KASME)
+            self.assertIn(line, out)
+            self.assertEqual((status, err), (1 if "command" in line else 0, ""), out)
+
+    def test_a_line_that_calc_does_not_answer_shows_no_key(self) -> None:
+        calc = derive.Calc.__new__(derive.Calc)
+        calc.program = mock.Mock()
+        calc.program.stdout.readline.return_value = "bad pci\n"
+        with self.assertRaisesRegex(TraceError, "^calc does not answer a line star$"):
+            calc.kenb_star(bytes(32), 504, 0)
+
     def test_uses_as_tshark_prints_them(self) -> None:
         for lines, text, status in (
             (["1\t0x00\t0x00\t5", "1\t\t\t", "1\t0\tuplink\t0x05"], "lines 1 and 3: key 1, bearer 0, direction 0, COUNT 5 are used twice; 1 PDU without security context passed over", 1),
@@ -90,11 +125,43 @@ class Words(unittest.TestCase):
 
     def test_a_text_with_hex_and_no_key(self) -> None:
         self.assertEqual(run("explain", KASME, text="id 0x00112233 of 9988776655443322\n")[0], 3)
-        self.assertEqual(run("explain", KASME, text="nothing here\n")[0], 0)
+        for text, why in (("", "nothing in it"), ("\n \n", "nothing in it"), ("nothing here\n", "no key")):
+            self.assertEqual(run("explain", KASME, text=text), (3, "", f"lte_sec: the text has {why}\n"))
+
+    def test_explain_without_a_cell_takes_those_of_the_log(self) -> None:
+        star = f"K_eNB* {StandIn().kenb_star(StandIn().kenb(bytes.fromhex(KASME), 5), 87, 3100).hex()}\n"
+        for text, status, said in (
+            ("pci=87 earfcn=3100\n", 0, "no cell is given; those of the text are tried: 87,3100"), ("to PCI 87\n", 1, "no cell is given, and a KeNB* needs one: --cell PCI,EARFCN"),
+            ("phys_cell_id: 87\ndl_earfcn: 3100\n", 0, "those of the text are tried: 87,3100"), ("pci=504 earfcn=1\n", 1, "needs one"),
+        ):
+            got, out, err = run("explain", "--counts", "8", "--depth", "2", KASME, text=text + star)
+            self.assertEqual(got, status, out)
+            self.assertIn(said, err)
+        self.assertEqual(run("explain", "--cell", "87,3100", "--counts", "8", KASME, text="pci=1 earfcn=1\n" + star)[::2], (0, ""))
+        self.assertEqual(run("explain", "--counts", "8", KASME, text=StandIn().kenb(bytes.fromhex(KASME), 5).hex())[::2], (0, ""))
+
+    def test_cells_of_a_log(self) -> None:
+        for text, pairs in (
+            ("HandoverRequest to=enb2 pci=87 earfcn=3100 ncc=0", [(87, 3100)]), ("PCI: 0x57, DL EARFCN 3100", [(87, 3100)]), ('"physCellId": 301, "dl-CarrierFreq": 1575', [(301, 1575)]),
+            ("pci=1\npci=2\nearfcn=100", [(1, 100), (2, 100)]), ("pci=1 earfcn=100\npci=2", [(1, 100), (2, 100)]), ("spci=3 earfcn=4x", []), ("pci=1 earfcn=300000", []),
+        ):
+            self.assertEqual([(site.pci, site.earfcn) for site in cells_of(text.splitlines())], pairs, text)
+
+    def test_explain_reads_logs_as_products_write_them(self) -> None:
+        logs = TRACES.parents[1] / "examples/logs"
+        kasme = "6f1d9a0c55e2473bb8a4c07e12f3d96a80bc4e7719d2053fe6a1b8c4d7720e95"
+        for name, forms in (
+            ("open5gs", ["kenb(5)", "nh(2) on kenb(5)"]), ("srsran", ["kenb(5)", "alg(kenb(5),3,2)", "alg(kenb(5),4,2)", "star(kenb(5),87,3100)"]),
+            ("printed", ["kenb(5)"] * 3 + ["alg(kenb(5),3,2)", "alg(kenb(5),4,2)", "star(kenb(5),87,3100)", "nh(2) on kenb(5)"]),
+        ):
+            self.assertIn("Written by hand", (logs / f"{name}.log").read_text())
+            status, out, _ = run("explain", "--counts", "8", "--depth", "4", "--keys", str(logs / f"{name}.log"), kasme)
+            self.assertEqual((status, [line.split(" ", 3)[3] for line in out.splitlines()]), (0, forms))
 
     def test_a_kasme_that_is_none_is_told_so(self) -> None:
         there = str(TRACES / "A.json.gz")
         for word, why in ((KASME[:62], "a KASME has 64 hex digits, and this word has 62"), ("0x" + KASME, "write a KASME without 0x"), (f"ue={KASME}0", "this word has 65"),
+                          ("g" + KASME[1:], f"letter 1 of this word is 'g': g{KASME[1:]}"), (KASME[:40] + "O" + KASME[41:], "letter 41 of this word is 'O'"), (f"ue={KASME[:-1]}l", "letter 64"),
                           (":".join(KASME[place:place + 2] for place in range(0, 64, 2)), "without colons")):
             status, out, err = run("check-trace", there, word)
             self.assertEqual((status, out), (2, ""))
@@ -128,7 +195,8 @@ class Words(unittest.TestCase):
             for one in truth["keys"]:  # the KeNB of a key change is no key of PDCP: that is the KeNB* made from it
                 if one["form"][:5] in ("alg(3", "alg(4", "alg(5") and (one["kasme"], one["parent"]) not in changed:
                     used.setdefault((one["kasme"], one["base"], one["parent"]), {})[one["form"][4]] = one["used"]
-            table = list(rows(traced(name, list(read(TRACES / f"{name}.json.gz")))))
+            trace = traced(name, list(read(TRACES / f"{name}.json.gz")))
+            table = list(rows(trace.seen, trace.derivations.calls))
             wanted = {(keys["3"], keys["5"], keys["4"]) for keys in used.values()}
             got = {tuple(json.loads(f"[{row}]")[1:]) for row in table if not row.startswith("#")}
             self.assertEqual(got, wanted)

@@ -6,7 +6,7 @@ use crate::values::same;
 use alg_choice::{Caps, Eea, Priority};
 use annex_a_keys::Kasme;
 use lte_events::Answer;
-use nas_guard::LIMIT;
+use nas_count::LIMIT;
 use nas_smc::{CoreNas, NasOut};
 use rec_base::{RecFault, ShortText};
 use std::process::Abort;

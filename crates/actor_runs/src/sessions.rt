@@ -1,12 +1,12 @@
 // Sessions over memory, written down from the table of frames (`docs/FRAMES.md`) and the rows of the written machine. Those of an
 // ordinary run stand in examples/serve.
-ghost use Rattle.actor_frames.specs.Ranges.{IsRole};
+ghost use Rattle.role_wire.specs.Ranges.{IsRole};
 
 mod ends;
 mod kinds;
 
-use actor_serve::{ServeEnd, serve};
 use edge_io::{MemPort, MemSink, MemSource, Port, Role};
+use role_node::{ServeEnd, serve};
 use std::process::Abort;
 use std::test::Fail;
 

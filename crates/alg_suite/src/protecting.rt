@@ -2,8 +2,7 @@
 ghost use Rattle.std.specs.Prelude.{◌≡◌, ◌<◌};
 ghost use Rattle.alg_suite.specs.Suite.{ciphered_by, mac_by};
 
-use crate::{Ciphering, Integrity};
-use annex_a_keys::AlgKey;
+use crate::{Ciphering, GivenKey, Integrity};
 use cmac_eia2::eia2;
 use ctr_eea2::eea2;
 use eea1::eea1;
@@ -16,7 +15,7 @@ use rec_base::Dir;
 ///
 /// `bearer` is BEARER, of 5 bits, and the text has any length.
 #[tactic(auto, unfolding(crate::specs::Suite::ciphered_by))]
-pub fn cipher(eea: Ciphering, key: &AlgKey, count: u32, bearer: u8, dir: Dir, text: &mut [u8])
+pub fn cipher(eea: Ciphering, key: &GivenKey, count: u32, bearer: u8, dir: Dir, text: &mut [u8])
     requires { bearer < 32 }
     ensures { text.new ≡ ciphered_by eea key.now count bearer dir text.old }
 {
@@ -32,7 +31,7 @@ pub fn cipher(eea: Ciphering, key: &AlgKey, count: u32, bearer: u8, dir: Dir, te
 ///
 /// `bearer` is BEARER, of 5 bits, and the text has any length.
 #[tactic(auto, unfolding(crate::specs::Suite::mac_by))]
-pub fn mac(eia: Integrity, key: &AlgKey, count: u32, bearer: u8, dir: Dir, text: &[u8]) -> [u8; 4]
+pub fn mac(eia: Integrity, key: &GivenKey, count: u32, bearer: u8, dir: Dir, text: &[u8]) -> [u8; 4]
     requires { bearer < 32 }
     ensures { result ≡ mac_by eia key.now count bearer dir text.now }
 {

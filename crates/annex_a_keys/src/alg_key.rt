@@ -7,7 +7,7 @@ use crate::{AlgType, Derived};
 use hmac_kdf::{KdfInput, KdfKey};
 use std::marker::Model;
 
-/// An algorithm key (TS 33.401 A.7): 32 octets. A 128-bit algorithm takes the last 16.
+/// An algorithm key (TS 33.401 A.7): 32 octets, derived of KASME or KeNB. A 128-bit algorithm takes the last 16.
 #[derive(Clone, Copy, Debug, PartialEq, Eq)]
 pub struct AlgKey {
     octets: [u8; 32],
@@ -35,13 +35,6 @@ impl Default for AlgKey {
 }
 
 impl AlgKey {
-    /// The algorithm key of these octets.
-    pub fn of_octets(octets: [u8; 32]) -> AlgKey
-        ensures { result ≡ octets }
-    {
-        AlgKey { octets }
-    }
-
     /// The octets of this key.
     pub fn octets(&self) -> [u8; 32]
         ensures { result ≡ self.now }
@@ -66,6 +59,7 @@ impl AlgKey {
         ensures input { IsKdfInput result.1.input }
     {
         let derived = Derived::of(key, KdfInput::Alg(kind.distinguisher(), id));
-        (AlgKey::of_octets(derived.out), derived)
+        let octets = derived.out;
+        (AlgKey { octets }, derived)
     }
 }

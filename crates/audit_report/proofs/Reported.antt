@@ -11,7 +11,7 @@ use Rattle.lte_machine.specs.Run.{RunState, Running, Stopped, GoesOn}
 use Rattle.lte_world.specs.Whole.{InRun}
 use Rattle.report_text.specs.Coincidence.{coincidence_text}
 use Rattle.report_text.specs.Summary.{Tallied}
-use Rattle.run_report.specs.declared.endings.Ending.TheVariants.{Done, Coincidence}
+use Rattle.run_report.specs.declared.endings.Ending.TheVariants.{Done, Chance}
 use Rattle.run_report.specs.Counted.{Ended}
 use Rattle.lte_events.specs.Scenario.{IsScenario}
 use Rattle.run_report.specs.Summary.{Coincides, outcome_from}
@@ -43,5 +43,5 @@ audit_ended {setup} {events} {run} rows scenario e are =
 pub audit_coincidence : {setup : Setup} {events : List Event} (step : ℕ) (proof : Proof)
     → IsScenario setup events
     → outcome_from [] (octet_report setup events) ≡ Coincides step proof
-    → audit_report_of setup events ≡ record { text = coincidence_text step proof; ends = Coincidence }
+    → audit_report_of setup events ≡ record { text = coincidence_text step proof; ends = Chance }
 audit_coincidence {setup} {events} step proof scenario e = audit_is scenario ∙ ap (audit_with (audit_in (octet_run setup events))) e

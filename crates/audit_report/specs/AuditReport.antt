@@ -9,7 +9,7 @@ use Rattle.lte_machine.specs.Ciphers.{annex_b}
 use Rattle.lte_machine.specs.Machines.{Kept}
 use Rattle.lte_machine.specs.Run.{RunState, Running, Stopped}
 use Rattle.report_text.specs.Coincidence.{coincidence_text}
-use Rattle.run_report.specs.declared.endings.Ending.TheVariants.{Done, Coincidence}
+use Rattle.run_report.specs.declared.endings.Ending.TheVariants.{Done, Chance}
 use Rattle.run_report.specs.Report.{Report}
 use Rattle.run_report.specs.Summary.{Outcome, AllLines, Coincides, outcome_from}
 use Rattle.store_laws.specs.Rows.{world_rows}
@@ -21,7 +21,7 @@ audit_in (Stopped coincidence) = []
 
 abbrev pub audit_with : List ℕ → Outcome → Report
 audit_with text (AllLines lines) = record { text = text; ends = Done }
-audit_with text (Coincides step proof) = record { text = coincidence_text step proof; ends = Coincidence }
+audit_with text (Coincides step proof) = record { text = coincidence_text step proof; ends = Chance }
 
 -- the audit of the written machine's run over key terms, printed in values
 unfoldable pub audit_report_of : Setup → List Event → Report

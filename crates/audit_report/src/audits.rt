@@ -68,9 +68,9 @@ fn audit_run<W: Sink>(
             write_ladder(alloc, world.ladder(), out)?;
             Ok(Ending::Done)
         }
-        Ok(Course::Coincidence(step, proof)) => {
+        Ok(Course::Chance(step, proof)) => {
             write_coincidence(alloc, step, proof, out)?;
-            Ok(Ending::Coincidence)
+            Ok(Ending::Chance)
         }
         Err(_) => Err(Unwritten::Memory),
     }

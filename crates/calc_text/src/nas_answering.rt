@@ -13,8 +13,8 @@ use crate::line_texts::{
 };
 use crate::octet_texts::written;
 use crate::requests::{Algorithms, NasPdu, NasText, ServicePdu};
-use alg_suite::Integrity;
-use annex_a_keys::{AlgKey, AlgType, Kasme};
+use alg_suite::{GivenKey, Integrity};
+use annex_a_keys::{AlgType, Kasme};
 use nas_guard::OpenFault;
 use pdu_guard::{
     NasKeys, ServiceFault, check_service_request, find_nas, find_service_request, is_checked,
@@ -24,11 +24,11 @@ use rec_base::Dir;
 use std::alloc::{AllocError, Global};
 
 // The key of NAS integrity.
-fn nas_int(kasme: &[u8; 32], eia: Integrity) -> AlgKey
+fn nas_int(kasme: &[u8; 32], eia: Integrity) -> GivenKey
     ensures { result ≡ nas_int kasme.now eia }
 {
     let (int, _) = Kasme::of_octets(*kasme).nas_alg(AlgType::NasInt, eia.identity());
-    int
+    GivenKey::from(int)
 }
 
 // The keys of NAS.
@@ -39,8 +39,8 @@ fn nas_keys(kasme: &[u8; 32], algorithms: Algorithms) -> NasKeys
     let (enc, _) = kasme.nas_alg(AlgType::NasEnc, algorithms.eea.identity());
     let (int, _) = kasme.nas_alg(AlgType::NasInt, algorithms.eia.identity());
     NasKeys {
-        enc,
-        int,
+        enc: GivenKey::from(enc),
+        int: GivenKey::from(int),
         eea: algorithms.eea,
         eia: algorithms.eia,
     }

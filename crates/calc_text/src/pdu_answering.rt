@@ -11,6 +11,7 @@ ghost use Rattle.calc_text.specs.declared.requests.Request.TheVariants.{SealSrb 
 use crate::line_texts::{bad_header, mac_fails, opens, short, spent};
 use crate::octet_texts::written;
 use crate::requests::{BearerInputs, DrbOctets, SrbOctets};
+use alg_suite::GivenKey;
 use annex_a_keys::{AlgType, Cell, Kenb};
 use pdcp_guard::PdcpFault;
 use pdu_guard::{
@@ -29,8 +30,8 @@ fn srb_keys(inputs: &BearerInputs) -> SrbKeys
     let (enc, _) = kenb.alg(AlgType::RrcEnc, inputs.algorithms.eea.identity());
     let (int, _) = kenb.alg(AlgType::RrcInt, inputs.algorithms.eia.identity());
     SrbKeys {
-        enc,
-        int,
+        enc: GivenKey::from(enc),
+        int: GivenKey::from(int),
         eea: inputs.algorithms.eea,
         eia: inputs.algorithms.eia,
         bearer: inputs.bearer,
@@ -46,7 +47,7 @@ fn drb_keys(inputs: &BearerInputs, numbers: Numbers) -> DrbKeys
     let kenb = inputs.kenb;
     let (enc, _) = Kenb::of_octets(kenb).alg(AlgType::UpEnc, inputs.algorithms.eea.identity());
     DrbKeys {
-        enc,
+        enc: GivenKey::from(enc),
         eea: inputs.algorithms.eea,
         bearer: inputs.bearer,
         numbers,

@@ -108,19 +108,19 @@ module _ (v : TwoWhole) (k : Keeps v) (e : Event) (is : IsEvent e) (reserved : W
 -- what is answered with a coincidence is what the system tells
 pub coincidence_told : (o : Option ℕ) (acts step : ℕ) (told : Result Line WorldFault)
     (fault : WorldFault) (proof : Proof)
-    → fault ≡ WorldFault.Coincidence proof
+    → fault ≡ WorldFault.Chance proof
     → (◌≢◌ {A = Result TwoLine WorldFault} (Err fault) (Err WorldFault.Memory) → Err fault ≡ answer_by o acts step told)
-    → Err (WorldFault.Coincidence proof) ≡ told
+    → Err (WorldFault.Chance proof) ≡ told
 coincidence_told o acts step told fault proof is says =
     by o told (sym (ap Err is)
-    ∙ says (λ e. let no : WorldFault.Coincidence proof ≡ WorldFault.Memory = sym is ∙ same_err e in cc))
+    ∙ says (λ e. let no : WorldFault.Chance proof ≡ WorldFault.Memory = sym is ∙ same_err e in cc))
   where
     same_err : ◌≡◌ {A = Result TwoLine WorldFault} (Err fault) (Err WorldFault.Memory) → fault ≡ WorldFault.Memory
     same_err e = cc
 
     by : (o : Option ℕ) (told : Result Line WorldFault)
-        → Err (WorldFault.Coincidence proof) ≡ answer_by o acts step told
-        → Err (WorldFault.Coincidence proof) ≡ told
+        → Err (WorldFault.Chance proof) ≡ answer_by o acts step told
+        → Err (WorldFault.Chance proof) ≡ told
     by (Some core) told e = cc
     by None (Ok line) e = cc
-    by None (Err f) e = let one : WorldFault.Coincidence proof ≡ f = cc in ap Err one
+    by None (Err f) e = let one : WorldFault.Chance proof ≡ f = cc in ap Err one

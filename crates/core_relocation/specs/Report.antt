@@ -6,7 +6,7 @@ use Rattle.lte_events.specs.declared.lines.Line.{Line}
 use Rattle.lte_events.specs.declared.setups.Setup.{Setup}
 use Rattle.lte_events.specs.Answer.{name_of}
 use Rattle.lte_world.specs.declared.faults.WorldFault.{WorldFault}
-use Rattle.lte_world.specs.declared.faults.WorldFault.TheVariants.{Memory, Coincidence}
+use Rattle.lte_world.specs.declared.faults.WorldFault.TheVariants.{Memory, Chance}
 use Rattle.report_text.specs.Coincidence.{coincidence_text}
 use Rattle.report_text.specs.Details.{details_text}
 use Rattle.report_text.specs.Line.{alarm_text, line_text, note_text, opened_text, sent_text}
@@ -41,7 +41,7 @@ two_text step (NotHere core) = not_here_text step core
 
 -- a coincidence, which counts all events
 abbrev pub fault_text : ℕ → WorldFault → List ℕ
-fault_text step (Coincidence proof) = coincidence_text step proof
+fault_text step (Chance proof) = coincidence_text step proof
 fault_text step Memory = []
 
 abbrev pub told_text : ℕ → Result TwoLine WorldFault → List ℕ
@@ -50,7 +50,7 @@ told_text step (Err fault) = fault_text step fault
 
 abbrev pub answer_ends : Result TwoLine WorldFault → Ending
 answer_ends (Ok line) = ending.Done
-answer_ends (Err fault) = ending.Coincidence
+answer_ends (Err fault) = ending.Chance
 
 -- and both
 abbrev pub answer_report : ℕ → Result TwoLine WorldFault → Report
@@ -60,7 +60,7 @@ answer_report step answer = record { text = told_text step answer; ends = answer
 abbrev pub two_told_from : ℕ → List (Result TwoLine WorldFault) → List ℕ → Report
 two_told_from step [] end = record { text = end; ends = ending.Done }
 two_told_from step (Ok line ∷ rest) end = before (two_text step line) (two_told_from (suc step) rest end)
-two_told_from step (Err fault ∷ rest) end = record { text = fault_text step fault; ends = ending.Coincidence }
+two_told_from step (Err fault ∷ rest) end = record { text = fault_text step fault; ends = ending.Chance }
 
 -- the report of the written machine's run with two cores, printed in values; its end is that of the system, which counts the
 -- events that it saw

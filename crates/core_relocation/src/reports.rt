@@ -38,14 +38,14 @@ pub fn write_two<W: Sink>(
         let event = events.at(number);
         match write_answer(alloc, &mut two, &event, out)? {
             Ending::Done => {}
-            Ending::Coincidence => return Ok(Ending::Coincidence),
+            Ending::Chance => return Ok(Ending::Chance),
         }
     }
     write_end(alloc, two.world(), out)?;
     Ok(Ending::Done)
 }
 
-// Lets one event happen, and writes what is answered to it. The answer is `Coincidence` if it is one, and else `Done`.
+// Lets one event happen, and writes what is answered to it. The answer is `Chance` if it is one, and else `Done`.
 fn write_answer<W: Sink>(
     alloc: Global,
     two: &mut Two,
@@ -67,9 +67,9 @@ fn write_answer<W: Sink>(
             write_text(two_text(alloc, step, line), out)?;
             Ok(Ending::Done)
         }
-        Err(WorldFault::Coincidence(proof)) => {
+        Err(WorldFault::Chance(proof)) => {
             write_coincidence(alloc, step, proof, out)?;
-            Ok(Ending::Coincidence)
+            Ok(Ending::Chance)
         }
         Err(WorldFault::Memory) => Err(Unwritten::Memory),
     }

@@ -96,7 +96,7 @@ impl Two {
         }
         let core = self.cores.acting(from);
         let mut line = self.world.apply(event)?;
-        let came = taken(self.world.replies());
+        let came = taken(self.world.replies().as_slice());
         self.cores.held = self.cores.held_after(core, event, &came, &line);
         line.step = self.log.events().len() as u32;
         self.log.sent(&line);

@@ -8,6 +8,7 @@ use Rattle.std.specs.IoError.{error_kind}
 use Rattle.std.specs.declared.io.Error.{Error}
 use Rattle.std.specs.declared.io.ErrorKind.TheVariants.{OutOfMemory}
 use Rattle.growth.specs.Growth.{WasRefused}
+use Rattle.edge_io.specs.Cause.{OneMore}
 use Rattle.edge_io.specs.Opening.{loopback}
 use Rattle.edge_io.specs.PortLine.{ReadsPort, ReadsNoPort}
 use Rattle.edge_io.specs.RoleWords.{role_words}
@@ -93,7 +94,8 @@ NotFound answers remaining connects said after NoPort = ReadsNoPort answers rema
 NotFound answers remaining connects said after NotReached = Says remaining said after (λ number. FailsItself (connects loopback number))
 NotFound answers remaining connects said after other = ⊥
 
--- Why a program is not served: its start failed, or it was not reached, and ended.
+-- Why a program is not served: its start failed; or it was started, not reached, and ended. Here `before` and `after` are how many programs the host has
+-- started.
 abbrev pub NotServed : {P S C : Type 0}
     → (Result (P × S) Error → Type 0)
     → (P → P → Type 0)
@@ -101,26 +103,31 @@ abbrev pub NotServed : {P S C : Type 0}
     → (ℕ → S → Result ℕ Error → S → Type 0)
     → (S → Option (List ℕ))
     → (List ℕ → ℕ → Result C Error → Type 0)
+    → ℕ
+    → ℕ
     → PeerFault
     → Type 0
-NotServed start kills waits answers remaining connects NotStarted = FailsItself start
-NotServed start kills waits answers remaining connects fault =
-    Started start (λ process said. Stopped kills waits process × Heard (λ after. NotFound answers remaining connects said after fault))
+NotServed start kills waits answers remaining connects before after NotStarted = FailsItself start × (after ≡ before)
+NotServed start kills waits answers remaining connects before after fault =
+    Started start (λ process said. Stopped kills waits process × Heard (λ heard. NotFound answers remaining connects said heard fault))
+    × OneMore before after
 
--- Why there was no memory to serve a program: std refused its command a growth; or its start wanted memory; or it was started, the connection to
--- it wanted memory, and it was ended.
+-- Why there was no memory to serve a program: none was started, since std refused a growth or the start wanted memory; or one was started, the
+-- connection to it wanted memory, and it was ended.
 abbrev pub NoMemory : {P S C : Type 0}
     → (Result (P × S) Error → Type 0)
     → (P → P → Type 0)
     → (P → P → Type 0)
     → (S → Option (List ℕ))
     → (List ℕ → ℕ → Result C Error → Type 0)
+    → ℕ
+    → ℕ
     → Type 0
-NoMemory start kills waits remaining connects =
-    WasRefused
-    ⊎ (WantsMemory start
-    ⊎ Started start (λ process said. Stopped kills waits process
-    × Heard (λ after. Says remaining said after (λ number. WantsMemory (connects loopback number)))))
+NoMemory start kills waits remaining connects before after =
+    ((WasRefused ⊎ WantsMemory start) × (after ≡ before))
+    ⊎ (Started start (λ process said. Stopped kills waits process
+    × Heard (λ heard. Says remaining said heard (λ number. WantsMemory (connects loopback number))))
+    × OneMore before after)
 
 -- The last call on a connection was given up, or gave or took nothing. Here `answers` is what a call may answer.
 pub record LastCallFails {C X : Type 0} (answers : X → C → Result ℕ Error → C → Type 0) (after : C) : Type 0 where

@@ -1,7 +1,8 @@
-ghost use Rattle.std.specs.Prelude.{◌≡◌, ◌+◌, ◌-◌, ◌^◌, ◌≤◌, ◌<◌, ◌⊎◌, min, length, take, IfOk, IfErr, IfSome, IsSomeAnd, IsErrOf, OnOk, OnErr, None, Some};
+ghost use Rattle.std.specs.Prelude.{◌≡◌, ◌≢◌, ◌+◌, ◌-◌, ◌^◌, ◌≤◌, ◌<◌, ◌⊎◌, [], min, length, take, IfOk, IfErr, IfSome, IsSomeAnd, IsErrOf, OnOk, OnErr, None, Some, Err};
 ghost use Rattle.std.specs.Option.{option_map};
 ghost use Rattle.std.specs.List.{slice_get};
-ghost use Rattle.edge_io.specs.Cause.{Rose, HasCause};
+ghost use Rattle.growth.specs.Growth.{WasRefused};
+ghost use Rattle.edge_io.specs.Cause.{HasCause, OneMore, Rose};
 ghost use Rattle.edge_io.specs.Peers.{IsRunning, SendFailed, ReceiveFailed, sent_to, started, stopped_at, taken_from, to_give_of};
 ghost use Rattle.edge_io.specs.Serving.{IsCut, IsEnded, IsFilled, IsSent, IsServed, Keeps, KeepsSaid, LeavesSaid, NoMemory, NotServed, OfPeer, OfNoPeer, program_of, start_of};
 
@@ -46,6 +47,7 @@ impl<H: Host + Drop> ChildPeers<H> {
         ensures faults { ⟦<ChildPeers<H> as Peers>⟧.faults result ≡ 0 }
         ensures host { result.host ≡ host }
         ensures programs { result.programs ≡ programs }
+        ensures fresh { (result.peers.items ≡ []) × (result.rests.items ≡ []) × (result.failed ≡ None) × (result.heard ≡ None) }
     {
         ChildPeers {
             host,
@@ -58,21 +60,21 @@ impl<H: Host + Drop> ChildPeers<H> {
             faults: 0,
         }
     }
+}
 
-    // A fault at a role is counted.
-    fn count_fault(&mut self, role: Role, fault: PeerFault)
-        ensures counts { ⟦<ChildPeers<H> as Peers>⟧.faults self.old ≤ ⟦<ChildPeers<H> as Peers>⟧.faults self.new }
-        ensures count { ⟦<ChildPeers<H> as Peers>⟧.faults self.new
-            ≡ min (⟦<ChildPeers<H> as Peers>⟧.faults self.old + 1) (2 ^ 64 - 1) }
-        ensures failed { self.new.failed ≡ Some (role, fault) }
-        ensures peers { self.new.peers ≡ self.old.peers }
-        ensures programs { self.new.programs ≡ self.old.programs }
-        ensures heard { self.new.heard ≡ self.old.heard }
-        ensures rests { self.new.rests ≡ self.old.rests }
-    {
-        self.failed = Some((role, fault));
-        self.faults = self.faults.saturating_add(1);
-    }
+// A fault at a role is told, and counted.
+fn count_fault(
+    failed: &mut Option<(Role, PeerFault)>,
+    faults: &mut u64,
+    role: Role,
+    fault: PeerFault,
+)
+    ensures counts { faults.old ≤ faults.new }
+    ensures count { faults.new ≡ min (faults.old + 1) (2 ^ 64 - 1) }
+    ensures failed { failed.new ≡ Some (role, fault) }
+{
+    *failed = Some((role, fault));
+    *faults = faults.saturating_add(1);
 }
 
 // Keeps what a peer had still to say with its role, as far as there is memory for it.
@@ -87,9 +89,9 @@ fn keep_rest(alloc: Global, rests: &mut Vec<(Role, Vec<u8>)>, role: Role, octets
     }
 }
 
-// Starts the next peer.
+// Starts the next peer. The room for it is made first, so that a program that was started always has its place.
 fn start_next<H: Host>(
-    host: &H,
+    host: &mut H,
     alloc: Global,
     programs: &Programs,
     role: Role,
@@ -97,15 +99,23 @@ fn start_next<H: Host>(
 ) -> Result<u8, StartError>
     ensures place { IfOk result (λ place. place ≡ length peers.old.items) }
     ensures others { take (length peers.old.items) peers.new.items ≡ peers.old.items }
+    ensures one { OnOk result (length peers.new.items ≡ length peers.old.items + 1) }
+    ensures started { OnOk result (OneMore (H.programs_started host.old) (H.programs_started host.new)) }
+    ensures kept { OnErr result (peers.new.items ≡ peers.old.items) }
     ensures served { OnOk result (IsSomeAnd (program_of role programs.now) (λ program.
         IsSomeAnd (slice_get peers.new.items (length peers.old.items)) (λ child. (child.role ≡ role) × IsSomeAnd child.connection
-        (IsServed (start_of (H.starts host.now) program role) H.Said.remaining (H.connects host.now) child.process child.said)))) }
-    ensures no_program { program_of role programs.now ≡ None → result ≡ Err (StartError.Peer PeerFault.NotStarted) }
-    ensures failed { IfErr result (λ e. (fault : PeerFault) → e ≡ StartError.Peer fault → (256 ≤ length peers.old.items)
-        ⊎ IfSome (program_of role programs.now) (λ program. NotServed (start_of (H.starts host.now) program role)
-        H.kills H.waits H.Said.answers H.Said.remaining (H.connects host.now) fault)) }
+        (IsServed (start_of (H.starts host.old) program role) H.Said.remaining (H.connects host.new) child.process child.said)))) }
+    ensures no_program { program_of role programs.now ≡ None →
+        (result ≡ Err (StartError.Peer PeerFault.NotStarted)) × (H.programs_started host.new ≡ H.programs_started host.old) }
+    ensures failed { IfErr result (λ e. (fault : PeerFault) → e ≡ StartError.Peer fault →
+        ((256 ≤ length peers.old.items) × (fault ≡ PeerFault.NotStarted) × (H.programs_started host.new ≡ H.programs_started host.old))
+        ⊎ IfSome (program_of role programs.now) (λ program. NotServed (start_of (H.starts host.old) program role)
+        H.kills H.waits H.Said.answers H.Said.remaining (H.connects host.new)
+        (H.programs_started host.old) (H.programs_started host.new) fault)) }
     ensures memory { IfErr result (λ e. e ≡ StartError.Memory → IfSome (program_of role programs.now) (λ program.
-        NoMemory (start_of (H.starts host.now) program role) H.kills H.waits H.Said.remaining (H.connects host.now))) }
+        NoMemory (start_of (H.starts host.old) program role) H.kills H.waits H.Said.remaining (H.connects host.new)
+        (H.programs_started host.old) (H.programs_started host.new))) }
+    ensures refused { IfErr result (λ e. e ≡ StartError.Memory → WasRefused) }
 {
     let Some(program) = programs.of(role) else {
         return Err(StartError::Peer(PeerFault::NotStarted));
@@ -169,9 +179,6 @@ impl<H: Host + Drop> Peers for ChildPeers<H> {
 
     ghost told = { λ _. None };
 
-    ghost lacks_memory = { λ p role. IfSome (program_of role p.programs) (λ program.
-        NoMemory (start_of (H.starts p.host) program role) H.kills H.waits H.Said.remaining (H.connects p.host)) };
-
     /// It starts the program of the role, reads the line with its port and connects to it. It fails past 256
     /// peers.
     fn start(&mut self, role: Role) -> Result<u8, StartFault>
@@ -181,30 +188,44 @@ impl<H: Host + Drop> Peers for ChildPeers<H> {
             ≡ option_map (started role result) (⟦<ChildPeers<H> as Peers>⟧.told self.old) }
         ensures memory { IsErrOf result StartFault.Memory →
             ⟦<ChildPeers<H> as Peers>⟧.faults self.new ≡ ⟦<ChildPeers<H> as Peers>⟧.faults self.old }
+        ensures refused { IsErrOf result StartFault.Memory → WasRefused }
         ensures cause { IsErrOf result StartFault.Failed →
             Rose (⟦<ChildPeers<H> as Peers>⟧.faults self.old) (⟦<ChildPeers<H> as Peers>⟧.faults self.new) }
         ensures no_fault { OnOk result (⟦<ChildPeers<H> as Peers>⟧.faults self.new ≡ ⟦<ChildPeers<H> as Peers>⟧.faults self.old) }
         ensures count { ⟦<ChildPeers<H> as Peers>⟧.faults self.old ≤ ⟦<ChildPeers<H> as Peers>⟧.faults self.new }
 
         // The peer is the program of the role, started with the words of the role, and reached on 127.0.0.1 at the port that it said.
-        // Its number is its place among those started.
+        // Its number is its place among those started; it is one peer more, and one program was started.
         ensures number { IfOk result (λ number. number ≡ length self.old.peers.items) }
         ensures served { OnOk result (IsSomeAnd (program_of role self.old.programs) (λ program.
             IsSomeAnd (slice_get self.new.peers.items (length self.old.peers.items)) (λ child. (child.role ≡ role) × IsSomeAnd child.connection
-            (IsServed (start_of (H.starts self.old.host) program role) H.Said.remaining (H.connects self.old.host) child.process child.said)))) }
+            (IsServed (start_of (H.starts self.old.host) program role) H.Said.remaining (H.connects self.new.host) child.process child.said)))) }
         ensures others { take (length self.old.peers.items) self.new.peers.items ≡ self.old.peers.items }
-        ensures programs { self.new.programs ≡ self.old.programs }
+        ensures one { OnOk result (length self.new.peers.items ≡ length self.old.peers.items + 1) }
+        ensures started { OnOk result (OneMore (H.programs_started self.old.host) (H.programs_started self.new.host)) }
 
         // Why it fails. A program that was started is then ended.
-        ensures no_program { program_of role self.old.programs ≡ None → result ≡ Err StartFault.Failed }
-        ensures failed { IsErrOf result StartFault.Failed → (256 ≤ length self.old.peers.items)
-            ⊎ IfSome (program_of role self.old.programs) (λ program. IsSomeAnd self.new.failed (λ failed. (failed.0 ≡ role)
-            × NotServed (start_of (H.starts self.old.host) program role) H.kills H.waits H.Said.answers H.Said.remaining (H.connects self.old.host) failed.1)) }
-        ensures lacks { IsErrOf result StartFault.Memory → ⟦<ChildPeers<H> as Peers>⟧.lacks_memory self.old role }
+        ensures kept { OnErr result (self.new.peers.items ≡ self.old.peers.items) }
+        ensures no_program { program_of role self.old.programs ≡ None → (result ≡ Err StartFault.Failed)
+            × (self.new.failed ≡ Some (role, PeerFault.NotStarted)) × (H.programs_started self.new.host ≡ H.programs_started self.old.host) }
+        ensures named { IsErrOf result StartFault.Failed → IsSomeAnd self.new.failed (λ failed. failed.0 ≡ role) }
+        ensures failed { (fault : PeerFault) → IsErrOf result StartFault.Failed → self.new.failed ≡ Some (role, fault) →
+            ((256 ≤ length self.old.peers.items) × (fault ≡ PeerFault.NotStarted) × (H.programs_started self.new.host ≡ H.programs_started self.old.host))
+            ⊎ IfSome (program_of role self.old.programs) (λ program. NotServed (start_of (H.starts self.old.host) program role)
+            H.kills H.waits H.Said.answers H.Said.remaining (H.connects self.new.host)
+            (H.programs_started self.old.host) (H.programs_started self.new.host) fault) }
+        ensures no_memory { IsErrOf result StartFault.Memory → IfSome (program_of role self.old.programs) (λ program.
+            NoMemory (start_of (H.starts self.old.host) program role) H.kills H.waits H.Said.remaining (H.connects self.new.host)
+            (H.programs_started self.old.host) (H.programs_started self.new.host)) }
+
+        // What stays. Only a start that failed is told as a fault.
+        ensures unmarked { result ≢ Err StartFault.Failed → self.new.failed ≡ self.old.failed }
+        ensures programs { self.new.programs ≡ self.old.programs }
+        ensures heard { self.new.heard ≡ self.old.heard }
         ensures rests { self.new.rests ≡ self.old.rests }
     {
         match start_next(
-            &self.host,
+            &mut self.host,
             self.alloc,
             &self.programs,
             role,
@@ -213,7 +234,7 @@ impl<H: Host + Drop> Peers for ChildPeers<H> {
             Ok(place) => Ok(place),
             Err(StartError::Memory) => Err(StartFault::Memory),
             Err(StartError::Peer(fault)) => {
-                self.count_fault(role, fault);
+                count_fault(&mut self.failed, &mut self.faults, role, fault);
                 Err(StartFault::Failed)
             }
         }
@@ -239,6 +260,12 @@ impl<H: Host + Drop> Peers for ChildPeers<H> {
             (new.role ≡ old.role) × (new.process ≡ old.process) × IsCut H.Stream.Writer.answers old.connection new.connection)) }
         ensures named { OnErr result (IfSome (slice_get self.old.peers.items peer) (λ child.
             self.new.failed ≡ Some (child.role, PeerFault.NotSent))) }
+
+        // What stays. Only a send that failed is told as a fault.
+        ensures unmarked { OnOk result (self.new.failed ≡ self.old.failed) }
+        ensures host { self.new.host ≡ self.old.host }
+        ensures programs { self.new.programs ≡ self.old.programs }
+        ensures heard { self.new.heard ≡ self.old.heard }
         ensures rests { self.new.rests ≡ self.old.rests }
     {
         let place = peer as usize;
@@ -250,7 +277,7 @@ impl<H: Host + Drop> Peers for ChildPeers<H> {
         match send_at(&mut self.peers, place, octets) {
             Ok(()) => Ok(()),
             Err(Failed) => {
-                self.count_fault(role, PeerFault::NotSent);
+                count_fault(&mut self.failed, &mut self.faults, role, PeerFault::NotSent);
                 Err(Failed)
             }
         }
@@ -279,6 +306,11 @@ impl<H: Host + Drop> Peers for ChildPeers<H> {
         ensures named { OnErr result (IfSome (slice_get self.old.peers.items peer) (λ child.
             self.new.failed ≡ Some (child.role, PeerFault.NoReply))) }
         ensures heard { IfSome (slice_get self.old.peers.items peer) (λ child. self.new.heard ≡ Some child.role) }
+
+        // What stays. Only a receipt that failed is told as a fault.
+        ensures unmarked { OnOk result (self.new.failed ≡ self.old.failed) }
+        ensures host { self.new.host ≡ self.old.host }
+        ensures programs { self.new.programs ≡ self.old.programs }
         ensures rests { self.new.rests ≡ self.old.rests }
     {
         let place = peer as usize;
@@ -291,7 +323,7 @@ impl<H: Host + Drop> Peers for ChildPeers<H> {
         match receive_at(&mut self.peers, place, buf) {
             Ok(()) => Ok(()),
             Err(Failed) => {
-                self.count_fault(role, PeerFault::NoReply);
+                count_fault(&mut self.failed, &mut self.faults, role, PeerFault::NoReply);
                 Err(Failed)
             }
         }
@@ -311,6 +343,12 @@ impl<H: Host + Drop> Peers for ChildPeers<H> {
             × IsEnded H.kills H.waits old.process new.process
             × KeepsSaid H.finishes H.Stream.Reader.answers H.Stream.remaining self.old.rests.items self.new.rests.items
             (λ v. v.items) old.role old.connection) }
+
+        // What stays.
+        ensures host { self.new.host ≡ self.old.host }
+        ensures programs { self.new.programs ≡ self.old.programs }
+        ensures failed { self.new.failed ≡ self.old.failed }
+        ensures heard { self.new.heard ≡ self.old.heard }
     {
         let place = peer as usize;
         if place >= self.peers.len() {

@@ -42,7 +42,7 @@ pub use child_peers::ChildPeers;
 pub use drop_sink::DropSink;
 pub use edge::Edge;
 pub use failed::Failed;
-pub use host::Host;
+pub use host::{CountingHost, Host};
 pub use loopback_port::LoopbackPort;
 pub use mem_peers::MemPeers;
 pub use mem_port::MemPort;

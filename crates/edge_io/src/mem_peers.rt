@@ -119,8 +119,6 @@ impl Peers for MemPeers {
       failed_last = p.failed_last;
     }) };
 
-    ghost lacks_memory = { λ _ _. ⊥ };
-
     /// It never answers want of memory.
     fn start(&mut self, role: Role) -> Result<u8, StartFault>
         ensures place { IfOk result (λ place.
@@ -128,7 +126,7 @@ impl Peers for MemPeers {
         ensures told { ⟦<MemPeers as Peers>⟧.told self.new
             ≡ option_map (started role result) (⟦<MemPeers as Peers>⟧.told self.old) }
         ensures memory { IsErrOf result StartFault.Memory → ⊥ }
-        ensures lacks { IsErrOf result StartFault.Memory → ⊥ }
+        ensures refused { IsErrOf result StartFault.Memory → ⊥ }
         ensures cause { IsErrOf result StartFault.Failed →
             Rose (⟦<MemPeers as Peers>⟧.faults self.old) (⟦<MemPeers as Peers>⟧.faults self.new) }
         ensures no_fault { OnOk result (⟦<MemPeers as Peers>⟧.faults self.new ≡ ⟦<MemPeers as Peers>⟧.faults self.old) }

@@ -2,6 +2,7 @@ ghost use Rattle.std.specs.Prelude.{ℕ, Result, List};
 ghost use Rattle.std.specs.Net.Addr.{ipv4_octets};
 ghost use Rattle.std.specs.Net.Socket.{v4_ip, v4_port};
 ghost use Rattle.std.specs.declared.io.Error.{Error};
+ghost use Rattle.edge_io.specs.Cause.{MemoryHasCause};
 ghost use Rattle.edge_io.specs.Told.{Told};
 
 use crate::edge::Edge;
@@ -38,7 +39,8 @@ pub trait Network {
 
     /// A connection to this address.
     fn connect_to(&self, address: SocketAddrV4) -> io::Result<Self::Stream>
-        ensures { connects self.now (ipv4_octets (v4_ip address)) (v4_port address) result };
+        ensures answer { connects self.now (ipv4_octets (v4_ip address)) (v4_port address) result }
+        ensures memory { MemoryHasCause result };
 
     /// The port of a listener.
     fn port_of(listener: &Self::Listener) -> io::Result<u16>
@@ -70,12 +72,7 @@ impl<N: Net> Network for N {
     }
 
     fn connect_to(&self, address: SocketAddrV4) -> io::Result<N::Stream> {
-        let patience = Duration::from_secs(PATIENCE);
-        let stream = TcpStream::connect_timeout(self, &SocketAddr::V4(address), patience)?;
-        stream.set_nodelay(true)?;
-        stream.set_read_timeout(Some(patience))?;
-        stream.set_write_timeout(Some(patience))?;
-        Ok(stream)
+        patient_stream(self, address)
     }
 
     fn port_of(listener: &N::Listener) -> io::Result<u16> {
@@ -87,4 +84,14 @@ impl<N: Net> Network for N {
         stream.set_nodelay(true)?;
         Ok(stream)
     }
+}
+
+// A connection of std that is given up after a time, at each read and write too.
+fn patient_stream<N: Net>(network: &N, address: SocketAddrV4) -> io::Result<N::Stream> {
+    let patience = Duration::from_secs(PATIENCE);
+    let stream = TcpStream::connect_timeout(network, &SocketAddr::V4(address), patience)?;
+    stream.set_nodelay(true)?;
+    stream.set_read_timeout(Some(patience))?;
+    stream.set_write_timeout(Some(patience))?;
+    Ok(stream)
 }

@@ -38,6 +38,7 @@ pub enum PeerCall {
 pub trait Peers {
     ghost use Rattle.std.specs.Prelude.{◌≡◌, ◌≤◌, ℕ, Option, length, take, IfOk, OnOk, OnErr, IsErrOf, IfSome};
     ghost use Rattle.std.specs.Option.{option_map};
+    ghost use Rattle.growth.specs.Growth.{WasRefused};
     ghost use Rattle.edge_io.specs.Cause.{Rose, HasCause};
     ghost use Rattle.edge_io.specs.declared.peers.Role.{Role};
     ghost use Rattle.edge_io.specs.Peers.{PeersTold, IsRunning, IdleFrom, started, sent_to, taken_from, stopped_at, to_give_of, SendFailed, ReceiveFailed};
@@ -46,17 +47,14 @@ pub trait Peers {
 
     ghost told: { Self → Option PeersTold };
 
-    // What is so where a start in a role wants memory.
-    ghost lacks_memory: { Self → Role → Type 0 };
-
     /// Starts a peer in this role and answers its number. `Failed` where it did not start, `Memory` where
-    /// memory ran out.
+    /// memory was refused.
     fn start(&mut self, role: Role) -> Result<u8, StartFault>
         ensures place { IfOk result (λ place.
             IfSome (told self.old) (λ t. place ≡ length t.roles)) }
         ensures told { told self.new ≡ option_map (started role result) (told self.old) }
         ensures memory { IsErrOf result StartFault.Memory → faults self.new ≡ faults self.old }
-        ensures lacks { IsErrOf result StartFault.Memory → lacks_memory self.old role }
+        ensures refused { IsErrOf result StartFault.Memory → WasRefused }
         ensures cause { IsErrOf result StartFault.Failed → Rose (faults self.old) (faults self.new) }
         ensures no_fault { OnOk result (faults self.new ≡ faults self.old) }
         ensures count { faults self.old ≤ faults self.new };

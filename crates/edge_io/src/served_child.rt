@@ -1,6 +1,8 @@
 ghost use Rattle.std.specs.Prelude.{◌≡◌, ◌≢◌, ◌≤◌, ◌↔◌, ◌⊎◌, IsTrue, length, take, Ok, IfOk, IfErr, IsSomeAnd, OnOk, OnErr, None};
 ghost use Rattle.std.specs.IoError.{error_kind};
 ghost use Rattle.std.specs.Io.KnownBytes.{Appends, Consumes};
+ghost use Rattle.growth.specs.Growth.{WasRefused};
+ghost use Rattle.edge_io.specs.Cause.{OneMore};
 ghost use Rattle.edge_io.specs.Opening.{loopback};
 ghost use Rattle.edge_io.specs.Serving.{IsCut, IsEnded, IsFilled, IsSent, IsServed, LastCallFails, LeavesSaid, NoMemory, NotFound, NotServed, Says, WantsMemory, start_of};
 
@@ -43,18 +45,22 @@ impl<H: Host> ServedChild<H> {
     /// Starts this program in this role, reads the line with its port and connects to it. A program
     /// that was started and is not reached is ended, also where the connection wants memory.
     pub(crate) fn start(
-        host: &H,
+        host: &mut H,
         alloc: Global,
         program: &Program,
         role: Role,
     ) -> Result<ServedChild<H>, StartError>
         ensures role { IfOk result (λ child. child.role ≡ role) }
         ensures served { IfOk result (λ child. IsSomeAnd child.connection
-            (IsServed (start_of (H.starts host.now) program.now role) H.Said.remaining (H.connects host.now) child.process child.said)) }
+            (IsServed (start_of (H.starts host.old) program.now role) H.Said.remaining (H.connects host.new) child.process child.said)) }
+        ensures one { OnOk result (OneMore (H.programs_started host.old) (H.programs_started host.new)) }
         ensures failed { IfErr result (λ e. (fault : PeerFault) → e ≡ StartError.Peer fault →
-            NotServed (start_of (H.starts host.now) program.now role) H.kills H.waits H.Said.answers H.Said.remaining (H.connects host.now) fault) }
+            NotServed (start_of (H.starts host.old) program.now role) H.kills H.waits H.Said.answers H.Said.remaining (H.connects host.new)
+            (H.programs_started host.old) (H.programs_started host.new) fault) }
         ensures memory { IfErr result (λ e. e ≡ StartError.Memory →
-            NoMemory (start_of (H.starts host.now) program.now role) H.kills H.waits H.Said.remaining (H.connects host.now)) }
+            NoMemory (start_of (H.starts host.old) program.now role) H.kills H.waits H.Said.remaining (H.connects host.new)
+            (H.programs_started host.old) (H.programs_started host.new)) }
+        ensures refused { IfErr result (λ e. e ≡ StartError.Memory → WasRefused) }
     {
         let Ok(command) = command_of(alloc, program, role) else {
             return Err(StartError::Memory);
@@ -134,6 +140,7 @@ fn connected<H: Host>(
         NotFound H.Said.answers H.Said.remaining (H.connects host.now) said.old said.new fault) }
     ensures memory { IfErr result (λ e. e ≡ StartError.Memory →
         Says H.Said.remaining said.old said.new (λ number. WantsMemory (H.connects host.now loopback number))) }
+    ensures refused { IfErr result (λ e. e ≡ StartError.Memory → WasRefused) }
 {
     match reached(host, said) {
         Ok(stream) => Ok(stream),
@@ -152,6 +159,7 @@ fn reached<H: Host>(host: &H, said: &mut H::Said) -> Result<H::Stream, StartErro
         NotFound H.Said.answers H.Said.remaining (H.connects host.now) said.old said.new fault) }
     ensures memory { IfErr result (λ e. e ≡ StartError.Memory →
         Says H.Said.remaining said.old said.new (λ number. WantsMemory (H.connects host.now loopback number))) }
+    ensures refused { IfErr result (λ e. e ≡ StartError.Memory → WasRefused) }
 {
     let number = match port_said(said) {
         Ok(number) => number,

@@ -29,6 +29,6 @@ told_is step own (line.Of p told) = is_lines _ (phone_ends p _ (line_ends told))
 told_is step own (line.Taken q) = is_lines _ (taken_ends step q)
 
 pub fault_is : (step own : ℕ) (ended : FleetFault) → are_lines (output_text (answer_output step own (Err ended))) ≡ true
-fault_is step own (fault.Coincidence p proof) = is_lines _ (phone_ends p _ (coincidence_ends own proof))
+fault_is step own (fault.Chance p proof) = is_lines _ (phone_ends p _ (coincidence_ends own proof))
 fault_is step own (fault.Cross p row q other) = is_lines _ (cross_ends step p row.0 q other.0)
 fault_is step own fault.Memory = refl

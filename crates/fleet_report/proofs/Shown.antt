@@ -35,9 +35,9 @@ use Rattle.fleet_world.proofs.Together.{octets_are}
 use Rattle.fleet_report.specs.Events.{HasItsCounts, answer_report, event_report}
 use Rattle.fleet_report.specs.Lines.{IsShown, output_text, answer_output}
 
--- a Coincidence is one of the phone's own run
+-- a Chance is one of the phone's own run
 coincidence_told : (t : Option ℕ) (told : EventReport (List ℕ)) (met : Option Meeting) (p q : ℕ) (proof : Proof)
-    → unless_taken p t told met ≡ Err (fault.Coincidence q proof)
+    → unless_taken p t told met ≡ Err (fault.Chance q proof)
     → (c : _) × (told ≡ Coincided c) × (proof ≡ proof_of c)
 coincidence_told (Some k) told met p q proof is = absurd cc
 coincidence_told None (Coincided c) met p q proof is = (c, refl, cc)
@@ -73,7 +73,7 @@ pub fault_shown : (v : Fleeted) (p : ℕ) (e : Event) (f : FleetFault)
     → (◌≢◌ {A = Result FleetLine FleetFault} (Err f) (Err fault.Memory) → Err f ≡ answer_of v p e) → HasItsCounts f → IsShown f
 fault_shown v p e fault.Memory none is h can answered counts = tt
 fault_shown v p e (fault.Cross phone row other other_row) none is h can answered counts = tt
-fault_shown v p e (fault.Coincidence q proof) none is h can answered counts =
+fault_shown v p e (fault.Chance q proof) none is h can answered counts =
     let told = coincidence_told (taken_by v.setup (owns_in v) p e) (phone_told v.setup (own_at (owns_in v) p) e)
     (crossing v.setup (owns_in v) p e) p q proof (sym (answered (λ same. cc) ∙ answers_are v p e none)) in
     subst HasString (sym told.2)
@@ -81,13 +81,13 @@ fault_shown v p e (fault.Coincidence q proof) none is h can answered counts =
 
 -- how a report ends of which a coincidence was written
 abbrev pub ended : Result (Unit {0}) Unwritten → Result Ending Unwritten
-ended (Ok done) = Ok ending.Coincidence
+ended (Ok done) = Ok ending.Chance
 ended (Err cut) = Err cut
 
 as_report : (text : List ℕ) (result : Result (Unit {0}) Unwritten) (before after : Told)
     → IsTrue before.ready
     → WritesText text result before after
-    → WritesReport (record { text = text; ends = ending.Coincidence }) (ended result) before after
+    → WritesReport (record { text = text; ends = ending.Chance }) (ended result) before after
 as_report text (Ok done) before after ready written = one_piece refl written
 as_report text (Err cut) before after ready written = one_cut refl ready written
 
@@ -114,9 +114,9 @@ fault_reported v p e f step own result before after steps owns says text memory 
         subst (λ r. WritesReport whole (ended r) before after) (sym nothing.0)
         (subst (λ t. WritesReport whole (Err unwritten.Memory) before t) (sym nothing.1)
         (unreported whole before (refused refl) ready))
-    by (fault.Coincidence q proof) says text memory refused =
+    by (fault.Chance q proof) says text memory refused =
         subst (λ a. WritesReport (answer_report step own a) (ended result) before after) (says (λ same. cc))
-        (as_report (output_text (answer_output step own (Err (fault.Coincidence q proof)))) result before after ready (text (λ same. cc)))
+        (as_report (output_text (answer_output step own (Err (fault.Chance q proof)))) result before after ready (text (λ same. cc)))
     by (fault.Cross phone row other other_row) says text memory refused =
         subst (λ a. WritesReport (answer_report step own a) (ended result) before after) (says (λ same. cc))
         (as_report (output_text (answer_output step own (Err (fault.Cross phone row other other_row)))) result before after ready (text (λ same. cc)))

@@ -17,7 +17,7 @@ use Rattle.fleet_world.specs.Answers.{answer, own_at, owns_after, owns_from, own
 use Rattle.fleet_world.specs.Phones.{phone_run}
 use Rattle.fleet_world.proofs.Searching.{rows_left}
 use Rattle.fleet_world.proofs.Separating.{length_after}
-use Rattle.run_report.specs.declared.endings.Ending.TheVariants.{Coincidence}
+use Rattle.run_report.specs.declared.endings.Ending.TheVariants.{Chance}
 use Rattle.run_report.proofs.Partly.{Begins, followed}
 use Rattle.fleet_report.specs.Events.{answer_ends, answer_report}
 use Rattle.fleet_report.specs.Lines.{Output, output_text, texts, phone_text, answer_output, row_outputs, end_outputs}
@@ -86,7 +86,7 @@ follows_by : (r : Result FleetLine FleetFault) (out : Output) (rest : Outputs)
     → record { text = texts (goes_on r out rest).lines; ends = (goes_on r out rest).ends }
     ≡ followed (record { text = output_text out; ends = answer_ends r }) (record { text = texts rest.lines; ends = rest.ends })
 follows_by (Ok told) out rest = refl
-follows_by (Err ended) out rest = ap (λ t. record { text = t; ends = Coincidence }) (append-nil (output_text out))
+follows_by (Err ended) out rest = ap (λ t. record { text = t; ends = Chance }) (append-nil (output_text out))
 
 pub event_more : (setup : Setup) (owns : List (List Event)) (step : ℕ) (x : ℕ × Event) (xs : List (ℕ × Event))
     → report_from setup owns step (x ∷ xs)

@@ -2,7 +2,7 @@
 use Rattle.std.specs.Prelude.{◌≡◌, ℕ, ◌<◌, None, [], ◌∷◌, ◌++◌, length, Result, Ok, Err}
 use Rattle.lte_events.specs.declared.events.Event.{Event}
 use Rattle.run_report.specs.declared.endings.Ending.{Ending}
-use Rattle.run_report.specs.declared.endings.Ending.TheVariants.{Done, Coincidence}
+use Rattle.run_report.specs.declared.endings.Ending.TheVariants.{Done, Chance}
 use Rattle.run_report.specs.Events.{HasCounts}
 use Rattle.run_report.specs.Report.{Report}
 use Rattle.fleet_world.specs.declared.faults.FleetFault.{FleetFault}
@@ -19,7 +19,7 @@ IsOfPhone phones x = x.0 < phones
 -- how the report of an answer ends
 abbrev pub answer_ends : Result FleetLine FleetFault → Ending
 answer_ends (Ok told) = Done
-answer_ends (Err ended) = Coincidence
+answer_ends (Err ended) = Chance
 
 -- and that report, by the step among all events and among the phone's own
 abbrev pub answer_report : ℕ → ℕ → Result FleetLine FleetFault → Report
@@ -27,7 +27,7 @@ answer_report step own answer = record { text = output_text (answer_output step 
 
 -- COUNTs of 32 bits
 abbrev pub HasItsCounts : FleetFault → Type 0
-HasItsCounts (fault.Coincidence p proof) = HasCounts proof
+HasItsCounts (fault.Chance p proof) = HasCounts proof
 HasItsCounts other = Unit {0}
 
 -- the line for an event, and how the report of it ends

@@ -48,13 +48,13 @@ cross_text step p row q other =
 abbrev pub answer_output : ℕ → ℕ → Result FleetLine FleetFault → Output
 answer_output step own (Ok (line.Of p told)) = ByPhone p (line_text told)
 answer_output step own (Ok (line.Taken q)) = ByFleet (taken_text step q)
-answer_output step own (Err (fault.Coincidence p proof)) = ByPhone p (coincidence_text own proof)
+answer_output step own (Err (fault.Chance p proof)) = ByPhone p (coincidence_text own proof)
 answer_output step own (Err (fault.Cross p row q other)) = ByFleet (cross_text step p row.0 q other.0)
 answer_output step own (Err fault.Memory) = ByFleet []
 
 -- a derivation in it has a string S
 abbrev pub IsShown : FleetFault → Type 0
-IsShown (fault.Coincidence p proof) = HasString proof
+IsShown (fault.Chance p proof) = HasString proof
 IsShown other = Unit {0}
 
 -- THE END

@@ -4,7 +4,7 @@ use Rattle.std.specs.Prelude.{ℕ, suc, ◌+◌, List, [], ◌∷◌, ◌++◌, 
 use Rattle.lte_events.specs.declared.events.Event.{Event}
 use Rattle.lte_events.specs.declared.setups.Setup.{Setup}
 use Rattle.run_report.specs.declared.endings.Ending.{Ending}
-use Rattle.run_report.specs.declared.endings.Ending.TheVariants.{Done, Coincidence}
+use Rattle.run_report.specs.declared.endings.Ending.TheVariants.{Done, Chance}
 use Rattle.run_report.specs.Report.{Report}
 use Rattle.fleet_world.specs.declared.faults.FleetFault.{FleetFault}
 use Rattle.fleet_world.specs.declared.lines.FleetLine.{FleetLine}
@@ -25,7 +25,7 @@ ends_from setup p (own ∷ owns) = end_outputs p (length own) (phone_run setup o
 -- an answer, and what comes behind it if it is a line
 abbrev pub goes_on : Result FleetLine FleetFault → Output → Outputs → Outputs
 goes_on (Ok told) out rest = record { lines = out ∷ rest.lines; ends = rest.ends }
-goes_on (Err ended) out rest = record { lines = out ∷ []; ends = Coincidence }
+goes_on (Err ended) out rest = record { lines = out ∷ []; ends = Chance }
 
 -- from this step on, where these are the phones' own events before
 abbrev pub outputs_from : Setup → List (List Event) → ℕ → List (ℕ × Event) → Outputs

@@ -6,7 +6,7 @@ ghost use Rattle.fleet_report.specs.Lines.{phone_prefix, phone_text, taken_text,
 
 use fleet_world::{FleetFault, FleetLine};
 use key_terms::Row;
-use report_text::{TextMemory, coincidence, line};
+use report_text::{TextMemory, chance, line};
 use std::alloc::{AllocError, Global};
 
 // The line for an answer, by its step among all events.
@@ -38,8 +38,8 @@ pub(crate) fn fault_text(
     ensures refused { OnErr result WasRefused }
 {
     match fault {
-        FleetFault::Coincidence(phone, proof) => {
-            let text = coincidence(alloc, own, &proof)?;
+        FleetFault::Chance(phone, proof) => {
+            let text = chance(alloc, own, &proof)?;
             phone_text(alloc, phone, &text)
         }
         FleetFault::Cross {

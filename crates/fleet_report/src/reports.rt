@@ -46,14 +46,14 @@ pub fn write_fleet<W: Sink>(
         let step = events.at(number);
         match write_event(alloc, &mut fleet, step.0, &step.1, out)? {
             Ending::Done => {}
-            Ending::Coincidence => return Ok(Ending::Coincidence),
+            Ending::Chance => return Ok(Ending::Chance),
         }
     }
     write_ends(alloc, &fleet, phones, out)?;
     Ok(Ending::Done)
 }
 
-// Lets one event happen, and writes what is told of it. The answer is `Coincidence` if it is one, and else `Done`.
+// Lets one event happen, and writes what is told of it. The answer is `Chance` if it is one, and else `Done`.
 fn write_event<W: Sink>(
     alloc: Global,
     fleet: &mut Fleet,
@@ -76,7 +76,7 @@ fn write_event<W: Sink>(
         }
         Err(fault) => {
             write_fault(alloc, step, own, fault, out)?;
-            Ok(Ending::Coincidence)
+            Ok(Ending::Chance)
         }
     }
 }
@@ -184,7 +184,7 @@ fn counts_in(fault: FleetFault)
     ensures { HasItsCounts fault }
 {
     match fault {
-        FleetFault::Coincidence(_, proof) => has_counts(proof),
+        FleetFault::Chance(_, proof) => has_counts(proof),
         FleetFault::Cross { .. } | FleetFault::Memory => {}
     }
 }

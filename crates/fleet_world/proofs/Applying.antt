@@ -98,14 +98,14 @@ module _ {over : Option FleetFault} {setup : Setup} {worlds : List Whole} {journ
   -- a coincidence of its own, or no memory
   module _ (untaken : taken_in worlds p e ≡ None) {after : List Whole} where
     pub says_coincidence : {proof : Proof}
-        → TakesAt worlds after p e (Err (world_fault.Coincidence proof))
-        → Err (fault.Coincidence p proof) ≡ answer_of now p e
+        → TakesAt worlds after p e (Err (world_fault.Chance proof))
+        → Err (fault.Chance p proof) ≡ answer_of now p e
     says_coincidence {proof = proof} t = sym (answers ∙ answer_coincidence setup worlds journal h p e here.phone here.can after proof (free untaken) t)
 
     pub leaves_coincidence : {proof : Proof}
-        → TakesAt worlds after p e (Err (world_fault.Coincidence proof))
-        → Leaves now after p e (Err (fault.Coincidence p proof))
-    leaves_coincidence {proof = proof} t = left after (Err (fault.Coincidence p proof)) (t.new, t.put)
+        → TakesAt worlds after p e (Err (world_fault.Chance proof))
+        → Leaves now after p e (Err (fault.Chance p proof))
+    leaves_coincidence {proof = proof} t = left after (Err (fault.Chance p proof)) (t.new, t.put)
 
     pub same_worlds : TakesAt worlds after p e (Err world_fault.Memory) → after ≡ worlds
     same_worlds t = t.put ∙ ap (set worlds p) t.takes ∙ same_put worlds p t.old t.stands

@@ -211,7 +211,7 @@ module _ (setup : Setup) (worlds : List Whole) (journal : List (ℕ × Event)) (
     tells old at = ap (λ v. whole.told_of v e) (same_some (sym at ∙ stands_there)) ∙ ap whole.answer_of (told_is setup own e h.begins is_own.in_range good)
 
     coincidence_of_told : (told : EventReport (List ℕ)) (proof : Proof)
-        → Err (world_fault.Coincidence proof) ≡ whole.answer_of told
+        → Err (world_fault.Chance proof) ≡ whole.answer_of told
         → (c : _) × (told ≡ Coincided c) × (proof ≡ proof_of c)
     coincidence_of_told (Reported l) proof is = absurd cc
     coincidence_of_told (Coincided c) proof is = (c, refl, cc)
@@ -222,11 +222,11 @@ module _ (setup : Setup) (worlds : List Whole) (journal : List (ℕ × Event)) (
 
     pub answer_coincidence : (after : List Whole) (proof : Proof)
         → taken_by setup owns p e ≡ None
-        → TakesAt worlds after p e (Err (world_fault.Coincidence proof))
-        → answer setup owns p e ≡ Err (fault.Coincidence p proof)
+        → TakesAt worlds after p e (Err (world_fault.Chance proof))
+        → answer setup owns p e ≡ Err (fault.Chance p proof)
     answer_coincidence after proof none t =
         let told = coincidence_of_told (phone_told setup own e) proof (t.takes ∙ tells t.old t.stands) in
-        answer_is None (Coincided told.0) (crossing setup owns p e) none told.1 refl ∙ ap (λ x. Err (fault.Coincidence p x)) (sym told.2)
+        answer_is None (Coincided told.0) (crossing setup owns p e) none told.1 refl ∙ ap (λ x. Err (fault.Chance p x)) (sym told.2)
 
     module _ (after : List Whole) (r : ℕ × Line) (t : TakesAt worlds after p e (Ok r)) (none : taken_by setup owns p e ≡ None) where
       old_is : t.old ≡ world_of setup own

@@ -34,7 +34,7 @@ cross_of p m = fault.Cross p (row m.row) m.other (row m.other_row)
 -- TAKEN, COINCIDENCE AND CROSS, in this order
 
 abbrev pub unless_met : ℕ → EventReport (List ℕ) → Option Meeting → Result FleetLine FleetFault
-unless_met p (Coincided coincidence) met = Err (fault.Coincidence p (proof_of coincidence))
+unless_met p (Coincided coincidence) met = Err (fault.Chance p (proof_of coincidence))
 unless_met p (Reported told) None = Ok (line.Of p (line_out told))
 unless_met p (Reported told) (Some m) = Err (cross_of p m)
 

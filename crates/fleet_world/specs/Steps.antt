@@ -13,11 +13,11 @@ use Rattle.fleet_world.specs.Fleets.{Fleeted, owns_in, world_of}
 abbrev pub world_after : Fleeted → ℕ → Event → Whole
 world_after v p e = world_of v.setup (own_at (owns_in v) p ++ e ∷ [])
 
--- a line and a Cross leave the world of the phone with the event; Taken and want of memory leave all as they were; and a Coincidence
+-- a line and a Cross leave the world of the phone with the event; Taken and want of memory leave all as they were; and a Chance
 -- ends the world of the phone and leaves the others
 abbrev pub Leaves : Fleeted → List Whole → ℕ → Event → Result FleetLine FleetFault → Type 0
 Leaves v after p e (Ok (line.Of q told)) = after ≡ slice_set v.worlds p (world_after v p e)
 Leaves v after p e (Ok (line.Taken q)) = after ≡ v.worlds
 Leaves v after p e (Err (fault.Cross phone row other other_row)) = after ≡ slice_set v.worlds p (world_after v p e)
-Leaves v after p e (Err (fault.Coincidence q proof)) = (w : Whole) × (after ≡ slice_set v.worlds p w)
+Leaves v after p e (Err (fault.Chance q proof)) = (w : Whole) × (after ≡ slice_set v.worlds p w)
 Leaves v after p e (Err fault.Memory) = after ≡ v.worlds

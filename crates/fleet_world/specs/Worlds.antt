@@ -40,7 +40,7 @@ Takes before after e (Ok r) =
     × (Ok r.1 ≡ told_of before e)
     × (after ≡ record before { journal = before.journal ++ e ∷ []; ready = false })
 Takes before after e (Err fault.Memory) = after ≡ before
-Takes before after e (Err (fault.Coincidence proof)) = Err (fault.Coincidence proof) ≡ told_of before e
+Takes before after e (Err (fault.Chance proof)) = Err (fault.Chance proof) ≡ told_of before e
 
 -- that of the phone at a place
 pub record TakesAt (before after : List Whole) (place : ℕ) (e : Event) (result : Result (ℕ × Line) WorldFault) : Type 0 where

@@ -6,7 +6,7 @@ pub enum FleetFault {
     /// Memory ran out.
     Memory,
     /// A coincidence within one phone: the phone, and what shows it. It ends the fleet.
-    Coincidence(u16, Proof),
+    Chance(u16, Proof),
     /// A key of one phone equals a key of another by chance: both rows have the same octets. It ends the fleet.
     Cross {
         /// The phone that derived it last, and its row.

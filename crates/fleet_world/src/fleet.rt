@@ -61,7 +61,7 @@ impl Fleet {
     /// A phone takes an event, which can happen to it; there are fewer than 200,000 events before it.
     ///
     /// For an authentication with a root of another phone the answer is `Taken`, with the least such phone, and no
-    /// world sees it. `Coincidence` is one of the phone's own world. `Cross` is a key that the event adds to
+    /// world sees it. `Chance` is one of the phone's own world. `Cross` is a key that the event adds to
     /// the phone's ladder although another phone's ladder has it: the first such key, and the least such
     /// phone. Both end the fleet: the event does not enter the journal, and every later event gets the same
     /// answer. `Memory`, where std refuses memory, leaves the fleet as it was.
@@ -98,8 +98,8 @@ impl Fleet {
                     Err(fault)
                 }
             },
-            Err(WorldFault::Coincidence(proof)) => {
-                let fault = FleetFault::Coincidence(phone, proof);
+            Err(WorldFault::Chance(proof)) => {
+                let fault = FleetFault::Chance(phone, proof);
                 self.over = Some(fault);
                 Err(fault)
             }

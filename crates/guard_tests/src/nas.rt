@@ -1,12 +1,13 @@
 // The expected octets come from HMAC-SHA-256, AES-CTR and AES-CMAC of other implementations, under the
 // KASME of octets 00, 01 and so on to 1f.
 ghost use Rattle.std.specs.Prelude.{◌≡◌, ◌<◌, ◌≤◌, length};
-ghost use Rattle.nas_guard.specs.Estimate.{nas_count_limit};
+ghost use Rattle.nas_count.specs.Estimate.{nas_count_limit};
 
 use crate::values::same;
 use alg_choice::{Algs, Eea};
 use annex_a_keys::{AlgType, Kasme};
-use nas_guard::{LIMIT, NasKeys, OpenFault, RxCount, TxCount, open, seal};
+use nas_count::{LIMIT, RxCount, TxCount};
+use nas_guard::{NasKeys, OpenFault, open, seal};
 use rec_base::Dir;
 use std::process::Abort;
 use std::test::Fail;

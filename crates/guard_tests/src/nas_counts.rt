@@ -1,5 +1,5 @@
 use crate::values::same;
-use nas_guard::{CountSpent, LIMIT, RxCount, TxCount};
+use nas_count::{CountSpent, LIMIT, RxCount, TxCount};
 
 #[test]
 fn estimate_is_the_least_count_with_the_sequence_number(rt: HostRuntime) {

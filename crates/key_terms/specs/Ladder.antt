@@ -8,7 +8,7 @@ use Rattle.hmac_kdf.specs.declared.input.KdfInput.TheVariants.{Kenb, Nh, Star, A
 use Rattle.hmac_kdf.specs.Kdf.{kdf}
 use Rattle.annex_a_keys.specs.declared.derived.Derived.{Derived}
 use Rattle.key_terms.specs.declared.ladder.LadderFault.{LadderFault}
-use Rattle.key_terms.specs.declared.ladder.LadderFault.TheVariants.{RepeatedRoot, Coincidence}
+use Rattle.key_terms.specs.declared.ladder.LadderFault.TheVariants.{Memory, RepeatedRoot, Coincidence}
 use Rattle.std.proofs.Math.ListN.{set}
 use Rattle.key_terms.specs.declared.row.Holder.{Holder}
 use Rattle.key_terms.specs.declared.row.Holder.TheVariants.{Phone, Core, Station}
@@ -114,8 +114,10 @@ pub record Coincides (rows : List LadderRow) (origin : Origin) (octets : List �
 abbrev pub RootRefused : List LadderRow → List ℕ → LadderFault → Type 0
 RootRefused rows octets (RepeatedRoot r) = (row_of rows octets ≡ Some r.0) × (origin_at rows r.0 ≡ Some Root)
 RootRefused rows octets (Coincidence r origin) = Coincides rows Root octets r.0 × (origin ≡ Root)
+RootRefused rows octets Memory = ⊥
 
 -- why a derivation is refused: a row has its octets from another origin
 abbrev pub AddRefused : List LadderRow → Derived → LadderFault → Type 0
 AddRefused rows made (Coincidence r origin) = Coincides rows (origin_of rows made) made.out r.0 × (origin ≡ origin_of rows made)
 AddRefused rows made (RepeatedRoot r) = ⊥
+AddRefused rows made Memory = ⊥

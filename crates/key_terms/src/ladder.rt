@@ -1,4 +1,4 @@
-ghost use Rattle.std.specs.Prelude.{◌≡◌, ◌↔◌, ℕ, ◌+◌, ◌-◌, ◌^◌, ◌<◌, ◌≤◌, [], ◌∷◌, ◌++◌, length, OnOk, OnErr, IfOk, IfErr, IfSome, IsSome, Some, None, slice_get, vec_len, vec_capacity};
+ghost use Rattle.std.specs.Prelude.{◌≡◌, ◌≢◌, ◌↔◌, ℕ, ◌+◌, ◌-◌, ◌^◌, ◌<◌, ◌≤◌, [], ◌∷◌, ◌++◌, length, OnOk, OnErr, IfOk, IfErr, IfSome, IsSome, Some, None, Err, slice_get, vec_len, vec_capacity};
 ghost use Rattle.std.specs.Option.{option_map};
 ghost use Rattle.growth.specs.Growth.{Refused};
 ghost use Rattle.hmac_kdf.specs.Kdf.{IsKdfInput, kdf};
@@ -7,7 +7,7 @@ ghost use Rattle.key_terms.specs.Ladder.{row, unheld, octets_at, origin_at, row_
 use crate::index::Index;
 use crate::{Holder, LadderRow, Origin, Row};
 use annex_a_keys::Derived;
-use std::alloc::{AllocError, Global};
+use std::alloc::Global;
 use std::marker::Model;
 
 /// The keys that were derived, each once, in the order of their first derivation. No two rows have
@@ -34,6 +34,8 @@ impl Model for Ladder {
 /// Why the ladder refused a row.
 #[derive(Debug, Drop, Clone, Copy, PartialEq, Eq)]
 pub enum LadderFault {
+    /// Memory ran out.
+    Memory,
     /// A root has these octets already: its row.
     RepeatedRoot(Row),
     /// Two origins gave the same octets: the row that has them, and the origin that was refused.
@@ -54,8 +56,9 @@ impl Ladder {
 
     /// Makes room for so many rows more. Where memory runs out the ladder is as before: there was not room for so many, and std
     /// refused it.
-    pub fn reserve(&mut self, rows: usize) -> Result<(), AllocError>
+    pub fn reserve(&mut self, rows: usize) -> Result<(), LadderFault>
         requires { length self.old.rows + rows < 2 ^ 32 }
+        ensures memory { IfErr result (λ fault. fault ≡ LadderFault.Memory) }
         ensures lacking { OnErr result (self.old.spare < rows) }
         ensures refused { OnErr result (Refused (length self.old.rows + rows)) }
         ensures spare { OnOk result (rows ≤ self.new.spare) }
@@ -63,7 +66,10 @@ impl Ladder {
         ensures err { OnErr result (self.new ≡ self.old) }
     {
         index_all(&mut self.index, &self.rows);
-        growth::reserve(&mut self.rows, rows)
+        match growth::reserve(&mut self.rows, rows) {
+            Ok(()) => Ok(()),
+            Err(_) => Err(LadderFault::Memory),
+        }
     }
 
     /// The row of a root. The ladder is as before where a row has the octets: a root's row is named
@@ -74,6 +80,7 @@ impl Ladder {
         ensures repeated { (k : ℕ) → row_of self.old.rows octets ≡ Some k → origin_at self.old.rows k ≡ Some Origin.Root → result ≡ Err (LadderFault.RepeatedRoot (row k)) }
         ensures coincidence { (k : ℕ) → Coincides self.old.rows Origin.Root octets k → result ≡ Err (LadderFault.Coincidence (row k) Origin.Root) }
         ensures cause { IfErr result (RootRefused self.old.rows octets) }
+        ensures memory { result ≢ Err LadderFault.Memory }
         ensures one { length self.new.rows ≤ length self.old.rows + 1 }
         ensures spare { self.old.spare ≤ self.new.spare + 1 }
         ensures err { OnErr result (self.new ≡ self.old) }
@@ -103,6 +110,7 @@ impl Ladder {
         ensures again { (k : ℕ) → row_of self.old.rows made.now.out ≡ Some k → origin_at self.old.rows k ≡ Some (origin_of self.old.rows made.now) → (result ≡ Ok (row k)) × (self.new ≡ self.old) }
         ensures coincidence { (k : ℕ) → Coincides self.old.rows (origin_of self.old.rows made.now) made.now.out k → result ≡ Err (LadderFault.Coincidence (row k) (origin_of self.old.rows made.now)) }
         ensures cause { IfErr result (AddRefused self.old.rows made.now) }
+        ensures memory { result ≢ Err LadderFault.Memory }
         ensures one { length self.new.rows ≤ length self.old.rows + 1 }
         ensures spare { self.old.spare ≤ self.new.spare + 1 }
         ensures err { OnErr result (self.new ≡ self.old) }

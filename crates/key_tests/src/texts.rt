@@ -6,7 +6,7 @@ use annex_a_keys::{AlgType, Cell, Kasme, Kenb};
 use key_terms::{Holder, Ladder, Origin, Proof, Row};
 use lte_events::{Answer, Class, KeyNote, Line, Who};
 use rec_base::{Dir, RecFault, Use, UserText, Way};
-use report_text::{Figure, Tally, coincidence, ladder_text, line, summary_line};
+use report_text::{Figure, Tally, chance, ladder_text, line, summary_line};
 use std::alloc::Global;
 use std::process::Abort;
 use std::test::Fail;
@@ -251,11 +251,11 @@ row 3 root 0404040404040404040404040404040404040404040404040404040404040404 P,C,
 fn coincidences_print_what_shows_them(rt: HostRuntime) -> Result<(), Fail> {
     let cell = Cell::new(503, 65536).expect(&rt, "a cell in range");
     let made = Kenb::of_octets(KASME).star(&cell).1;
-    let text = coincidence(rt.alloc(), 5, &Proof::Rows(Row(2), made))?;
+    let text = chance(rt.alloc(), 5, &Proof::Rows(Row(2), made))?;
     let wanted =
         "5 coincidence rows 2 000102030405060708090a0b0c0d0e0f101112131415161718191a1b1c1d1e1f 1301f700020100000003\n";
     same(&rt, text.as_slice(), wanted.as_bytes());
-    let text = coincidence(rt.alloc(), 0, &Proof::RootIsRow(Row(7), KASME))?;
+    let text = chance(rt.alloc(), 0, &Proof::RootIsRow(Row(7), KASME))?;
     same(&rt, text.as_slice(), b"0 coincidence root 7\n".as_slice());
     let up = Use {
         key: KASME,
@@ -269,11 +269,11 @@ fn coincidences_print_what_shows_them(rt: HostRuntime) -> Result<(), Fail> {
         bearer: 0,
         dir: Dir::Down,
     };
-    let text = coincidence(rt.alloc(), 10, &Proof::Tuples(None, down))?;
+    let text = chance(rt.alloc(), 10, &Proof::Tuples(None, down))?;
     let wanted =
         "10 coincidence tuples nobody e0e1e2e3e4e5e6e7e8e9eaebecedeeeff0f1f2f3f4f5f6f7f8f9fafbfcfdfeff/1/0/down\n";
     same(&rt, text.as_slice(), wanted.as_bytes());
-    let text = coincidence(rt.alloc(), 10, &Proof::Tuples(Some(up), down))?;
+    let text = chance(rt.alloc(), 10, &Proof::Tuples(Some(up), down))?;
     let wanted =
         "10 coincidence tuples 000102030405060708090a0b0c0d0e0f101112131415161718191a1b1c1d1e1f/4294967295/5/up e0e1e2e3e4e5e6e7e8e9eaebecedeeeff0f1f2f3f4f5f6f7f8f9fafbfcfdfeff/1/0/down\n";
     same(&rt, text.as_slice(), wanted.as_bytes());

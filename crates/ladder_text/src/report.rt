@@ -88,6 +88,7 @@ fn write_line<W: Sink>(
     let asked = asked_by(ladder, line);
     match place(ladder, &asked) {
         Ok(row) => write_row(alloc, ladder, row, line, out),
+        Err(LadderFault::Memory) => unreachable!(),
         // A root that stands is its row again, as a derivation is.
         Err(LadderFault::RepeatedRoot(row)) => write_row(alloc, ladder, row, line, out),
         Err(LadderFault::Coincidence(row, _)) => {
@@ -152,6 +153,7 @@ fn place(ladder: &mut Ladder, asked: &Asked) -> Result<Row, LadderFault>
         → Asks rows line asked.now
         → StandsFor (rows_after (place_in rows line) rows line) ladder.new.rows }
     ensures ladder { IsLadder ladder.new.rows }
+    ensures memory { result ≢ Err LadderFault.Memory }
 {
     match asked {
         Asked::Root(octets) => ladder.root(*octets),

@@ -10,7 +10,7 @@ use Rattle.lte_events.specs.Site.{station_of}
 use Rattle.lte_events.specs.declared.acts.CoreAct.{CoreAct}
 use Rattle.lte_events.specs.declared.acts.CoreAct.TheVariants.{StartSmc, Connect, Release, SendNas, Skip}
 use Rattle.key_model.specs.Reading.{Reading}
-use Rattle.nas_guard.specs.Estimate.{nas_count_limit}
+use Rattle.nas_count.specs.Estimate.{nas_count_limit}
 use Rattle.nas_guard.specs.Keys.{Keys, map_keys}
 use Rattle.lte_machine.specs.CoreState.{Core, CorePartial, CoreContext, CoreLink, map_core_partial, map_core_context, map_core_link}
 use Rattle.lte_machine.specs.CoreRows.{CoreActRow, ActRefused, SmcStarted, ContextSetUp, ContextReleased, NasSent, NasSkipped}

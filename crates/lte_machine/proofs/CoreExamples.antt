@@ -14,7 +14,7 @@ use Rattle.lte_events.specs.declared.addresses.Address.TheVariants.{StationS1}
 use Rattle.lte_events.specs.declared.answers.Answer.{Answer}
 use Rattle.lte_events.specs.declared.answers.Answer.TheVariants.{Done, NoContext, MacFails, CountSpent, SmcOpen, NoAlgorithm, BadRecord, Short, BadHeader, WrongKind, NoUe, OldConnection, UnknownCell, Repeated, NumberSpent, NoTrigger, NoSmc}
 use Rattle.lte_events.specs.declared.setups.FirstNcc.{FirstNcc}
-use Rattle.nas_guard.specs.Estimate.{estimate_of}
+use Rattle.nas_count.specs.Estimate.{estimate_of}
 use Rattle.nas_rec.specs.Reading.{read_nas, command_of, reject_of, bare, data_of}
 use Rattle.rec_base.specs.BigEndian.{number_of, number_at, field_at}
 use Rattle.rec_base.specs.declared.faults.RecFault.{RecFault}

@@ -7,8 +7,8 @@ use Rattle.lte_events.specs.declared.answers.Answer.{Answer}
 use Rattle.lte_events.specs.declared.answers.Answer.TheVariants.{OldConnection, Repeated}
 use Rattle.key_model.specs.Least.{least}
 use Rattle.key_model.specs.Reading.{Reading}
-use Rattle.nas_guard.specs.Estimate.{estimate_of, nas_count_limit}
-use Rattle.nas_guard.specs.declared.sending.CountSpent.{CountSpent as NoneLeft}
+use Rattle.nas_count.specs.Estimate.{estimate_of, nas_count_limit}
+use Rattle.nas_count.specs.declared.sending.CountSpent.{CountSpent as NoneLeft}
 use Rattle.nas_guard.specs.Keys.{Keys, map_keys}
 use Rattle.nas_guard.specs.Open.{first_in, sn_in}
 use Rattle.nas_rec.specs.Reading.{read_nas}

@@ -6,7 +6,7 @@ use Rattle.lte_events.specs.Ranges.{IsPhoneAct}
 use Rattle.lte_events.specs.declared.acts.PhoneAct as acts
 use Rattle.lte_events.specs.declared.acts.PhoneAct.{PhoneAct}
 use Rattle.key_model.specs.Reading.{Reading}
-use Rattle.nas_guard.specs.Estimate.{nas_count_limit}
+use Rattle.nas_count.specs.Estimate.{nas_count_limit}
 use Rattle.rec_base.specs.declared.bearers.Bearer.{Bearer}
 use Rattle.lte_machine.specs.Bearers.{Srb, Drb, Which, OnSrb, OnDrb, which, srb_counts, drb_counts, is_spent}
 use Rattle.lte_machine.specs.PhoneChoice.{unless_spent, under_context, service_row, resend_row, idle_row, packet_sent_row, rrc_sent_row, nas_skipped_row, bearer_skipped_row, act_row}

@@ -15,7 +15,7 @@ use Rattle.key_model.specs.Term.{Term, Root, Kenb, Nh, Star, Alg, same_term}
 use Rattle.key_model.specs.Least.{least}
 use Rattle.key_model.specs.Reading.{Reading, term_reading_by}
 use Rattle.key_model.specs.Derivation.{Derivation}
-use Rattle.nas_guard.specs.Estimate.{estimate_of}
+use Rattle.nas_count.specs.Estimate.{estimate_of}
 use Rattle.nas_rec.specs.Reading as nas_reading
 use Rattle.nas_rec.specs.Spelling as nas_texts
 use Rattle.rrc_rec.specs.Reading as rrc_reading

@@ -8,8 +8,8 @@ use Rattle.alg_choice.specs.declared.caps.Caps.{Caps}
 use Rattle.rec_base.specs.declared.faults.RecFault.{RecFault}
 use Rattle.lte_events.specs.declared.answers.Answer.{Answer}
 use Rattle.key_model.specs.Reading.{Reading}
-use Rattle.nas_guard.specs.Estimate.{estimate_of, nas_count_limit}
-use Rattle.nas_guard.specs.declared.sending.CountSpent.{CountSpent as NoneLeft}
+use Rattle.nas_count.specs.Estimate.{estimate_of, nas_count_limit}
+use Rattle.nas_count.specs.declared.sending.CountSpent.{CountSpent as NoneLeft}
 use Rattle.nas_guard.specs.Open.{sn_in, sent_in}
 use Rattle.nas_rec.specs.Reading.{read_nas}
 use Rattle.nas_rec.specs.declared.records.NasRecord.{NasRecord}

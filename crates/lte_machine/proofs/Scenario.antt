@@ -20,7 +20,7 @@ use Rattle.lte_events.specs.declared.setups.Setup.{Setup}
 use Rattle.key_model.specs.Least.{least}
 use Rattle.key_model.specs.HandoverTable.{NumberedKey}
 use Rattle.key_model.specs.Term.{Term, Root, Kenb, Nh, Star, Alg}
-use Rattle.nas_guard.specs.Estimate.{estimate_of}
+use Rattle.nas_count.specs.Estimate.{estimate_of}
 use Rattle.nas_rec.specs.Reading as nas_reading
 use Rattle.nas_rec.specs.Spelling as nas_texts
 use Rattle.pdcp_guard.specs.Counts.{in_32_bits}

@@ -13,8 +13,8 @@ use Rattle.lte_events.specs.declared.acts.CoreAct.TheVariants.{StartSmc, Connect
 use Rattle.lte_events.specs.declared.answers.Answer.{Answer}
 use Rattle.lte_events.specs.declared.answers.Answer.TheVariants.{NoContext, MacFails, CountSpent, SmcOpen, NoAlgorithm, BadRecord, Short, BadHeader, WrongKind, NoUe, OldConnection, UnknownCell, Repeated, NumberSpent, NoTrigger, NoSmc}
 use Rattle.lte_events.specs.Site.{station_of}
-use Rattle.nas_guard.specs.Estimate.{nas_count_limit, estimate_of}
-use Rattle.nas_guard.specs.declared.sending.CountSpent.{CountSpent as NoneLeft}
+use Rattle.nas_count.specs.Estimate.{nas_count_limit, estimate_of}
+use Rattle.nas_count.specs.declared.sending.CountSpent.{CountSpent as NoneLeft}
 use Rattle.nas_guard.specs.Keys.{Keys}
 use Rattle.nas_guard.specs.Open.{first_in, header_in, sn_in}
 use Rattle.nas_rec.specs.Reading.{read_nas}

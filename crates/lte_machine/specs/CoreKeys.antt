@@ -12,7 +12,7 @@ use Rattle.lte_events.specs.declared.answers.Answer.{Answer}
 use Rattle.lte_events.specs.declared.answers.Answer.TheVariants.{Done}
 use Rattle.key_model.specs.Derivation.{Derivation, kenb_made, nh_made}
 use Rattle.key_model.specs.Reading.{Reading}
-use Rattle.nas_guard.specs.Estimate.{nas_count_limit}
+use Rattle.nas_count.specs.Estimate.{nas_count_limit}
 use Rattle.nas_guard.specs.Keys.{Keys}
 use Rattle.nas_guard.specs.Seal.{is_ciphered}
 use Rattle.nas_rec.specs.Spelling.{spelling_of}

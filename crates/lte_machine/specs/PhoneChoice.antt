@@ -12,8 +12,8 @@ use Rattle.lte_events.specs.declared.answers.Answer.{Answer}
 use Rattle.lte_events.specs.declared.answers.Answer.TheVariants.{Done, NoContext, WrongKsi, CapsMismatch, AlgUnsupported, MacFails, CountSpent, BadRecord, Short, BadHeader, WrongKind, NotConnected, NotAddressed, NothingToResend, AlreadyConnected}
 use Rattle.lte_events.specs.declared.acts.PhoneAct as acts
 use Rattle.lte_events.specs.declared.acts.PhoneAct.{PhoneAct}
-use Rattle.nas_guard.specs.declared.sending.CountSpent as spent
-use Rattle.nas_guard.specs.Estimate.{nas_count_limit, estimate_of}
+use Rattle.nas_count.specs.declared.sending.CountSpent as spent
+use Rattle.nas_count.specs.Estimate.{nas_count_limit, estimate_of}
 use Rattle.nas_guard.specs.Open.{first_in, header_in, sn_in, sent_in}
 use Rattle.nas_rec.specs.declared.records.NasRecord as nas
 use Rattle.nas_rec.specs.declared.records.NasRecord.{NasRecord}

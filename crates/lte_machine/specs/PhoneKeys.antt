@@ -10,7 +10,7 @@ use Rattle.lte_events.specs.declared.answers.Answer.TheVariants.{Done, NoTrigger
 use Rattle.key_model.specs.Reading.{Reading}
 use Rattle.key_model.specs.Derivation.{kenb_made, star_made}
 use Rattle.key_model.specs.HandoverLines.{change_line}
-use Rattle.nas_guard.specs.Estimate.{nas_count_limit}
+use Rattle.nas_count.specs.Estimate.{nas_count_limit}
 use Rattle.nas_guard.specs.Keys.{Keys}
 use Rattle.nas_guard.specs.Seal.{is_ciphered, first_octet}
 use Rattle.nas_rec.specs.declared.records.NasRecord as nas

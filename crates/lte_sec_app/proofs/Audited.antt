@@ -37,6 +37,6 @@ module _ (octets : List ℕ) (setup : Setup) (events : List Event) (reads : read
   pub audited : (r : Result Ending Unwritten) → (r ≡ Ok ending.Done → IsRight) → IfOk r (λ ends. ends ≡ (audit_report_of setup events).ends)
       → WhereRun (HasAudit octets) (status_of r)
   audited (Ok ending.Done) right is = has_audit (λ none. right refl)
-  audited (Ok ending.Coincidence) right is = has_audit (λ none. let clash : ending.Coincidence ≡ ending.Done = is ∙ none in absurd cc)
+  audited (Ok ending.Chance) right is = has_audit (λ none. let clash : ending.Chance ≡ ending.Done = is ∙ none in absurd cc)
   audited (Err unwritten.Memory) right is = tt
   audited (Err unwritten.WriteFault) right is = tt

@@ -37,7 +37,7 @@ memory_goes (Err fault) out out' peers faults faults' = λ writes. inr refl
 
 pub unread : (status : Status) (input input' out : Told) (peers : Option PeersTold) → IsUnread status
     → ((output : List ℕ → Output) (o : Told) → CommandAt output status input input' o o) → DriveAt status input input' out out peers peers
-unread Memory input input' out peers which at = where_some input.left _ (λ octets. nothing_done (reading_of octets) out peers)
+unread Memory input input' out peers which at = inl (refl, refl)
 unread ReadFault input input' out peers which at = let a = at run_output out in (a.0, a.1, a.2, (refl, refl))
 unread TooLong input input' out peers which at = let a = at run_output out in (a.0, a.1, (refl, refl))
 unread status input input' out peers which at = absurd which

@@ -51,7 +51,7 @@ module _ {B : Type 0} (output_of : Result B ScenarioFault → Output)
 -- the output of a report is no refusal
 pub never_refused : (ends : Ending) → report_status ends ≢ Refused
 never_refused ending.Done = λ is. cc
-never_refused ending.Coincidence = λ is. cc
+never_refused ending.Chance = λ is. cc
 
 pub read_never_refused : {B : Type 0} (ends_of : Result B ScenarioFault → Status) (reading : Result B ScenarioFault)
     (scenario : B) (ended : Ending)

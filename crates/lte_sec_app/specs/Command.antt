@@ -9,7 +9,7 @@ use Rattle.lte_sec_app.specs.declared.command.Command.{Command}
 use Rattle.lte_sec_app.specs.declared.command.Command.TheVariants.{Text, Drive, Serve, Gen}
 use Rattle.lte_sec_app.specs.declared.command.TextCommand.{TextCommand}
 use Rattle.lte_sec_app.specs.declared.command.TextCommand.TheVariants.{Ladder, Run, Fleet, Two, Audit}
-use Rattle.actor_frames.specs.Ranges.{IsRole}
+use Rattle.role_wire.specs.Ranges.{IsRole}
 use Rattle.lte_sec_app.specs.Roles.{role_of}
 
 -- the greatest number of steps of a generated scenario

@@ -8,13 +8,13 @@ use Rattle.edge_io.specs.Octets.{Grows, GrowsByPrefix, GrowsByProperPrefix, Lose
 use Rattle.edge_io.specs.Peers.{PeersTold}
 use Rattle.lte_events.specs.declared.events.Event.{Event}
 use Rattle.lte_events.specs.declared.setups.Setup.{Setup}
-use Rattle.actor_drive.specs.declared.faults.DriveFault.{DriveFault}
-use Rattle.actor_drive.specs.declared.faults.DriveFault.TheVariants as fault
-use Rattle.actor_drive.specs.Acts.{Call, calls}
-use Rattle.actor_drive.specs.Driven.{Driven, WhereTold, FailedNext, GivesAll}
-use Rattle.actor_drive.specs.Outside.{outside}
-use Rattle.actor_drive.specs.Peerwise.{Made}
-use Rattle.actor_drive.specs.Plan.{plan_of}
+use Rattle.hub_drive.specs.declared.faults.DriveFault.{DriveFault}
+use Rattle.hub_drive.specs.declared.faults.DriveFault.TheVariants as fault
+use Rattle.hub_drive.specs.Acts.{Call, calls}
+use Rattle.hub_drive.specs.Driven.{Driven, WhereTold, FailedNext, GivesAll}
+use Rattle.hub_drive.specs.Outside.{outside}
+use Rattle.hub_drive.specs.Peerwise.{Made}
+use Rattle.hub_drive.specs.Plan.{plan_of}
 use Rattle.run_report.specs.declared.endings.Ending.{Ending}
 use Rattle.run_report.specs.declared.endings.Ending.TheVariants as ending
 use Rattle.run_report.specs.Report.{report_of}
@@ -95,7 +95,7 @@ Untouched out out' peers peers' = (out' ≡ out) × (peers' ≡ peers)
 -- what is so of a scenario at each status; no other status comes
 abbrev pub ScenarioAt : Setup → List Event → Status → Told → Told → Option PeersTold → Option PeersTold → Type 0
 ScenarioAt setup events Done out out' peers peers' = AllDriven setup events ending.Done out out' peers peers'
-ScenarioAt setup events Coincidence out out' peers peers' = AllDriven setup events ending.Coincidence out out' peers peers'
+ScenarioAt setup events Coincidence out out' peers peers' = AllDriven setup events ending.Chance out out' peers peers'
 ScenarioAt setup events PeerFault out out' peers peers' = CallFailed setup events out out' peers peers'
 ScenarioAt setup events Differs out out' peers peers' = ReplyDiffers setup events Differs out out' peers peers'
 ScenarioAt setup events Memory out out' peers peers' = Untouched out out' peers peers' ⊎ CutOrDiffers setup events fault.Memory Memory out out' peers peers'
@@ -125,7 +125,7 @@ DriveAt WriteFault input input' out out' peers peers' = Rose out.write_faults ou
 DriveAt PeerFault input input' out out' peers peers' = ReadToEnd PeerFault input input' out out' peers peers'
 DriveAt Coincidence input input' out out' peers peers' = ReadToEnd Coincidence input input' out out' peers peers'
 DriveAt Differs input input' out out' peers peers' = ReadToEnd Differs input input' out out' peers peers'
-DriveAt Memory input input' out out' peers peers' = IfSome input.left (λ octets. TextAt (reading_of octets) Memory out out' peers peers')
+DriveAt Memory input input' out out' peers peers' = Untouched out out' peers peers' ⊎ ReadToEnd Memory input input' out out' peers peers'
 DriveAt ReadFault input input' out out' peers peers' =
     Rose input.read_faults input'.read_faults × LosesWithin most_octets input.left input'.left × (input'.ended ≡ input.ended)
     × Untouched out out' peers peers'

@@ -20,7 +20,7 @@ use Rattle.lte_sec_app.specs.Run.{Output, WritesAt}
 -- the status of a report that ends so
 abbrev pub report_status : Ending → Status
 report_status ending.Done = Done
-report_status ending.Coincidence = Coincidence
+report_status ending.Chance = Coincidence
 
 abbrev pub output_of_report : Report → Output
 output_of_report report = record { text = report.text; ends = report_status report.ends }

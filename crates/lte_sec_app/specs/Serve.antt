@@ -5,12 +5,12 @@ use Rattle.edge_io.specs.Told.{Told}
 use Rattle.edge_io.specs.Cause.{Rose}
 use Rattle.edge_io.specs.Octets.{Grows, GrowsByProperPrefix}
 use Rattle.edge_io.specs.declared.peers.Role.{Role}
-use Rattle.actor_frames.specs.declared.frames.FrameIn.{FrameIn}
-use Rattle.actor_frames.specs.declared.frames.FrameFault.{FrameFault}
-use Rattle.actor_frames.specs.Frame.{frame_fault_number}
-use Rattle.actor_serve.specs.declared.serving.ServeEnd.{ServeEnd}
-use Rattle.actor_serve.specs.Actor.{replies}
-use Rattle.actor_serve.specs.Session.{AreFrames, spelled, Session}
+use Rattle.role_wire.specs.declared.frames.FrameIn.{FrameIn}
+use Rattle.role_wire.specs.declared.frames.FrameFault.{FrameFault}
+use Rattle.role_wire.specs.Frame.{frame_fault_number}
+use Rattle.role_node.specs.declared.serving.ServeEnd.{ServeEnd}
+use Rattle.role_node.specs.Actor.{replies}
+use Rattle.role_node.specs.Session.{AreFrames, spelled, Session}
 use Rattle.lte_sec_app.specs.declared.status.Status.{Status}
 use Rattle.lte_sec_app.specs.declared.status.Status.TheVariants.{Done, WriteFault, PeerFault, BadFrame}
 

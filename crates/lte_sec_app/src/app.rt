@@ -1,11 +1,10 @@
 ghost use Rattle.growth.specs.Growth.{WasRefused};
-ghost use Rattle.std.specs.Prelude.{◌≡◌, ◌≢◌, ◌↔◌, ◌⊎◌, ℕ, List, false, Some, None, [], IfSome, IsTrue};
+ghost use Rattle.std.specs.Prelude.{◌≡◌, ◌≢◌, ◌↔◌, ℕ, List, false, Some, None, [], IfSome, IsTrue};
 ghost use Rattle.edge_io.specs.Cause.{NoFault, NoCountFell, Rose};
 ghost use Rattle.edge_io.specs.Used.{UsedAsSource, UsedAsSink};
 ghost use Rattle.lte_properties.specs.Headline.{Headline};
 ghost use Rattle.scenario_file.specs.Draws.{generated_setup, generated};
-ghost use Rattle.actor_drive.specs.Driven.{AllStopped};
-ghost use Rattle.actor_drive.specs.Outside.{LacksMemory};
+ghost use Rattle.hub_drive.specs.Driven.{AllStopped};
 ghost use Rattle.lte_sec_app.specs.Command.{named};
 ghost use Rattle.lte_sec_app.specs.Drive.{DriveAt, DriveIsComplete};
 ghost use Rattle.lte_sec_app.specs.Generated.{gen_output, WritingIsComplete};
@@ -116,9 +115,8 @@ pub fn run<R: Source, W: Sink, P: Peers, L: Port>(
     ensures generated_input { (steps seed : ℕ) → named words.now ≡ Some (Command.Gen steps seed) → input.new ≡ input.old }
     ensures generated_headline { (steps seed : ℕ) → named words.now ≡ Some (Command.Gen steps seed) → Headline generated_setup (generated steps seed) }
 
-    // Where memory is wanted std refused a list or a text room; or, of `drive`, the peers say that a start lacked it.
-    ensures memory { named words.now ≢ Some Command.Drive → result ≡ Status.Memory → WasRefused }
-    ensures drive_memory { named words.now ≡ Some Command.Drive → result ≡ Status.Memory → WasRefused ⊎ LacksMemory P.lacks_memory }
+    // Where memory is wanted it was refused: by std, or, of `drive`, at the start of a peer.
+    ensures memory { result ≡ Status.Memory → WasRefused }
 
     // An input that was not read within the limit has no output.
     ensures unread { result ≡ Status.ReadFault → out.new ≡ out.old }

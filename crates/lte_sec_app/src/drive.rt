@@ -1,11 +1,10 @@
 ghost use Rattle.growth.specs.Growth.{WasRefused};
-ghost use Rattle.std.specs.Prelude.{◌≡◌, ◌≢◌, ◌≤◌, ◌⊎◌, [], ℕ, List, Some, Ok, Err, length, IfOk, IfSome, IsTrue, OnErr};
+ghost use Rattle.std.specs.Prelude.{◌≡◌, ◌≢◌, ◌≤◌, [], ℕ, List, Some, Ok, Err, length, IfOk, IfSome, IsTrue, OnErr};
 ghost use Rattle.std.specs.String.{string_bytes};
 ghost use Rattle.edge_io.specs.Cause.{NoFault, Rose};
 ghost use Rattle.edge_io.specs.Used.{UsedAsSource, UsedAsSink};
 ghost use Rattle.lte_events.specs.Scenario.{IsScenario};
-ghost use Rattle.actor_drive.specs.Driven.{AllStopped};
-ghost use Rattle.actor_drive.specs.Outside.{LacksMemory};
+ghost use Rattle.hub_drive.specs.Driven.{AllStopped};
 ghost use Rattle.scenario_file.specs.Reading.{reading_of};
 ghost use Rattle.lte_sec_app.specs.Drive.{AllGoes, DriveAt, DriveIsComplete, LineAt, ScenarioAt, TextAt, TextGoes, difference_text, wanted_text};
 ghost use Rattle.lte_sec_app.specs.Run.{WhereRun};
@@ -16,10 +15,10 @@ ghost use Rattle.lte_sec_app.specs.declared.command.TextCommand.{TextCommand};
 use crate::reading::read_text;
 use crate::scenario::unless_refused;
 use crate::status::Status;
-use actor_drive::DriveFault;
-use actor_frames::Frame;
 use edge_io::{Peers, Sink, Source, write_all};
+use hub_drive::DriveFault;
 use lte_events::{Events, Setup};
+use role_wire::Frame;
 use run_report::Ending;
 use scenario_file::read;
 use std::alloc::{AllocError, Global};
@@ -38,7 +37,7 @@ pub(crate) fn drive<R: Source, P: Peers, W: Sink>(
     ensures complete { DriveIsComplete result (R.told input.old) (R.told input.new) (W.told out.old) (W.told out.new) (P.told peers.old) (P.faults peers.old) (P.faults peers.new) }
     ensures headline { HoldsOf TextCommand.Run result (R.told input.old) }
     ensures no_refusal { (octets : List ℕ) → (R.told input.old).left ≡ Some octets → result ≡ Status.Memory → (run_output octets).ends ≡ Status.Refused → out.new ≡ out.old }
-    ensures memory { result ≡ Status.Memory → WasRefused ⊎ LacksMemory P.lacks_memory }
+    ensures memory { result ≡ Status.Memory → WasRefused }
     ensures stopped { IfSome (P.told peers.new) AllStopped }
     ensures peer_cause { result ≡ Status.PeerFault → Rose (P.faults peers.old) (P.faults peers.new) }
     ensures no_peer_fault { result ≢ Status.PeerFault → P.faults peers.new ≡ P.faults peers.old }
@@ -66,7 +65,7 @@ fn drive_text<P: Peers, W: Sink>(alloc: Global, octets: &[u8], peers: &mut P, ou
     ensures complete { TextGoes (reading_of octets.now) result (W.told out.old) (W.told out.new) (P.told peers.old) (P.faults peers.old) (P.faults peers.new) }
     ensures headline { WhereRun (HasHeadline octets.now) result }
     ensures no_refusal { result ≡ Status.Memory → (run_output octets.now).ends ≡ Status.Refused → out.new ≡ out.old }
-    ensures memory { result ≡ Status.Memory → WasRefused ⊎ LacksMemory P.lacks_memory }
+    ensures memory { result ≡ Status.Memory → WasRefused }
     ensures stopped { IfSome (P.told peers.new) AllStopped }
     ensures peer_cause { result ≡ Status.PeerFault → Rose (P.faults peers.old) (P.faults peers.new) }
     ensures write_cause { result ≡ Status.WriteFault → Rose (W.told out.old).write_faults (W.told out.new).write_faults }
@@ -97,7 +96,7 @@ fn drive_scenario<P: Peers, W: Sink>(
     requires cells { 1 ≤ length setup.now.cells }
     ensures at { ScenarioAt setup.now events.now.items result (W.told out.old) (W.told out.new) (P.told peers.old) (P.told peers.new) }
     ensures complete { AllGoes setup.now events.now.items result (W.told out.old) (W.told out.new) (P.told peers.old) (P.faults peers.old) (P.faults peers.new) }
-    ensures memory { result ≡ Status.Memory → WasRefused ⊎ LacksMemory P.lacks_memory }
+    ensures memory { result ≡ Status.Memory → WasRefused }
     ensures stopped { IfSome (P.told peers.new) AllStopped }
     ensures peer_cause { result ≡ Status.PeerFault → Rose (P.faults peers.old) (P.faults peers.new) }
     ensures write_cause { result ≡ Status.WriteFault → Rose (W.told out.old).write_faults (W.told out.new).write_faults }
@@ -105,9 +104,9 @@ fn drive_scenario<P: Peers, W: Sink>(
     ensures no_write_fault { result ≢ Status.WriteFault → NoFault (W.told out.old) (W.told out.new) }
     ensures out { UsedAsSink (W.told out.old) (W.told out.new) }
 {
-    match actor_drive::drive(alloc, setup, events, peers, out) {
+    match hub_drive::drive(alloc, setup, events, peers, out) {
         Ok(Ending::Done) => Status::Done,
-        Ok(Ending::Coincidence) => Status::Coincidence,
+        Ok(Ending::Chance) => Status::Coincidence,
         Err(DriveFault::Memory) => Status::Memory,
         Err(DriveFault::PeerFault) => Status::PeerFault,
         Err(DriveFault::WriteFault) => Status::WriteFault,

@@ -18,7 +18,7 @@ mod telling;
 mod text;
 mod two;
 
-use edge_io::{ChildPeers, LoopbackPort, ReaderSource, WriterSink};
+use edge_io::{ChildPeers, CountingHost, LoopbackPort, ReaderSource, WriterSink};
 use programs::programs_of;
 use status::Status;
 use std::process::ExitCode;
@@ -41,7 +41,7 @@ fn status_of(rt: &HostRuntime) -> Status {
         Err(_) => return Status::Memory,
     };
     let alloc = rt.alloc();
-    let mut peers = ChildPeers::new(rt, alloc, programs);
+    let mut peers = ChildPeers::new(CountingHost::new(rt), alloc, programs);
     let mut port = LoopbackPort::new(rt, WriterSink::new(io::writer(rt)));
     let mut input = ReaderSource::new(rt.reader());
     let mut out = WriterSink::new(io::writer(rt));

@@ -1,5 +1,5 @@
 ghost use Rattle.std.specs.Prelude.{◌≡◌, ◌≤◌, IfSome};
-ghost use Rattle.actor_frames.specs.Ranges.{IsRole};
+ghost use Rattle.role_wire.specs.Ranges.{IsRole};
 ghost use Rattle.lte_sec_app.specs.Roles.{role_of, station_number};
 
 use edge_io::Role;

@@ -76,7 +76,7 @@ pub(crate) fn status_of(written: Result<Ending, Unwritten>) -> Status
 {
     match written {
         Ok(Ending::Done) => Status::Done,
-        Ok(Ending::Coincidence) => Status::Coincidence,
+        Ok(Ending::Chance) => Status::Coincidence,
         Err(Unwritten::Memory) => Status::Memory,
         Err(Unwritten::WriteFault) => Status::WriteFault,
     }

@@ -1,14 +1,14 @@
 ghost use Rattle.std.specs.Prelude.{◌≡◌, ◌≢◌, false, IsTrue};
 ghost use Rattle.edge_io.specs.Cause.{NoFault, NoCountFell};
 ghost use Rattle.edge_io.specs.Used.{UsedAsSink};
-ghost use Rattle.actor_frames.specs.Ranges.{IsRole};
+ghost use Rattle.role_wire.specs.Ranges.{IsRole};
 ghost use Rattle.lte_sec_app.specs.Serve.{ServeAt, ServeIsComplete, SaidAt, bad_frame_text};
 
 use crate::status::Status;
-use actor_serve::ServeEnd;
 use edge_io::{Port, Role, Sink, write_all};
 use itoa::Buffer;
 use rec_base::Bounded;
+use role_node::ServeEnd;
 
 // The commands `serve`.
 pub(crate) fn serve<W: Sink, L: Port>(role: Role, out: &mut W, port: &mut L) -> Status
@@ -28,7 +28,7 @@ pub(crate) fn serve<W: Sink, L: Port>(role: Role, out: &mut W, port: &mut L) -> 
         Ok(()) => {}
         Err(_) => return Status::PeerFault,
     }
-    match actor_serve::serve(role, port) {
+    match role_node::serve(role, port) {
         ServeEnd::Done => Status::Done,
         ServeEnd::BadFrame(place, fault) => say_bad_frame(place, fault.number(), out),
         ServeEnd::ReadFault | ServeEnd::WriteFault => Status::PeerFault,

@@ -209,7 +209,7 @@ enum {
     LTESEC_DISCARDED = 2 /* it is outside the reordering window: its text is for header decompression alone */
 };
 
-/* Opens a PDU of a bearer on RLC AM by the reordering window, of half the sequence numbers (TS 36.323 5.1.2.1.2 and 7.2), for 12, 15 or 18
+/* Opens a PDU of a bearer on RLC AM by the reordering window, of half the sequence numbers (TS 36.323 5.1.2.1.2 and 7.3), for 12, 15 or 18
  * bits. context->receive is RX_HFN and Next_PDCP_RX_SN as one COUNT, and moves behind a new PDU. last: Last_Submitted_PDCP_RX_SN, the
  * sequence number of the last text that the caller handed on, and at first the greatest one (7.1). Each PDU that has a COUNT opens; *fate
  * tells what becomes of it. DONE, else the first of OUT_OF_RANGE, NO_ROOM, SHORT, BAD_HEADER, BEFORE_FIRST, COUNT_SPENT. */

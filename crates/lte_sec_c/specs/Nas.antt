@@ -1,6 +1,6 @@
 -- NAS messages under a context that C holds (TS 24.301 4.4).
 use Rattle.std.specs.Prelude.{ℕ, ◌+◌, ◌-◌, ◌==◌, ◌&&◌, nat_le, nat_lt, Bool, false, not, if◌then◌else◌, List, length, Result, Ok, Err}
-use Rattle.nas_guard.specs.Estimate.{nas_count_limit}
+use Rattle.nas_count.specs.Estimate.{nas_count_limit}
 use Rattle.nas_guard.specs.declared.opening.OpenFault.{OpenFault}
 use Rattle.pdu_guard.specs.Nas.{NasOpening, nas_head_of, nas_opened}
 use Rattle.pdu_guard.specs.declared.nas.NasHead.{NasHead}

@@ -1,6 +1,6 @@
 -- What a check of a Service Request comes to (TS 24.301 8.2.25).
 use Rattle.std.specs.Prelude.{ℕ, ◌&&◌, nat_le, if◌then◌else◌, List, [], ◌∷◌, ◌++◌, Result, Ok, Err}
-use Rattle.nas_guard.specs.Estimate.{nas_count_limit}
+use Rattle.nas_count.specs.Estimate.{nas_count_limit}
 use Rattle.pdu_guard.specs.Nas.{NasOpening}
 use Rattle.pdu_guard.specs.ShortMacs.{service_checked}
 use Rattle.pdu_guard.specs.declared.short_macs.ServiceFound.{ServiceFound}

@@ -11,7 +11,7 @@ ghost use Rattle.lte_sec_c.specs.Status.{done};
 use crate::fault::{DONE, Fault};
 use crate::found::Found;
 use crate::ranges::{dir_of, eea_of, is_direction, is_identity};
-use annex_a_keys::AlgKey;
+use alg_suite::GivenKey;
 use pdcp_guard::LIMIT;
 use pdu_guard::{DrbKeys, Numbers, drb_count, open_drb, seal_drb};
 
@@ -199,7 +199,7 @@ pub(crate) fn keys_in(context: &DrbContext) -> DrbKeys
 {
     let enc = context.enc_key;
     DrbKeys {
-        enc: AlgKey::of_octets(enc),
+        enc: GivenKey::of_octets(enc),
         eea: eea_of(context.eea),
         bearer: context.bearer as u8,
         numbers: numbers_by(context.bits),

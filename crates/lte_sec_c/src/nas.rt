@@ -1,6 +1,6 @@
 // NAS messages (TS 24.301 4.4).
 ghost use Rattle.std.specs.Prelude.{◌≡◌, ◌≢◌, ◌+◌, ◌<◌, ◌≤◌, ◌↔◌, IsTrue, drop, length, take};
-ghost use Rattle.nas_guard.specs.Estimate.{nas_count_limit};
+ghost use Rattle.nas_count.specs.Estimate.{nas_count_limit};
 ghost use Rattle.lte_sec_c.specs.Found.{found_after, status_after, text_after};
 ghost use Rattle.lte_sec_c.specs.Nas.{is_header, is_nas, nas_expects, nas_keys_in, has_other, is_nas_opening, nas_opens, nas_opens_at, nas_seal_status, nas_sends};
 ghost use Rattle.pdu_guard.specs.Nas.{nas_head_of, nas_pdu};
@@ -10,8 +10,8 @@ ghost use Rattle.lte_sec_c.specs.Status.{done, status_of};
 use crate::fault::{DONE, Fault};
 use crate::found::Found;
 use crate::ranges::{dir_of, eea_of, eia_of, is_direction, is_identity};
-use annex_a_keys::AlgKey;
-use nas_guard::LIMIT;
+use alg_suite::GivenKey;
+use nas_count::LIMIT;
 use pdu_guard::{NasKeys, nas_head, open_nas, seal_nas};
 
 /// A NAS security context (TS 33.401 6.2 and 8.1).
@@ -203,8 +203,8 @@ fn keys_in(context: &NasContext) -> NasKeys
 {
     let (enc, int) = (context.enc_key, context.int_key);
     NasKeys {
-        enc: AlgKey::of_octets(enc),
-        int: AlgKey::of_octets(int),
+        enc: GivenKey::of_octets(enc),
+        int: GivenKey::of_octets(int),
         eea: eea_of(context.eea),
         eia: eia_of(context.eia),
     }

@@ -1,6 +1,6 @@
 // The short MACs of a Service Request and of re-establishment.
 ghost use Rattle.std.specs.Prelude.{◌≡◌, ◌≢◌, ◌<◌, ◌≤◌, ◌↔◌, IsTrue};
-ghost use Rattle.nas_guard.specs.Estimate.{nas_count_limit};
+ghost use Rattle.nas_count.specs.Estimate.{nas_count_limit};
 ghost use Rattle.pdu_guard.specs.ShortMacs.{service_request_of, short_mac_i_of};
 ghost use Rattle.lte_sec_c.specs.Found.{found_after, status_after};
 ghost use Rattle.lte_sec_c.specs.ShortMacs.{in_four, service_fault, service_opens};
@@ -10,8 +10,8 @@ ghost use Rattle.lte_sec_c.specs.Status.{done, status_of};
 use crate::fault::{DONE, Fault};
 use crate::found::Found;
 use crate::ranges::{eia_of, is_identity};
-use annex_a_keys::AlgKey;
-use nas_guard::LIMIT;
+use alg_suite::GivenKey;
+use nas_count::LIMIT;
 use pdu_guard::{ServiceFault, check_service_request, service_request, short_mac_i};
 
 /// A Service Request under KNASint at an uplink NAS COUNT, with its KSI (TS 24.301 8.2.25 and 9.9.3.28).
@@ -31,7 +31,12 @@ pub extern "C" fn ltesec_service_request(
     if !is_identity(eia) || ksi >= 8 || count >= LIMIT {
         return Fault::OutOfRange.status();
     }
-    *request = service_request(eia_of(eia), &AlgKey::of_octets(*int_key), ksi as u8, count);
+    *request = service_request(
+        eia_of(eia),
+        &GivenKey::of_octets(*int_key),
+        ksi as u8,
+        count,
+    );
     DONE
 }
 
@@ -51,7 +56,7 @@ pub extern "C" fn ltesec_service_request_check(
     if !is_identity(eia) || next > LIMIT {
         return Fault::OutOfRange.status();
     }
-    match check_service_request(eia_of(eia), &AlgKey::of_octets(*int_key), next, request) {
+    match check_service_request(eia_of(eia), &GivenKey::of_octets(*int_key), next, request) {
         Ok(opened) => {
             found.opens(12, opened.count, 0, opened.checked);
             DONE
@@ -76,7 +81,7 @@ pub extern "C" fn ltesec_short_mac_i(
     if !is_identity(eia) {
         return Fault::OutOfRange.status();
     }
-    *mac = short_mac_i(eia_of(eia), &AlgKey::of_octets(*int_key), input);
+    *mac = short_mac_i(eia_of(eia), &GivenKey::of_octets(*int_key), input);
     DONE
 }
 

@@ -11,7 +11,7 @@ ghost use Rattle.lte_sec_c.specs.Status.{done, status_of};
 use crate::fault::{DONE, Fault};
 use crate::found::Found;
 use crate::ranges::{dir_of, eea_of, eia_of, is_direction, is_identity};
-use annex_a_keys::AlgKey;
+use alg_suite::GivenKey;
 use pdcp_guard::LIMIT;
 use pdu_guard::{LONGEST_SDU, SrbKeys, open_srb, seal_srb, srb_count};
 
@@ -195,8 +195,8 @@ fn keys_in(context: &SrbContext) -> SrbKeys
 {
     let (enc, int) = (context.enc_key, context.int_key);
     SrbKeys {
-        enc: AlgKey::of_octets(enc),
-        int: AlgKey::of_octets(int),
+        enc: GivenKey::of_octets(enc),
+        int: GivenKey::of_octets(int),
         eea: eea_of(context.eea),
         eia: eia_of(context.eia),
         bearer: context.bearer as u8,

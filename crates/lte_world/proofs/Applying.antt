@@ -123,14 +123,14 @@ module _ (a b : Actors) (e : Event) (n : ℕ) where
     pub ended_says : (r : RunState (List ℕ) ℕ Kept)
         → Goes r a n
         → ((w : World (List ℕ) ℕ Kept) → r ≡ Running w → CanKeep (happens octets w e).0)
-        → ◌≡◌ {A = Result Line WorldFault} (Err (WorldFault.Coincidence p)) (answer_of (event_report in_octets octets r e))
+        → ◌≡◌ {A = Result Line WorldFault} (Err (WorldFault.Chance p)) (answer_of (event_report in_octets octets r e))
     unfolding Happens
     ended_says (Stopped coincidence) g k = absurd g
     ended_says (Running w) g k = by (next in_octets octets w e) (h w g.0 g.1 (k w refl))
       where
-        by : (x : StepResult (List ℕ) ℕ Kept) → CameOut x b (Err p) → ◌≡◌ {A = Result Line WorldFault} (Err (WorldFault.Coincidence p)) (answer_of (reported x))
+        by : (x : StepResult (List ℕ) ℕ Kept) → CameOut x b (Err p) → ◌≡◌ {A = Result Line WorldFault} (Err (WorldFault.Chance p)) (answer_of (reported x))
         by (Continues u l) o = absurd (ok_err (sym o.0))
-        by (Stops coincidence) o = ap (λ q. Err (WorldFault.Coincidence q)) (err_err o)
+        by (Stops coincidence) o = ap (λ q. Err (WorldFault.Chance q)) (err_err o)
 
     pub ended_run : (r : RunState (List ℕ) ℕ Kept)
         → Goes r a n

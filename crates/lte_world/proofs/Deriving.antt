@@ -63,6 +63,7 @@ pub never_repeated : (rows : List LadderRow) (made : Derived) (r : Result Row La
     → IfErr r (AddRefused rows made)
     → IfErr r (λ fault. (row : Row) → fault ≡ LadderFault.RepeatedRoot row → ⊥)
 never_repeated rows made (Ok row) is = tt
+never_repeated rows made (Err LadderFault.Memory) is = absurd is
 never_repeated rows made (Err (LadderFault.RepeatedRoot row)) is = absurd is
 never_repeated rows made (Err (LadderFault.Coincidence row origin)) is = λ other same. cc
 

@@ -1,6 +1,5 @@
 -- What is kept of the replies of an event is what its actors replied.
-use Rattle.std.proofs.Common.{◌≡◌, sym, ap, ◌∙◌, subst, ℕ, ◌==◌, ◌+◌, ◌<◌, ◌≤◌, List, [], ◌∷◌, ◌++◌, length, take, slice_set, map, option_map, Option, Some, None, Result, Ok, Err, arith}
-use Rattle.std.proofs.lemmas.List.{length-take-le, take_more_set}
+use Rattle.std.proofs.Common.{◌≡◌, sym, ap, ◌∙◌, subst, ℕ, ◌==◌, ◌+◌, List, [], ◌∷◌, ◌++◌, map, option_map, Option, Some, None, Result, Ok, Err}
 use Rattle.std.specs.Prelude.{ℤ, OnOk, position, slice_get}
 use Rattle.std.specs.Str.{bytes_eq}
 use Rattle.alg_choice.specs.declared.caps.Caps.{Caps}
@@ -36,16 +35,6 @@ use Rattle.lte_world.proofs.Authenticating.{not_new_repeated, not_new_coincidenc
 use Rattle.lte_world.proofs.Getting.{station_at, station_nowhere}
 use Rattle.lte_world.proofs.Refusing.{chosen_in, no_view, found_in}
 use Rattle.lte_world.proofs.Stations.{same_some}
-
--- a cell that is written behind those that count
-pub put_last : {X : Type 0} (cells : List X) (count : ℕ) (x : X)
-    → length cells ≡ 2
-    → count ≤ 2
-    → length (take count cells) < 2
-    → take (count + 1) (slice_set cells count x) ≡ take count cells ++ x ∷ []
-put_last cells count x two most room =
-    let there : length (take count cells) ≡ count = length-take-le count cells (omega (arith, two, most)) in
-    take_more_set cells count x (omega (arith, two, room, there))
 
 -- what is told first is all that is told
 pub only_told : (told before : List (ActorIn × ActorOut)) (x : ActorIn × ActorOut) → before ≡ [] → told ≡ before ++ x ∷ [] → told ≡ x ∷ []

@@ -88,7 +88,7 @@ module _ {setup : Setup} {journal : List Event} {over : Option Proof} {ready : B
 
   -- with a coincidence
   module _ {b : Actors} {p : Proof} (g : Gave journal a b e (Err p)) where
-    pub says_coincidence : ◌≡◌ {A = Result Line WorldFault} (Err (WorldFault.Coincidence p)) (told_of v e)
+    pub says_coincidence : ◌≡◌ {A = Result Line WorldFault} (Err (WorldFault.Chance p)) (told_of v e)
     says_coincidence = ended_says a b e (length journal) p (happened g) (octet_run setup journal) goes kept ∙ ap (λ x. told_of x e) at
 
     pub run_coincidence : Stopped (coincidence_of p) ≡ turned v e

@@ -41,7 +41,7 @@ run_of v = unless_over v.over (octet_run v.setup v.journal)
 -- what is told of one event more, a line or the coincidence
 abbrev pub answer_of : EventReport (List ℕ) → Result Line WorldFault
 answer_of (Reported line) = Ok (line_out line)
-answer_of (Coincided coincidence) = Err (WorldFault.Coincidence (proof_of coincidence))
+answer_of (Coincided coincidence) = Err (WorldFault.Chance (proof_of coincidence))
 
 abbrev pub told_of : Whole → Event → Result Line WorldFault
 told_of v e = answer_of (event_report (open_octets annex_b) octets (run_of v) e)

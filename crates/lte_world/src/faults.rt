@@ -6,5 +6,5 @@ pub enum WorldFault {
     /// Memory ran out.
     Memory,
     /// A coincidence: two keys, or two uses of keys, are equal by chance. It ends the world.
-    Coincidence(Proof),
+    Chance(Proof),
 }

@@ -107,6 +107,7 @@ impl Network {
     {
         match self.ladder.root(root) {
             Ok(_) => {}
+            Err(LadderFault::Memory) => unreachable!(),
             Err(LadderFault::RepeatedRoot(row)) => return Enrolled::Repeated(row),
             Err(LadderFault::Coincidence(row, _)) => return Enrolled::Coincidence(Proof::RootIsRow(
                 row, root,

@@ -1,5 +1,5 @@
 // The ladder with what a step derived, and with who holds it.
-ghost use Rattle.std.specs.Prelude.{◌≡◌, ◌+◌, ◌≤◌, ◌<◌, [], ◌∷◌, List, ℕ, length, map, IfErr};
+ghost use Rattle.std.specs.Prelude.{◌≡◌, ◌≢◌, ◌+◌, ◌≤◌, ◌<◌, [], ◌∷◌, List, ℕ, Err, length, map, IfErr};
 ghost use Rattle.key_terms.specs.Ladder.{IsHolder};
 ghost use Rattle.store_laws.specs.Joins.{HasRow};
 ghost use Rattle.lte_world.specs.Networks.{Awaits, AddsAll, CountIn, HasKeys, HasRows, HoldsAll, HoldsOne, keys_in, told};
@@ -34,14 +34,16 @@ fn add_one(ladder: &mut Ladder, made: &Derived) -> Result<(), Proof>
     told(added, made)
 }
 
-// What is told of it. No derivation is refused as a repeated root.
+// What is told of it. No derivation is refused as a repeated root, nor for want of memory.
 fn told(added: Result<Row, LadderFault>, made: &Derived) -> Result<(), Proof>
-    requires { IfErr added (λ fault. (row : Row) → fault ≡ LadderFault.RepeatedRoot row → ⊥) }
+    requires memory { added ≢ Err LadderFault.Memory }
+    requires derived { IfErr added (λ fault. (row : Row) → fault ≡ LadderFault.RepeatedRoot row → ⊥) }
     ensures { result ≡ told made.now added }
 {
     match added {
         Ok(_) => Ok(()),
         Err(LadderFault::Coincidence(row, _)) => Err(Proof::Rows(row, *made)),
+        Err(LadderFault::Memory) => unreachable!(),
         Err(LadderFault::RepeatedRoot(_)) => unreachable!(),
     }
 }

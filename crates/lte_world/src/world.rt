@@ -18,6 +18,7 @@ ghost use Rattle.lte_world.specs.Whole.{begun, run_of, told_of, turned, journal_
 use crate::WorldFault;
 use crate::replies::Replies;
 use crate::system::System;
+use arrayvec::ArrayVec;
 use key_terms::{Ladder, Proof};
 use lte_events::{ActorIn, ActorOut, Answer, Event, Events, Line, Setup, Who};
 use rec_base::Use;
@@ -86,7 +87,7 @@ impl World {
     /// no memory. The event can happen to the system, there are fewer than 200,000 before it, and room was made
     /// for it.
     ///
-    /// At a coincidence the answer is `Coincidence` with its two values, the event does not enter the journal, and every
+    /// At a coincidence the answer is `Chance` with its two values, the event does not enter the journal, and every
     /// later event is answered with the same. `Memory` is never answered.
     pub fn apply(&mut self, event: &Event) -> Result<Line, WorldFault>
         requires { CanApply self.old event.now }
@@ -113,7 +114,7 @@ impl World {
     {
         self.ready = false;
         if let Some(proof) = self.over {
-            return Err(WorldFault::Coincidence(proof));
+            return Err(WorldFault::Chance(proof));
         }
         let step = self.journal.len() as u32;
         self.replies.clear();
@@ -136,7 +137,7 @@ impl World {
             }
             Err(proof) => {
                 self.over = Some(proof);
-                Err(WorldFault::Coincidence(proof))
+                Err(WorldFault::Chance(proof))
             }
         }
     }
@@ -214,11 +215,11 @@ impl World {
 
     /// The inputs of the last event with their replies: none, that of one actor, or at an authentication the phone's
     /// and the core's. Each is of an actor of the setup.
-    pub fn replies(&self) -> &[(ActorIn, ActorOut)]
-        ensures last { self.now.over ≡ None → RepliedLast self.now.setup self.now.journal result.now }
-        ensures there { self.now.over ≡ None → AllOf (λ r. IsOfSetup self.now.setup r.0) result.now }
+    pub fn replies(&self) -> &ArrayVec<(ActorIn, ActorOut), 2>
+        ensures last { self.now.over ≡ None → RepliedLast self.now.setup self.now.journal result.now.items }
+        ensures there { self.now.over ≡ None → AllOf (λ r. IsOfSetup self.now.setup r.0) result.now.items }
     {
-        self.replies.as_slice()
+        self.replies.listed()
     }
 }
 

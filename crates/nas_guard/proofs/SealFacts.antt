@@ -10,7 +10,7 @@ use Rattle.rec_base.specs.Header.{header_of}
 use Rattle.cmac_eia2.specs.Cmac.{cmac_of, block_at, blocks_before, chained, masked_last, xor_blocks, zero_block}
 use Rattle.std.specs.List.{range_with_len}
 use Rattle.std.specs.Prelude.{fold, map}
-use Rattle.nas_guard.specs.declared.sending.CountSpent.{CountSpent}
+use Rattle.nas_count.specs.declared.sending.CountSpent.{CountSpent}
 use Rattle.rec_base.specs.declared.uses.Dir.{Dir}
 use Rattle.alg_choice.specs.declared.algs.Eea.{Eea}
 use Rattle.alg_choice.specs.declared.algs.Eea.TheVariants.{Eea0, Eea2}
@@ -19,8 +19,8 @@ use Rattle.cmac_eia2.specs.Eia2.{eia2_of}
 use Rattle.key_model.specs.Least.{least}
 use Rattle.key_model.proofs.LeastFacts.{least_in_window, least_is}
 use Rattle.nas_guard.specs.declared.opening.Opened.{Opened}
-use Rattle.nas_guard.specs.Estimate.{nas_count_limit}
-use Rattle.nas_guard.specs.Estimate.{estimate_of}
+use Rattle.nas_count.specs.Estimate.{nas_count_limit}
+use Rattle.nas_count.specs.Estimate.{estimate_of}
 use Rattle.nas_guard.specs.Cipher.{ciphered, mac_of}
 use Rattle.nas_guard.specs.Keys.{Keys}
 use Rattle.nas_guard.specs.Seal.{is_ciphered, nas_bearer, sent_text, first_octet, sealed}

@@ -2,4 +2,3 @@ pub mod Cipher
 pub mod Keys
 pub mod Seal
 pub mod Open
-pub mod Estimate

@@ -2,9 +2,9 @@
 use Rattle.std.specs.Prelude.{◌≡◌, ◌≢◌, ℕ, ◌/◌, ◌%◌, ◌<◌, ◌≤◌, ◌==◌, ◌&&◌, nat_le, nat_lt, Bool, if◌then◌else◌, List, drop, length, slice_index, take, Result, Ok, Err}
 use Rattle.std.specs.Str.{bytes_eq}
 use Rattle.key_model.specs.Least.{least}
-use Rattle.nas_guard.specs.declared.sending.CountSpent.{CountSpent}
-use Rattle.nas_guard.specs.Estimate.{nas_count_limit}
-use Rattle.nas_guard.specs.Estimate.{estimate_of}
+use Rattle.nas_count.specs.declared.sending.CountSpent.{CountSpent}
+use Rattle.nas_count.specs.Estimate.{nas_count_limit}
+use Rattle.nas_count.specs.Estimate.{estimate_of}
 use Rattle.rec_base.specs.declared.uses.Dir.{Dir}
 use Rattle.nas_guard.specs.declared.opening.Opened.{Opened}
 use Rattle.nas_guard.specs.declared.opening.OpenFault as faults

@@ -1,7 +1,7 @@
 // Laws of sealing and opening.
 ghost use Rattle.std.specs.Prelude.{◌≡◌, ℕ, ◌%◌, ◌<◌, ◌≤◌, List};
 ghost use Rattle.key_model.specs.Least.{least};
-ghost use Rattle.nas_guard.specs.Estimate.{nas_count_limit};
+ghost use Rattle.nas_count.specs.Estimate.{nas_count_limit};
 ghost use Rattle.rec_base.specs.declared.uses.Dir.{Dir};
 ghost use Rattle.alg_choice.specs.declared.algs.Eea.{Eea};
 ghost use Rattle.nas_guard.specs.Cipher.{ciphered};

@@ -6,14 +6,10 @@ mod ciphers;
 mod keys;
 mod laws;
 mod opening;
-mod receiving;
 mod sealing;
-mod sending;
 
 pub use ciphers::{cipher, mac, mac_behind};
 pub use keys::NasKeys;
 pub use laws::{ciphered_twice_is_the_text, sealed_opens};
 pub use opening::{OpenFault, Opened, open};
-pub use receiving::RxCount;
 pub use sealing::{NasPdu, seal};
-pub use sending::{CountSpent, LIMIT, TxCount};

@@ -3,7 +3,8 @@ ghost use Rattle.rec_base.specs.Lengths.{longest_record};
 ghost use Rattle.nas_guard.specs.Open.{Opens, Refuses, opened};
 ghost use Rattle.nas_guard.specs.Seal.{sealed};
 
-use crate::{NasKeys, RxCount};
+use crate::NasKeys;
+use nas_count::RxCount;
 use rec_base::{Dir, Octets};
 
 /// What a protected NAS message held.

@@ -1,9 +1,10 @@
 ghost use Rattle.std.specs.Prelude.{◌≡◌, ℕ, ◌+◌, ◌-◌, ◌<◌, ◌≤◌, ◌↔◌, IfOk, IsErr, OnErr, length};
-ghost use Rattle.nas_guard.specs.Estimate.{nas_count_limit};
+ghost use Rattle.nas_count.specs.Estimate.{nas_count_limit};
 ghost use Rattle.nas_guard.specs.Seal.{sealed};
 ghost use Rattle.nas_guard.specs.Open.{opened};
 
-use crate::{CountSpent, NasKeys, TxCount};
+use crate::NasKeys;
+use nas_count::{CountSpent, TxCount};
 use rec_base::{Bounded, Dir};
 
 /// The octets of a NAS message as sent: at most 256.

@@ -2,7 +2,7 @@
 ghost use Rattle.std.specs.Prelude.{◌≡◌, ◌<◌, ◌≤◌, ◌∷◌, ℕ, List};
 ghost use Rattle.nas_guard.specs.Seal.{first_octet};
 ghost use Rattle.nas_rec.specs.Spelling.{spelling_of, InRange};
-ghost use Rattle.nas_guard.specs.Estimate.{nas_count_limit};
+ghost use Rattle.nas_count.specs.Estimate.{nas_count_limit};
 ghost use Rattle.lte_machine.specs.PhoneState.{Radio};
 ghost use Rattle.nas_smc.specs.declared.judging.Verdict.TheVariants.{Rejected, Taken, Opened};
 ghost use Rattle.nas_smc.specs.Judging.{CountFits, cause_of, done_by};
@@ -13,7 +13,8 @@ use crate::judging::{Judged, Verdict, nas_keys};
 use crate::{NasOut, PhoneNas};
 use alg_choice::Algs;
 use lte_events::Answer;
-use nas_guard::{NasPdu, RxCount, TxCount};
+use nas_count::{RxCount, TxCount};
+use nas_guard::NasPdu;
 use nas_rec::NasRecord;
 use rec_base::{ShortText, Use};
 

@@ -1,7 +1,7 @@
 ghost use Rattle.std.specs.Prelude.{◌≡◌, ◌+◌, ◌≤◌, ◌<◌, IfNone, IfSome, true, false, nat_le};
 ghost use Rattle.rec_base.specs.declared.uses.Dir.TheVariants.{Up};
 ghost use Rattle.lte_events.specs.declared.answers.Answer.TheVariants.{Done};
-ghost use Rattle.nas_guard.specs.Estimate.{nas_count_limit};
+ghost use Rattle.nas_count.specs.Estimate.{nas_count_limit};
 ghost use Rattle.nas_guard.specs.Seal.{is_ciphered};
 ghost use Rattle.nas_rec.specs.Spelling.{spelling_of, InRange};
 ghost use Rattle.lte_machine.specs.PhoneKeys.{one_nas_sent};
@@ -12,7 +12,8 @@ ghost use Rattle.nas_smc.specs.NasOut.{sending};
 use crate::NasOut;
 use crate::protection::protect;
 use annex_a_keys::Kasme;
-use nas_guard::{NasKeys, RxCount, TxCount};
+use nas_count::{RxCount, TxCount};
+use nas_guard::NasKeys;
 use nas_rec::NasRecord;
 use rec_base::Dir;
 use std::marker::Model;
@@ -28,7 +29,7 @@ pub(crate) struct Context {
 
 impl Model for Context {
     ghost use Rattle.std.specs.Prelude.{List, ℕ, ◌≤◌};
-    ghost use Rattle.nas_guard.specs.Estimate.{nas_count_limit};
+    ghost use Rattle.nas_count.specs.Estimate.{nas_count_limit};
     ghost use Rattle.lte_machine.specs.PhoneState.{NasContext};
 
     ghost Value = { NasContext (List ℕ) };

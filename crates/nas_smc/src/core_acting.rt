@@ -1,6 +1,6 @@
 // What is done by a verdict at the core.
 ghost use Rattle.std.specs.Prelude.{◌≡◌, ◌<◌, Bool, true, false, option_map};
-ghost use Rattle.nas_guard.specs.Estimate.{nas_count_limit};
+ghost use Rattle.nas_count.specs.Estimate.{nas_count_limit};
 ghost use Rattle.lte_machine.specs.CoreKeys.{nas_taken};
 ghost use Rattle.lte_machine.specs.CoreRows.{PlainReject, ServiceAsked, NasOpened, SealedReject};
 ghost use Rattle.nas_smc.specs.declared.core_judging.CoreVerdict.TheVariants.{Completed};
@@ -14,7 +14,7 @@ use crate::core_judging::{CoreJudged, CoreVerdict};
 use crate::core_partial::CorePartial;
 use crate::{CoreNas, NasOut};
 use lte_events::Answer;
-use nas_guard::RxCount;
+use nas_count::RxCount;
 use rec_base::{ShortText, Use};
 
 impl CoreNas {

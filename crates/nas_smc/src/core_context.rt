@@ -1,7 +1,7 @@
 ghost use Rattle.std.specs.Prelude.{◌≡◌, ◌+◌, ◌≤◌, ◌<◌, IfNone, IfSome, true, false, nat_le};
 ghost use Rattle.rec_base.specs.declared.uses.Dir.TheVariants.{Down};
 ghost use Rattle.lte_events.specs.declared.answers.Answer.TheVariants.{Done};
-ghost use Rattle.nas_guard.specs.Estimate.{nas_count_limit};
+ghost use Rattle.nas_count.specs.Estimate.{nas_count_limit};
 ghost use Rattle.nas_rec.specs.Spelling.{InRange};
 ghost use Rattle.nas_rec.specs.declared.records.NasRecord.TheVariants.{NasData};
 ghost use Rattle.lte_machine.specs.Bearers.{skipped};

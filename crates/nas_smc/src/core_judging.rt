@@ -11,7 +11,8 @@ ghost use Rattle.nas_smc.specs.CoreJudging.{CountFits, FitsContext, IsOfKind, pl
 use crate::CoreNas;
 use crate::opening::{integrity_use, opened};
 use lte_events::Answer;
-use nas_guard::{NasKeys, RxCount};
+use nas_count::RxCount;
+use nas_guard::NasKeys;
 use nas_rec::NasRecord;
 use rec_base::{Dir, Octets, ShortText, Use};
 

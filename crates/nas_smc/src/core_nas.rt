@@ -16,7 +16,7 @@ use crate::core_partial::CorePartial;
 use alg_choice::{Caps, Priority, choose};
 use annex_a_keys::Kasme;
 use lte_events::Answer;
-use nas_guard::TxCount;
+use nas_count::TxCount;
 use rec_base::ShortText;
 use std::marker::Model;
 

@@ -2,7 +2,7 @@ ghost use Rattle.std.specs.Prelude.{◌≡◌, ◌+◌, ◌≤◌, IfNone, IfSom
 ghost use Rattle.lte_events.specs.declared.answers.Answer.TheVariants.{Done};
 ghost use Rattle.key_model.specs.Derivation.{derived_of};
 ghost use Rattle.key_model.specs.Reading.{octet_reading};
-ghost use Rattle.nas_guard.specs.Estimate.{nas_count_limit};
+ghost use Rattle.nas_count.specs.Estimate.{nas_count_limit};
 ghost use Rattle.lte_machine.specs.CoreKeys.{smc_command};
 ghost use Rattle.lte_machine.specs.PhoneState.{nas_keys_of, nas_derivations};
 ghost use Rattle.nas_smc.specs.NasOut.{sending};
@@ -12,7 +12,8 @@ use crate::judging::nas_keys;
 use crate::protection::protect;
 use alg_choice::{Algs, Caps};
 use annex_a_keys::Kasme;
-use nas_guard::{NasKeys, TxCount};
+use nas_count::TxCount;
+use nas_guard::NasKeys;
 use nas_rec::NasRecord;
 use rec_base::Dir;
 use std::marker::Model;

@@ -14,7 +14,8 @@ use crate::opening::{integrity_use, opened};
 use alg_choice::{Algs, Caps, supports};
 use annex_a_keys::{AlgType, Derived, Kasme};
 use lte_events::Answer;
-use nas_guard::{NasKeys, RxCount};
+use nas_count::RxCount;
+use nas_guard::NasKeys;
 use nas_rec::NasRecord;
 use rec_base::{Dir, Few, ShortText, Use};
 

@@ -17,5 +17,6 @@ mod protection;
 mod reply;
 
 pub use core_nas::CoreNas;
+pub use nas_rec::NasRecord;
 pub use phone::PhoneNas;
 pub use reply::NasOut;

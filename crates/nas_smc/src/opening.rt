@@ -2,7 +2,7 @@
 ghost use Rattle.std.specs.Prelude.{◌≡◌, ◌<◌, ◌≤◌, length};
 ghost use Rattle.rec_base.specs.Lengths.{longest_record};
 ghost use Rattle.key_model.specs.Least.{least};
-ghost use Rattle.nas_guard.specs.Estimate.{nas_count_limit};
+ghost use Rattle.nas_count.specs.Estimate.{nas_count_limit};
 ghost use Rattle.nas_guard.specs.Open.{IsProtected, first_in, header_in, sn_in};
 ghost use Rattle.nas_guard.specs.Seal.{is_ciphered};
 ghost use Rattle.lte_events.specs.declared.answers.Answer.TheVariants.{MacFails};
@@ -14,7 +14,8 @@ ghost use Rattle.nas_smc.specs.Opening.{outcome_of};
 
 use annex_a_keys::AlgType;
 use lte_events::Answer;
-use nas_guard::{NasKeys, OpenFault, Opened, RxCount, open};
+use nas_count::RxCount;
+use nas_guard::{NasKeys, OpenFault, Opened, open};
 use rec_base::{Dir, Octets, Use};
 
 // The MAC computed and the MAC received, where they differ.

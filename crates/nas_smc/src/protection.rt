@@ -1,7 +1,7 @@
 // Sending NAS messages under keys and their COUNT.
 ghost use Rattle.std.specs.Prelude.{◌≡◌, ◌+◌, ◌≤◌, IfNone, IfSome, true, false, map, nat_le, ◌++◌, ◌∷◌, []};
 ghost use Rattle.lte_events.specs.declared.answers.Answer.TheVariants.{Done};
-ghost use Rattle.nas_guard.specs.Estimate.{nas_count_limit};
+ghost use Rattle.nas_count.specs.Estimate.{nas_count_limit};
 ghost use Rattle.nas_guard.specs.Seal.{is_ciphered};
 ghost use Rattle.nas_rec.specs.Spelling.{spelling_of, InRange};
 ghost use Rattle.lte_machine.specs.Calls.{use_out};
@@ -11,7 +11,8 @@ ghost use Rattle.nas_smc.specs.NasOut.{sending};
 use crate::NasOut;
 use annex_a_keys::AlgType;
 use lte_events::Answer;
-use nas_guard::{NasKeys, TxCount, seal};
+use nas_count::TxCount;
+use nas_guard::{NasKeys, seal};
 use nas_rec::NasRecord;
 use rec_base::{Dir, Few, Use};
 

@@ -5,8 +5,8 @@ use Rattle.alg_choice.specs.declared.algs.Eea.{Eea}
 use Rattle.alg_choice.specs.declared.algs.Eea.TheVariants.{Eea0, Eea2}
 use Rattle.alg_suite.specs.Suite.{ciphered_by, mac_by}
 use Rattle.alg_suite.specs.declared.integrity.Integrity.TheVariants.{Eia2}
-use Rattle.nas_guard.specs.declared.sending.CountSpent.{CountSpent}
-use Rattle.nas_guard.specs.Estimate.{estimate_of}
+use Rattle.nas_count.specs.declared.sending.CountSpent.{CountSpent}
+use Rattle.nas_count.specs.Estimate.{estimate_of}
 use Rattle.rec_base.specs.Bearer.{bearer5_of}
 use Rattle.rec_base.specs.declared.bearers.Bearer.{Bearer}
 use Rattle.rec_base.specs.declared.uses.Dir.{Dir}

@@ -13,7 +13,7 @@ use Rattle.pdu_guard.specs.declared.am.Place.{Place}
 use Rattle.pdu_guard.specs.declared.drb.Numbers.{Numbers}
 use Rattle.pdu_guard.specs.Drb.{header_octets, is_data, number_in, values_of}
 
--- Reordering_Window: half of the sequence numbers (7.2)
+-- Reordering_Window: half of the sequence numbers (7.3)
 abbrev pub window_of : Numbers → ℕ
 window_of numbers = values_of numbers / 2
 

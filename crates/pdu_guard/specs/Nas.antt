@@ -1,8 +1,8 @@
 -- Security protected NAS messages over plain octets (TS 24.301 4.4 and 9.1), under any algorithms.
 use Rattle.std.specs.Prelude.{ℕ, ◌%◌, nat_lt, Bool, if◌then◌else◌, List, ◌∷◌, ◌++◌, length, Result, Ok, Err}
 use Rattle.alg_suite.specs.Suite.{ciphered_by, mac_by}
-use Rattle.nas_guard.specs.declared.sending.CountSpent.{CountSpent}
-use Rattle.nas_guard.specs.Estimate.{estimate_of}
+use Rattle.nas_count.specs.declared.sending.CountSpent.{CountSpent}
+use Rattle.nas_count.specs.Estimate.{estimate_of}
 use Rattle.rec_base.specs.declared.uses.Dir.{Dir}
 use Rattle.nas_guard.specs.Open.{covered_in, first_in, header_in, is_protected, mac_in, sent_in, sn_in}
 use Rattle.nas_guard.specs.Seal.{first_octet, is_ciphered, nas_bearer}

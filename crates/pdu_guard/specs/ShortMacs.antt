@@ -3,7 +3,7 @@ use Rattle.std.specs.Prelude.{ℕ, ◌+◌, ◌*◌, ◌%◌, ◌-◌, ◌^◌, 
 use Rattle.alg_suite.specs.Suite.{mac_by}
 use Rattle.alg_suite.specs.declared.integrity.Integrity.{Integrity}
 use Rattle.key_model.specs.Least.{least}
-use Rattle.nas_guard.specs.Estimate.{nas_count_limit}
+use Rattle.nas_count.specs.Estimate.{nas_count_limit}
 use Rattle.rec_base.specs.declared.uses.Dir.TheVariants.{Up, Down}
 use Rattle.nas_guard.specs.Seal.{nas_bearer}
 use Rattle.pdu_guard.specs.Checks.{is_checked, is_taken}

@@ -2,8 +2,7 @@ ghost use Rattle.std.specs.Prelude.{◌≡◌, ◌+◌, ◌-◌, ◌<◌, ◌≤
 ghost use Rattle.pdcp_guard.specs.Counts.{count_limit};
 ghost use Rattle.pdu_guard.specs.Drb.{drb_count_of, drb_head, drb_pdu, drb_pdu_opened, drb_pdu_text, header_octets, is_data, number_in, numbers_of, values_of};
 
-use alg_suite::{Ciphering, cipher};
-use annex_a_keys::AlgKey;
+use alg_suite::{Ciphering, GivenKey, cipher};
 use pdcp_guard::{PdcpFault, count_from};
 use rec_base::Dir;
 
@@ -109,7 +108,7 @@ impl Numbers {
 #[derive(Clone, Copy, Debug, PartialEq, Eq)]
 pub struct DrbKeys {
     /// KUPenc.
-    pub enc: AlgKey,
+    pub enc: GivenKey,
     /// The encryption algorithm.
     pub eea: Ciphering,
     /// BEARER, of 5 bits: the identity minus 1.

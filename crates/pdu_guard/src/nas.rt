@@ -1,21 +1,21 @@
 ghost use Rattle.std.specs.Prelude.{◌≡◌, ◌+◌, ◌-◌, ◌<◌, ◌≤◌, IfErr, IfOk, OnErr, length};
-ghost use Rattle.nas_guard.specs.Estimate.{nas_count_limit};
+ghost use Rattle.nas_count.specs.Estimate.{nas_count_limit};
 ghost use Rattle.nas_guard.specs.Open.{header_in, sent_in};
 ghost use Rattle.pdu_guard.specs.Nas.{mac_checked, nas_covered, nas_head_of, nas_mac_of, nas_opened, nas_pdu, nas_sent};
 
 use crate::checks::{is_checked, is_taken};
-use alg_suite::{Ciphering, Integrity, cipher, mac};
-use annex_a_keys::AlgKey;
-use nas_guard::{OpenFault, RxCount};
+use alg_suite::{Ciphering, GivenKey, Integrity, cipher, mac};
+use nas_count::RxCount;
+use nas_guard::OpenFault;
 use rec_base::Dir;
 
 /// What both ends of a NAS security context have (TS 33.401 6.2).
 #[derive(Clone, Copy, Debug, PartialEq, Eq)]
 pub struct NasKeys {
     /// KNASenc.
-    pub enc: AlgKey,
+    pub enc: GivenKey,
     /// KNASint.
-    pub int: AlgKey,
+    pub int: GivenKey,
     /// The encryption algorithm.
     pub eea: Ciphering,
     /// The integrity algorithm.

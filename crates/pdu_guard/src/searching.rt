@@ -1,13 +1,12 @@
 // The COUNT of a message of which the overflow is not known.
 ghost use Rattle.std.specs.Prelude.{◌≡◌, ◌<◌, ◌≤◌, IfSome, length};
-ghost use Rattle.nas_guard.specs.Estimate.{nas_count_limit};
+ghost use Rattle.nas_count.specs.Estimate.{nas_count_limit};
 ghost use Rattle.pdu_guard.specs.Search.{nas_right, nas_search, service_right, service_search};
 
 use crate::checks::is_taken;
 use crate::nas::{NasKeys, nas_mac};
 use crate::short_macs::short_mac;
-use alg_suite::Integrity;
-use annex_a_keys::AlgKey;
+use alg_suite::{GivenKey, Integrity};
 use rec_base::Dir;
 
 /// The least COUNT with the sequence number of a protected NAS message, of six octets or more, at which its MAC is right: of all 2^16
@@ -39,7 +38,7 @@ fn is_nas_right(keys: &NasKeys, dir: Dir, pdu: &[u8], overflow: u32) -> bool
 /// The first octet is not looked at. A short MAC has 16 bits, so that it is right by chance at one of 65,536 COUNTs.
 ///
 /// `int` is KNASint. Under EIA0 any short MAC is right.
-pub fn find_service_request(eia: Integrity, int: &AlgKey, request: &[u8; 4]) -> Option<u32>
+pub fn find_service_request(eia: Integrity, int: &GivenKey, request: &[u8; 4]) -> Option<u32>
     ensures value { result ≡ service_search eia int.now request.now }
     ensures below { IfSome result (λ count. count < nas_count_limit) }
 {
@@ -52,7 +51,7 @@ pub fn find_service_request(eia: Integrity, int: &AlgKey, request: &[u8; 4]) -> 
 }
 
 // Whether the short MAC of a Service Request is right at an overflow.
-fn is_service_right(eia: Integrity, int: &AlgKey, request: &[u8; 4], overflow: u32) -> bool
+fn is_service_right(eia: Integrity, int: &GivenKey, request: &[u8; 4], overflow: u32) -> bool
     requires { overflow < 524288 }
     ensures { result ≡ service_right eia int.now request.now overflow }
 {

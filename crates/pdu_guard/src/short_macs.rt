@@ -1,15 +1,14 @@
 // Short MACs: of a Service Request, and of re-establishment.
 ghost use Rattle.std.specs.Prelude.{◌≡◌, ◌<◌, ◌≤◌, drop};
 ghost use Rattle.key_model.specs.Least.{least};
-ghost use Rattle.nas_guard.specs.Estimate.{nas_count_limit};
+ghost use Rattle.nas_count.specs.Estimate.{nas_count_limit};
 ghost use Rattle.rec_base.specs.declared.uses.Dir.{Dir as Direction};
 ghost use Rattle.alg_suite.specs.Suite.{mac_by};
 ghost use Rattle.pdu_guard.specs.ShortMacs.{service_checked, service_request_of, short_mac_i_of};
 
 use crate::checks::{is_checked, is_taken};
-use alg_suite::{Integrity, mac};
-use annex_a_keys::AlgKey;
-use nas_guard::LIMIT;
+use alg_suite::{GivenKey, Integrity, mac};
+use nas_count::LIMIT;
 use rec_base::Dir;
 
 /// Why four octets are no Service Request that was made under a key.
@@ -44,7 +43,7 @@ pub struct ServiceFound {
 ///
 /// `int` is KNASint, `ksi` has 3 bits, and `count` 24.
 #[tactic(auto, unfolding(crate::specs::ShortMacs::service_request_of))]
-pub fn service_request(eia: Integrity, int: &AlgKey, ksi: u8, count: u32) -> [u8; 4]
+pub fn service_request(eia: Integrity, int: &GivenKey, ksi: u8, count: u32) -> [u8; 4]
     requires ksi { ksi < 8 }
     requires count { count < nas_count_limit }
     ensures { result ≡ service_request_of eia int.now ksi count }
@@ -62,7 +61,7 @@ pub fn service_request(eia: Integrity, int: &AlgKey, ksi: u8, count: u32) -> [u8
 #[tactic(auto, unfolding(crate::specs::ShortMacs::service_checked))]
 pub fn check_service_request(
     eia: Integrity,
-    int: &AlgKey,
+    int: &GivenKey,
     next: u32,
     request: &[u8; 4],
 ) -> Result<ServiceFound, ServiceFault>
@@ -93,7 +92,7 @@ pub fn check_service_request(
 ///
 /// `int` is KRRCint of the source cell, and `input` the encoded VarShortMAC-Input.
 #[tactic(auto, unfolding(crate::specs::ShortMacs::short_mac_i_of))]
-pub fn short_mac_i(eia: Integrity, int: &AlgKey, input: &[u8]) -> [u8; 2]
+pub fn short_mac_i(eia: Integrity, int: &GivenKey, input: &[u8]) -> [u8; 2]
     ensures { result ≡ short_mac_i_of eia int.now input.now }
 {
     short_mac(eia, int, u32::MAX, 31, Dir::Down, input)
@@ -102,7 +101,7 @@ pub fn short_mac_i(eia: Integrity, int: &AlgKey, input: &[u8]) -> [u8; 2]
 // The last two octets of the MAC of a text.
 pub(crate) fn short_mac(
     eia: Integrity,
-    int: &AlgKey,
+    int: &GivenKey,
     count: u32,
     bearer: u8,
     dir: Dir,

@@ -6,8 +6,7 @@ ghost use Rattle.pdu_guard.specs.Checks.{is_checked};
 ghost use Rattle.pdu_guard.specs.Srb.{longest_sdu, srb_mac_of, srb_pdu, srb_pdu_at, srb_pdu_got, srb_pdu_opened, srb_pdu_text, srb_sent};
 
 use crate::checks::{is_checked, is_taken};
-use alg_suite::{Ciphering, Integrity, cipher, mac};
-use annex_a_keys::AlgKey;
+use alg_suite::{Ciphering, GivenKey, Integrity, cipher, mac};
 use pdcp_guard::{PdcpFault, count_from};
 use rec_base::Dir;
 
@@ -18,9 +17,9 @@ pub const LONGEST_SDU: usize = 8188;
 #[derive(Clone, Copy, Debug, PartialEq, Eq)]
 pub struct SrbKeys {
     /// KRRCenc.
-    pub enc: AlgKey,
+    pub enc: GivenKey,
     /// KRRCint.
-    pub int: AlgKey,
+    pub int: GivenKey,
     /// The encryption algorithm; EEA0 for PDUs that are not ciphered.
     pub eea: Ciphering,
     /// The integrity algorithm.

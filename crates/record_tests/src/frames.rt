@@ -1,6 +1,6 @@
 // Frames as octets. The octets that come from a run of the ordinary scenario were computed by another
 // implementation; all others were written down from the table of frames (`docs/FRAMES.md`).
-ghost use Rattle.actor_frames.specs.Ranges.{IsRole};
+ghost use Rattle.role_wire.specs.Ranges.{IsRole};
 
 mod bad;
 mod good;
@@ -8,10 +8,10 @@ mod replies;
 mod sources;
 
 use crate::values::same_at;
-use actor_frames::{FrameFault, FrameIn, input_frame, read_frame};
 use annex_a_keys::Cell;
 use edge_io::{Role, SliceSource};
 use rec_base::Bounded;
+use role_wire::{FrameFault, FrameIn, input_frame, read_frame};
 use std::process::Abort;
 use std::test::Fail;
 

@@ -12,7 +12,7 @@ use std::alloc::{AllocError, Global};
 
 /// The line of a report for a step that is a coincidence, in ASCII, with the LF that ends it. The input of a
 /// derivation in the proof is in its range. The one error is want of memory.
-pub fn coincidence(alloc: Global, step: u32, proof: &Proof) -> Result<Vec<u8>, TextMemory>
+pub fn chance(alloc: Global, step: u32, proof: &Proof) -> Result<Vec<u8>, TextMemory>
     requires { HasString proof.now }
     ensures text { IfOk result (λ text. text.items ≡ coincidence_text step proof.now) }
     ensures refused { OnErr result WasRefused }

@@ -10,7 +10,7 @@ mod lines;
 mod memory;
 mod summaries;
 
-pub use coincidences::coincidence;
+pub use coincidences::chance;
 pub use ends::end;
 pub use ladders::{form, ladder_text, row_line};
 pub use lines::line;

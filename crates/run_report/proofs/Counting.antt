@@ -13,7 +13,7 @@ use Rattle.lte_world.specs.declared.faults.WorldFault.TheVariants as fault
 use Rattle.report_text.specs.Coincidence.{coincidence_text}
 use Rattle.report_text.specs.Summary.{Tallied, tally_of, figures_text}
 use Rattle.store_laws.specs.Rows.{world_rows}
-use Rattle.run_report.specs.declared.endings.Ending.TheVariants.{Done, Coincidence}
+use Rattle.run_report.specs.declared.endings.Ending.TheVariants.{Done, Chance}
 use Rattle.run_report.specs.Events.{told_of, CanShow}
 use Rattle.run_report.specs.Counted.{Tells, Ended}
 use Rattle.lte_events.specs.Scenario.{IsScenario}
@@ -65,7 +65,7 @@ next_counted {setup} {events} {i} {run} run' after e line so_far left tells coun
 
 -- a coincidence
 coincidence_is : (told : EventReport (List ℕ)) (proof : Proof) (lines : List Line) (rest : List (EventReport (List ℕ)))
-    → Tells told (Err (fault.Coincidence proof))
+    → Tells told (Err (fault.Chance proof))
     → (outcome_from lines (told ∷ rest) ≡ Coincides (length lines) proof) × CanShow proof
 coincidence_is (Reported line) proof lines rest is = absurd is
 coincidence_is (Coincided coincidence) proof lines rest is = (ap (Coincides (length lines)) (sym is.0), is.1)
@@ -75,7 +75,7 @@ pub coincides_at : {setup : Setup} {events : List Event} {i : ℕ} {run : RunSta
     → CountedTo setup events i run tally
     → drop i events ≡ e ∷ drop (suc i) events
     → step ≡ i
-    → Tells (told_of run e) (Err (fault.Coincidence proof))
+    → Tells (told_of run e) (Err (fault.Chance proof))
     → (outcome_from [] (octet_report setup events) ≡ Coincides step proof) × CanShow proof
 coincides_at {events} {i} {run} step e proof so_far left number tells =
     let last = coincidence_is (told_of run e) proof so_far.lines (reports (turned run e) (drop (suc i) events)) tells in
@@ -124,5 +124,5 @@ summary_ended {setup} {events} {tally} {run} rows n many scenario e are =
 pub summary_coincidence : {setup : Setup} {events : List Event} (step : ℕ) (proof : Proof)
     → IsScenario setup events
     → outcome_from [] (octet_report setup events) ≡ Coincides step proof
-    → summary_of setup events ≡ record { text = coincidence_text step proof; ends = Coincidence }
+    → summary_of setup events ≡ record { text = coincidence_text step proof; ends = Chance }
 summary_coincidence {setup} {events} step proof scenario e = summary_is scenario ∙ ap (summary_with (rows_in (octet_run setup events))) e

@@ -9,7 +9,7 @@ use Rattle.edge_io.specs.Octets.{Grows, GrowsByPrefix, GrowsByProperPrefix}
 use Rattle.edge_io.specs.Used.{UsedAsSink}
 use Rattle.growth.specs.Growth.{WasRefused}
 use Rattle.run_report.specs.declared.endings.Ending.{Ending}
-use Rattle.run_report.specs.declared.endings.Ending.TheVariants.{Done, Coincidence}
+use Rattle.run_report.specs.declared.endings.Ending.TheVariants.{Done, Chance}
 use Rattle.run_report.specs.declared.unwritten.Unwritten.{Unwritten}
 use Rattle.run_report.specs.declared.unwritten.Unwritten.TheVariants.{Memory, WriteFault}
 use Rattle.run_report.specs.Report.{Report, before}
@@ -174,7 +174,7 @@ unwritten text now refused ready = record {
 
 -- a piece of a report and what comes behind it, where no coincidence ends it
 abbrev pub followed_if : Ending → Report → Report → Report
-followed_if Coincidence piece rest = piece
+followed_if Chance piece rest = piece
 followed_if Done piece rest = before piece.text rest
 
 abbrev pub followed : Report → Report → Report
@@ -209,18 +209,18 @@ more_reported {rest} {piece} {left} s follows plain w =
 pub coincidence_reported : {ending : Ending} {whole rest piece left : Report} {first mid now : Told}
     → ReportPartly whole rest first mid
     → Follows rest piece left
-    → ending ≡ Coincidence
+    → ending ≡ Chance
     → WritesReport piece (Ok ending) mid now
-    → WritesReport whole (Ok Coincidence) first now
+    → WritesReport whole (Ok Chance) first now
 coincidence_reported {rest} {piece} {left} s follows coincides w =
-    let stops : piece.ends ≡ Coincidence = sym w.ends ∙ coincides in
+    let stops : piece.ends ≡ Chance = sym w.ends ∙ coincides in
     let last = follows.is ∙ ap (λ e. followed_if e piece left) stops in
     let begins : Begins rest.text piece.text [] = record { is = ap (λ r. r.text) last ∙ sym (append-nil piece.text) } in
     record { text = all_written (more_written s.text begins w.text) refl; ends = sym (s.ends ∙ ap (λ r. r.ends) last ∙ stops) }
 
 -- a piece that was cut
 begins_with : (piece left : Report) (ending : Ending) → (more : List ℕ) × ((followed_if ending piece left).text ≡ piece.text ++ more)
-begins_with piece left Coincidence = ([], sym (append-nil piece.text))
+begins_with piece left Chance = ([], sym (append-nil piece.text))
 begins_with piece left Done = (left.text, refl)
 
 pub cut_reported : {fault : Unwritten} {whole rest piece left : Report} {first mid now : Told}

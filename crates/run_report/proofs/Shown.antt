@@ -164,7 +164,7 @@ of_run : (run : RunState (List ℕ) ℕ Kept) (setup : Setup) (events : List Eve
     → AllOf IsEvent events
     → run ≡ octet_run setup events
     → IsEvent e
-    → GoesOn run → told_of run e ≡ told → Err (fault.Coincidence proof) ≡ answer_of told → HasCounts proof → HasString proof
+    → GoesOn run → told_of run e ≡ told → Err (fault.Chance proof) ≡ answer_of told → HasCounts proof → HasString proof
 of_run (Stopped c) setup events e told proof is are runs good goes tells answer counts = absurd goes
 of_run (Running w) setup events e (Reported line) proof is are runs good goes tells answer counts = cc
 of_run (Running w) setup events e (Coincided coincidence) proof is are runs good goes tells answer counts =
@@ -181,7 +181,7 @@ pub shown_in : (v : Whole) (e : Event) (proof : Proof)
     → AllOf IsEvent v.journal
     → GoesOn (run_of v)
     → IsEvent e
-    → Err (fault.Coincidence proof) ≡ whole.told_of v e
+    → Err (fault.Chance proof) ≡ whole.told_of v e
     → HasCounts proof
     → HasString proof
 shown_in v e proof is are goes good answer counts =

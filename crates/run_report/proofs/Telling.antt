@@ -20,7 +20,7 @@ use Rattle.lte_world.specs.Whole.{answer_of}
 use Rattle.store_laws.specs.Proofs.{proof_of}
 use Rattle.report_text.specs.Line.{line_text}
 use Rattle.report_text.specs.Coincidence.{coincidence_text}
-use Rattle.run_report.specs.declared.endings.Ending.TheVariants.{Done, Coincidence}
+use Rattle.run_report.specs.declared.endings.Ending.TheVariants.{Done, Chance}
 use Rattle.run_report.specs.Counted.{Tells}
 use Rattle.run_report.specs.Events.{told_of, told_report, event_ends, CanShow}
 use Rattle.lte_events.specs.Scenario.{IsScenario}
@@ -98,12 +98,12 @@ report_ends i n run events number low past =
 
 pub tells : (told : EventReport (List ℕ)) (answer : Result Line WorldFault)
     → answer ≡ answer_of told
-    → ((proof : Proof) → answer ≡ Err (fault.Coincidence proof) → CanShow proof)
+    → ((proof : Proof) → answer ≡ Err (fault.Chance proof) → CanShow proof)
     → Tells told answer
 tells told (Err fault.Memory) is shows = tt
 tells (Reported told) (Ok line) is shows = cc
-tells (Coincided coincidence) (Err (fault.Coincidence proof)) is shows = let one : proof ≡ proof_of coincidence = cc in (one, shows proof refl)
-tells (Reported told) (Err (fault.Coincidence proof)) is shows = cc
+tells (Coincided coincidence) (Err (fault.Chance proof)) is shows = let one : proof ≡ proof_of coincidence = cc in (one, shows proof refl)
+tells (Reported told) (Err (fault.Chance proof)) is shows = cc
 tells (Coincided coincidence) (Ok line) is shows = cc
 
 pub a_line : (told : EventReport (List ℕ)) (line : Line) (step : ℕ)
@@ -113,12 +113,12 @@ a_line (Reported told) line step is = ap (λ l. record { text = line_text l; end
 a_line (Coincided coincidence) line step is = absurd is
 
 pub a_coincidence : (told : EventReport (List ℕ)) (proof : Proof) (step : ℕ)
-    → Tells told (Err (fault.Coincidence proof))
-    → told_report step told ≡ record { text = coincidence_text step proof; ends = Coincidence }
+    → Tells told (Err (fault.Chance proof))
+    → told_report step told ≡ record { text = coincidence_text step proof; ends = Chance }
 a_coincidence (Reported told) proof step is = absurd is
-a_coincidence (Coincided coincidence) proof step is = ap (λ p. record { text = coincidence_text step p; ends = Coincidence }) (sym is.0)
+a_coincidence (Coincided coincidence) proof step is = ap (λ p. record { text = coincidence_text step p; ends = Chance }) (sym is.0)
 
-pub can_show : (told : EventReport (List ℕ)) (proof : Proof) → Tells told (Err (fault.Coincidence proof)) → CanShow proof
+pub can_show : (told : EventReport (List ℕ)) (proof : Proof) → Tells told (Err (fault.Chance proof)) → CanShow proof
 can_show (Reported told) proof is = absurd is
 can_show (Coincided coincidence) proof is = is.1
 

@@ -20,8 +20,8 @@ use Rattle.run_report.specs.Summary.{AllLines, Coincides, outcome_from}
 abbrev pub Tells : EventReport (List ℕ) → Result Line WorldFault → Type 0
 Tells told (Err fault.Memory) = Unit {0}
 Tells (Reported told) (Ok line) = line ≡ line_out told
-Tells (Coincided coincidence) (Err (fault.Coincidence proof)) = (proof ≡ proof_of coincidence) × CanShow proof
-Tells (Reported told) (Err (fault.Coincidence proof)) = ⊥
+Tells (Coincided coincidence) (Err (fault.Chance proof)) = (proof ≡ proof_of coincidence) × CanShow proof
+Tells (Reported told) (Err (fault.Chance proof)) = ⊥
 Tells (Coincided coincidence) (Ok line) = ⊥
 
 -- all events happened, and their lines are counted
@@ -35,4 +35,4 @@ pub record Ended (setup : Setup) (events : List Event) (tally : Tallied) (run : 
 -- how a run comes out
 abbrev pub ComesOut : Setup → List Event → Tallied → RunState (List ℕ) ℕ Kept → Course → Type 0
 ComesOut setup events tally run course.Ended = Ended setup events tally run
-ComesOut setup events tally run (course.Coincidence step proof) = (outcome_from [] (octet_report setup events) ≡ Coincides step proof) × CanShow proof
+ComesOut setup events tally run (course.Chance step proof) = (outcome_from [] (octet_report setup events) ≡ Coincides step proof) × CanShow proof

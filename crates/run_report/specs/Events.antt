@@ -14,7 +14,7 @@ use Rattle.report_text.specs.Line.{line_text}
 use Rattle.report_text.specs.Coincidence.{HasString, coincidence_text}
 use Rattle.store_laws.specs.Proofs.{proof_of}
 use Rattle.run_report.specs.declared.endings.Ending.{Ending}
-use Rattle.run_report.specs.declared.endings.Ending.TheVariants.{Done, Coincidence}
+use Rattle.run_report.specs.declared.endings.Ending.TheVariants.{Done, Chance}
 use Rattle.run_report.specs.Report.{Report}
 
 -- in a run in octets
@@ -28,7 +28,7 @@ event_text step (Coincided coincidence) = coincidence_text step (proof_of coinci
 
 abbrev pub event_ends : EventReport (List ℕ) → Ending
 event_ends (Reported line) = Done
-event_ends (Coincided coincidence) = Coincidence
+event_ends (Coincided coincidence) = Chance
 
 -- and both
 abbrev pub told_report : ℕ → EventReport (List ℕ) → Report

@@ -17,7 +17,7 @@ use Rattle.report_text.specs.Ladder.{ladder_text}
 use Rattle.store_laws.specs.Proofs.{proof_of}
 use Rattle.store_laws.specs.Rows.{world_rows}
 use Rattle.run_report.specs.declared.endings.Ending.{Ending}
-use Rattle.run_report.specs.declared.endings.Ending.TheVariants.{Done, Coincidence}
+use Rattle.run_report.specs.declared.endings.Ending.TheVariants.{Done, Chance}
 
 -- a report, and how it ends
 pub record Report : Type 0 where
@@ -40,7 +40,7 @@ before text report = record { text = text ++ report.text; ends = report.ends }
 abbrev pub told_from : ℕ → List (EventReport (List ℕ)) → List ℕ → Report
 told_from step [] end = record { text = end; ends = Done }
 told_from step (Reported line ∷ rest) end = before (line_text (line_out line)) (told_from (suc step) rest end)
-told_from step (Coincided coincidence ∷ rest) end = record { text = coincidence_text step (proof_of coincidence); ends = Coincidence }
+told_from step (Coincided coincidence ∷ rest) end = record { text = coincidence_text step (proof_of coincidence); ends = Chance }
 
 -- the report of the written machine's run over key terms, printed in values
 unfoldable pub report_of : Setup → List Event → Report

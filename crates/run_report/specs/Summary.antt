@@ -14,7 +14,7 @@ use Rattle.report_text.specs.Coincidence.{coincidence_text}
 use Rattle.report_text.specs.Summary.{summary_text}
 use Rattle.store_laws.specs.Proofs.{proof_of}
 use Rattle.store_laws.specs.Rows.{world_rows}
-use Rattle.run_report.specs.declared.endings.Ending.TheVariants.{Done, Coincidence}
+use Rattle.run_report.specs.declared.endings.Ending.TheVariants.{Done, Chance}
 use Rattle.run_report.specs.Report.{Report}
 
 -- how a run comes out: all its lines, or a coincidence at a step
@@ -35,7 +35,7 @@ rows_in (Stopped coincidence) = 0
 
 abbrev pub summary_with : ℕ → Outcome → Report
 summary_with rows (AllLines lines) = record { text = summary_text lines rows; ends = Done }
-summary_with rows (Coincides step proof) = record { text = coincidence_text step proof; ends = Coincidence }
+summary_with rows (Coincides step proof) = record { text = coincidence_text step proof; ends = Chance }
 
 -- the summary of the written machine's run over key terms, printed in values
 unfoldable pub summary_of : Setup → List Event → Report

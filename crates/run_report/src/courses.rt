@@ -19,7 +19,7 @@ pub enum Course {
     /// All events happened.
     Ended,
     /// A coincidence ended it, at this step.
-    Coincidence(u32, Proof),
+    Chance(u32, Proof),
 }
 
 /// Lets these events happen to a system that has just begun, one after the other, to the first coincidence, and
@@ -39,9 +39,9 @@ pub fn run_through(
         let event = events.at(number);
         match happen(world, &event) {
             Ok(line) => tally.count(&line),
-            Err(WorldFault::Coincidence(proof)) => {
+            Err(WorldFault::Chance(proof)) => {
                 let step = world.journal().len() as u32;
-                return Ok(Course::Coincidence(step, proof));
+                return Ok(Course::Chance(step, proof));
             }
             Err(WorldFault::Memory) => return Err(WorldFault::Memory),
         }

@@ -4,5 +4,5 @@ pub enum Ending {
     /// After all events, with what it says of them as a whole.
     Done,
     /// At a coincidence, which was written.
-    Coincidence,
+    Chance,
 }

@@ -17,7 +17,7 @@ use hmac_kdf::KdfInput;
 use key_terms::Proof;
 use lte_events::{Event, Events, Setup};
 use lte_world::{World, WorldFault};
-use report_text::{coincidence, end, ladder_text, line};
+use report_text::{chance, end, ladder_text, line};
 use std::alloc::Global;
 
 /// Lets these events happen to a system, and writes the report of them: a line for each event by one
@@ -42,14 +42,14 @@ pub fn write_run<W: Sink>(
         let event = events.at(number);
         match write_event(alloc, &mut world, &event, out)? {
             Ending::Done => {}
-            Ending::Coincidence => return Ok(Ending::Coincidence),
+            Ending::Chance => return Ok(Ending::Chance),
         }
     }
     write_end(alloc, &world, out)?;
     Ok(Ending::Done)
 }
 
-/// Lets one event happen, and writes what is told of it. The answer is `Coincidence` if it is one, and else
+/// Lets one event happen, and writes what is told of it. The answer is `Chance` if it is one, and else
 /// `Done`. Its errors are those of `write_run`.
 pub fn write_event<W: Sink>(
     alloc: Global,
@@ -68,9 +68,9 @@ pub fn write_event<W: Sink>(
             write_text(line(alloc, &told), out)?;
             Ok(Ending::Done)
         }
-        Err(WorldFault::Coincidence(proof)) => {
+        Err(WorldFault::Chance(proof)) => {
             write_coincidence(alloc, step, proof, out)?;
-            Ok(Ending::Coincidence)
+            Ok(Ending::Chance)
         }
         Err(WorldFault::Memory) => Err(Unwritten::Memory),
     }
@@ -88,7 +88,7 @@ pub fn write_coincidence<W: Sink>(
     ensures { WritesText (coincidence_text step proof) result (W.told out.old) (W.told out.new) }
 {
     has_counts(proof);
-    write_text(coincidence(alloc, step, &proof), out)
+    write_text(chance(alloc, step, &proof), out)
 }
 
 /// The COUNT of a derivation in what shows a coincidence has 32 bits.

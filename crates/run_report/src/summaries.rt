@@ -53,9 +53,9 @@ fn summarise<W: Sink>(
             write_figures(alloc, &tally, rows, out)?;
             Ok(Ending::Done)
         }
-        Ok(Course::Coincidence(step, proof)) => {
+        Ok(Course::Chance(step, proof)) => {
             write_coincidence(alloc, step, proof, out)?;
-            Ok(Ending::Coincidence)
+            Ok(Ending::Chance)
         }
         Err(_) => Err(Unwritten::Memory),
     }

@@ -1,6 +1,7 @@
 ghost use Rattle.std.specs.Prelude.{◌≡◌, ◌≤◌};
 ghost use Rattle.x2_handover.specs.InRange.{InRange};
 
+use crate::Order1;
 use annex_a_keys::Cell;
 use std::marker::Model;
 use x2_handover::Order;
@@ -49,7 +50,7 @@ impl S1Commanded {
     }
 
     /// The same order again.
-    pub fn again(&self) -> Order
+    pub fn again(&self) -> Order1
         ensures order { result ≡ self.now.order }
         ensures in_range { InRange result }
     {

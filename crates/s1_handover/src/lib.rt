@@ -8,4 +8,4 @@ mod ready;
 
 pub use commanded::S1Commanded;
 pub use opened::S1Open;
-pub use ready::S1Ready;
+pub use ready::{Order1, S1Ready};

@@ -8,6 +8,9 @@ use annex_a_keys::Cell;
 use std::marker::Model;
 use x2_handover::Order;
 
+/// What the phone is told at an S1 handover: the same as at one over X2.
+pub type Order1 = Order;
+
 /// An attempt that the target has acknowledged. It may be cancelled, or command the phone.
 #[derive(Debug, Drop)]
 pub struct S1Ready {
@@ -47,7 +50,7 @@ impl S1Ready {
     pub fn cancel(self) {}
 
     /// The phone's order, and the attempt that has commanded it. From here on it cannot be cancelled.
-    pub fn command(self) -> (S1Commanded, Order)
+    pub fn command(self) -> (S1Commanded, Order1)
         ensures commanded { result.0 ≡ s1_sent self }
         ensures order { result.1 ≡ s1_order self }
         ensures in_range { InRange result.1 }

@@ -1,415 +1,97 @@
 // 128-EEA3: random cases of another implementation, libipsec-mb 1.3.
 
-use crate::cases::{Algorithm, Case, try_all};
-use rec_base::Dir;
+use crate::cases::{Algorithm, try_all};
 use std::test::Fail;
 
 #[test]
 fn texts_of_0_to_39_octets_and_longer_as_another_implementation(
     rt: HostRuntime,
 ) -> Result<(), Fail> {
-    try_all(&rt, rt.alloc(), Algorithm::Eea3, &SHORT)?;
-    try_all(&rt, rt.alloc(), Algorithm::Eea3, &LONGER)
+    try_all(&rt, rt.alloc(), Algorithm::Eea3, SHORT)?;
+    try_all(&rt, rt.alloc(), Algorithm::Eea3, LONGER)
 }
 
-static SHORT: [Case; 42] = [
-    Case {
-        key: "2e7b2ff8757e75e95212b8a52861beb6",
-        count: 0xffff_ffff,
-        bearer: 25,
-        dir: Dir::Down,
-        text: "",
-        out: "",
-    },
-    Case {
-        key: "885d20bbada0af30b4a2c6e5b829445f",
-        count: 0x6475_0e69,
-        bearer: 13,
-        dir: Dir::Down,
-        text: "ff",
-        out: "4b",
-    },
-    Case {
-        key: "f2ae61dad079affa5e2dfae54706470c",
-        count: 0x618b_caa3,
-        bearer: 1,
-        dir: Dir::Up,
-        text: "7074",
-        out: "c399",
-    },
-    Case {
-        key: "3238f2432d90b9739b74311398982a67",
-        count: 0x64f2_e16b,
-        bearer: 18,
-        dir: Dir::Down,
-        text: "b19e",
-        out: "0c2b",
-    },
-    Case {
-        key: "115ab17f1563b9abe407b673de614c83",
-        count: 0xcf8d_6f6a,
-        bearer: 16,
-        dir: Dir::Up,
-        text: "0c880f",
-        out: "fba90a",
-    },
-    Case {
-        key: "4ff0bd5e1ff040d8df316d7ddfff8d5d",
-        count: 0xf3f2_b61c,
-        bearer: 6,
-        dir: Dir::Down,
-        text: "6ff004b6",
-        out: "349003ec",
-    },
-    Case {
-        key: "3914dee109e9f7350392ae8f95d069c4",
-        count: 0x4b82_3e9e,
-        bearer: 18,
-        dir: Dir::Up,
-        text: "dd0a4cc239",
-        out: "2788add05d",
-    },
-    Case {
-        key: "0fa394410a95b45e52caad30c058270a",
-        count: 0xfb0e_660a,
-        bearer: 6,
-        dir: Dir::Up,
-        text: "467aa0562e45",
-        out: "c77a3f5b42e8",
-    },
-    Case {
-        key: "1dea718fd51b8fb8bf954bcc5d2eaabe",
-        count: 0x12bb_5e11,
-        bearer: 13,
-        dir: Dir::Up,
-        text: "00000000000000",
-        out: "0f3537df38ca1a",
-    },
-    Case {
-        key: "0c441cf03b9f043cd80176294cac532e",
-        count: 0x2b2e_9bf0,
-        bearer: 23,
-        dir: Dir::Up,
-        text: "ffffffffffffffff",
-        out: "9a833ab9d76afc78",
-    },
-    Case {
-        key: "3828cd80c3ab18e4128cbc65705d5914",
-        count: 0xf61b_559d,
-        bearer: 15,
-        dir: Dir::Down,
-        text: "2e9e7ee1a2c0d6cb18",
-        out: "1e3b94700d0b3d35fa",
-    },
-    Case {
-        key: "0c63e7f6c7b40827375b856d53f04b89",
-        count: 0xffff_ffff,
-        bearer: 11,
-        dir: Dir::Down,
-        text: "f37cd92d4ecda6063b06",
-        out: "99357cd97e784bb37901",
-    },
-    Case {
-        key: "d86c3c5f01fd88e9b743bc9f81de39e4",
-        count: 0x80a0_e0d5,
-        bearer: 15,
-        dir: Dir::Up,
-        text: "b72aba5793aa34013494f5",
-        out: "0283f8900bc24aaafdd621",
-    },
-    Case {
-        key: "4f3feedd5d3126c4b0c01402e665d6db",
-        count: 0xff77_a434,
-        bearer: 28,
-        dir: Dir::Up,
-        text: "a0c3d6a8860c3d7a80a9417d",
-        out: "f09533eb7cf345fdf56b60fd",
-    },
-    Case {
-        key: "65547c297f3da231927e389c47b10913",
-        count: 0xc754_7a15,
-        bearer: 3,
-        dir: Dir::Up,
-        text: "cf099d4b2d1c189f06fb54e04a",
-        out: "e966af05e10f5b334853684105",
-    },
-    Case {
-        key: "adca332943d80125668f01ac9274d9bc",
-        count: 0x384b_2ae2,
-        bearer: 9,
-        dir: Dir::Up,
-        text: "2ecd372ecfb30f7cd0b3e337dc9d",
-        out: "ff575a65019f95a64cab01515e09",
-    },
-    Case {
-        key: "c0519ff5c1aec23ef486a0d33ea85bdd",
-        count: 0x56fe_c6be,
-        bearer: 14,
-        dir: Dir::Up,
-        text: "265a59316178d84da556a115731b16",
-        out: "3eb70c7eddcea8dd77873a85da12c0",
-    },
-    Case {
-        key: "acc18ff993af68adebf10ff7224d181d",
-        count: 0x6acb_676d,
-        bearer: 2,
-        dir: Dir::Up,
-        text: "c1376251c4a3d1014753c2b116585185",
-        out: "05b20cf5e3eff65b3301a50e577f8bb7",
-    },
-    Case {
-        key: "7e8f3e2f9ebc03c04e807c28153182c9",
-        count: 0x854f_74ac,
-        bearer: 1,
-        dir: Dir::Down,
-        text: "cc709e2e17bc38464f51a6ab3e6a9e04b0",
-        out: "1fdaafefb3549d185798520781ba20e0d9",
-    },
-    Case {
-        key: "f8fbbcb131456e2e72cd3cf4dd0fbb10",
-        count: 0xf897_c6cf,
-        bearer: 30,
-        dir: Dir::Down,
-        text: "5f608e86c9f04a1b117b7e16a951f0953ebd",
-        out: "6417685bab0daf954ce1d43651f9f6ddd355",
-    },
-    Case {
-        key: "9e047f8c7f958cb2201ba34a705ebdc9",
-        count: 0xe538_378f,
-        bearer: 12,
-        dir: Dir::Down,
-        text: "58be7ab7ce5622ceafe09fa22b80ea5a69c632",
-        out: "6dd64c017f1ee3bbf6bbd74537eecb0d0a406a",
-    },
-    Case {
-        key: "9dc3425b32c51e389e1696e4f3d124fb",
-        count: 0xffff_ffff,
-        bearer: 9,
-        dir: Dir::Up,
-        text: "460fa8819dc664a3d999fe165214f1812a3f6b66",
-        out: "78fc2f41fa25ca42442f305c870f79593ee27513",
-    },
-    Case {
-        key: "a205423a14103484ae0e9f958fd62d1b",
-        count: 0xb58d_00c9,
-        bearer: 9,
-        dir: Dir::Up,
-        text: "dbbc77289086bf9aeaf2f61f8fdc2b6dace218e9f3",
-        out: "4d0b59ab89c876b5332da8097d5571d673e3ef3bad",
-    },
-    Case {
-        key: "d07e911bd8653b11e6b6995c5cc24362",
-        count: 0x404b_1b5c,
-        bearer: 19,
-        dir: Dir::Down,
-        text: "bef8437f74d96f4a04bff288bd5c5faacc5b18dac369",
-        out: "658f6b6506773b52a91428e239595071fbaa4820e6a3",
-    },
-    Case {
-        key: "e183935edc0883466374a5b01c0bfcda",
-        count: 0x3d4f_a675,
-        bearer: 27,
-        dir: Dir::Up,
-        text: "31d54f745130d5fd0028464b1dff2e20b4a0d32e46b99e",
-        out: "2277adc732a32a67a37d55d819d0d3527088558a83fa1e",
-    },
-    Case {
-        key: "cc5f3ca6a71a6f0cadeeff487a6693d5",
-        count: 0xcfb4_ef6c,
-        bearer: 20,
-        dir: Dir::Up,
-        text: "65679772481138c17b6843a6e36f9201675fb20b4bad94e2",
-        out: "b6577562e138471fe4f9788ecedae84143062f9a4ec63191",
-    },
-    Case {
-        key: "5c9741a50b787d42e091eb42b2a31249",
-        count: 0x75a4_c8ec,
-        bearer: 1,
-        dir: Dir::Up,
-        text: "c44a11bceb99886528bce5f2f15db6f1f464169ed3693553bb",
-        out: "6d85b5e87aa27cd0060756de1ae1da95bb50de6d8aea58f4ec",
-    },
-    Case {
-        key: "11dd4f6b70bfe6e97c4314be16bbdd2e",
-        count: 0x3028_3481,
-        bearer: 27,
-        dir: Dir::Down,
-        text: "23269e47a5ca49081bae4466409822b86b19bb763a7ed4af16c5",
-        out: "04781c4b9cf2f4daa1bbef09516b10369166ae40bbabeb16fe07",
-    },
-    Case {
-        key: "590725c7b56453d19bfc2e2cd8837ff0",
-        count: 0xdc5b_3d4b,
-        bearer: 12,
-        dir: Dir::Down,
-        text: "b9ec449ddc7d34c1a8d615c266cf15f28a5a9d2f9ee29393b9e40d",
-        out: "25f1603648b185920ef72c05c1409271d31829265a98e1ccde5a1a",
-    },
-    Case {
-        key: "fd887b0ec39b71a12f011e87def75a41",
-        count: 0x1eca_4a9f,
-        bearer: 25,
-        dir: Dir::Up,
-        text: "a8764fcc234e510ad7a78b5451eb62f497fba7db29be77ca9e71a90b",
-        out: "bb2791eeee4cb2339621e336494cc7348a495dee1a89e31255c09b2e",
-    },
-    Case {
-        key: "230b59a5dd7f9ea09495e120a6ece77f",
-        count: 0x2492_3518,
-        bearer: 26,
-        dir: Dir::Up,
-        text: "0960acdd51d57b9be1171b014a7785b463e2ca2bbbd0c63ca6fd158b12",
-        out: "76058c2149058301842056fded8421444170b2518bb366c16c683a60eb",
-    },
-    Case {
-        key: "f05dcbb47f33e7c5b85d680f86dd6a22",
-        count: 0x3c19_55f3,
-        bearer: 14,
-        dir: Dir::Up,
-        text: "27bd88e47daaa9d3e29655cf8ac82fd489ad628806a1d59d6c2c8e0131",
-        out: "877bd3dde95f90411073ee79f89c48a5f0c586468523c706c8e98ad596",
-    },
-    Case {
-        key: "4d9c414dacbb529eb9cb486e327a2536",
-        count: 0xffff_ffff,
-        bearer: 7,
-        dir: Dir::Up,
-        text: "d3d2bbda9b08d26c3432913a897f3e5a17df349ea7f3cef465e49018c2c7",
-        out: "e7f4ddb30cb232dbebb2025192c1e7fffd65b536f31cec4023d3902d7263",
-    },
-    Case {
-        key: "6fa5969a5f722f8b0a8cb657b3c16cbe",
-        count: 0xba56_3be7,
-        bearer: 5,
-        dir: Dir::Down,
-        text: "b4646f75b258e79c48b8dbd3b00ed11473c49829c032526219de04dbc4f1f6",
-        out: "6ae0e4803ae04782c8d25ff2e857cc6b98e6ecf01c3c1a943c7dd5077ec796",
-    },
-    Case {
-        key: "1f930b5300c60b1f1db144a342d88e42",
-        count: 0x9d5e_0607,
-        bearer: 18,
-        dir: Dir::Up,
-        text: "0b0f8f420345712dc53bf26c361874cd6c6e43c810d7e2d9b9df86d76c27f4d3",
-        out: "615f89c086a7bda4d58905f9878c5e2bf1af9efb9ed0fa7e9c4db1fdd350cc7d",
-    },
-    Case {
-        key: "56fc0b5c3a1be8d8f128b7dd09b212b0",
-        count: 0x843d_f7e5,
-        bearer: 20,
-        dir: Dir::Up,
-        text: "2795d7e2c6614a9f02c106e153bd9c928678e35c9faf025a3ca452df2f9aa69fd8",
-        out: "f7f56e99d8c69db742cb8f4c21e8eb88b52edcd3e1de1ec063e59c64944745b95b",
-    },
-    Case {
-        key: "39a439e023e9d1c7b215a2c35d5189bf",
-        count: 0x2e1a_d4f1,
-        bearer: 20,
-        dir: Dir::Down,
-        text: "58fc84eb28687150105188291c20545885fc3a4740907536574b4402c25e26ca6183",
-        out: "ccd14741a505c05ee0b75fb45f90eb841c4c73170b96f05843fb88736391b7c67c40",
-    },
-    Case {
-        key: "f3c75bbebb3512f1fde4d89d30e347df",
-        count: 0xbd91_0603,
-        bearer: 13,
-        dir: Dir::Down,
-        text: "5ee7fc1d77746b56e59bde68ec45170c726ad3f7f88f1cb4b063503be9d4b2e03fe30d",
-        out: "c7b68e915f633c102a261e6bd4a19e2275197a16542ef6bf8f125534a96596f3e9f8a0",
-    },
-    Case {
-        key: "421d006eaf9169697296bef4db563595",
-        count: 0xf71d_10f8,
-        bearer: 30,
-        dir: Dir::Down,
-        text: "e150558c40193cc048419db2fab349707f8b23befad5d41ed88c497dc21ed3f1235ad8e2",
-        out: "0c4f0944a0dcf229ba8820ccadd631fd0eea7933ab4efb756e1bcfc5823e2f8448285329",
-    },
-    Case {
-        key: "182d4ff356e8be67a4aa16922ddaba21",
-        count: 0xd976_ce29,
-        bearer: 12,
-        dir: Dir::Down,
-        text: "bc7a53811065e34920392da3e4018246f4d3e1658a57ce5654c2946e89b5ad91ebc5973018",
-        out: "f3fdb9ff0748d06fe14bd8fc8db2ec7b7b359a66b3cc3d3343a63d4ff5a2faaa985ab38893",
-    },
-    Case {
-        key: "a430ba52bd622a2d06b3777daa6b7334",
-        count: 0xeaec_c982,
-        bearer: 23,
-        dir: Dir::Up,
-        text: "2aa987267c13bcc1972f2c36462c26e1e676474083d2f0a6a70f4e20e08a965d8e3adc310bcc",
-        out: "9582f73e84126295fe8af27b64c74c5a1665e8693db9309517ace815821846a20f2c0131e0b0",
-    },
-    Case {
-        key: "36bc8a461f7110c7fdbf94204bd9a05a",
-        count: 0x5a20_98ac,
-        bearer: 8,
-        dir: Dir::Down,
-        text: "669ef312db1f85cade8b5e3b59f76cd595e98a3a19f595eab48538fa3af03c77dcc6a28f7a469f",
-        out: "29c8d5e4b017fb9e1f9cfdacf36fd855a00417d30c7c0ae61616b6161640bb3717528887adc1c6",
-    },
-];
+static SHORT: &str = "\
+2e7b2ff8757e75e95212b8a52861beb6 ffffffff 25 down :
+885d20bbada0af30b4a2c6e5b829445f 64750e69 13 down ff:4b
+f2ae61dad079affa5e2dfae54706470c 618bcaa3 1 up 7074:c399
+3238f2432d90b9739b74311398982a67 64f2e16b 18 down b19e:0c2b
+115ab17f1563b9abe407b673de614c83 cf8d6f6a 16 up 0c880f:fba90a
+4ff0bd5e1ff040d8df316d7ddfff8d5d f3f2b61c 6 down 6ff004b6:349003ec
+3914dee109e9f7350392ae8f95d069c4 4b823e9e 18 up dd0a4cc239:2788add05d
+0fa394410a95b45e52caad30c058270a fb0e660a 6 up 467aa0562e45:c77a3f5b42e8
+1dea718fd51b8fb8bf954bcc5d2eaabe 12bb5e11 13 up 00000000000000:0f3537df38ca1a
+0c441cf03b9f043cd80176294cac532e 2b2e9bf0 23 up ffffffffffffffff:9a833ab9d76afc78
+3828cd80c3ab18e4128cbc65705d5914 f61b559d 15 down 2e9e7ee1a2c0d6cb18:1e3b94700d0b3d35fa
+0c63e7f6c7b40827375b856d53f04b89 ffffffff 11 down f37cd92d4ecda6063b06:99357cd97e784bb37901
+d86c3c5f01fd88e9b743bc9f81de39e4 80a0e0d5 15 up b72aba5793aa34013494f5:0283f8900bc24aaafdd621
+4f3feedd5d3126c4b0c01402e665d6db ff77a434 28 up a0c3d6a8860c3d7a80a9417d:f09533eb7cf345fdf56b60fd
+65547c297f3da231927e389c47b10913 c7547a15 3 up cf099d4b2d1c189f06fb54e04a:e966af05e10f5b334853684105
+adca332943d80125668f01ac9274d9bc 384b2ae2 9 up 2ecd372ecfb30f7cd0b3e337dc9d:ff575a65019f95a64cab01515e09
+c0519ff5c1aec23ef486a0d33ea85bdd 56fec6be 14 up 265a59316178d84da556a115731b16:3eb70c7eddcea8dd77873a85da12c0
+acc18ff993af68adebf10ff7224d181d 6acb676d 2 up c1376251c4a3d1014753c2b116585185:05b20cf5e3eff65b3301a50e577f8bb7
+7e8f3e2f9ebc03c04e807c28153182c9 854f74ac 1 down cc709e2e17bc38464f51a6ab3e6a9e04b0:1fdaafefb3549d185798520781ba20e0d9
+f8fbbcb131456e2e72cd3cf4dd0fbb10 f897c6cf 30 down 5f608e86c9f04a1b117b7e16a951f0953ebd:6417685bab0daf954ce1d43651f9f6ddd355
+9e047f8c7f958cb2201ba34a705ebdc9 e538378f 12 down 58be7ab7ce5622ceafe09fa22b80ea5a69c632:6dd64c017f1ee3bbf6bbd74537eecb0d0a406a
+9dc3425b32c51e389e1696e4f3d124fb ffffffff 9 up 460fa8819dc664a3d999fe165214f1812a3f6b66:78fc2f41fa25ca42442f305c870f79593ee27513
+a205423a14103484ae0e9f958fd62d1b b58d00c9 9 up dbbc77289086bf9aeaf2f61f8fdc2b6dace218e9f3:4d0b59ab89c876b5332da8097d5571d673e3ef3bad
+d07e911bd8653b11e6b6995c5cc24362 404b1b5c 19 down bef8437f74d96f4a04bff288bd5c5faacc5b18dac369:658f6b6506773b52a91428e239595071fbaa4820e6a3
+e183935edc0883466374a5b01c0bfcda 3d4fa675 27 up 31d54f745130d5fd0028464b1dff2e20b4a0d32e46b99e:2277adc732a32a67a37d55d819d0d3527088558a83fa1e
+cc5f3ca6a71a6f0cadeeff487a6693d5 cfb4ef6c 20 up 65679772481138c17b6843a6e36f9201675fb20b4bad94e2:b6577562e138471fe4f9788ecedae84143062f9a4ec63191
+5c9741a50b787d42e091eb42b2a31249 75a4c8ec 1 up c44a11bceb99886528bce5f2f15db6f1f464169ed3693553bb:6d85b5e87aa27cd0060756de1ae1da95bb50de6d8aea58f4ec
+11dd4f6b70bfe6e97c4314be16bbdd2e 30283481 27 down 23269e47a5ca49081bae4466409822b86b19bb763a7ed4af16c5:04781c4b9cf2f4daa1bbef09516b10369166ae40bbabeb16fe07
+590725c7b56453d19bfc2e2cd8837ff0 dc5b3d4b 12 down b9ec449ddc7d34c1a8d615c266cf15f28a5a9d2f9ee29393b9e40d:25f1603648b185920ef72c05c1409271d31829265a98e1ccde5a1a
+fd887b0ec39b71a12f011e87def75a41 1eca4a9f 25 up a8764fcc234e510ad7a78b5451eb62f497fba7db29be77ca9e71a90b:bb2791eeee4cb2339621e336494cc7348a495dee1a89e31255c09b2e
+230b59a5dd7f9ea09495e120a6ece77f 24923518 26 up 0960acdd51d57b9be1171b014a7785b463e2ca2bbbd0c63ca6fd158b12:76058c2149058301842056fded8421444170b2518bb366c16c683a60eb
+f05dcbb47f33e7c5b85d680f86dd6a22 3c1955f3 14 up 27bd88e47daaa9d3e29655cf8ac82fd489ad628806a1d59d6c2c8e0131:877bd3dde95f90411073ee79f89c48a5f0c586468523c706c8e98ad596
+4d9c414dacbb529eb9cb486e327a2536 ffffffff 7 up d3d2bbda9b08d26c3432913a897f3e5a17df349ea7f3cef465e49018c2c7:e7f4ddb30cb232dbebb2025192c1e7fffd65b536f31cec4023d3902d7263
+6fa5969a5f722f8b0a8cb657b3c16cbe ba563be7 5 down \
+    b4646f75b258e79c48b8dbd3b00ed11473c49829c032526219de04dbc4f1f6:\
+    6ae0e4803ae04782c8d25ff2e857cc6b98e6ecf01c3c1a943c7dd5077ec796
+1f930b5300c60b1f1db144a342d88e42 9d5e0607 18 up \
+    0b0f8f420345712dc53bf26c361874cd6c6e43c810d7e2d9b9df86d76c27f4d3:\
+    615f89c086a7bda4d58905f9878c5e2bf1af9efb9ed0fa7e9c4db1fdd350cc7d
+56fc0b5c3a1be8d8f128b7dd09b212b0 843df7e5 20 up \
+    2795d7e2c6614a9f02c106e153bd9c928678e35c9faf025a3ca452df2f9aa69fd8:\
+    f7f56e99d8c69db742cb8f4c21e8eb88b52edcd3e1de1ec063e59c64944745b95b
+39a439e023e9d1c7b215a2c35d5189bf 2e1ad4f1 20 down \
+    58fc84eb28687150105188291c20545885fc3a4740907536574b4402c25e26ca6183:\
+    ccd14741a505c05ee0b75fb45f90eb841c4c73170b96f05843fb88736391b7c67c40
+f3c75bbebb3512f1fde4d89d30e347df bd910603 13 down \
+    5ee7fc1d77746b56e59bde68ec45170c726ad3f7f88f1cb4b063503be9d4b2e03fe30d:\
+    c7b68e915f633c102a261e6bd4a19e2275197a16542ef6bf8f125534a96596f3e9f8a0
+421d006eaf9169697296bef4db563595 f71d10f8 30 down \
+    e150558c40193cc048419db2fab349707f8b23befad5d41ed88c497dc21ed3f1235ad8e2:\
+    0c4f0944a0dcf229ba8820ccadd631fd0eea7933ab4efb756e1bcfc5823e2f8448285329
+182d4ff356e8be67a4aa16922ddaba21 d976ce29 12 down \
+    bc7a53811065e34920392da3e4018246f4d3e1658a57ce5654c2946e89b5ad91ebc5973018:\
+    f3fdb9ff0748d06fe14bd8fc8db2ec7b7b359a66b3cc3d3343a63d4ff5a2faaa985ab38893
+a430ba52bd622a2d06b3777daa6b7334 eaecc982 23 up \
+    2aa987267c13bcc1972f2c36462c26e1e676474083d2f0a6a70f4e20e08a965d8e3adc310bcc:\
+    9582f73e84126295fe8af27b64c74c5a1665e8693db9309517ace815821846a20f2c0131e0b0
+36bc8a461f7110c7fdbf94204bd9a05a 5a2098ac 8 down \
+    669ef312db1f85cade8b5e3b59f76cd595e98a3a19f595eab48538fa3af03c77dcc6a28f7a469f:\
+    29c8d5e4b017fb9e1f9cfdacf36fd855a00417d30c7c0ae61616b6161640bb3717528887adc1c6
+";
 
-static LONGER: [Case; 3] = [
-    Case {
-        key: "b08acda7419936f117e95ca7b8fa724c",
-        count: 0x23d7_9036,
-        bearer: 22,
-        dir: Dir::Down,
-        text: concat!(
-            "419628b46510eca5b53cb0299c70cb9e7e56dfd113ad8c544fe5fbedbd9afa08",
-            "dcffb615cd7088290e71b2dc40e9d0989d",
-        ),
-        out: concat!(
-            "17593c9cbcb23cc20adbed4af7eb07da8e4160f68ede44494564abf5312530d9",
-            "d2b3370d58388816b4a0ee4cb9cfaccb93",
-        ),
-    },
-    Case {
-        key: "921dc31692082ab4f6588956bbfca4f3",
-        count: 0x5795_e7ed,
-        bearer: 28,
-        dir: Dir::Down,
-        text: concat!(
-            "87f0225a2b11d246cc828d007dcd7c4fb9b371b3c53b5d42872b4936fa57f2ff",
-            "fbff1d94196e65b02ceb2a8fe86af00e612623bbff6b2e4adcabddcb4f795553",
-            "a5395396acc77fc9de8fc19b7d26850b41835706fc3df8ee74c48a7edea91553",
-            "502ba101d6eddc25cdceaa19bae736f021a20df3dd2ca0dee1f281d1733804b2",
-            "be5c7819",
-        ),
-        out: concat!(
-            "de1a93b3374c1f13cb4efb73000e3887b16f252150a65c42efaafa021e914897",
-            "36b878a681142d4b9349d2e477e4847aee4637e894e4d25e66924f5a26627413",
-            "282b30c7c6fa1fd0acddb193dbe93625389af7e4067003783407a9723b2a32e7",
-            "5f770b715deca5bbfa5d3b7ad1748a6fae6e02861c551ac9e763eee2683f9927",
-            "87b48604",
-        ),
-    },
-    Case {
-        key: "2b42e18183ee4212673ffa9f261f3949",
-        count: 0x0747_63d1,
-        bearer: 22,
-        dir: Dir::Up,
-        text: concat!(
-            "070e2e7168c2a04b06b46a2ba615f2b1f94f1a0becc231916b43e1c8e1a11f65",
-            "b5f171a7238350b243da039295deebc3d45afcf854a1e51fcd02b64556c90c4d",
-            "1f9e2a9734dc8e08fb8b99aa425b810a93a9108664079c1687c65d2878642308",
-            "7a25ffc42e171b3d1d2945532984169e1c2f4207331af7a322ff67d380b15016",
-            "ef0d42c60c7c5f6da9fe87d45a22a21437d9783182c60b521607c55c28d14c73",
-            "2baf88c3c0f1fb07b4e6b213ba416075b913c3b29ca06e68026ea66d6fe2a8cf",
-            "8532163d11b5751013a9bf2e921dba378ecf524e7eb34833a9ca61022cd4a0f0",
-            "d454e0b608e2342e227c9f1c9d3c1ebdcea91ae112",
-        ),
-        out: concat!(
-            "60bb4455866c2fb15e2604f888a1a861ae3bc30a36256548375b9fa0f5342a1b",
-            "dd65e3723747cf1a214eb3a8aed39492363d6edc220b54c888d9c83ff6dc711b",
-            "a6df5400fa78c02993e3fdb9b5ec6928ca75d4e78a23e6e1790a2c42aad29879",
-            "6b66e42d7d4a87d57faae25ecce681be73ed3ed2e089b3ae556775f929182f3d",
-            "12ef1fc19b8588ddfe5ee125e74a337701e35068600f32fb4ee1758ab97e8982",
-            "7e267f73486bdc771993b2efe6930d33255e6035cc700f26cb6f2cf4a07d89ef",
-            "3b8673360597721233bc6011ac0840a1bbd6af41534a4d5694ec2d263f8f5e62",
-            "0df72c4c4d9ccf07b64e5ac61e974badf223a9aa6c",
-        ),
-    },
-];
+static LONGER: &str = "\
+b08acda7419936f117e95ca7b8fa724c 23d79036 22 down \
+    419628b46510eca5b53cb0299c70cb9e7e56dfd113ad8c544fe5fbedbd9afa08dcffb615cd7088290e71b2dc40e9d0989d:\
+    17593c9cbcb23cc20adbed4af7eb07da8e4160f68ede44494564abf5312530d9d2b3370d58388816b4a0ee4cb9cfaccb93
+921dc31692082ab4f6588956bbfca4f3 5795e7ed 28 down \
+    87f0225a2b11d246cc828d007dcd7c4fb9b371b3c53b5d42872b4936fa57f2fffbff1d94196e65b02ceb2a8fe86af00e612623bbff6b2e4adcabddcb4f795553\
+    a5395396acc77fc9de8fc19b7d26850b41835706fc3df8ee74c48a7edea91553502ba101d6eddc25cdceaa19bae736f021a20df3dd2ca0dee1f281d1733804b2\
+    be5c7819:\
+    de1a93b3374c1f13cb4efb73000e3887b16f252150a65c42efaafa021e91489736b878a681142d4b9349d2e477e4847aee4637e894e4d25e66924f5a26627413\
+    282b30c7c6fa1fd0acddb193dbe93625389af7e4067003783407a9723b2a32e75f770b715deca5bbfa5d3b7ad1748a6fae6e02861c551ac9e763eee2683f9927\
+    87b48604
+2b42e18183ee4212673ffa9f261f3949 074763d1 22 up \
+    070e2e7168c2a04b06b46a2ba615f2b1f94f1a0becc231916b43e1c8e1a11f65b5f171a7238350b243da039295deebc3d45afcf854a1e51fcd02b64556c90c4d\
+    1f9e2a9734dc8e08fb8b99aa425b810a93a9108664079c1687c65d28786423087a25ffc42e171b3d1d2945532984169e1c2f4207331af7a322ff67d380b15016\
+    ef0d42c60c7c5f6da9fe87d45a22a21437d9783182c60b521607c55c28d14c732baf88c3c0f1fb07b4e6b213ba416075b913c3b29ca06e68026ea66d6fe2a8cf\
+    8532163d11b5751013a9bf2e921dba378ecf524e7eb34833a9ca61022cd4a0f0d454e0b608e2342e227c9f1c9d3c1ebdcea91ae112:\
+    60bb4455866c2fb15e2604f888a1a861ae3bc30a36256548375b9fa0f5342a1bdd65e3723747cf1a214eb3a8aed39492363d6edc220b54c888d9c83ff6dc711b\
+    a6df5400fa78c02993e3fdb9b5ec6928ca75d4e78a23e6e1790a2c42aad298796b66e42d7d4a87d57faae25ecce681be73ed3ed2e089b3ae556775f929182f3d\
+    12ef1fc19b8588ddfe5ee125e74a337701e35068600f32fb4ee1758ab97e89827e267f73486bdc771993b2efe6930d33255e6035cc700f26cb6f2cf4a07d89ef\
+    3b8673360597721233bc6011ac0840a1bbd6af41534a4d5694ec2d263f8f5e620df72c4c4d9ccf07b64e5ac61e974badf223a9aa6c
+";

@@ -1,371 +1,66 @@
 // 128-EIA1: random cases of another implementation, libipsec-mb 1.3.
 
-use crate::cases::{Algorithm, Case, try_all};
-use rec_base::Dir;
+use crate::cases::{Algorithm, try_all};
 use std::test::Fail;
 
 #[test]
 fn texts_of_0_to_39_octets_and_longer_as_another_implementation(
     rt: HostRuntime,
 ) -> Result<(), Fail> {
-    try_all(&rt, rt.alloc(), Algorithm::Eia1, &SHORT)?;
-    try_all(&rt, rt.alloc(), Algorithm::Eia1, &LONGER)
+    try_all(&rt, rt.alloc(), Algorithm::Eia1, SHORT)?;
+    try_all(&rt, rt.alloc(), Algorithm::Eia1, LONGER)
 }
 
-static SHORT: [Case; 39] = [
-    Case {
-        key: "df3859debe65a9ed58ae5a44915fe18a",
-        count: 0xeb82_ce0e,
-        bearer: 1,
-        dir: Dir::Down,
-        text: "c2",
-        out: "071bed52",
-    },
-    Case {
-        key: "62e72d826d94fddf947c54a0c3d303ca",
-        count: 0x0afb_0ba2,
-        bearer: 18,
-        dir: Dir::Up,
-        text: "ff81",
-        out: "9b26fa7f",
-    },
-    Case {
-        key: "8a5e1a0dd48fc72b59f2eb53fb222da4",
-        count: 0xd079_40b6,
-        bearer: 10,
-        dir: Dir::Up,
-        text: "e53056",
-        out: "40e44ad2",
-    },
-    Case {
-        key: "52640f1d17600d03e3da96072020b6ce",
-        count: 0x9c6d_12d5,
-        bearer: 9,
-        dir: Dir::Down,
-        text: "c0dec46e",
-        out: "f623a732",
-    },
-    Case {
-        key: "77139c7884662923e92a146d80e8571a",
-        count: 0xbb27_13bb,
-        bearer: 22,
-        dir: Dir::Up,
-        text: "c88ece7a81",
-        out: "09cdb5d6",
-    },
-    Case {
-        key: "ac105691ef9d96708316d66ab3c79c98",
-        count: 0x5ab4_9b99,
-        bearer: 25,
-        dir: Dir::Up,
-        text: "e52d6ce0c9b8",
-        out: "be866122",
-    },
-    Case {
-        key: "b03326268ae2feb7a786de7a2bc5110b",
-        count: 0x6311_19ef,
-        bearer: 10,
-        dir: Dir::Down,
-        text: "00000000000000",
-        out: "31f188aa",
-    },
-    Case {
-        key: "8748deedde342d910d3b47ebb2d96477",
-        count: 0x0d8e_9f08,
-        bearer: 29,
-        dir: Dir::Up,
-        text: "ffffffffffffffff",
-        out: "66db9ed9",
-    },
-    Case {
-        key: "79c322e4c0b86185d4e535b6eece92ff",
-        count: 0x016c_5f50,
-        bearer: 28,
-        dir: Dir::Up,
-        text: "3d815a66637d4e38ba",
-        out: "c1aa731e",
-    },
-    Case {
-        key: "4407c567f0efeb2b1ef3949c20fa3326",
-        count: 0xffff_ffff,
-        bearer: 25,
-        dir: Dir::Down,
-        text: "cb4ce45007e58a8e6b03",
-        out: "ceb8cd4f",
-    },
-    Case {
-        key: "244db2aef0893ad89a54260abb28e4c5",
-        count: 0x221c_5832,
-        bearer: 14,
-        dir: Dir::Up,
-        text: "a8c9ff436b7b38e94fd9e8",
-        out: "d99315a5",
-    },
-    Case {
-        key: "3c582b21bed1de96bdcc297aa83b02d4",
-        count: 0xd808_abf6,
-        bearer: 13,
-        dir: Dir::Up,
-        text: "b80263ccfd255c552dfb3936",
-        out: "0f158875",
-    },
-    Case {
-        key: "7c7dec452b0c647e31361877ae29592b",
-        count: 0xbc3e_8195,
-        bearer: 16,
-        dir: Dir::Up,
-        text: "6daf3d2dce74d82e27d588c658",
-        out: "99006dbb",
-    },
-    Case {
-        key: "bed0bc78095e845439401e3bb832f4ac",
-        count: 0xdc9a_2c67,
-        bearer: 7,
-        dir: Dir::Down,
-        text: "997bc107396dce95aad826c3c641",
-        out: "5a6a4658",
-    },
-    Case {
-        key: "8fcc85bcac65476cf3a1f66fcd7e54ce",
-        count: 0xe787_0857,
-        bearer: 6,
-        dir: Dir::Up,
-        text: "5dc22402e22fa899fcfa10e30fc06b",
-        out: "aa318b76",
-    },
-    Case {
-        key: "4af84ce50ee7e222c372a922a846640a",
-        count: 0x5a43_a704,
-        bearer: 14,
-        dir: Dir::Up,
-        text: "d059ecad2c0080a8ad4a6713a4d45284",
-        out: "4d2cd880",
-    },
-    Case {
-        key: "0632a9708aa6d0c24acb0d0ad208bc29",
-        count: 0x1cf7_c0b1,
-        bearer: 1,
-        dir: Dir::Down,
-        text: "05e25488075bca056e972502af727b90f0",
-        out: "b6efcfb5",
-    },
-    Case {
-        key: "9daae652efd40d710001734a1fc707a5",
-        count: 0x5522_a70a,
-        bearer: 23,
-        dir: Dir::Down,
-        text: "c179c7437c1a5a5f3c1c686ab9c9722fa622",
-        out: "9f386e6e",
-    },
-    Case {
-        key: "cbc758fcd61489004a66a7272a66ef7e",
-        count: 0xed95_9f03,
-        bearer: 20,
-        dir: Dir::Down,
-        text: "62e0b280b41025d640bbc844a9443b896b663d",
-        out: "9409935e",
-    },
-    Case {
-        key: "3fc13d979871625353d5c18b6ac122f4",
-        count: 0xffff_ffff,
-        bearer: 30,
-        dir: Dir::Down,
-        text: "ba13092c0614356dbad314f74980df2423bc7760",
-        out: "8c39dd43",
-    },
-    Case {
-        key: "8bd47a439ed20594e96570a85b238285",
-        count: 0xbfac_f333,
-        bearer: 29,
-        dir: Dir::Down,
-        text: "53d90546259e007478bff1e1cacaa7eb92d5d98d91",
-        out: "6744f8e6",
-    },
-    Case {
-        key: "e224a54b461332aeb7759b36f4d5647a",
-        count: 0xbf42_5985,
-        bearer: 26,
-        dir: Dir::Down,
-        text: "99caabd7e0593714503202659141ae0519060dd22b07",
-        out: "d2d4d4b8",
-    },
-    Case {
-        key: "a5ff49ec633504016b971e45f46bc89c",
-        count: 0x51af_87df,
-        bearer: 17,
-        dir: Dir::Down,
-        text: "d86912463aba8ea6ac8c1beca95fcec506dea98a0e17b3",
-        out: "7b9dc181",
-    },
-    Case {
-        key: "3a3b4468f01817f4ad4043abc4fc631b",
-        count: 0x0271_48b6,
-        bearer: 0,
-        dir: Dir::Up,
-        text: "5715cddf7514fbc6fbeff8b93a713d4e6fa1e0f0185e0f44",
-        out: "ec71b0c5",
-    },
-    Case {
-        key: "2ce1bd0f42b1280845c30e76d759c57c",
-        count: 0xc7e3_7c6e,
-        bearer: 20,
-        dir: Dir::Down,
-        text: "2f6c949f650b332ae17d988c44ea23d1c8c38bd85d26bbd347",
-        out: "fb616e37",
-    },
-    Case {
-        key: "c245366a9e5d314d8facdfe80ad3576c",
-        count: 0x809b_80cc,
-        bearer: 4,
-        dir: Dir::Up,
-        text: "dd4c30a78eb6d0dfa03fc5c71bfe05882a067c68b7f0ec53ed99",
-        out: "4143870b",
-    },
-    Case {
-        key: "38c97048db02d3c6603ba9c8ba679a83",
-        count: 0x9c77_02af,
-        bearer: 7,
-        dir: Dir::Up,
-        text: "c6932ced7a5009bf6ecc85e6d30d7706eb4656c5c2c46c2889a388",
-        out: "6213f147",
-    },
-    Case {
-        key: "821ea9b0b4cdac057cb88aa11b2227c5",
-        count: 0x3f64_981b,
-        bearer: 17,
-        dir: Dir::Down,
-        text: "373b898b51a5d2281b249f4e9f198c8b36236b73c8506131c9e08172",
-        out: "cb25d45e",
-    },
-    Case {
-        key: "2caddb99d5fb3e611bb630481b42a5c9",
-        count: 0x4a6c_54cc,
-        bearer: 30,
-        dir: Dir::Down,
-        text: "66ef47498cc0590849a808117ded440889ae3fe02c18848f645cd01091",
-        out: "f1915770",
-    },
-    Case {
-        key: "51abd3bf3fc900fe76a1b2618035583c",
-        count: 0xffff_ffff,
-        bearer: 19,
-        dir: Dir::Down,
-        text: "9cdbc793895304ab1c38af0fdbf07b55d1b8dc801f7b4bee2fdb171c7373",
-        out: "a39000d2",
-    },
-    Case {
-        key: "097a8bd06748068a3bd703b684135394",
-        count: 0xc7de_b276,
-        bearer: 30,
-        dir: Dir::Up,
-        text: "6af9e03771aec23f7643ec591cd5fa9a448fdfbdd3ea5ae8a32cc697f4a51e",
-        out: "8691b93b",
-    },
-    Case {
-        key: "4450358d0646280ae74fed777699c599",
-        count: 0x5c18_442b,
-        bearer: 19,
-        dir: Dir::Down,
-        text: "68478915ca9abfee6db8afc06b551b08ec3ffad3319a2bc25d72abab02f004f6",
-        out: "fd6c3be0",
-    },
-    Case {
-        key: "5bcc6f76676391cbd1fe528266a22a7c",
-        count: 0xa9ad_9665,
-        bearer: 22,
-        dir: Dir::Down,
-        text: "1e33c5fde853138455da5cb311614b3c6ce743c4cbefc9ac2739a468b7a7534e70",
-        out: "c7e77b66",
-    },
-    Case {
-        key: "d73da6ac2fab2749352ff811a31756d2",
-        count: 0x7dca_e6f2,
-        bearer: 15,
-        dir: Dir::Up,
-        text: "9d3cb53bdc6513983d078613d9271fb58dc60071715bdad73902148b6b99080850ef",
-        out: "3bf1b87c",
-    },
-    Case {
-        key: "850aa7bf727282a6464e148e167d61c6",
-        count: 0xbf13_c770,
-        bearer: 25,
-        dir: Dir::Down,
-        text: "6a84dcc2790697d4ab671140cf6de79de34cdd571b1200e302ea4e6d4849078f5f245a",
-        out: "157ba11f",
-    },
-    Case {
-        key: "f6197ac856ca02471a0a121af841921f",
-        count: 0x9bb5_f4a1,
-        bearer: 21,
-        dir: Dir::Up,
-        text: "62873579383d22cbbe01a072501ad2768f11b4cec77802877ca0491a08bf118e89e1ccc9",
-        out: "0ee93e48",
-    },
-    Case {
-        key: "44a7863b000525c1c78481c657c740e5",
-        count: 0xdf00_ebfa,
-        bearer: 1,
-        dir: Dir::Down,
-        text: "5326bbca176aa034d00bba5bb9c4a180240b7f7000eaaa1dba5963863e550bdc0143047c0e",
-        out: "2dabe1e7",
-    },
-    Case {
-        key: "308036b4b72678805c16c4a346183d4b",
-        count: 0x6e5e_87e3,
-        bearer: 30,
-        dir: Dir::Up,
-        text: "ee16ea4363a0ab46ba2059d0bee2a1de2be4979b40f4483f5d48d115dd5656f958bfda01c946",
-        out: "d2c2fded",
-    },
-    Case {
-        key: "7e2b70b9ca5cd15bde3e624baa51c767",
-        count: 0x3ad7_222f,
-        bearer: 26,
-        dir: Dir::Up,
-        text: "c72b09347fcc123db00a03b5971796421b9b574a40016e4dbcbf7471d1f7fe4bb6606a4b2a1a2c",
-        out: "64cf8343",
-    },
-];
+static SHORT: &str = "\
+df3859debe65a9ed58ae5a44915fe18a eb82ce0e 1 down c2:071bed52
+62e72d826d94fddf947c54a0c3d303ca 0afb0ba2 18 up ff81:9b26fa7f
+8a5e1a0dd48fc72b59f2eb53fb222da4 d07940b6 10 up e53056:40e44ad2
+52640f1d17600d03e3da96072020b6ce 9c6d12d5 9 down c0dec46e:f623a732
+77139c7884662923e92a146d80e8571a bb2713bb 22 up c88ece7a81:09cdb5d6
+ac105691ef9d96708316d66ab3c79c98 5ab49b99 25 up e52d6ce0c9b8:be866122
+b03326268ae2feb7a786de7a2bc5110b 631119ef 10 down 00000000000000:31f188aa
+8748deedde342d910d3b47ebb2d96477 0d8e9f08 29 up ffffffffffffffff:66db9ed9
+79c322e4c0b86185d4e535b6eece92ff 016c5f50 28 up 3d815a66637d4e38ba:c1aa731e
+4407c567f0efeb2b1ef3949c20fa3326 ffffffff 25 down cb4ce45007e58a8e6b03:ceb8cd4f
+244db2aef0893ad89a54260abb28e4c5 221c5832 14 up a8c9ff436b7b38e94fd9e8:d99315a5
+3c582b21bed1de96bdcc297aa83b02d4 d808abf6 13 up b80263ccfd255c552dfb3936:0f158875
+7c7dec452b0c647e31361877ae29592b bc3e8195 16 up 6daf3d2dce74d82e27d588c658:99006dbb
+bed0bc78095e845439401e3bb832f4ac dc9a2c67 7 down 997bc107396dce95aad826c3c641:5a6a4658
+8fcc85bcac65476cf3a1f66fcd7e54ce e7870857 6 up 5dc22402e22fa899fcfa10e30fc06b:aa318b76
+4af84ce50ee7e222c372a922a846640a 5a43a704 14 up d059ecad2c0080a8ad4a6713a4d45284:4d2cd880
+0632a9708aa6d0c24acb0d0ad208bc29 1cf7c0b1 1 down 05e25488075bca056e972502af727b90f0:b6efcfb5
+9daae652efd40d710001734a1fc707a5 5522a70a 23 down c179c7437c1a5a5f3c1c686ab9c9722fa622:9f386e6e
+cbc758fcd61489004a66a7272a66ef7e ed959f03 20 down 62e0b280b41025d640bbc844a9443b896b663d:9409935e
+3fc13d979871625353d5c18b6ac122f4 ffffffff 30 down ba13092c0614356dbad314f74980df2423bc7760:8c39dd43
+8bd47a439ed20594e96570a85b238285 bfacf333 29 down 53d90546259e007478bff1e1cacaa7eb92d5d98d91:6744f8e6
+e224a54b461332aeb7759b36f4d5647a bf425985 26 down 99caabd7e0593714503202659141ae0519060dd22b07:d2d4d4b8
+a5ff49ec633504016b971e45f46bc89c 51af87df 17 down d86912463aba8ea6ac8c1beca95fcec506dea98a0e17b3:7b9dc181
+3a3b4468f01817f4ad4043abc4fc631b 027148b6 0 up 5715cddf7514fbc6fbeff8b93a713d4e6fa1e0f0185e0f44:ec71b0c5
+2ce1bd0f42b1280845c30e76d759c57c c7e37c6e 20 down 2f6c949f650b332ae17d988c44ea23d1c8c38bd85d26bbd347:fb616e37
+c245366a9e5d314d8facdfe80ad3576c 809b80cc 4 up dd4c30a78eb6d0dfa03fc5c71bfe05882a067c68b7f0ec53ed99:4143870b
+38c97048db02d3c6603ba9c8ba679a83 9c7702af 7 up c6932ced7a5009bf6ecc85e6d30d7706eb4656c5c2c46c2889a388:6213f147
+821ea9b0b4cdac057cb88aa11b2227c5 3f64981b 17 down 373b898b51a5d2281b249f4e9f198c8b36236b73c8506131c9e08172:cb25d45e
+2caddb99d5fb3e611bb630481b42a5c9 4a6c54cc 30 down 66ef47498cc0590849a808117ded440889ae3fe02c18848f645cd01091:f1915770
+51abd3bf3fc900fe76a1b2618035583c ffffffff 19 down 9cdbc793895304ab1c38af0fdbf07b55d1b8dc801f7b4bee2fdb171c7373:a39000d2
+097a8bd06748068a3bd703b684135394 c7deb276 30 up 6af9e03771aec23f7643ec591cd5fa9a448fdfbdd3ea5ae8a32cc697f4a51e:8691b93b
+4450358d0646280ae74fed777699c599 5c18442b 19 down 68478915ca9abfee6db8afc06b551b08ec3ffad3319a2bc25d72abab02f004f6:fd6c3be0
+5bcc6f76676391cbd1fe528266a22a7c a9ad9665 22 down 1e33c5fde853138455da5cb311614b3c6ce743c4cbefc9ac2739a468b7a7534e70:c7e77b66
+d73da6ac2fab2749352ff811a31756d2 7dcae6f2 15 up 9d3cb53bdc6513983d078613d9271fb58dc60071715bdad73902148b6b99080850ef:3bf1b87c
+850aa7bf727282a6464e148e167d61c6 bf13c770 25 down 6a84dcc2790697d4ab671140cf6de79de34cdd571b1200e302ea4e6d4849078f5f245a:157ba11f
+f6197ac856ca02471a0a121af841921f 9bb5f4a1 21 up 62873579383d22cbbe01a072501ad2768f11b4cec77802877ca0491a08bf118e89e1ccc9:0ee93e48
+44a7863b000525c1c78481c657c740e5 df00ebfa 1 down 5326bbca176aa034d00bba5bb9c4a180240b7f7000eaaa1dba5963863e550bdc0143047c0e:2dabe1e7
+308036b4b72678805c16c4a346183d4b 6e5e87e3 30 up ee16ea4363a0ab46ba2059d0bee2a1de2be4979b40f4483f5d48d115dd5656f958bfda01c946:d2c2fded
+7e2b70b9ca5cd15bde3e624baa51c767 3ad7222f 26 up c72b09347fcc123db00a03b5971796421b9b574a40016e4dbcbf7471d1f7fe4bb6606a4b2a1a2c:64cf8343
+";
 
-static LONGER: [Case; 3] = [
-    Case {
-        key: "40f236b14f1756b5ed48c90f53536ac1",
-        count: 0xe706_103b,
-        bearer: 11,
-        dir: Dir::Down,
-        text: concat!(
-            "3d5100522f2d7d9413abd49759e59de10b6dd9fe9f81d460cfad708e53a5beca",
-            "92770e0ef9184402ca9272d3088613d3027365037a23",
-        ),
-        out: "28b7e3ae",
-    },
-    Case {
-        key: "28c1cbd9cf5a89f01442baaa5fc26883",
-        count: 0x6931_435f,
-        bearer: 22,
-        dir: Dir::Up,
-        text: concat!(
-            "80b40f07a9c3e5df1fa476059b87072a91ff0f8d050dcdb39404ba13f29a55ea",
-            "0214987af76c0efe74cdc6a3c3208212d0bb78bdb8c40d578e28304c47aeda4c",
-            "368d7c22af0a2b687da9f853f6da48c106d62a9ed2275e604a38b99a8a",
-        ),
-        out: "499400b5",
-    },
-    Case {
-        key: "7424064dd16530cc04dc814340be938b",
-        count: 0xc5a7_a04d,
-        bearer: 1,
-        dir: Dir::Up,
-        text: concat!(
-            "4686a53faabee92fa84e68bb9bf864bee0e9327a1fda4f71cbd2c5bd700ebbb9",
-            "f4d10c0da6054fc08cd3df590e85a210c2280fc4a30f7bd2e23518bef2eb0e9c",
-            "bd74a7f472187fbe9af066e2d81b3e72b326d825366c84be877718f206035f7b",
-            "c633cdc1183a4f02f4f7a1b4cc667b7f0fb50a7460bcf3580cc3daa90e07bf4e",
-            "a1f19581728e940849d8cb4b219ed58835ef47c0fc8da5991999eda4c7672192",
-            "d5d6d4b485c34de31303e4bc2ce63e0b152e2f1d34c111737652bee9b0ae7108",
-            "95a4f6ee338b7974edb0b49082599f1606560b356876417e867780d98794b1a6",
-            "e76c7e639803a4fe36e8f04799fcdb84921c980a1bb79c",
-        ),
-        out: "9c169f88",
-    },
-];
+static LONGER: &str = "\
+40f236b14f1756b5ed48c90f53536ac1 e706103b 11 down 3d5100522f2d7d9413abd49759e59de10b6dd9fe9f81d460cfad708e53a5beca92770e0ef9184402ca9272d3088613d3027365037a23:28b7e3ae
+28c1cbd9cf5a89f01442baaa5fc26883 6931435f 22 up \
+    80b40f07a9c3e5df1fa476059b87072a91ff0f8d050dcdb39404ba13f29a55ea0214987af76c0efe74cdc6a3c3208212d0bb78bdb8c40d578e28304c47aeda4c\
+    368d7c22af0a2b687da9f853f6da48c106d62a9ed2275e604a38b99a8a:499400b5
+7424064dd16530cc04dc814340be938b c5a7a04d 1 up \
+    4686a53faabee92fa84e68bb9bf864bee0e9327a1fda4f71cbd2c5bd700ebbb9f4d10c0da6054fc08cd3df590e85a210c2280fc4a30f7bd2e23518bef2eb0e9c\
+    bd74a7f472187fbe9af066e2d81b3e72b326d825366c84be877718f206035f7bc633cdc1183a4f02f4f7a1b4cc667b7f0fb50a7460bcf3580cc3daa90e07bf4e\
+    a1f19581728e940849d8cb4b219ed58835ef47c0fc8da5991999eda4c7672192d5d6d4b485c34de31303e4bc2ce63e0b152e2f1d34c111737652bee9b0ae7108\
+    95a4f6ee338b7974edb0b49082599f1606560b356876417e867780d98794b1a6e76c7e639803a4fe36e8f04799fcdb84921c980a1bb79c:9c169f88
+";

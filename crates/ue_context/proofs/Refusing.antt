@@ -12,8 +12,8 @@ use Rattle.lte_events.specs.declared.inputs.PhoneIn.{PhoneIn}
 use Rattle.lte_events.specs.declared.inputs.PhoneIn.TheVariants.{Auth, Act, Nas, Air}
 use Rattle.lte_events.specs.declared.replies.ActorOut.{ActorOut}
 use Rattle.key_model.specs.Reading.{octet_reading}
-use Rattle.nas_guard.specs.declared.sending.CountSpent as spent
-use Rattle.nas_guard.specs.Estimate.{nas_count_limit, estimate_of}
+use Rattle.nas_count.specs.declared.sending.CountSpent as spent
+use Rattle.nas_count.specs.Estimate.{nas_count_limit, estimate_of}
 use Rattle.nas_guard.specs.Open.{sn_in, sent_in}
 use Rattle.nas_rec.specs.declared.records.NasRecord.{NasRecord}
 use Rattle.nas_rec.specs.declared.records.NasRecord as nas

@@ -8,7 +8,7 @@ use Rattle.lte_events.specs.declared.inputs.PhoneIn.TheVariants.{Nas}
 use Rattle.lte_events.specs.declared.replies.ActorOut.{ActorOut}
 use Rattle.lte_events.specs.Reply.{reply_of}
 use Rattle.key_model.specs.Reading.{octet_reading}
-use Rattle.nas_guard.specs.Estimate.{nas_count_limit}
+use Rattle.nas_count.specs.Estimate.{nas_count_limit}
 use Rattle.lte_machine.specs.Calls.{phone_input, use_out}
 use Rattle.lte_machine.specs.Ciphers.{annex_b}
 use Rattle.lte_machine.specs.Opening.{accepted_of, open_octets}

@@ -1,8 +1,8 @@
 // The ordinary scenario against peers in memory.
 use crate::kept::{CORE, PHONE, REPORT, SCENARIO, STATION_0, STATION_1};
 use crate::values::{same, same_at};
-use actor_drive::{DriveFault, drive};
 use edge_io::{MemPeers, MemSink};
+use hub_drive::{DriveFault, drive};
 use run_report::Ending;
 use scenario_file::read;
 use std::process::Abort;
@@ -43,7 +43,7 @@ fn driven<R: Abort + AllocGlobal>(rt: &R, failing: Option<u64>) -> Option<(End, 
         Ok(Ending::Done) => End::Done,
         Err(DriveFault::Memory) => End::Memory,
         Err(DriveFault::PeerFault) => End::PeerFault,
-        Ok(Ending::Coincidence) | Err(_) => End::Other,
+        Ok(Ending::Chance) | Err(_) => End::Other,
     };
     Some((end, out))
 }

@@ -202,7 +202,7 @@ static CASES: [Case; 6] = [
 ];
 
 // What it answers then: the KeNB, in row 3, is the KASME.
-const COINCIDENCE: WorldFault = WorldFault::Coincidence(Proof::RootIsRow(
+const COINCIDENCE: WorldFault = WorldFault::Chance(Proof::RootIsRow(
     Key(3),
     [
         0xe6, 0x26, 0x73, 0x59, 0xde, 0x01, 0x2d, 0x9b, 0xda, 0x17, 0x3d, 0x1b, 0x6f, 0xae, 0x57,

@@ -1,9 +1,9 @@
 // How a session ends: at a frame's edge, inside a frame, at a frame that is none, and at a fault.
 use super::{front, octets_of, session};
 use crate::values::{same, same_at};
-use actor_frames::FrameFault;
-use actor_serve::ServeEnd;
 use edge_io::Role;
+use role_node::ServeEnd;
+use role_wire::FrameFault;
 use std::test::Fail;
 
 // A Setup of the phone, an authentication, and an act; and the reply to each.

@@ -2,9 +2,9 @@
 // reply, and one with a bad body, which ends the session.
 use super::{octets_of, session};
 use crate::values::same_at;
-use actor_frames::FrameFault;
-use actor_serve::ServeEnd;
 use edge_io::Role;
+use role_node::ServeEnd;
+use role_wire::FrameFault;
 use std::test::Fail;
 
 // A frame and its reply; a frame that is none, by its octets and so many zeros behind them, and the offset of its

@@ -81,8 +81,6 @@ module _ (same : Term → Term → Bool) (g : Ghost) (s : Phone Term ℕ) (stati
   -- a ciphered record of this address is under a key that the phone had taken
   pub plain_here : (w : Waiting Term) → NewKenb g.took (Connecting w) → (u : KeyUse Term) → (algs : Algs) → u.key ≡ (keys_of w.kenb algs).rrc_int
       → (text : List ℕ) (o : Option (Outgoing Term ℕ)) → CameDown g station air on pdu o → WasSealed u None text o → CipheredAs Down None o
-  plain_here w never u algs key text None h sealed = tt
-  plain_here w never u algs key text (Some (SealedNas dir header i f sent)) h sealed = tt
   plain_here w never u algs key text (Some (SealedRrc Up st a srb i f sent)) h sealed = absurd h
   plain_here w never u algs key text (Some (SealedRrc Down st a srb i None sent)) h sealed = refl
   plain_here w never u algs key text (Some (SealedRrc Down st a srb i (Some f) sent)) h sealed =
@@ -90,9 +88,7 @@ module _ (same : Term → Term → Bool) (g : Ghost) (s : Phone Term ℕ) (stati
       let had = d.3.1 in
       let kenb : d.0.key ≡ w.kenb = sym (one_key w.kenb d.0.key _ _ _ _ (sym key ∙ ap (λ v. v.key) sealed.0 ∙ ap (λ v. v.key) d.2)) in
       absurd (never had.0 had.1 (had.4 ∙ kenb))
-  plain_here w never u algs key text (Some (PlainNas octets)) h sealed = tt
-  plain_here w never u algs key text (Some (UserPacket dir st a drb e sent)) h sealed = tt
-  plain_here w never u algs key text (Some (Between to fields k)) h sealed = tt
+  plain_here w never u algs key text other h sealed = tt
 
   -- an unciphered record of this address is the first, which the phone took before
   pub ciphered_here : (l : Link Term ℕ) → LinkIs g l → l.station ≡ station → l.air ≡ air → (srb : Srb) (count : ℕ) → on ≡ OnSrb srb

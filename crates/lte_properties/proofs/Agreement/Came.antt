@@ -37,13 +37,10 @@ none_came g (Address.StationX2 station) pdu = tt
 between_came : (g : Ghost) (to : Address) (pdu : List ℕ) (fields : Fields) (key : Option (NumberedKey Term ℕ))
     → BetweenOk g to fields key
     → CameTo g to pdu (Some (Between to fields key))
-between_came g Address.PhoneNas pdu fields key k = tt
-between_came g (Address.Phone station air bearer) pdu fields key k = tt
-between_came g Address.CoreNas pdu fields key k = tt
 between_came g Address.CoreS1 pdu fields key k = k
-between_came g (Address.StationAir station air bearer) pdu fields key k = tt
 between_came g (Address.StationS1 station) pdu fields key k = k
 between_came g (Address.StationX2 station) pdu fields key k = k
+between_came g other pdu fields key k = tt
 
 module _ (octets : Outgoing Term ℕ → List ℕ) (tell : OctetsTell octets) where
   pub sent_came : (g : Ghost) (x : Outgoing Term ℕ) → SentOk g x → CameTo g (address_of x) (octets x) (Some x)

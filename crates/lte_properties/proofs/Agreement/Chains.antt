@@ -239,11 +239,11 @@ module _ (cells : List Site) (c : Conns) (w : TheWorld) (h : WorldOk cells c w) 
     made = all_map (MadeOk (ghost c w)) (λ m. IsKeyOf chains m.conn m.key m.number) (λ m k. key_of m.conn m.key m.number k.5) w.made h.made;
     how = all_map (MadeOk (ghost c w)) (λ m. MadeHow chains w.tried w.took m m.from) (λ m k. how m k m.from refl) w.made h.made;
     tried = all_map (TriedOk cells (ghost c w)) (TriedOn chains) tried_on w.tried h.tried;
-    contexts = all_map (StationOk cells (ghost c w)) (λ s. ContextOn chains s.context) (λ s k. context_on s.id s.context k.0) w.stations h.stations;
+    contexts = all_map (StationOk cells (ghost c w)) (λ s. ContextOn chains s.context) (λ s k. context_on s.id s.context k.context) w.stations h.stations;
     attempts =
         all_map (StationOk cells (ghost c w)) (λ s. AttemptsOn w.made w.tried s.id s.context)
-        (λ s k. attempts_on s.id s.context k.0) w.stations h.stations;
-    preps = all_map (StationOk cells (ghost c w)) (λ s. AllOf (PrepOn chains) s.preps) (λ s k. preps_on s.id s.preps k.1) w.stations h.stations;
+        (λ s k. attempts_on s.id s.context k.context) w.stations h.stations;
+    preps = all_map (StationOk cells (ghost c w)) (λ s. AllOf (PrepOn chains) s.preps) (λ s k. preps_on s.id s.preps k.preps) w.stations h.stations;
     core = link_on w.core.next w.core.link h.core.0 holds.core.0;
     sent = all_map (SentOk (ghost c w)) (RecordOn chains) record_on w.sent h.sent;
     took = all_map (TookOk (ghost c w)) (TookOn chains w.made) took_on w.took h.took;

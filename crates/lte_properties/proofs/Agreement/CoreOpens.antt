@@ -24,13 +24,10 @@ CameNas pdu (Some other) = ⊤
 
 -- a message of header type 4 that opened has COUNT 0
 first_count : (pdu : List ℕ) (count : ℕ) → core_header pdu ≡ Ok 4 → (came : Option (Outgoing Term ℕ)) → CameNas pdu came → WasCounted count came → count ≡ 0
-first_count pdu count is None h counted = absurd counted
 first_count pdu count is (Some (SealedNas Up header i f text)) h counted = counted ∙ h.0 (sym (h.1 4 is))
 first_count pdu count is (Some (SealedNas Down header i f text)) h counted = absurd h
 first_count pdu count is (Some (SealedRrc dir st a srb i f text)) h counted = absurd h
-first_count pdu count is (Some (PlainNas octets)) h counted = absurd counted
-first_count pdu count is (Some (UserPacket dir st a drb f text)) h counted = absurd counted
-first_count pdu count is (Some (Between to fields key)) h counted = absurd counted
+first_count pdu count is other h counted = absurd counted
 
 -- a Complete that opened was sealed with its COUNT
 pub core_nas_zero : (same : Term → Term → Bool) (s : Core Term ℕ) (pdu : List ℕ) (came : Option (Outgoing Term ℕ)) → CameNas pdu came → (outcome : Outcome)

@@ -76,12 +76,8 @@ module _ (same : Term → Term → Bool) (root : ℕ → List ℕ → Term) (oct
       → ReadOk (BetweenOk (ghost c w) Address.CoreS1) came
       → (outcome : Outcome)
       → CoreGoes cells (ghost c w) (core_step (term_reading_by same) w.core (CoreRecord (content_in m came)) outcome)
-  core_read_goes c w h None k outcome = core_unread_goes same cells (ghost c w) h.tried RecFault.Short w.core h.core
-  core_read_goes c w h (Some (SealedNas dir header i e text)) k outcome = core_unread_goes same cells (ghost c w) h.tried RecFault.Short w.core h.core
-  core_read_goes c w h (Some (PlainNas pdu)) k outcome = core_unread_goes same cells (ghost c w) h.tried RecFault.Short w.core h.core
-  core_read_goes c w h (Some (SealedRrc dir station air srb i e text)) k outcome = core_unread_goes same cells (ghost c w) h.tried RecFault.Short w.core h.core
-  core_read_goes c w h (Some (UserPacket dir station air drb e text)) k outcome = core_unread_goes same cells (ghost c w) h.tried RecFault.Short w.core h.core
   core_read_goes c w h (Some (Between to fields key)) k outcome = core_record_goes same cells (ghost c w) h.tried Address.CoreS1 fields key k w.core h.core
+  core_read_goes c w h other k outcome = core_unread_goes same cells (ghost c w) h.tried RecFault.Short w.core h.core
 
   read_came : (c : Conns) (w : TheWorld) (on : Interface) (id : ℕ) (pdu : List ℕ) (came : Option (Outgoing Term ℕ))
       → CameTo (ghost c w) (address_on on id) pdu came

@@ -82,9 +82,7 @@ module _ (same : Term → Term → Bool) (took : List (Took Term ℕ)) (h : Foll
       → TookLast took radio
       → Follows took (key_changed (term_reading_by same) cell algs station air s radio o)
   key_change cell algs station air s (Connected l) (Some c) k last = changed cell algs station air s l c.root (same c.root l.chain.root) k last
-  key_change cell algs station air s (Connected l) None k last = (h, k)
-  key_change cell algs station air s Idle o k last = (h, k)
-  key_change cell algs station air s (Connecting w) o k last = (h, k)
+  key_change cell algs station air s other rest k last = (h, k)
 
   opened_rrc : (srb : Srb) (count : ℕ) (text : List ℕ) (s : Phone Term ℕ) (radio : Radio Term ℕ)
       → TookLast took s.radio

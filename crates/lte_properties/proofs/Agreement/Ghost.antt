@@ -232,9 +232,17 @@ SeenBy id seen m =
     m.station ≡ id → (o : Origin) → m.from ≡ ByAttempt o → (o.source ≡ id → ⊥) → o.attempt ≤ slice_index seen o.source
 
 abbrev pub StationOk : List Site → Ghost → Station Term ℕ → Type 0
-StationOk cells g s =
-    CtxOk g s.id s.context × AllOf (PrepOk g s.id) s.preps × FreshFrom g s.id s.next
-    × (s.cells ≡ cells) × (s.id ≤ 7) × (1 ≤ s.next) × (length s.seen ≡ 8) × AllOf (SeenBy s.id s.seen) g.made
+StationOk cells g s = record {
+  context : CtxOk g s.id s.context;
+  preps : AllOf (PrepOk g s.id) s.preps;
+  -- nothing was made or tried at the numbers to come
+  fresh : FreshFrom g s.id s.next;
+  cells : s.cells ≡ cells;
+  id : s.id ≤ 7;
+  next : 1 ≤ s.next;
+  ring : length s.seen ≡ 8;
+  seen : AllOf (SeenBy s.id s.seen) g.made;
+}
 
 -- a phone that came to what was made for a connection took the first record there, so that its next COUNT is not 0
 abbrev pub HeardFirst : Made Term ℕ → Bearers → Type 0

@@ -56,16 +56,16 @@ stations_begin : (cells : List Site) (g : Ghost) (made : g.made ≡ []) (tried :
     → AllOf (StationOk cells g) (stations_of cells ss)
 stations_begin cells g made tried [] h = tt
 stations_begin cells g made tried (s ∷ ss) h = (
-  (
-    tt,
-    tt,
-    (λ n low. (ap (λ xs. made_at xs s.id n) made, ap (λ xs. tried_at xs s.id n) tried)),
-    refl,
-    h.0.0,
-    h.0.1.0,
-    refl,
-    subst (λ xs. AllOf (SeenBy s.id (replicate 8 0)) xs) (sym made) tt,
-  ),
+  record {
+    context = tt;
+    preps = tt;
+    fresh = λ n low. (ap (λ xs. made_at xs s.id n) made, ap (λ xs. tried_at xs s.id n) tried);
+    cells = refl;
+    id = h.0.0;
+    next = h.0.1.0;
+    ring = refl;
+    seen = subst (λ xs. AllOf (SeenBy s.id (replicate 8 0)) xs) (sym made) tt;
+  },
   stations_begin cells g made tried ss h.1,
 )
 
@@ -201,7 +201,7 @@ module _ (cells : List Site) (c : Conns) (w : TheWorld) (h : WorldOk cells c w) 
   joined (Connecting waiting) k = tt
   joined (Connected l) k =
       all_map (StationOk cells (ghost c w)) (λ s. s.id ≡ l.station → ContextAt l.air s.context (Agree l))
-      (λ s ok is. joined_one l k s is s.context ok.0) w.stations h.stations
+      (λ s ok is. joined_one l k s is s.context ok.context) w.stations h.stations
 
   comes : (id : ℕ) (o : Option (Context Term ℕ)) → CtxOk (ghost c w) id o → ComesMade w id o
   comes id None ok = tt
@@ -222,8 +222,8 @@ module _ (cells : List Site) (c : Conns) (w : TheWorld) (h : WorldOk cells c w) 
     one_term = one_term;
     none_under = none_under order;
     joined = joined w.phone.radio h.radio;
-    completed = all_map (StationOk cells (ghost c w)) (λ s. ComesMade w s.id s.context) (λ s ok. comes s.id s.context ok.0) w.stations h.stations;
-    preps = all_map (StationOk cells (ghost c w)) (λ s. AllOf (PrepMade w s.id) s.preps) (λ s ok. preps_made s.id s.preps ok.1) w.stations h.stations;
+    completed = all_map (StationOk cells (ghost c w)) (λ s. ComesMade w s.id s.context) (λ s ok. comes s.id s.context ok.context) w.stations h.stations;
+    preps = all_map (StationOk cells (ghost c w)) (λ s. AllOf (PrepMade w s.id) s.preps) (λ s ok. preps_made s.id s.preps ok.preps) w.stations h.stations;
   }
 
 -- where the phone took a key that is not the one made, no context has that air address, in any world before or after
@@ -248,5 +248,5 @@ module _ (cells : List Site) (c d : Conns) (v u : TheWorld) (l : Later (ghost c 
   none_before =
       all_map (TookOk (ghost d u)) (λ x. IsFar u.made x → EachStation v x.station (λ s. ContextAt x.air s.context (λ y. ⊥)))
       (λ x k far. all_map (StationOk cells (ghost c v)) (λ s. s.id ≡ x.station → ContextAt x.air s.context (λ y. ⊥))
-      (λ s ok is. none_before_at x k far s is s.context ok.0) v.stations a.stations)
+      (λ s ok is. none_before_at x k far s is s.context ok.context) v.stations a.stations)
       u.took b.took

@@ -139,11 +139,7 @@ module _ (same : Term → Term → Bool) (root : ℕ → List ℕ → Term) (oct
       → WayIsNew id d.0 key way
       → WayShown (station_after m w id d).0 id key way
   way_after w id s e d key Way.Completed h = (d.0, is_put id d.0 w.stations s e, h.0, way_put id d.0 w.stations key h.1)
-  way_after w id s e d key Way.Initial h = tt
-  way_after w id s e d key Way.Horizontal h = tt
-  way_after w id s e d key Way.Vertical h = tt
-  way_after w id s e d key Way.Chained h = tt
-  way_after w id s e d key Way.Given h = tt
+  way_after w id s e d key other h = tt
 
   note_after : (w : TheWorld) (id : ℕ) (s : Station Term ℕ)
       → station_of_id id w.stations ≡ Some s
@@ -193,7 +189,7 @@ way_told cells c u h id key Way.Completed k = (
   k.1,
   k.2,
   all_both (StationOk cells (ghost c u)) (λ s. s.id ≡ id → IsNew s.context key) _
-      (λ s ok f is. had_active cells (ghost c u) s id key is s.context ok.0 (f is)) u.stations h.stations k.3,
+      (λ s ok f is. had_active cells (ghost c u) s id key is s.context ok.context (f is)) u.stations h.stations k.3,
 )
 way_told cells c u h id key Way.Initial k = tt
 way_told cells c u h id key Way.Horizontal k = tt
@@ -202,12 +198,8 @@ way_told cells c u h id key Way.Chained k = tt
 way_told cells c u h id key Way.Given k = tt
 
 note_told : (cells : List Site) (c : Conns) (u : TheWorld) → WorldOk cells c u → (who : Who) (o : Option (Note Term)) → NoteShown u who o → TellsNote u who o
-note_told cells c u h (Who.Station id) None k = tt
 note_told cells c u h (Who.Station id) (Some note) k = way_told cells c u h id note.key note.way k
-note_told cells c u h Who.Phone o k = tt
-note_told cells c u h Who.Core o k = tt
-note_told cells c u h Who.World o k = tt
-note_told cells c u h Who.Both o k = tt
+note_told cells c u h other rest k = tt
 
 -- at each line
 pub line_told : (same : Term → Term → Bool) (root : ℕ → List ℕ → Term) (octets : Outgoing Term ℕ → List ℕ)

@@ -105,13 +105,10 @@ nas_judged c u i e f dir header sent pdu false used = tt
 srb_honest : (c : Ciphers Term) (u : KeyUse Term) (e : Option (Ciphering Term)) (pdu : List ℕ) (came : Option (Outgoing Term ℕ))
     → IsHonest (OpensSrb u e) came (open_by_uses same_term c (OpensSrb u e) pdu came)
 unfolding open_foreign
-srb_honest c u e pdu None = tt
 srb_honest c u e pdu (Some (SealedNas dir header i f sent)) = nas_judged c u i e f dir header sent pdu (same_uses same_term u i) refl
-srb_honest c u e pdu (Some (PlainNas octets)) = tt
 srb_honest c u e pdu (Some (SealedRrc dir station air srb i f sent)) =
     rrc_judged c u i e f dir station air srb sent pdu (same_uses same_term u i) (same_ciphering same_term e f) refl refl
-srb_honest c u e pdu (Some (UserPacket dir station air drb f sent)) = tt
-srb_honest c u e pdu (Some (Between to fields key)) = tt
+srb_honest c u e pdu other = tt
 
 -- uses that some test says are one have one COUNT
 one_count : (same : Term → Term → Bool) (u v : KeyUse Term) → same_uses same u v ≡ true → u.count ≡ v.count
@@ -140,16 +137,13 @@ counted_case c u e pdu came false b sent f = tt
 nas_honest : (same : Term → Term → Bool) (c : Ciphers Term) (u : KeyUse Term) (e : Option (Ciphering Term)) (pdu : List ℕ) (came : Option (Outgoing Term ℕ))
     → IsHonest (OpensNas u e) came (open_by_uses same c (OpensNas u e) pdu came)
 unfolding open_foreign
-nas_honest same c u e pdu None = tt
 nas_honest same c u e pdu (Some (SealedNas dir header i f sent)) =
     counted_case c u e pdu (Some (SealedNas dir header i f sent)) (same_uses same u i) (same_ciphering same e f) sent
     (λ b. counted_nas u i e f dir header sent (one_count same u i b))
-nas_honest same c u e pdu (Some (PlainNas octets)) = tt
 nas_honest same c u e pdu (Some (SealedRrc dir station air srb i f sent)) =
     counted_case c u e pdu (Some (SealedRrc dir station air srb i f sent)) (same_uses same u i) false sent
     (λ b. counted_rrc u i e f dir station air srb sent (one_count same u i b))
-nas_honest same c u e pdu (Some (UserPacket dir station air drb f sent)) = tt
-nas_honest same c u e pdu (Some (Between to fields key)) = tt
+nas_honest same c u e pdu other = tt
 
 -- an opener that compares the uses on SRBs as terms, and those on NAS in any way, is honest
 opener_honest : (c : Ciphers Term) (opener : Opening Term → List ℕ → Option (Outgoing Term ℕ) → Outcome) → OpensByTerms c opener

@@ -59,7 +59,6 @@ start_named : (g : Ghost) (w : Waiting Term) (station air : ℕ) (pdu : List ℕ
     → (u : KeyUse Term) → u.key ≡ (keys_of w.kenb algs).rrc_int → u.dir ≡ Down
     → (text : List ℕ) (came : Option (Outgoing Term ℕ)) → CameDown g station air on pdu came → WasSealed u None text came → CipheredAs u.dir None came
     → StartNeeds g station air algs (Connecting w)
-start_named g w station air pdu on algs ns na reads is_s is_a u key down text None h sealed calm = absurd sealed
 start_named g w station air pdu on algs ns na reads is_s is_a u key down text (Some (SealedNas dir header i f sent)) h sealed calm = absurd h
 start_named g w station air pdu on algs ns na reads is_s is_a u key down text (Some (SealedRrc Up st a srb i f sent)) h sealed calm = absurd h
 start_named g w station air pdu on algs ns na reads is_s is_a u key down text (Some (SealedRrc Down st a srb i f sent)) h sealed calm =
@@ -72,9 +71,7 @@ start_named g w station air pdu on algs ns na reads is_s is_a u key down text (S
     let one : says.0 ≡ m = same_found _ says.0 m there d.1 in
     let kenb : w.kenb ≡ m.key = one_key w.kenb m.key _ _ _ _ (sym key ∙ ap (λ v. v.key) sealed.0 ∙ ap (λ v. v.key) d.2) in
     (m, d.1, from, kenb, sym (subst (λ x. x.algs ≡ algs) one says.3))
-start_named g w station air pdu on algs ns na reads is_s is_a u key down text (Some (PlainNas octets)) h sealed calm = absurd sealed
-start_named g w station air pdu on algs ns na reads is_s is_a u key down text (Some (UserPacket dir st a drb e sent)) h sealed calm = absurd sealed
-start_named g w station air pdu on algs ns na reads is_s is_a u key down text (Some (Between to fields k)) h sealed calm = absurd sealed
+start_named g w station air pdu on algs ns na reads is_s is_a u key down text other h sealed calm = absurd sealed
 
 module _ (same : Term → Term → Bool) (g : Ghost) (s : Phone Term ℕ) (station air : ℕ) (pdu : List ℕ) (on : Which)
     (came : Option (Outgoing Term ℕ)) (came_ok : CameDown g station air on pdu came) (yet : NothingYet g s.radio) where
@@ -84,7 +81,6 @@ module _ (same : Term → Term → Bool) (g : Ghost) (s : Phone Term ℕ) (stati
       → WasSealed (srb_use Down l.keys.rrc_int srb count) (Some (srb_ciphering Down l.keys srb count)) text o
       → CipheredAs Down (Some (srb_ciphering Down l.keys srb count)) o
       → TextOk g l.station l.kenb text × OwnMade g l
-  text_is l h is_s is_a srb count is_on text None k sealed calm = absurd sealed
   text_is l h is_s is_a srb count is_on text (Some (SealedNas dir header i f sent)) k sealed calm = absurd k
   text_is l h is_s is_a srb count is_on text (Some (SealedRrc Up st a sr i f sent)) k sealed calm = absurd k
   text_is l h is_s is_a srb count is_on text (Some (SealedRrc Down st a sr i None sent)) k sealed calm = absurd cc
@@ -109,9 +105,7 @@ module _ (same : Term → Term → Bool) (g : Ghost) (s : Phone Term ℕ) (stati
     where
       one_srb : (a b : Srb) → OnSrb a ≡ OnSrb b → a ≡ b
       one_srb a b e = cc
-  text_is l h is_s is_a srb count is_on text (Some (PlainNas octets)) k sealed calm = absurd sealed
-  text_is l h is_s is_a srb count is_on text (Some (UserPacket dir st a drb e sent)) k sealed calm = absurd sealed
-  text_is l h is_s is_a srb count is_on text (Some (Between to fields key)) k sealed calm = absurd sealed
+  text_is l h is_s is_a srb count is_on text other k sealed calm = absurd sealed
 
   abbrev q : Reading Term ℕ
   q = term_reading_by same
@@ -162,7 +156,6 @@ module _ (same : Term → Term → Bool) (g : Ghost) (s : Phone Term ℕ) (stati
         (at_signalling IsHonest srb count y f honest) (at_signalling IsCalm srb count y f calm)
 
     row_walks : (row : AirRow) → AirHas q s station air on pdu outcome row → AirNeeds g s.radio row
-    row_walks (AirRefused answer) f = tt
     row_walks (LinkSecured st a algs count) f = secured st a algs count f
     row_walks (HandedOver cell steps algs st a) f =
         let x = f.read in
@@ -175,8 +168,7 @@ module _ (same : Term → Term → Bool) (g : Ghost) (s : Phone Term ℕ) (stati
         let change = says.0 (KeyChange cell algs st a) x.reads in
         subst (ChangeNeeds g cell algs st a) (sym x.by.here.connected)
         (change, subst (NothingYet g) x.by.here.connected yet st a change.0 change.1 change.2, says.1)
-    row_walks (RrcOpened srb count text) f = tt
-    row_walks (PacketOpened drb count text) f = tt
+    row_walks other f = tt
 
     -- a PDU at an air address
     pub air_walks : AirNeeds g s.radio (air_row s.caps front outcome)

@@ -1,5 +1,6 @@
 -- What the rows of a station on records leave of the invariant of agreement.
-use Rattle.std.proofs.Common.{◌≡◌, ℕ, ◌<◌, ◌≤◌, ◌+◌, refl, sym, ◌∙◌, ap, subst, arith, Bool, true, false, List, [], ◌∷◌, ◌++◌, Option, Some, None, Ok, option_map}
+use Rattle.std.proofs.Common.{◌≡◌, ℕ, ◌<◌, ◌≤◌, ◌+◌, refl, sym, ◌∙◌, ap, subst, le_trans, arith, Bool, true, false, List, [], ◌∷◌, ◌++◌, Option, Some, None, Ok, option_map}
+use Rattle.ho_prep.specs.Prep.{Prep}
 use Rattle.std.specs.Prelude.{⊤, length, slice_index, slice_set}
 use Rattle.std.proofs.lemmas.List.{length-set}
 use Rattle.alg_choice.specs.declared.algs.Algs.{Algs}
@@ -86,9 +87,36 @@ had_by g id air t false o e h = h
 
 -- the context of a station
 module _ (cells : List Site) (g : Ghost) (s : Station Term ℕ) (ok : StationOk cells g s) where
-  -- where it alone changes
+  -- where context and preparations alone change
+  pub with_both : (o : Option (Context Term ℕ)) → CtxOk g s.id o → (ps : List (Prep Term ℕ)) → AllOf (PrepOk g s.id) ps
+      → StationOk cells g (record s { context = o; preps = ps })
+  with_both o k ps b = record {
+    context = k;
+    preps = b;
+    fresh = ok.fresh;
+    cells = ok.cells;
+    id = ok.id;
+    next = ok.next;
+    ring = ok.ring;
+    seen = ok.seen;
+  }
+
+  -- and the next number, where one was drawn
+  pub next_drawn : (next : ℕ) → s.next ≤ next → (o : Option (Context Term ℕ)) → CtxOk g s.id o → (ps : List (Prep Term ℕ)) → AllOf (PrepOk g s.id) ps
+      → StationOk cells g (record s { next = next; context = o; preps = ps })
+  next_drawn next up o k ps b = let first = ok.next in record {
+    context = k;
+    preps = b;
+    fresh = λ n above. ok.fresh n (le_trans up above);
+    cells = ok.cells;
+    id = ok.id;
+    next = le_trans first up;
+    ring = ok.ring;
+    seen = ok.seen;
+  }
+
   pub with_ctx : (o : Option (Context Term ℕ)) → CtxOk g s.id o → StationOk cells g (record s { context = o })
-  with_ctx o k = (k, ok.1, ok.2, ok.3, ok.4, ok.5, ok.6, ok.7)
+  with_ctx o k = with_both o k s.preps ok.preps
 
   map_ctx : (f : Context Term ℕ → Context Term ℕ) → ((c : Context Term ℕ) → CtxOk g s.id (Some c) → CtxOk g s.id (Some (f c)))
       → (o : Option (Context Term ℕ)) → CtxOk g s.id o → CtxOk g s.id (option_map f o)
@@ -97,11 +125,11 @@ module _ (cells : List Site) (g : Ghost) (s : Station Term ℕ) (ok : StationOk 
 
   pub mapped : (f : Context Term ℕ → Context Term ℕ) → ((c : Context Term ℕ) → CtxOk g s.id (Some c) → CtxOk g s.id (Some (f c)))
       → StationOk cells g (record s { context = option_map f s.context })
-  mapped f keeps = with_ctx (option_map f s.context) (map_ctx f keeps s.context ok.0)
+  mapped f keeps = with_ctx (option_map f s.context) (map_ctx f keeps s.context ok.context)
 
   -- where it is this one
   pub ctx_at : (c : Context Term ℕ) → s.context ≡ Some c → CtxOk g s.id (Some c)
-  ctx_at c e = subst (CtxOk g s.id) e ok.0
+  ctx_at c e = subst (CtxOk g s.id) e ok.context
 
   pub mapped_at : (f : Context Term ℕ → Context Term ℕ) (c : Context Term ℕ) → s.context ≡ Some c → CtxOk g s.id (Some (f c))
       → StationOk cells g (record s { context = option_map f s.context })
@@ -126,7 +154,7 @@ module _ (same : Term → Term → Bool) (cells : List Site) (g : Ghost) (made_o
 
   -- nothing was made or tried above what is made now
   fresh_above : (m : Made Term ℕ) → s.next ≤ m.air → FreshFrom (told g (Some m) None) s.id (m.air + 1)
-  fresh_above m up n above = (made_none g.made m s.id n (ok.2 n (omega arith)).0 (omega arith), (ok.2 n (omega arith)).1)
+  fresh_above m up n above = (made_none g.made m s.id n (ok.fresh n (omega arith)).0 (omega arith), (ok.fresh n (omega arith)).1)
 
   -- A CONTEXT
 
@@ -143,22 +171,22 @@ module _ (same : Term → Term → Bool) (cells : List Site) (g : Ghost) (made_o
         algs = algs;
         from = BySetup;
       } in
-      let here : made_at (g.made ++ m ∷ []) s.id air ≡ Some m = made_new g.made m (ok.2 air (omega arith)).0 in
-      let first = ok.5 in
+      let here : made_at (g.made ++ m ∷ []) s.id air ≡ Some m = made_new g.made m (ok.fresh air (omega arith)).0 in
+      let first = ok.next in
       let low : 1 ≤ air = omega arith in
       let term : TermOk (told g (Some m) None) conn kenb.key 0 = (of_conn, omega arith, ap chain_key key_is) in
-      let text = reads_as (SaysOk (told g (Some m) None) s.id kenb.key) (SecurityModeCommand algs s.id air) (ok.4, (low, small)) (m, here, refl, refl) in (
-        (
-          (term, tt, refl, (m, here, (refl, refl, refl), refl, tt), tt, refl),
-          tt,
-          fresh_above m (omega arith),
-          ok.3,
-          ok.4,
-          omega arith,
-          ok.6,
-          all_append (SeenBy s.id s.seen) g.made m ok.7 (λ at o e other. absurd (setup_no_attempt m refl o e)),
-        ),
-        ((low, small, ok.4, (refl, of_conn, key_is), here, term), apart_always m (setup_no_attempt m refl) g.made),
+      let text = reads_as (SaysOk (told g (Some m) None) s.id kenb.key) (SecurityModeCommand algs s.id air) (ok.id, (low, small)) (m, here, refl, refl) in (
+        record {
+          context = (term, tt, refl, (m, here, (refl, refl, refl), refl, tt), tt, refl);
+          preps = tt;
+          fresh = fresh_above m (omega arith);
+          cells = ok.cells;
+          id = ok.id;
+          next = omega arith;
+          ring = ok.ring;
+          seen = all_append (SeenBy s.id s.seen) g.made m ok.seen (λ at o e other. absurd (setup_no_attempt m refl o e));
+        },
+        ((low, small, ok.id, (refl, of_conn, key_is), here, term), apart_always m (setup_no_attempt m refl) g.made),
         tt,
         (m, here, refl, (refl, refl, refl), text),
         refl,
@@ -187,10 +215,10 @@ module _ (same : Term → Term → Bool) (cells : List Site) (g : Ghost) (made_o
       let at = both_named e.station w.from.source e.attempt w.from.attempt (found_holds (is_tried_at w.from.source w.from.attempt) g.tried e found) in
       let own = own_try w.from.source w.from.attempt e found in
       let low : w.from.source ≤ 7 = subst (λ n. n ≤ 7) at.0 own.3 in (
-        length-set s.seen w.from.source w.from.attempt ∙ ok.6,
+        length-set s.seen w.from.source w.from.attempt ∙ ok.ring,
         all_append (SeenBy s.id (slice_set s.seen w.from.source w.from.attempt)) g.made m
-            (seen_more s.id w.from.source w.from.attempt s.seen ok.6 low news g.made ok.7) (seen_there s.id s.seen m w.from is ok.6 low),
-        apart_unseen g s.id s.seen m w.from is e found target (λ own_source. other (target ∙ sym own_source ∙ sym at.0)) news g.made made_ok ok.7,
+            (seen_more s.id w.from.source w.from.attempt s.seen ok.ring low news g.made ok.seen) (seen_there s.id s.seen m w.from is ok.ring low),
+        apart_unseen g s.id s.seen m w.from is e found target (λ own_source. other (target ∙ sym own_source ∙ sym at.0)) news g.made made_ok ok.seen,
       )
 
   -- what is made is of the attempt, and what is sent may point to what was made
@@ -204,24 +232,24 @@ module _ (same : Term → Term → Bool) (cells : List Site) (g : Ghost) (made_o
       let k = told g (Some m) None in
       let l = told_more g (Some m) None in
       let air_is : w.air ≡ s.next = a.air_is in
-      let first = ok.5 in
+      let first = ok.next in
       let low : 1 ≤ w.air = omega arith in
-      let here : made_at k.made s.id w.air ≡ Some m = made_new g.made m (ok.2 w.air (omega arith)).0 in
+      let here : made_at k.made s.id w.air ≡ Some m = made_new g.made m (ok.fresh w.air (omega arith)).0 in
       let own = own_try w.from.source w.from.attempt e found in
       let from : FromOk k m (ByAttempt w.from) = (e, found, term_number g e.conn e.key e.number own.0, sym target, leads, given, conn, cell) in
       let prep : PrepOk k s.id (admitted_prep r w by star) = (term, tt, refl, m, here, (refl, refl, refl), λ e. setup_no_attempt m e w.from refl) in
       let once = taken_once w m refl a.new e found (sym target) other in (
-        (
-          ctx_later g k l s.id s.context ok.0,
-          all_append _ _ _ (all_filter _ _ s.preps (preps_later g k l s.id s.preps ok.1)) prep,
-          fresh_above m (omega arith),
-          ok.3,
-          ok.4,
-          omega arith,
-          once.0,
-          once.1,
-        ),
-        ((low, drawn s.next w.air a.air_is a.left, ok.4, from, here, term), once.2),
+        record {
+          context = ctx_later g k l s.id s.context ok.context;
+          preps = all_append _ _ _ (all_filter _ _ s.preps (preps_later g k l s.id s.preps ok.preps)) prep;
+          fresh = fresh_above m (omega arith);
+          cells = ok.cells;
+          id = ok.id;
+          next = omega arith;
+          ring = once.0;
+          seen = once.1;
+        },
+        ((low, drawn s.next w.air a.air_is a.left, ok.id, from, here, term), once.2),
         tt,
         out here,
         refl,
@@ -324,25 +352,25 @@ module _ (same : Term → Term → Bool) (cells : List Site) (g : Ghost) (made_o
       let k = told g (Some m) None in
       let l = told_more g (Some m) None in
       let low : 1 ≤ air = omega arith in
-      let here : made_at (g.made ++ m ∷ []) s.id air ≡ Some m = made_new g.made m (ok.2 air (omega arith)).0 in
+      let here : made_at (g.made ++ m ∷ []) s.id air ≡ Some m = made_new g.made m (ok.fresh air (omega arith)).0 in
       let ctx : CtxOk k s.id (Some c) = ctx_later g k l s.id (Some c) (ctx_at cells g s ok c e) in
       let taken : HadTaken k.took s.id c.air c.key.kenb = had_by k s.id c.air c.key.kenb c.starting c.attempt active ctx.5 in
       let from : FromOk k m (ByChange c.key.kenb) = (refl, is_cell, came.2, (λ j. Star (came.3 j) c.cell.pci c.cell.earfcn), c.air, taken) in
       let term : TermOk k conn m.key 0 = (came.0, omega arith, ap chain_key came.1 ∙ base_nh (g.root conn) (g.count conn) 0) in
-      let made_new_ok : MadeOk k m = (low, small, ok.4, from, here, term) in
+      let made_new_ok : MadeOk k m = (low, small, ok.id, from, here, term) in
       let change : ChangeIs k c.key.kenb c.cell c.algs s.id air = (m, here, refl, refl, refl) in
       let all_made : AllOf (MadeOk k) k.made =
       all_append (MadeOk k) g.made m (all_map (MadeOk g) (MadeOk k) (made_later g k l) g.made made_ok) made_new_ok in (
-        (
-          (ctx.0, ctx.1, ctx.2, ctx.3, change, started_any k s.id c.air c.key.kenb c.starting _ active taken),
-          ((term, tt, refl, m, here, (refl, refl, refl), λ e. change_no_setup m c.key.kenb refl e), tt),
-          fresh_above m (omega arith),
-          ok.3,
-          ok.4,
-          omega arith,
-          ok.6,
-          all_append (SeenBy s.id s.seen) g.made m ok.7 (λ at o e other. absurd (change_no_attempt m c.key.kenb refl o e)),
-        ),
+        record {
+          context = (ctx.0, ctx.1, ctx.2, ctx.3, change, started_any k s.id c.air c.key.kenb c.starting _ active taken);
+          preps = ((term, tt, refl, m, here, (refl, refl, refl), λ e. change_no_setup m c.key.kenb refl e), tt);
+          fresh = fresh_above m (omega arith);
+          cells = ok.cells;
+          id = ok.id;
+          next = omega arith;
+          ring = ok.ring;
+          seen = all_append (SeenBy s.id s.seen) g.made m ok.seen (λ at o e other. absurd (change_no_attempt m c.key.kenb refl o e));
+        },
         (made_new_ok, apart_always m (change_no_attempt m c.key.kenb refl) g.made),
         tt,
         sends_down k s.id c.air c ctx refl Signalling1 count (change_text s.id a) (change_says k all_made c.key.kenb s.id a change) taken,
@@ -406,13 +434,13 @@ module _ (same : Term → Term → Bool) (cells : List Site) (g : Ghost) (made_o
       given = λ conn cell caps algs air kenb k.
           let b = says OnS1 _ (Some kenb) k.0.on_is k.0.fields_is k.1 in
           given_goes conn cell caps algs air kenb k.0.air_is (drawn s.next air k.0.air_is k.0.left) b.0 b.1;
-      released = λ key k. ((tt, tt, ok.2, ok.3, ok.4, ok.5, ok.6, ok.7), tt, tt, tt, refl, tt, tt);
+      released = λ key k. (with_both cells g s ok None tt [] tt, tt, tt, tt, refl, tt, tt);
       taken = λ conn origin pair k. taken_goes conn origin pair k.0.context k.0.serving (answered conn origin pair k.0 k.1);
       by_s1 = λ w pair k. by_s1_goes w pair k.0.admits (says OnS1 _ (Some pair) k.0.on_is k.0.fields_is k.1);
       by_x2 = λ w star k. by_x2_goes w star k.0.admits (says OnX2 _ (Some star) k.0.on_is k.0.fields_is k.1);
       acked_s1 = λ ncc algs air key k. (acked_s1 ncc algs air key k.0 k.1, tt, tt, tt, refl, tt, tt);
       acked_x2 = λ algs air key k. (acked_x2 algs air key k.0 k.1, tt, tt, tt, refl, tt, tt);
-      cancelled = λ from key k. ((ok.0, all_filter _ _ s.preps ok.1, ok.2, ok.3, ok.4, ok.5, ok.6, ok.7), tt, tt, tt, refl, tt, tt);
+      cancelled = λ from key k. (with_both cells g s ok s.context ok.context _ (all_filter _ _ s.preps ok.preps), tt, tt, tt, refl, tt, tt);
       left = λ key k. (with_ctx cells g s ok None tt, tt, tt, tt, refl, tt, tt);
       renewed = λ conn number air count c e kenb k. renewed conn number air count c e kenb k.0 k.1;
     }

@@ -35,7 +35,7 @@ use Rattle.lte_properties.proofs.Agreement.Terms.{lands}
 use Rattle.lte_properties.proofs.Agreement.Ghost.{Ghost, tried_at, TermOk, PairOk, PairsOk, MadeOk, TriedOk, GivenOk, IsOrder, AttemptOk, StartedOk, CtxOk, FreshFrom, SeenBy, StationOk, SaysOk, OutOk}
 use Rattle.lte_properties.proofs.Agreement.Later.{term_later, ctx_later, preps_later}
 use Rattle.lte_properties.proofs.Agreement.Told.{told, told_more, made_new, made_none, tried_new, tried_none, all_append, all_filter, SiteOk, reads_as, term_number, leads_up, leads_level, star_term}
-use Rattle.lte_properties.proofs.Agreement.Station.{StationGoes, started_map, started_any, with_ctx, mapped, ctx_at, had}
+use Rattle.lte_properties.proofs.Agreement.Station.{StationGoes, started_map, started_any, with_both, next_drawn, with_ctx, mapped, ctx_at, had}
 use Rattle.lte_properties.proofs.Agreement.Seen.{setup_no_attempt, one_origin, apart_new}
 use Rattle.lte_properties.proofs.Agreement.StationSends.{sends_down, order_says, change_says}
 
@@ -54,15 +54,10 @@ had_with g id air t false o a e h = h
 orders_ok : (same : Term → Term → Bool) (g : Ghost) (id conn : ℕ) (t : Term) (attempt : Attempt Term ℕ) (order : Order)
     → Orders (term_reading_by same) attempt order → AttemptOk g id conn t (Some attempt) → IsOrder g id t order
 orders_ok same g id conn t (OverX2 (X2Open start)) order o h = absurd o
-orders_ok same g id conn t (OverX2 (X2Ready acked)) order o h = subst (IsOrder g id t) (sym o) h.0
-orders_ok same g id conn t (OverX2 (X2Commanded sent)) order o h = subst (IsOrder g id t) (sym o) h.0
 orders_ok same g id conn t (OverS1 (S1Open start)) order o h = absurd o
-orders_ok same g id conn t (OverS1 (S1Ready acked)) order o h = subst (IsOrder g id t) (sym o) h.0
-orders_ok same g id conn t (OverS1 (S1Commanded sent)) order o h = subst (IsOrder g id t) (sym o) h.0
 orders_ok same g id conn t (Within (X2Open start)) order o h = absurd o
-orders_ok same g id conn t (Within (X2Ready acked)) order o h = subst (IsOrder g id t) (sym o) h.0
-orders_ok same g id conn t (Within (X2Commanded sent)) order o h = subst (IsOrder g id t) (sym o) h.0
 orders_ok same g id conn t (Renewing renewal) order o h = absurd o
+orders_ok same g id conn t other order o h = subst (IsOrder g id t) (sym o) h.0
 
 module _ (same : Term → Term → Bool) (cells : List Site) (cells_ok : AllOf SiteOk cells) (g : Ghost) (made_ok : AllOf (MadeOk g) g.made)
     (tried_ok : AllOf (TriedOk cells g) g.tried) (s : Station Term ℕ) (ok : StationOk cells g s) where
@@ -106,15 +101,24 @@ module _ (same : Term → Term → Bool) (cells : List Site) (cells_ok : AllOf S
       let e = attempts number target cell c kind in
       let x = told g None (Some e) in
       let l = told_more g None (Some e) in
-      let here : tried_at (g.tried ++ e ∷ []) s.id number ≡ Some e = tried_new g.tried e (ok.2 number (omega arith)).1 in
+      let here : tried_at (g.tried ++ e ∷ []) s.id number ≡ Some e = tried_new g.tried e (ok.fresh number (omega arith)).1 in
       let ctx : CtxOk x s.id (Some c) = ctx_later g x l s.id (Some c) (ctx_at cells g s ok c at) in
       let so = rest here ctx in
-      let there : station_of cell cells ≡ Some target = subst (λ x. station_of cell x ≡ Some target) ok.3 site in
+      let there : station_of cell cells ≡ Some target = subst (λ x. station_of cell x ≡ Some target) ok.cells site in
       let fresh : FreshFrom x s.id (number + 1) =
-      λ n up. ((ok.2 n (omega arith)).0, tried_none g.tried e s.id n (ok.2 n (omega arith)).1 (omega arith)) in (
-        (so.0, preps_later g x l s.id s.preps ok.1, fresh, ok.3, ok.4, omega arith, ok.6, ok.7),
+      λ n up. ((ok.fresh n (omega arith)).0, tried_none g.tried e s.id n (ok.fresh n (omega arith)).1 (omega arith)) in (
+        record {
+          context = so.0;
+          preps = preps_later g x l s.id s.preps ok.preps;
+          fresh = fresh;
+          cells = ok.cells;
+          id = ok.id;
+          next = omega arith;
+          ring = ok.ring;
+          seen = ok.seen;
+        },
         tt,
-        (ctx.0, there, so.1, ok.4),
+        (ctx.0, there, so.1, ok.id),
         so.2,
         refl,
         tt,
@@ -178,40 +182,40 @@ module _ (same : Term → Term → Bool) (cells : List Site) (cells_ok : AllOf S
       } in
       let x = told g (Some m) (Some e) in
       let l = told_more g (Some m) (Some e) in
-      let tried_here : tried_at (g.tried ++ e ∷ []) s.id number ≡ Some e = tried_new g.tried e (ok.2 number (omega arith)).1 in
-      let made_here : made_at (g.made ++ m ∷ []) s.id air ≡ Some m = made_new g.made m (ok.2 air (omega arith)).0 in
+      let tried_here : tried_at (g.tried ++ e ∷ []) s.id number ≡ Some e = tried_new g.tried e (ok.fresh number (omega arith)).1 in
+      let made_here : made_at (g.made ++ m ∷ []) s.id air ≡ Some m = made_new g.made m (ok.fresh air (omega arith)).0 in
       let ok_star = star_ok c.conn c.key.kenb c.key.number cell c.key.pair k.0 k.1 above.0 in
       let term : TermOk x c.conn star.key star.number = term_later g x l c.conn star.number star.key ok_star.0 in
       let ctx : CtxOk x s.id (Some c) = ctx_later g x l s.id (Some c) k in
-      let there : station_of cell cells ≡ Some s.id = subst (λ x. station_of cell x ≡ Some s.id) ok.3 site in
+      let there : station_of cell cells ≡ Some s.id = subst (λ x. station_of cell x ≡ Some s.id) ok.cells site in
       let fresh : FreshFrom x s.id (air + 1) =
       λ n up. (
-        made_none g.made m s.id n (ok.2 n (omega arith)).0 (omega arith),
-        tried_none g.tried e s.id n (ok.2 n (omega arith)).1 (omega arith),
+        made_none g.made m s.id n (ok.fresh n (omega arith)).0 (omega arith),
+        tried_none g.tried e s.id n (ok.fresh n (omega arith)).1 (omega arith),
       ) in
       let number_is : chain_number c.key.kenb ≡ c.key.number = term_number g c.conn c.key.kenb c.key.number k.0 in (
-        (
-          (
+        record {
+          context = (
             ctx.0,
             tt,
             ctx.2,
             ctx.3,
             ((m, origin, e, made_here, refl, tried_here, refl, refl, refl, refl, refl), ctx.1, (e, tried_here, refl, refl)),
             started_any x s.id c.air c.key.kenb c.starting _ active taken,
-          ),
-          all_append _ _ _ (preps_later g x l s.id s.preps ok.1) (term, tt, refl, m, made_here, (refl, refl, refl), λ e. setup_no_attempt m e origin refl),
-          fresh,
-          ok.3,
-          ok.4,
-          omega arith,
-          ok.6,
-          all_append (SeenBy s.id s.seen) g.made m ok.7 (λ at o e other. absurd (other (sym (ap (λ p. p.source) (one_origin m.from origin o refl e))))),
-        ),
+          );
+          preps = all_append _ _ _ (preps_later g x l s.id s.preps ok.preps) (term, tt, refl, m, made_here, (refl, refl, refl), λ e. setup_no_attempt m e origin refl);
+          fresh = fresh;
+          cells = ok.cells;
+          id = ok.id;
+          next = omega arith;
+          ring = ok.ring;
+          seen = all_append (SeenBy s.id s.seen) g.made m ok.seen (λ at o e other. absurd (other (sym (ap (λ p. p.source) (one_origin m.from origin o refl e)))));
+        },
         (
-          (omega arith, omega arith, ok.4, (e, tried_here, number_is, refl, (ok_star.1, ok_star.2), refl, refl, refl), made_here, ok_star.0),
-          apart_new g m origin refl (ok.2 number (omega arith)).1 g.made made_ok,
+          (omega arith, omega arith, ok.id, (e, tried_here, number_is, refl, (ok_star.1, ok_star.2), refl, refl, refl), made_here, ok_star.0),
+          apart_new g m origin refl (ok.fresh number (omega arith)).1 g.made made_ok,
         ),
-        (ctx.0, there, (term, (ok_star.1, ok_star.2)), ok.4),
+        (ctx.0, there, (term, (ok_star.1, ok_star.2)), ok.id),
         tt,
         refl,
         refl,
@@ -251,15 +255,11 @@ module _ (same : Term → Term → Bool) (cells : List Site) (cells_ok : AllOf S
   -- GIVING UP
 
   spent_ok : (id conn : ℕ) (t : Term) (o : Option (Attempt Term ℕ)) → AttemptOk g id conn t o → PairsOk g conn (spent_in o)
-  spent_ok id conn t None h = tt
   spent_ok id conn t (Some (OverX2 (X2Open start))) h = h.1
   spent_ok id conn t (Some (OverX2 (X2Ready acked))) h = h.1
-  spent_ok id conn t (Some (OverX2 (X2Commanded sent))) h = tt
-  spent_ok id conn t (Some (OverS1 state)) h = tt
   spent_ok id conn t (Some (Within (X2Open start))) h = h.1
   spent_ok id conn t (Some (Within (X2Ready acked))) h = h.1
-  spent_ok id conn t (Some (Within (X2Commanded sent))) h = tt
-  spent_ok id conn t (Some (Renewing a)) h = tt
+  spent_ok id conn t other h = tt
 
   restored_pair : (conn : ℕ) (o : Option (NumberedKey Term ℕ)) (back : NumberedKey Term ℕ) → PairsOk g conn o → PairOk g conn back
       → PairsOk g conn (pair_after o back)
@@ -319,11 +319,11 @@ module _ (same : Term → Term → Bool) (cells : List Site) (cells_ok : AllOf S
           commands_change_goes renewal count c e (subst (λ x. x.attempt ≡ Some (Renewing renewal)) (one_context k.context c k.serving e) k.trying);
       cancelled_x2 = λ conn number target k. (gives_up, tt, tt, tt, refl, tt, tt);
       cancelled_s1 = λ conn number cell k. (gives_up, tt, tt, tt, refl, tt, tt);
-      cancelled_within = λ number k. ((gives_up.0, all_filter _ _ s.preps ok.1, ok.2, ok.3, ok.4, ok.5, ok.6, ok.7), tt, tt, tt, refl, tt, tt);
+      cancelled_within = λ number k. (with_both cells g s ok _ gives_up.context _ (all_filter _ _ s.preps ok.preps), tt, tt, tt, refl, tt, tt);
       asked = λ number k c e.
           let draws : number ≡ s.next = k.number_is in
-          let first = ok.5 in
-          ((ctx_at cells g s ok c e, ok.1, (λ n up. ok.2 n (omega arith)), ok.3, ok.4, omega arith, ok.6, ok.7), tt, tt, tt, refl, tt, tt);
+          let first = ok.next in
+          (next_drawn cells g s ok (number + 1) (omega arith) (Some c) (ctx_at cells g s ok c e) s.preps ok.preps, tt, tt, tt, refl, tt, tt);
       packet = λ drb count text k c e. (with_ctx cells g s ok (Some c) (ctx_at cells g s ok c e), tt, tt, tt, refl, tt, tt);
       text = λ srb count text k c e. rrc_goes srb count text k c e;
       skipped = λ on n k. (mapped cells g s ok (with_skipped on n) (λ c h. h), tt, tt, tt, refl, tt, tt);

@@ -1,5 +1,5 @@
 -- What the rows of a station on a PDU leave of the invariant of agreement, where what was opened is honest.
-use Rattle.std.proofs.Common.{◌≡◌, ℕ, refl, sym, ◌∙◌, ap, subst, arith, Bool, List, Option, Some, None, option_map}
+use Rattle.std.proofs.Common.{◌≡◌, ℕ, ◌+◌, refl, sym, ◌∙◌, ap, subst, arith, Bool, List, [], Option, Some, None, option_map}
 use Rattle.std.specs.Prelude.{⊤}
 use Rattle.std.proofs.lemmas.Bool.{eqb-true}
 use Rattle.rec_base.specs.declared.uses.Dir.TheVariants.{Up, Down}
@@ -25,7 +25,7 @@ use Rattle.lte_properties.proofs.Agreement.Ghost.{Ghost, FromIs, HereIs, CtxOk, 
 use Rattle.lte_properties.proofs.Agreement.Later.{same_found}
 use Rattle.lte_properties.proofs.Agreement.Phone.{all_found}
 use Rattle.lte_properties.proofs.Agreement.PhoneWalk.{one_key}
-use Rattle.lte_properties.proofs.Agreement.Station.{StationGoes, mapped, mapped_at, ctx_at}
+use Rattle.lte_properties.proofs.Agreement.Station.{StationGoes, with_both, next_drawn, mapped, mapped_at, ctx_at}
 use Rattle.lte_properties.proofs.Agreement.Told.{found_holds, if_tried}
 
 -- what came to a station's air address: nothing that was sent, or what the phone sent there
@@ -40,16 +40,13 @@ CameUp g station air (Some other) = ⊤
 up_taken : (g : Ghost) (station air : ℕ) (t : Term) (u : KeyUse Term) → u.key ≡ Alg t 4 2
     → (e : Option (Ciphering Term)) (text : List ℕ) (came : Option (Outgoing Term ℕ)) → CameUp g station air came → WasSealed u e text came
     → HereIs g station air t × HadTaken g.took station air t
-up_taken g station air t u key e text None h sealed = absurd sealed
 up_taken g station air t u key e text (Some (SealedNas dir header i f sent)) h sealed = absurd h
 up_taken g station air t u key e text (Some (SealedRrc Down st a srb i f sent)) h sealed = absurd h
 up_taken g station air t u key e text (Some (SealedRrc Up st a srb i f sent)) h sealed =
     let up = h.2 in
     let one : up.0 ≡ t = one_key up.0 t _ _ _ _ (sym up.1 ∙ sym (ap (λ v. v.key) sealed.0) ∙ key) in
     (subst (HereIs g station air) one up.2, subst (HadTaken g.took station air) one up.3)
-up_taken g station air t u key e text (Some (PlainNas octets)) h sealed = absurd sealed
-up_taken g station air t u key e text (Some (UserPacket dir st a drb f sent)) h sealed = absurd sealed
-up_taken g station air t u key e text (Some (Between to fields k)) h sealed = absurd sealed
+up_taken g station air t u key e text other h sealed = absurd sealed
 
 module _ (same : Term → Term → Bool) (cells : List Site) (g : Ghost) (s : Station Term ℕ) (ok : StationOk cells g s) where
   abbrev r : Reading Term ℕ
@@ -80,7 +77,7 @@ module _ (same : Term → Term → Bool) (cells : List Site) (g : Ghost) (s : St
     arrives : (at count : ℕ) (by : By) (outstanding : Option ℕ) (origin : Option Origin) → Completes r s air on pdu outcome at count by
         → (p : Prep Term ℕ) → at_air at s.preps ≡ Some p → CtxOk g s.id (Some (arrived count outstanding origin p))
     arrives at count by outstanding origin f p e =
-        let good : PrepOk g s.id p = all_found (PrepOk g s.id) (is_at at) s.preps p ok.1 e in
+        let good : PrepOk g s.id p = all_found (PrepOk g s.id) (is_at at) s.preps p ok.preps e in
         let there : p.air ≡ air = eqb-true p.air at (found_holds (is_at at) s.preps p e) ∙ f.0.at_is in
         let key : p.keys.rrc_int ≡ Alg p.key.kenb 4 2 = ap (λ x. x.rrc_int) good.2 in
         let sealed = subst (λ o. IsHonest (prepared_expects {C = ℕ} count o) came (Opened f.1.0.text)) e (opened_so (OnPrepared at by count) f.1.0) in
@@ -98,15 +95,15 @@ module _ (same : Term → Term → Bool) (cells : List Site) (g : Ghost) (s : St
       opened = λ srb count text k. (mapped cells g s ok (with_rrc_taken srb count) (λ c h. h), tt, tt, tt, refl, tt, tt);
       packet = λ drb count text k. (mapped cells g s ok (with_packet_taken drb count) (λ c h. h), tt, tt, tt, refl, tt, tt);
       by_s1 = λ at count k p e.
-          ((arrives at count By.S1 None None k p e, tt, ok.2, ok.3, ok.4, ok.5, ok.6, ok.7), tt, tt, tt, refl, tt, tt);
+          (with_both cells g s ok (Some (arrived count None None p)) (arrives at count By.S1 None None k p e) [] tt, tt, tt, tt, refl, tt, tt);
       within = λ at count origin k p e.
-          ((arrives at count (By.Intra k.0) None origin k.2 p e, tt, ok.2, ok.3, ok.4, ok.5, ok.6, ok.7), tt, tt, tt, refl, tt, tt);
+          (with_both cells g s ok (Some (arrived count None origin p)) (arrives at count (By.Intra k.0) None origin k.2 p e) [] tt, tt, tt, tt, refl, tt, tt);
       by_x2 = λ at count number k p e.
           let draws : number ≡ s.next = k.0 in
-          let first = ok.5 in
+          let first = ok.next in
           let origin : Origin = record { source = p.source; attempt = p.attempt } in
           let context = arrives at count By.X2 (Some number) (Some origin) k.2 p e in
-          ((context, tt, (λ n above. ok.2 n (omega arith)), ok.3, ok.4, omega arith, ok.6, ok.7), tt, tt, tt, refl, tt, tt);
+          (next_drawn cells g s ok (number + 1) (omega arith) (Some (arrived count (Some number) (Some (record { source = p.source; attempt = p.attempt })) p)) context [] tt, tt, tt, tt, refl, tt, tt);
     }
 
     -- the row that is chosen

@@ -39,24 +39,15 @@ root_nh r n (suc i) = refl
 -- a key and its chain_key have one root and one number
 pub root_base : (t : Term) → root_of (chain_key t) ≡ root_of t
 root_base (Star t pci earfcn) = root_base t
-root_base (Root r octets) = refl
-root_base (Kenb r n) = refl
-root_base (Nh r t) = refl
-root_base (Alg t type id) = refl
+root_base other = refl
 
 pub number_base : (t : Term) → chain_number (chain_key t) ≡ chain_number t
 number_base (Star t pci earfcn) = number_base t
-number_base (Root r octets) = refl
-number_base (Kenb r n) = refl
-number_base (Nh r t) = refl
-number_base (Alg t type id) = refl
+number_base other = refl
 
 pub nas_count_base : (t : Term) → nas_count_of (chain_key t) ≡ nas_count_of t
 nas_count_base (Star t pci earfcn) = nas_count_base t
-nas_count_base (Root r octets) = refl
-nas_count_base (Kenb r n) = refl
-nas_count_base (Nh r t) = refl
-nas_count_base (Alg t type id) = refl
+nas_count_base other = refl
 
 nas_count_climb : (r t : Term) (steps : ℕ) → nas_count_of (climb r t steps) ≡ nas_count_of t
 nas_count_climb r t zero = refl

@@ -117,16 +117,16 @@ new_took (Some x) g h = h
 module _ (cells : List Site) (c d : Conns) (w u : TheWorld) (l : Later (ghost c w) (ghost d u)) where
   -- of a station, where nothing of its own was told
   station_stays : (s : Station Term ℕ) → u.made ≡ w.made → u.tried ≡ w.tried → StationOk cells (ghost c w) s → StationOk cells (ghost d u) s
-  station_stays s made tried h = (
-    ctx_later (ghost c w) (ghost d u) l s.id s.context h.0,
-    preps_later (ghost c w) (ghost d u) l s.id s.preps h.1,
-    subst (λ x. Fresh x u.tried s.id s.next) (sym made) (subst (λ x. Fresh w.made x s.id s.next) (sym tried) h.2),
-    h.3,
-    h.4,
-    h.5,
-    h.6,
-    subst (λ xs. AllOf (SeenBy s.id s.seen) xs) (sym made) h.7,
-  )
+  station_stays s made tried h = record {
+    context = ctx_later (ghost c w) (ghost d u) l s.id s.context h.context;
+    preps = preps_later (ghost c w) (ghost d u) l s.id s.preps h.preps;
+    fresh = subst (λ x. Fresh x u.tried s.id s.next) (sym made) (subst (λ x. Fresh w.made x s.id s.next) (sym tried) h.fresh);
+    cells = h.cells;
+    id = h.id;
+    next = h.next;
+    ring = h.ring;
+    seen = subst (λ xs. AllOf (SeenBy s.id s.seen) xs) (sym made) h.seen;
+  }
 
   stations_stay : (ss : List (Station Term ℕ))
       → u.made ≡ w.made
@@ -279,7 +279,16 @@ module _ (same : Term → Term → Bool) (root : ℕ → List ℕ → Term) (oct
       → AllOf (SeenBy s.id s.seen) u.made
       → StationOk cells (ghost c u) s
   beside c w u l s h fresh seen =
-      (ctx_later (ghost c w) (ghost c u) l s.id s.context h.0, preps_later (ghost c w) (ghost c u) l s.id s.preps h.1, fresh, h.3, h.4, h.5, h.6, seen)
+      record {
+        context = ctx_later (ghost c w) (ghost c u) l s.id s.context h.context;
+        preps = preps_later (ghost c w) (ghost c u) l s.id s.preps h.preps;
+        fresh = fresh;
+        cells = h.cells;
+        id = h.id;
+        next = h.next;
+        ring = h.ring;
+        seen = seen;
+      }
 
   new_made : (o : Option (Made Term ℕ)) (g h : Ghost) → NewMade g h o → OfSome (MadeOk h) o
   new_made None g h k = tt
@@ -306,8 +315,8 @@ module _ (same : Term → Term → Bool) (root : ℕ → List ℕ → Term) (oct
           radio = radio_later (ghost c w) (ghost c u) l w.phone.radio h.radio;
           stations = all_put (StationOk cells (ghost c w)) (StationOk cells (ghost c u)) id d.0 w.stations k.0
               (λ t other ok. beside c w u l t ok
-              (fresh_beside (ghost c w) d.1.made d.1.tried s.id t.id t.next k.5 k.6 (λ e. eqb-false t.id id other (sym e ∙ is)) ok.2)
-              (seen_beside w.made d.1.made s.id t.id t.seen k.5 (λ e. eqb-false t.id id other (sym e ∙ is)) ok.7))
+              (fresh_beside (ghost c w) d.1.made d.1.tried s.id t.id t.next k.5 k.6 (λ e. eqb-false t.id id other (sym e ∙ is)) ok.fresh)
+              (seen_beside w.made d.1.made s.id t.id t.seen k.5 (λ e. eqb-false t.id id other (sym e ∙ is)) ok.seen))
               h.stations;
           sent = all_one (SentOk (ghost c u)) d.1.sent w.sent (sent_stays cells c c w u l w.sent h.sent) (out_ok d.1.sent (ghost c u) k.3);
           made = all_one (MadeOk (ghost c u)) d.1.made w.made (made_stays cells c c w u l w.made h.made) (new_made d.1.made (ghost c w) (ghost c u) k.1);
@@ -349,11 +358,6 @@ module _ (same : Term → Term → Bool) (root : ℕ → List ℕ → Term) (oct
       → ReadOk (BetweenOk (ghost c w) (address_on on id)) came
       → OfSome (λ x. (address_of x ≡ address_on on id) × FitsAll w x) came → WorldOk cells c w → (outcome : Outcome) (s : Station Term ℕ)
       → Found w (IsAt cells c w) id s → StationGoes cells (ghost c w) s (station_step (term_reading_by same) s (StationRecord on (content_in m came)) outcome)
-  station_reads c w on id None k fits h outcome s f = (f.holds.0, tt, tt, tt, refl, tt, tt)
-  station_reads c w on id (Some (SealedNas dir header i e text)) k fits h outcome s f = (f.holds.0, tt, tt, tt, refl, tt, tt)
-  station_reads c w on id (Some (PlainNas pdu)) k fits h outcome s f = (f.holds.0, tt, tt, tt, refl, tt, tt)
-  station_reads c w on id (Some (SealedRrc dir station air srb i e text)) k fits h outcome s f = (f.holds.0, tt, tt, tt, refl, tt, tt)
-  station_reads c w on id (Some (UserPacket dir station air drb e text)) k fits h outcome s f = (f.holds.0, tt, tt, tt, refl, tt, tt)
   station_reads c w on id (Some (Between to fields key)) k fits h outcome s f =
       record_goes same cells (ghost c w) h.made h.tried s f.holds.0 on fields key (
         subst (λ n. BetweenOk (ghost c w) (address_on on n) fields key) (sym f.own) k,
@@ -362,6 +366,7 @@ module _ (same : Term → Term → Bool) (root : ℕ → List ℕ → Term) (oct
           subst (λ a. InFlight s (Between a fields key)) (fits.0 ∙ (λ j. address_on (e j) (sym f.own j))) (fits.1 s f.holds.3),
         ),
       )
+  station_reads c w on id other k fits h outcome s f = (f.holds.0, tt, tt, tt, refl, tt, tt)
 
   pub station_record_goes : (c : Conns) (w : TheWorld) (on : Interface) (id : ℕ) (came : Option (Outgoing Term ℕ))
       → ReadOk (BetweenOk (ghost c w) (address_on on id)) came

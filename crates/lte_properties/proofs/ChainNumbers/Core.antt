@@ -229,10 +229,7 @@ module _ (top : ℕ → ℕ) (same : Term → Term → Bool) (s : Core Term ℕ)
   core_unread_kept A fault outcome = silent_kept top A s h s refl refl
 
   pub core_record_kept : (x : Outgoing Term ℕ) (outcome : Outcome) → CoreStepKept top same s (λ u. InFlight u x) (CoreRecord (content_of x)) outcome
-  core_record_kept (SealedNas dir header u e text) outcome = silent_kept top _ s h s refl refl
-  core_record_kept (PlainNas octets) outcome = silent_kept top _ s h s refl refl
-  core_record_kept (SealedRrc dir station air srb u e text) outcome = silent_kept top _ s h s refl refl
-  core_record_kept (UserPacket dir station air drb e text) outcome = silent_kept top _ s h s refl refl
   core_record_kept (Between to fields key) outcome =
       record_case (term_reading_by same) _ (Keeps top _ same s) s (record_kept top same to fields key s)
       (core_fields_row (plain_core (term_reading_by same) s) fields) (record_has (term_reading_by same) s fields) h
+  core_record_kept other outcome = silent_kept top _ s h s refl refl

@@ -1,11 +1,11 @@
 -- Lists each of whose items is so.
-use Rattle.std.proofs.Common.{◌≡◌, refl, ap, ◌∙◌, ℕ, suc, ◌+◌, Bool, true, false, cond, ◌==◌, List, [], ◌∷◌, ◌++◌, length, filter, map, Option, Some, arith}
+use Rattle.std.proofs.Common.{◌≡◌, refl, ap, ◌∙◌, ℕ, suc, ◌+◌, Bool, true, false, cond, ◌==◌, List, [], ◌∷◌, ◌++◌, length, filter, map, Option, Some, None, arith}
 use Rattle.std.specs.Prelude.{find}
 use Rattle.key_model.specs.Derivation.{Derivation}
 use Rattle.key_model.specs.Term.{Term}
 use Rattle.lte_machine.specs.Ladder.{RowOrigin, OfRoot, Of}
 use Rattle.lte_machine.specs.StationState.{Station}
-use Rattle.lte_machine.specs.World.{put_if, put_station, is_root_row}
+use Rattle.lte_machine.specs.World.{put_if, put_station, is_root_row, with_one}
 use Rattle.lte_properties.specs.ChainBelow.{AllOf}
 pub use Rattle.lte_machine.proofs.KnownLists.{OfSome, all_append, all_one, all_filter, all_get, all_chosen, all_more as all_map, all_both, all_each, each_of}
 
@@ -18,6 +18,25 @@ module _ {A : Type 0} (P : A → Type 0) where
   pub all_find : (test : A → Bool) (xs : List A) → AllOf P xs → OfSome (λ y. P y × (test y ≡ true)) (find test xs)
   all_find test [] h = tt
   all_find test (x ∷ xs) h = found_if test x (test x) (find test xs) refl h.0 (all_find test xs h.1)
+
+module _ {A : Type 0} (P : A → Type 0) where
+  all_front : (xs ys : List A) → AllOf P (xs ++ ys) → AllOf P xs
+  all_front [] ys h = tt
+  all_front (x ∷ xs) ys h = (h.0, all_front xs ys h.1)
+
+  all_last : (x : A) (xs : List A) → AllOf P (xs ++ x ∷ []) → P x
+  all_last x [] h = h.0
+  all_last x (y ∷ xs) h = all_last x xs h.1
+
+  -- what is so of all, and of one more, is so of these
+  pub all_old : (o : Option A) (xs : List A) → AllOf P (with_one o xs) → AllOf P xs
+  all_old None xs h = h
+  all_old (Some x) xs h = all_front xs (x ∷ []) h
+
+  -- and of that one
+  pub all_new : (o : Option A) (xs : List A) → AllOf P (with_one o xs) → OfSome P o
+  all_new None xs h = tt
+  all_new (Some x) xs h = all_last x xs h
 
 module _ (P Q : Station Term ℕ → Type 0) (id : ℕ) (new : Station Term ℕ) where
   put_one : (b : Bool) (s : Station Term ℕ) → (s.id == id) ≡ b → Q new → ((s.id == id) ≡ false → P s → Q s) → P s → Q (put_if b new s)

@@ -62,34 +62,12 @@ module _ (s t : Station Term ℕ) (same : t.id ≡ s.id) (rises : s.next ≤ t.n
       let k = h (e ∙ same) in (later number k.0, request_moves_by s.next conn number s.context t.context k.0 m k.1)
 
   answer_moves : (to : Address) (conn number n : ℕ) → AnswerTo to s conn number n → AnswerTo to t conn number n
-  answer_moves (Phone station air bearer) conn number n h = tt
-  answer_moves PhoneNas conn number n h = tt
-  answer_moves CoreNas conn number n h = tt
-  answer_moves CoreS1 conn number n h = tt
-  answer_moves (StationAir station air bearer) conn number n h = tt
-  answer_moves (StationX2 station) conn number n h = tt
   answer_moves (StationS1 station) conn number n h =
       λ e. let k = h (e ∙ same) in (later number k.0, answer_moves_by s.next conn number n s.context t.context k.0 m k.1)
+  answer_moves other conn number n h = tt
 
   -- each record in flight fits the station after a step as it did before
   pub flight_moves : (x : Outgoing Term ℕ) → InFlight s x → InFlight t x
-  flight_moves (SealedNas dir header u e text) h = tt
-  flight_moves (PlainNas octets) h = tt
-  flight_moves (SealedRrc dir station air srb u e text) h = tt
-  flight_moves (UserPacket dir station air drb e text) h = tt
-  flight_moves (Between to (InitialContext conn cell caps) key) h = tt
-  flight_moves (Between to (ContextRelease conn) key) h = tt
   flight_moves (Between to (PathSwitchRequest conn station number cell caps) key) h = request_moves station conn number h
-  flight_moves (Between to (PathSwitchAnswer conn number) None) h = tt
   flight_moves (Between to (PathSwitchAnswer conn number) (Some pair)) h = answer_moves to conn number pair.number h
-  flight_moves (Between to (HandoverRequired conn station attempt cell) key) h = tt
-  flight_moves (Between to (HandoverRequest conn source attempt cell caps) key) h = tt
-  flight_moves (Between to (HandoverRequestAck conn source attempt cell ncc algs air) key) h = tt
-  flight_moves (Between to (HandoverCommand conn attempt cell ncc algs air) key) h = tt
-  flight_moves (Between to (HandoverNotify conn station cell) key) h = tt
-  flight_moves (Between to (HandoverCancel conn source attempt cell) key) h = tt
-  flight_moves (Between to (X2Request conn source attempt cell caps) key) h = tt
-  flight_moves (Between to (X2Ack conn attempt cell algs air) key) h = tt
-  flight_moves (Between to (X2Cancel conn source attempt) key) h = tt
-  flight_moves (Between to (X2Release conn attempt) key) h = tt
-  flight_moves (Between to (ContextModification conn next) key) h = tt
+  flight_moves other h = tt

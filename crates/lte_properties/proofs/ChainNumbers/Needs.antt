@@ -60,17 +60,10 @@ module _ (top : ℕ → ℕ) (same : Term → Term → Bool) (s : Station Term �
       subst (PairNeeds top key.number) (sym f.serving) (h.1, subst (λ n. key.number ≤ top n) (ap conn_of f.fields_is ∙ sym h.0) below)
 
   row_needs : (row : RecordRow) → RecordHas (term_reading_by same) s on fields row → RecordNeeds top s row key
-  row_needs (RecordRefused answer) f = tt
-  row_needs (ContextGiven conn cell caps algs air) f = tt
-  row_needs ContextReleased f = tt
   row_needs (PairTaken conn origin) f = taken_needs conn origin f
   row_needs (PreparedByS1 w) f = subst (λ n. key.number ≤ top n) (ap conn_of f.fields_is) below
   row_needs (PreparedByX2 w) f = subst (λ n. key.number ≤ top n) (ap conn_of f.fields_is) below
-  row_needs (AckedByS1 ncc algs air) f = tt
-  row_needs (AckedByX2 algs air) f = tt
-  row_needs (PreparationCancelled from) f = tt
-  row_needs SourceReleased f = tt
-  row_needs (KeyRenewed conn number air count) f = tt
+  row_needs other f = tt
 
 abbrev RecordOf : (Term → Term → Bool) → Station Term ℕ → Interface → Fields → Option (NumberedKey Term ℕ) → RecordRow
 RecordOf same s on fields key =
@@ -113,14 +106,11 @@ module _ (top : ℕ → ℕ) (same : Term → Term → Bool) (s : Station Term �
 
   pub record_step_kept : (on : Interface) (x : Outgoing Term ℕ) (outcome : Outcome) → address_of x ≡ address_on on s.id → RecordBelow top x → InFlight s x →
       StepKept top s (station_step r s (StationRecord on (content_of x)) outcome)
-  record_step_kept on (SealedNas dir header u e text) outcome a b h = unread_step_kept on RecFault.Short outcome
-  record_step_kept on (PlainNas octets) outcome a b h = unread_step_kept on RecFault.Short outcome
-  record_step_kept on (SealedRrc dir station air srb u e text) outcome a b h = unread_step_kept on RecFault.Short outcome
-  record_step_kept on (UserPacket dir station air drb e text) outcome a b h = unread_step_kept on RecFault.Short outcome
   record_step_kept on (Between to fields None) outcome a b h = between_kept on fields None outcome tt
   record_step_kept on (Between to fields (Some key)) outcome a b h =
       between_kept on fields (Some key) outcome
       (row_needs top same s on to fields key a b h (RecordOf same s on fields (Some key)) (record_has r s on (record { fields = fields; key = Some key })))
+  record_step_kept on other outcome a b h = unread_step_kept on RecFault.Short outcome
 
 -- THE PHONE SENDS NOTHING ON S1 AND X2
 

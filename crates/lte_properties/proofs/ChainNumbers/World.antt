@@ -42,26 +42,9 @@ use Rattle.lte_machine.proofs.Worlds.{TheWorld}
 
 -- a station's request is no other station's
 other_flies : (u : Station Term ℕ) (id : ℕ) (x : Outgoing Term ℕ) → (u.id ≡ id → ⊥) → OwnRequest id x → InFlight u x
-other_flies u id (SealedNas dir header v e text) f h = tt
-other_flies u id (PlainNas octets) f h = tt
-other_flies u id (SealedRrc dir station air srb v e text) f h = tt
-other_flies u id (UserPacket dir station air drb e text) f h = tt
-other_flies u id (Between to (InitialContext conn cell caps) key) f h = tt
-other_flies u id (Between to (ContextRelease conn) key) f h = tt
 other_flies u id (Between to (PathSwitchRequest conn station number cell caps) key) f h = λ e. absurd (f (sym e ∙ h))
-other_flies u id (Between to (PathSwitchAnswer conn number) None) f h = tt
 other_flies u id (Between to (PathSwitchAnswer conn number) (Some pair)) f h = absurd h
-other_flies u id (Between to (HandoverRequired conn station attempt cell) key) f h = tt
-other_flies u id (Between to (HandoverRequest conn source attempt cell caps) key) f h = tt
-other_flies u id (Between to (HandoverRequestAck conn source attempt cell ncc algs air) key) f h = tt
-other_flies u id (Between to (HandoverCommand conn attempt cell ncc algs air) key) f h = tt
-other_flies u id (Between to (HandoverNotify conn station cell) key) f h = tt
-other_flies u id (Between to (HandoverCancel conn source attempt cell) key) f h = tt
-other_flies u id (Between to (X2Request conn source attempt cell caps) key) f h = tt
-other_flies u id (Between to (X2Ack conn attempt cell algs air) key) f h = tt
-other_flies u id (Between to (X2Cancel conn source attempt) key) f h = tt
-other_flies u id (Between to (X2Release conn attempt) key) f h = tt
-other_flies u id (Between to (ContextModification conn next) key) f h = tt
+other_flies u id other f h = tt
 
 -- A GREATER NUMBER
 
@@ -74,12 +57,8 @@ module _ (top new : ℕ → ℕ) (le : (conn : ℕ) → top conn ≤ new conn) w
   station_rises s h = (context_rises s.context h.0, all_map (PrepBelow top) (PrepBelow new) (λ p k. le_trans k (le p.conn)) s.preps h.1)
 
   record_rises : (x : Outgoing Term ℕ) → RecordBelow top x → RecordBelow new x
-  record_rises (SealedNas dir header u e text) h = tt
-  record_rises (PlainNas octets) h = tt
-  record_rises (SealedRrc dir station air srb u e text) h = tt
-  record_rises (UserPacket dir station air drb e text) h = tt
-  record_rises (Between to fields None) h = tt
   record_rises (Between to fields (Some key)) h = le_trans h (le (conn_of fields))
+  record_rises other h = tt
 
 -- what holds, holds with the core's present number noted
 noted_holds : (top : ℕ → ℕ) (w : World Term ℕ (Outgoing Term ℕ)) → Holds top w → Holds (noted w.core.link top) w

@@ -9,7 +9,7 @@ use Rattle.rec_base.specs.declared.uses.Dir.TheVariants.{Down}
 use Rattle.lte_events.specs.declared.acts.CoreAct.{CoreAct}
 use Rattle.key_model.specs.Term.{Term, Kenb, Alg}
 use Rattle.key_model.specs.Reading.{term_reading_by}
-use Rattle.nas_guard.specs.Estimate.{nas_count_limit}
+use Rattle.nas_count.specs.Estimate.{nas_count_limit}
 use Rattle.nas_guard.specs.Keys.{Keys}
 use Rattle.nas_guard.specs.Seal.{nas_bearer}
 use Rattle.lte_machine.specs.Bearers.{skipped}

@@ -134,10 +134,7 @@ home_grows false taken taken' given given' t h f g e = g t h e
 -- what is so of an algorithm key is so in another way
 pub on_key : (P Q : Term → ℕ → Type 0) → ((t : Term) (type : ℕ) → P t type → Q t type) → (k : Term) → OnKey P k → OnKey Q k
 on_key P Q f (Alg t type id) h = f t type h
-on_key P Q f (Root r octets) h = h
-on_key P Q f (Kenb r n) h = h
-on_key P Q f (Nh r t) h = h
-on_key P Q f (Star t pci earfcn) h = h
+on_key other rest f more h = h
 
 -- a key that is past stays so as the COUNT rises
 pub later_mark : (roots : ℕ) (partial : Option ℕ) (root m n : ℕ) (t : Term) → m ≤ n → IsPast roots partial (Some (record { root = root; count = m })) t

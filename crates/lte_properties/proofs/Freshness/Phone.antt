@@ -8,7 +8,7 @@ use Rattle.rec_base.specs.declared.uses.Dir.TheVariants.{Up}
 use Rattle.rec_base.specs.Bearer.{bearer5_of}
 use Rattle.key_model.specs.Term.{Term, Kenb, Star, Alg}
 use Rattle.key_model.specs.Reading.{term_reading, term_reading_by}
-use Rattle.nas_guard.specs.Estimate.{nas_count_limit}
+use Rattle.nas_count.specs.Estimate.{nas_count_limit}
 use Rattle.rrc_rec.specs.declared.records.RrcRecord.{RrcRecord}
 use Rattle.nh_chain.specs.Chain.{begun}
 use Rattle.nh_chain.specs.Reach.{reached_after}

@@ -42,10 +42,7 @@ pub record PhoneKeeps (roots : ℕ) (taken : Homes) (s t : Phone Term ℕ) (sent
 -- the type of an algorithm key
 abbrev pub type_of : Term → ℕ
 type_of (Alg t type id) = type
-type_of (Root r octets) = 0
-type_of (Kenb r n) = 0
-type_of (Nh r t) = 0
-type_of (Star t pci earfcn) = 0
+type_of other = 0
 
 -- uses of keys of two types are two
 pub types_apart : (u v : KeyUse Term) (m n : ℕ) → type_of u.key ≡ m → type_of v.key ≡ n → (m ≡ n → ⊥) → v ≡ u → ⊥

@@ -294,12 +294,8 @@ module _ (same : Term → Term → Bool) (itself : IsReflexive same) (octets : O
 
     -- a record on S1 or X2 reads as it was sent
     content_stands : (h : Fresh w) (to : Address) (came : Option (Outgoing Term ℕ)) → Came h.taken h.given to came → ReadStands h.given to (content_in m came)
-    content_stands h to None k = tt
     content_stands h to (Some (Between to' fields key)) k = subst (λ a. BetweenStands h.given a fields key) k.0 k.1
-    content_stands h to (Some (SealedNas dir header u e text)) k = tt
-    content_stands h to (Some (PlainNas x)) k = tt
-    content_stands h to (Some (SealedRrc dir station air srb u e text)) k = tt
-    content_stands h to (Some (UserPacket dir station air drb e text)) k = tt
+    content_stands h to other k = tt
 
     -- an authentication
     auth_fresh : (ksi : ℕ) (octets' : List ℕ) (caps : Caps) → Fresh w → Fresh (authenticated m w ksi (Root (next_root w) octets') caps).0

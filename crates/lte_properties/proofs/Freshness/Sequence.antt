@@ -15,10 +15,7 @@ authentication_of (Alg t type id) = authentication_of t
 -- the handovers since the last NH or KeNB (A.5)
 abbrev pub stars_of : Term → ℕ
 stars_of (Star t pci earfcn) = stars_of t + 1
-stars_of (Root r octets) = 0
-stars_of (Kenb r n) = 0
-stars_of (Nh r t) = 0
-stars_of (Alg t type id) = 0
+stars_of other = 0
 
 -- one after the other in these four, where the last differs so
 abbrev pub InOrder : (ℕ → ℕ → Type 0) → Term → Term → Type 0

@@ -63,13 +63,10 @@ module _ (taken : Homes) (s : Station Term ℕ) (air : ℕ) where
         subst (λ a. TakenHere taken s.id a (at_air at s.preps)) (sym f.0.at_is) (opened_taken count o.text (at_air at s.preps) (prep_stands at h) here)
 
     row_needs : (row : AirRow) → AirHas r s air on pdu outcome row → AirNeeds taken s row
-    row_needs (AirRefused answer) f = tt
-    row_needs (SecurityStarted count) f = tt
-    row_needs (RrcOpened srb count text) f = tt
-    row_needs (PacketOpened drb count text) f = tt
     row_needs (CompletedByS1 at count) f = completes_needs at count By.S1 f
     row_needs (CompletedWithin at count origin) f = completes_needs at count (By.Intra f.0) f.2
     row_needs (CompletedByX2 at count number) f = completes_needs at count By.X2 f.2
+    row_needs other f = tt
 
     -- a PDU of this air address
     pub air_row_needs : AirNeeds taken s (air_row (plain_station r s) (air_front (plain_station r s) air on pdu) outcome)
@@ -107,24 +104,17 @@ module _ (given : Homes) (s : Station Term ℕ) (to : Address) (here : GoesHere 
   fits_needs : (r : Reading Term ℕ) (on : Interface) (fields : Fields) (key : Option (NumberedKey Term ℕ))
       (row : RecordRow) → BetweenStands given to fields key → RecordHas r s on fields row →
       RecordNeeds given s row key
-  fits_needs r on fields None (ContextGiven conn cell caps algs air) b f = tt
   fits_needs r on fields (Some k) (ContextGiven conn cell caps algs air) b f =
       context_needs conn cell caps algs air k (subst (λ x. BetweenStands given to x (Some k)) f.fields_is b) f.newer f.air_is
   fits_needs r on fields key (PreparedByS1 w) b f = (f.admits.at_least, f.admits.air_is)
   fits_needs r on fields None (PreparedByX2 w) b f = (f.admits.at_least, f.admits.air_is, tt)
   fits_needs r on fields (Some k) (PreparedByX2 w) b f = (f.admits.at_least, f.admits.air_is, subst (λ x. BetweenStands given to x (Some k)) f.fields_is b)
-  fits_needs r on fields key (RecordRefused answer) b f = tt
-  fits_needs r on fields key ContextReleased b f = tt
-  fits_needs r on fields key (PairTaken conn origin) b f = tt
-  fits_needs r on fields key (AckedByS1 ncc algs air) b f = tt
-  fits_needs r on fields key (AckedByX2 algs air) b f = tt
-  fits_needs r on fields key (PreparationCancelled o) b f = tt
-  fits_needs r on fields key SourceReleased b f = tt
   fits_needs r on fields key (KeyRenewed conn number air count) b f =
       (above f.newer, f.number_is, f.air_is, subst (λ o. IfSome o (λ c. count ≡ c.bearers.srb1.send)) (sym f.serving) f.count_is)
     where
       above : s.last < conn → s.last ≤ conn
       above lt = omega arith
+  fits_needs r on fields other rest b f = tt
 
   -- a record that comes
   pub record_needs : (r : Reading Term ℕ) (interface : Interface) (fields : Fields) (key : Option (NumberedKey Term ℕ)) → BetweenStands given to fields key →

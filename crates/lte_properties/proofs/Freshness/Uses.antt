@@ -31,10 +31,7 @@ HomesStay old new = (t : Term) (h : Home) → old t ≡ Some h → new t ≡ Som
 -- a KeNB*, which a handover made (TS 33.401 A.5)
 abbrev pub is_star : Term → Bool
 is_star (Star t pci earfcn) = true
-is_star (Root r octets) = false
-is_star (Kenb r n) = false
-is_star (Nh r t) = false
-is_star (Alg t type id) = false
+is_star other = false
 
 -- the home of a KeNB* is where the phone took it, and that of a KeNB where the core gave it
 abbrev pub home_of : Bool → Option Home → Option Home → Option Home

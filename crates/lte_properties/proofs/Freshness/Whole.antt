@@ -114,13 +114,10 @@ module _ (c : Ciphers Term) where
   -- what opens by terms was sealed under the use by which it is accepted
   sealed_so : (v : KeyUse Term) (e : Option (Ciphering Term)) (pdu : List ℕ) (came : Option (Outgoing Term ℕ)) (u : KeyUse Term) →
       srb_accepted (OpensSrb v e) (open_by_uses same_term c (OpensSrb v e) pdu came) ≡ Some u → sender_of came ≡ Some u
-  sealed_so v e pdu None u h = absurd (none_foreign v e pdu u h)
   sealed_so v e pdu (Some (SealedRrc dir station air srb i f text)) u h =
       ap Some (judged_so v e pdu text i u (same_uses same_term v i) (same_ciphering same_term e f) refl h)
   sealed_so v e pdu (Some (SealedNas dir header i f text)) u h = ap Some (judged_so v e pdu text i u (same_uses same_term v i) false refl h)
-  sealed_so v e pdu (Some (PlainNas octets)) u h = absurd (none_foreign v e pdu u h)
-  sealed_so v e pdu (Some (UserPacket dir station air drb f text)) u h = absurd (none_foreign v e pdu u h)
-  sealed_so v e pdu (Some (Between to fields key)) u h = absurd (none_foreign v e pdu u h)
+  sealed_so v e pdu other u h = absurd (none_foreign v e pdu u h)
 
   -- a machine that opens PDUs of SRBs by the terms of their uses; how it opens anything else is open
   module _ (same : Term → Term → Bool) (itself : IsReflexive same) (octets : Outgoing Term ℕ → List ℕ)
@@ -135,10 +132,8 @@ module _ (c : Ciphers Term) where
     -- whatever is opened
     attempt_sealed : (opening : Opening Term) (pdu : List ℕ) (came : Option (Outgoing Term ℕ)) (u : KeyUse Term) →
         srb_accepted opening (opener opening pdu came) ≡ Some u → sender_of came ≡ Some u
-    attempt_sealed OpensNothing pdu came u h = absurd (none_some h)
-    attempt_sealed (OpensNas v e) pdu came u h = absurd (none_some h)
-    attempt_sealed (OpensDrb e) pdu came u h = absurd (none_some h)
     attempt_sealed (OpensSrb v e) pdu came u h = sealed_so v e pdu came u (ap (srb_accepted (OpensSrb v e)) (sym (by_terms v e pdu came)) ∙ h)
+    attempt_sealed other pdu came u h = absurd (none_some h)
 
     -- so it is in each event
     pub sent_under : (w : World Term ℕ (Outgoing Term ℕ)) (e : Event) → SentUnder m w e

@@ -70,11 +70,8 @@ module _ (taken taken' given given' : Homes) (f : HomesStay taken taken') (g : H
   record_grows (SealedRrc Up station air srb u e text) h =
       on_key (λ t type. taken t ≡ Some (home_at station air)) (λ t type. taken' t ≡ Some (home_at station air))
       (λ t type k. f t (home_at station air) k) u.key h
-  record_grows (SealedRrc Down station air srb u e text) h = tt
   record_grows (Between to fields key) h = between_grows to fields key h
-  record_grows (SealedNas dir header u e text) h = tt
-  record_grows (PlainNas octets) h = tt
-  record_grows (UserPacket dir station air drb e text) h = tt
+  record_grows other h = tt
 
 module _ (m : Machine Term ℕ (Outgoing Term ℕ)) (w : World Term ℕ (Outgoing Term ℕ)) (keep : (o : Option (Outgoing Term ℕ)) → m.keep o ≡ o) (h : Fresh w) where
   -- THE PHONE

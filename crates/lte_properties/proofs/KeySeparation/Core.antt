@@ -10,7 +10,7 @@ use Rattle.lte_events.specs.declared.addresses.Address.TheVariants.{StationS1}
 use Rattle.lte_events.specs.declared.answers.Answer.TheVariants.{BadRecord}
 use Rattle.lte_events.specs.declared.setups.FirstNcc.{FirstNcc}
 use Rattle.lte_events.specs.declared.setups.FirstNcc.TheVariants.{One, Two}
-use Rattle.nas_guard.specs.Estimate.{nas_count_limit}
+use Rattle.nas_count.specs.Estimate.{nas_count_limit}
 use Rattle.nas_guard.specs.Keys.{Keys}
 use Rattle.key_model.specs.Term.{Term, Kenb, Nh, IsRoot, IsDerivationKey, IsWellFormed}
 use Rattle.key_model.specs.HandoverTable.{NumberedKey}
@@ -34,7 +34,7 @@ use Rattle.lte_machine.proofs.NasFacts.{NasHas, nas_row, nas_has, opens_above}
 use Rattle.lte_machine.proofs.S1Facts.{RecordHas, record_has}
 use Rattle.lte_properties.specs.Separation.{GivenTo}
 use Rattle.lte_properties.proofs.ChainNumbers.Lists.{OfSome}
-use Rattle.lte_properties.proofs.KeySeparation.Keys.{Gifts, GivesIn, given_new, given_split, FieldsOk, FlyOk, OutsAre}
+use Rattle.lte_properties.proofs.KeySeparation.Keys.{Gifts, GivesIn, given_split, FieldsOk, FlyOk, OutsAre}
 use Rattle.lte_properties.proofs.KeySeparation.Phone.{root_derives}
 use Rattle.lte_properties.proofs.KeySeparation.CoreKeeps.{root_number, count_of, BelowPartial, next_count, BelowContext, Past, AtMost, PartialOk, ContextOk, TriggerOk, ChainOk, LinkOk, CoreOk, CoreKept, below_partial_same, past_same}
 
@@ -76,12 +76,12 @@ module _ (same : Term → Term → Bool) (root : Term) (count : ℕ) where
   kept_well One is = tt
   kept_well Two is = ((is, is), tt)
 
-module _ (roots : ℕ) (xs : List (Outgoing Term ℕ)) (sites : List Site) (tried : List (Tried Term ℕ)) (same : Term → Term → Bool) (s : Core Term ℕ) where
+module _ (roots : ℕ) (xs : List (Outgoing Term ℕ)) (G : Gifts) (sites : List Site) (tried : List (Tried Term ℕ)) (same : Term → Term → Bool) (s : Core Term ℕ) where
   abbrev Before : Core Term ℕ → Type 0
   Before t = CoreOk roots (GivenTo xs) t
 
   abbrev After : CoreDone Term ℕ → Type 0
-  After d = CoreKept roots xs sites tried d
+  After d = CoreKept roots xs G sites tried d
 
   -- of a core before which all was well
   abbrev Keeps : Core Term ℕ → CoreDone Term ℕ → Type 0
@@ -106,7 +106,7 @@ module _ (roots : ℕ) (xs : List (Outgoing Term ℕ)) (sites : List Site) (trie
       → ContextOk roots t.partial t.context → TriggerOk t.trigger t.context →
       ((u : Term) → Past roots old.partial old.context old.trigger u → Past roots t.partial t.context t.trigger u) →
       ((u : Term) (id : ℕ) → GivesIn reply.sent u id → ⊥) → OutsAre IsWellFormed reply.derived →
-      OfSome (FlyOk (GivenTo (with_one reply.sent xs)) sites tried) reply.sent → After (t, reply)
+      OfSome (FlyOk G sites tried) reply.sent → After (t, reply)
   quiet old t reply h e p c tr past none outs sends = record {
     ok = record {
       partial = p;
@@ -118,13 +118,13 @@ module _ (roots : ℕ) (xs : List (Outgoing Term ℕ)) (sites : List Site) (trie
           (λ u id g. let k = h.given u id g in (past u k.0, subst (λ o. AtMost o u) (sym e) k.1));
     };
     outs = outs;
-    sends = sends;
+    sends = λ le. sends;
     fresh = λ u a b g k. none u b k;
   }
 
   -- and that keeps the roots, COUNTs and trigger
   calm : (t : Core Term ℕ) (reply : Reply Term ℕ) → Before t → ((u : Term) (id : ℕ) → GivesIn reply.sent u id → ⊥) → OutsAre IsWellFormed reply.derived →
-      OfSome (FlyOk (GivenTo (with_one reply.sent xs)) sites tried) reply.sent → After (t, reply)
+      OfSome (FlyOk G sites tried) reply.sent → After (t, reply)
   calm t reply h none outs sends = quiet t t reply h refl h.partial h.context h.trigger (λ u k. k) none outs sends
 
   -- BY A NAS MESSAGE
@@ -156,7 +156,7 @@ module _ (roots : ℕ) (xs : List (Outgoing Term ℕ)) (sites : List Site) (trie
       given = λ u id q. let k = by u id (given_split (Some sent) xs u id q) in (k.0, begun_most same p.root count s.first_ncc next station u k.1);
     };
     outs = (h.partial.0, kept_well same p.root count s.first_ncc h.partial.0);
-    sends = (((h.partial.0, given_new (Some sent) xs (Kenb p.root count) station (refl, refl)), tt), tt);
+    sends = λ le. (((h.partial.0, le (Kenb p.root count) station (refl, refl)), tt), tt);
     fresh = λ t a b g l. not_below (root_number p.root) (h.given (Kenb p.root count) a (subst (λ u. GivenTo xs u a) (sym l.0) g)).0.1;
   } where
     sent : Outgoing Term ℕ
@@ -212,7 +212,7 @@ module _ (roots : ℕ) (xs : List (Outgoing Term ℕ)) (sites : List Site) (trie
       (subst (λ o. Past roots s.partial o s.trigger u) (sym i) (q.0, q.1, (q.2.0, λ e. rises s.trigger (count_of u) (q.2.1 e))))))
       (λ u id. subst (λ x. GivesIn x u id → ⊥) (sym j) (λ l. l))
       (subst (OutsAre IsWellFormed) (sym k) tt)
-      (subst (λ x. OfSome (FlyOk (GivenTo (with_one x xs)) sites tried) x) (sym j) tt)
+      (subst (OfSome (FlyOk G sites tried)) (sym j) tt)
     where
       rises : (tr : Option ℕ) (m : ℕ) → m < next_count tr c.nas.receive → m < next_count tr (count + 1)
       rises None m lt = omega arith
@@ -286,12 +286,6 @@ module _ (roots : ℕ) (xs : List (Outgoing Term ℕ)) (sites : List Site) (trie
       let q = (h.given (Nh link.chain.root link.chain.sync) a (subst (λ u. GivenTo xs u a) (sym k.0) g)).1 in
       not_itself (chain_number link.chain.sync) ((q.1 h.link.2).1 refl)
 
-  step_may : (link : CoreLink Term ℕ) (target : ℕ) (fields : Fields) → Before (record s { link = Some link }) →
-      IsRoot link.chain.root × IsDerivationKey link.chain.sync
-      × GivenTo (with_one (Some (pair_sent link target fields)) xs) (Nh link.chain.root link.chain.sync) target
-  step_may link target fields h =
-      (h.link.0, h.link.1, given_new (Some (pair_sent link target fields)) xs (Nh link.chain.root link.chain.sync) target (refl, refl))
-
   record_kept : (fields : Fields) (key : Option (NumberedKey Term ℕ)) → FieldsOk tried fields key
       → RecordCases (term_reading_by same) (λ t row. RecordHas t fields row) Keeps s
   record_kept fields key k = record {
@@ -301,7 +295,7 @@ module _ (roots : ℕ) (xs : List (Outgoing Term ℕ)) (sites : List Site) (trie
           station (PathSwitchAnswer conn number) _ (path_switched (term_reading_by same) conn station number alarm (Some link) (with_link s (Some link))).1
           h refl refl refl refl refl refl;
       outs = ((h.link.0, h.link.1), tt);
-      sends = ((step_may link station (PathSwitchAnswer conn number) h, tt), tt);
+      sends = λ le. (((h.link.0, h.link.1, le (Nh link.chain.root link.chain.sync) station (refl, refl)), tt), tt);
       fresh = step_fresh link station (PathSwitchAnswer conn number) h;
     };
     asked = λ conn source attempt cell target caps link f h. record {
@@ -309,14 +303,14 @@ module _ (roots : ℕ) (xs : List (Outgoing Term ℕ)) (sites : List Site) (trie
           _ (handover_asked (term_reading_by same) conn source attempt cell target caps (Some link) (with_link s (Some link))).1
           h refl refl refl refl refl refl;
       outs = ((h.link.0, h.link.1), tt);
-      sends = ((step_may link target (HandoverRequest conn source attempt cell caps) h, tt), subst (λ g. FieldsOk tried g key) f.fields_is k);
+      sends = λ le. (((h.link.0, h.link.1, le (Nh link.chain.root link.chain.sync) target (refl, refl)), tt), subst (λ g. FieldsOk tried g key) f.fields_is k);
       fresh = step_fresh link target (HandoverRequest conn source attempt cell caps) h;
     };
     ordered = λ conn source attempt cell ncc algs air f h. calm _ _ h (λ u id g. g) tt (tt, tt);
     notified = λ station link f h. record {
       ok = record { partial = h.partial; context = h.context; trigger = h.trigger; link = h.link; given = h.given };
       outs = tt;
-      sends = tt;
+      sends = λ le. tt;
       fresh = λ u a b g k. k;
     };
     cancelled = λ conn source attempt cell target f h. calm _ _ h (λ u id g. g) tt (tt, tt);
@@ -337,7 +331,7 @@ module _ (roots : ℕ) (xs : List (Outgoing Term ℕ)) (sites : List Site) (trie
       given = λ u id q. let k = by u id (given_split (Some sent) xs u id q) in (k.0, begun_most same c.nas.root count s.first_ncc conn target u k.1);
     };
     outs = (h.context.0, kept_well same c.nas.root count s.first_ncc h.context.0);
-    sends = (((h.context.0, given_new (Some sent) xs (Kenb c.nas.root count) target (refl, refl)), tt), tt);
+    sends = λ le. (((h.context.0, le (Kenb c.nas.root count) target (refl, refl)), tt), tt);
     fresh = λ t a b g k. not_below count ((before (Kenb c.nas.root count) a (subst (λ u. GivenTo xs u a) (sym k.0) g)).2.1 refl);
   } where
     sent : Outgoing Term ℕ
@@ -376,7 +370,7 @@ module _ (roots : ℕ) (xs : List (Outgoing Term ℕ)) (sites : List Site) (trie
   -- COUNTs of the context in use go on
   send_kept : (n : ℕ) (c : CoreContext Term) (reply : Reply Term ℕ) → Before (with_context s (Some c))
       → ((u : Term) (id : ℕ) → GivesIn reply.sent u id → ⊥) → OutsAre IsWellFormed reply.derived →
-      OfSome (FlyOk (GivenTo (with_one reply.sent xs)) sites tried) reply.sent → After (with_context s (Some (nas_sent_to n c)), reply)
+      OfSome (FlyOk G sites tried) reply.sent → After (with_context s (Some (nas_sent_to n c)), reply)
   send_kept n c reply h none outs sends =
       quiet (with_context s (Some c)) _ _ h refl h.partial h.context (triggered s.trigger h.trigger) (λ u k. k) none outs sends
     where
@@ -400,7 +394,7 @@ module _ (roots : ℕ) (xs : List (Outgoing Term ℕ)) (sites : List Site) (trie
             (λ u. Past roots s.partial s.context s.trigger u × ⊤) (λ u id g. g) (λ u id g. ((h.given u id g).0, tt));
       };
       outs = tt;
-      sends = (tt, tt);
+      sends = λ le. (tt, tt);
       fresh = λ u a b g k. k;
     };
     sent = λ count text c f h. send_kept (count + 1) c _ h (λ u id g. g) tt tt;

@@ -89,11 +89,11 @@ pub record CoreOk (roots : ℕ) (G : Gifts) (s : Core Term ℕ) : Type 0 where
   pub link : LinkOk roots s.partial s.context s.trigger s.link
   pub given : (t : Term) (id : ℕ) → G t id → Past roots s.partial s.context s.trigger t × AtMost s.link t
 
--- what a step keeps, where these were sent before
-pub record CoreKept (roots : ℕ) (xs : List (Outgoing Term ℕ)) (sites : List Site) (tried : List (Tried Term ℕ)) (d : Core Term ℕ × Reply Term ℕ) : Type 0 where
+-- what a step keeps, where these were sent before, and these gifts and attempts are known in the end
+pub record CoreKept (roots : ℕ) (xs : List (Outgoing Term ℕ)) (G : Gifts) (sites : List Site) (tried : List (Tried Term ℕ)) (d : Core Term ℕ × Reply Term ℕ) : Type 0 where
   pub ok : CoreOk roots (GivenTo (with_one d.1.sent xs)) d.0
   pub outs : OutsAre IsWellFormed d.1.derived
-  pub sends : OfSome (FlyOk (GivenTo (with_one d.1.sent xs)) sites tried) d.1.sent
+  pub sends : ((t : Term) (a : ℕ) → GivesIn d.1.sent t a → G t a) → OfSome (FlyOk G sites tried) d.1.sent
   pub fresh : (t : Term) (a b : ℕ) → GivenTo xs t a → GivesIn d.1.sent t b → ⊥
 
 pub below_partial_same : (p : Option (CorePartial Term)) (t u : Term) → root_number u ≡ root_number t → BelowPartial p t → BelowPartial p u

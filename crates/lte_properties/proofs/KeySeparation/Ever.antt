@@ -13,10 +13,10 @@ use Rattle.lte_machine.specs.Machines.{machine_over, opening_by_octets}
 use Rattle.lte_machine.specs.Run.{first_world}
 use Rattle.lte_properties.specs.ChainHolds.{machine_by, run}
 use Rattle.lte_properties.specs.Agreement.{ObeysAgreement}
-use Rattle.lte_properties.specs.Separation.{SeparationHolds, GivingHolds}
+use Rattle.lte_properties.specs.Separation.{GivenTo, SeparationHolds, GivingHolds}
 use Rattle.lte_properties.specs.SharedKeys.{SharedApart}
 use Rattle.lte_properties.proofs.KeySeparation.All.{HeldAll, run_held, first_held}
-use Rattle.lte_properties.proofs.KeySeparation.Holders.{Holders}
+use Rattle.lte_properties.proofs.KeySeparation.Holders.{HoldersIn, now}
 use Rattle.lte_properties.proofs.KeySeparation.World.{run_holds, first_holds}
 use Rattle.lte_properties.proofs.KeySeparation.Run.{separates, made_from}
 use Rattle.lte_properties.proofs.KeySeparation.Attempts.{run_apart, first_apart}
@@ -29,8 +29,8 @@ module _ (same : Term → Term → Bool) (octets : Outgoing Term ℕ → List �
   abbrev last_world : World Term ℕ (Outgoing Term ℕ)
   last_world = run (machine_by same Root octets sender opener) (first_world setup) events
 
-  pub run_holders : Holders setup.cells last_world
-  run_holders = run_holds setup.cells same octets sender opener (first_world setup) events (first_holds setup)
+  pub run_holders : HoldersIn (GivenTo last_world.sent) last_world.tried setup.cells last_world
+  run_holders = now setup.cells last_world (run_holds setup.cells same octets sender opener (first_world setup) events (first_holds setup))
 
   run_all_held : HeldAll last_world
   run_all_held = run_held same Root octets sender opener (first_world setup) events (first_held setup)

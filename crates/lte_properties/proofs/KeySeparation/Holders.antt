@@ -1,5 +1,5 @@
 -- The keys of each actor, of what is in flight and of what anybody held; and what a step of an actor adds to them.
-use Rattle.std.proofs.Common.{◌≡◌, sym, ◌∙◌, subst, ℕ, ◌⊎◌, inl, inr, Bool, List, ◌++◌, Option, Some, None, Err}
+use Rattle.std.proofs.Common.{◌≡◌, refl, sym, ◌∙◌, subst, ℕ, ◌⊎◌, inl, inr, Bool, List, [], ◌∷◌, Option, Some, None, Err}
 use Rattle.rec_base.specs.declared.faults.RecFault.{RecFault}
 use Rattle.rec_base.specs.declared.bearers.Bearer.{Bearer}
 use Rattle.lte_events.specs.declared.acts.StationAct.{StationAct}
@@ -24,13 +24,13 @@ use Rattle.lte_machine.specs.CoreState.{Core}
 use Rattle.lte_machine.specs.World.{World, Holding, with_one, next_root}
 use Rattle.lte_machine.specs.Machines.{content_of}
 use Rattle.lte_properties.specs.ChainBelow.{AllOf}
-use Rattle.lte_properties.specs.Separation.{Gives, GivenTo}
+use Rattle.lte_properties.specs.Separation.{AnyOf, Gives, GivenTo}
 use Rattle.lte_machine.proofs.RecordFacts.{RecordHas, record_has}
 use Rattle.lte_machine.proofs.StationActFacts.{station_act_has}
 use Rattle.lte_machine.proofs.Routing.{address_on}
 use Rattle.lte_machine.proofs.PhoneGives.{NotBetween}
-use Rattle.lte_properties.proofs.ChainNumbers.Lists.{OfSome, all_append, all_one, all_map}
-use Rattle.lte_properties.proofs.KeySeparation.Keys.{Gifts, GivesIn, given_old, given_split, May, MayHold, may_hold, StationOk, OwnCell, TriedOk, KeyGoes, FieldsOk, FlyOk, MadeOk, HoldOk, OutsAre, holder_may_grows, station_ok_grows, tried_ok_grows, fly_grows, made_ok_grows, OwnPlace}
+use Rattle.lte_properties.proofs.ChainNumbers.Lists.{OfSome, all_map}
+use Rattle.lte_properties.proofs.KeySeparation.Keys.{Gifts, GivesIn, given_split, May, MayHold, may_hold, StationOk, OwnCell, TriedOk, KeyGoes, FieldsOk, FlyOk, MadeOk, HoldOk, OwnPlace}
 use Rattle.lte_properties.proofs.KeySeparation.Station.{StationKept, RecordNeeds, record_kept, air_kept, act_kept}
 use Rattle.lte_properties.proofs.KeySeparation.Phone.{PhoneOk}
 use Rattle.lte_properties.proofs.KeySeparation.CoreKeeps as core
@@ -43,31 +43,38 @@ use Rattle.annex_a_keys.specs.Cell.{Place}
 abbrev pub Once : List (Outgoing Term ℕ) → Type 0
 Once xs = (t : Term) (a b : ℕ) → GivenTo xs t a → GivenTo xs t b → a ≡ b
 
--- the keys of each actor, of what is in flight and of what anybody held
-pub record Holders (sites : List Site) (w : World Term ℕ (Outgoing Term ℕ)) : Type 0 where
+-- the keys of each actor, of what is in flight and of what anybody held, beside all gifts and attempts that are known in the end
+pub record HoldersIn (G : Gifts) (known : List (Tried Term ℕ)) (sites : List Site) (w : World Term ℕ (Outgoing Term ℕ)) : Type 0 where
   pub phone : PhoneOk w.phone
   pub core : CoreOk (next_root w) (GivenTo w.sent) w.core
-  pub stations : AllOf (StationOk (GivenTo w.sent) sites) w.stations
-  pub flying : AllOf (FlyOk (GivenTo w.sent) sites w.tried) w.sent
-  pub held : AllOf (HoldOk (GivenTo w.sent) sites) w.held
+  pub stations : AllOf (StationOk G sites) w.stations
+  pub flying : AllOf (FlyOk G sites known) w.sent
+  pub held : AllOf (HoldOk G sites) w.held
   pub once : Once w.sent
-  pub tried : AllOf (TriedOk (GivenTo w.sent)) w.tried
-  pub made : AllOf (MadeOk (GivenTo w.sent) sites w.tried) w.made
+  pub tried : AllOf (TriedOk G) w.tried
+  pub made : AllOf (MadeOk G sites known) w.made
+
+-- these records and attempts are those of the world and later ones
+pub record Within (xs : List (Outgoing Term ℕ)) (known : List (Tried Term ℕ)) (w : World Term ℕ (Outgoing Term ℕ)) : Type 0 where
+  pub given : (t : Term) (a : ℕ) → GivenTo w.sent t a → GivenTo xs t a
+  pub tried : AllOf (λ e. AnyOf (λ f. e ≡ f) known) w.tried
+
+-- whatever is sent and tried later
+abbrev pub Holders : List Site → World Term ℕ (Outgoing Term ℕ) → Type 0
+Holders sites w = (xs : List (Outgoing Term ℕ)) (tried : List (Tried Term ℕ)) → Within xs tried w → HoldersIn (GivenTo xs) tried sites w
+
+each_known : (es : List (Tried Term ℕ)) → AllOf (λ e. AnyOf (λ f. e ≡ f) es) es
+each_known [] = tt
+each_known (e ∷ es) = (inl refl, all_map (λ d. AnyOf (λ f. d ≡ f) es) (λ d. AnyOf (λ f. d ≡ f) (e ∷ es)) (λ d i. inr i) es (each_known es))
+
+-- and nothing later
+pub now : (sites : List Site) (w : World Term ℕ (Outgoing Term ℕ)) → Holders sites w → HoldersIn (GivenTo w.sent) w.tried sites w
+now sites w h = h w.sent w.tried (record { given = λ t a g. g; tried = each_known w.tried })
 
 -- one record gives a key to one station
 gives_one : (t : Term) (a b : ℕ) (x : Outgoing Term ℕ) → Gives t a x → Gives t b x → a ≡ b
-gives_one t a b (SealedNas dir header u e text) h k = absurd h
-gives_one t a b (PlainNas octets) h k = absurd h
-gives_one t a b (SealedRrc dir station air srb u e text) h k = absurd h
-gives_one t a b (UserPacket dir station air drb e text) h k = absurd h
-gives_one t a b (Between (Phone station air bearer) fields key) h k = absurd h
-gives_one t a b (Between PhoneNas fields key) h k = absurd h
-gives_one t a b (Between CoreNas fields key) h k = absurd h
-gives_one t a b (Between CoreS1 fields key) h k = absurd h
-gives_one t a b (Between (StationAir station air bearer) fields key) h k = absurd h
-gives_one t a b (Between (StationX2 station) fields key) h k = absurd h
-gives_one t a b (Between (StationS1 station) fields None) h k = absurd h
 gives_one t a b (Between (StationS1 station) fields (Some key)) h k = sym h.1 ∙ k.1
+gives_one t a b other h k = absurd h
 
 module _ (x : Option (Outgoing Term ℕ)) (xs : List (Outgoing Term ℕ)) where
   given_by : (t : Term) (a b : ℕ) → GivesIn x t a → GivesIn x t b → a ≡ b
@@ -101,56 +108,8 @@ module _ (x : Option (Outgoing Term ℕ)) (xs : List (Outgoing Term ℕ)) where
     by t id (inr k) = absurd (none t id k)
 
 pub keyless_gives : (x : Option (Outgoing Term ℕ)) → NotBetween x → (t : Term) (a : ℕ) → GivesIn x t a → ⊥
-keyless_gives None h t a g = g
-keyless_gives (Some (SealedNas dir header u e text)) h t a g = g
-keyless_gives (Some (PlainNas octets)) h t a g = g
-keyless_gives (Some (SealedRrc dir station air srb u e text)) h t a g = g
-keyless_gives (Some (UserPacket dir station air drb e text)) h t a g = g
 keyless_gives (Some (Between to fields key)) h t a g = absurd h
-
--- what is so of each grows
-module _ (sites : List Site) (w : World Term ℕ (Outgoing Term ℕ)) (x : Option (Outgoing Term ℕ)) (one : Option (Tried Term ℕ)) where
-  abbrev Old : Gifts
-  Old = GivenTo w.sent
-
-  abbrev New : Gifts
-  New = GivenTo (with_one x w.sent)
-
-  pub grows : (t : Term) (a : ℕ) → Old t a → New t a
-  grows t a h = given_old x w.sent t a h
-
-  pub stations_grow : (ss : List (Station Term ℕ)) → AllOf (StationOk Old sites) ss → AllOf (StationOk New sites) ss
-  stations_grow ss h = all_map (StationOk Old sites) (StationOk New sites) (station_ok_grows Old New grows sites) ss h
-
-  pub flying_grow : AllOf (FlyOk Old sites w.tried) w.sent
-      → OfSome (FlyOk New sites (with_one one w.tried)) x
-      → AllOf (FlyOk New sites (with_one one w.tried)) (with_one x w.sent)
-  flying_grow h k =
-      all_one (FlyOk New sites (with_one one w.tried)) x w.sent
-      (all_map (FlyOk Old sites w.tried) (FlyOk New sites (with_one one w.tried)) (fly_grows Old New grows sites w.tried one) w.sent h) k
-
-  pub held_grow : (hs : List (Holding Term)) → AllOf (HoldOk Old sites) w.held → AllOf (HoldOk New sites) hs → AllOf (HoldOk New sites) (w.held ++ hs)
-  held_grow hs h k =
-      all_append (HoldOk New sites) w.held hs
-      (all_map (HoldOk Old sites) (HoldOk New sites) (λ e l. holder_may_grows Old New grows sites e.holder e.key l) w.held h) k
-
-  pub tried_grow : AllOf (TriedOk Old) w.tried → OfSome (TriedOk New) one → AllOf (TriedOk New) (with_one one w.tried)
-  tried_grow h k = all_one (TriedOk New) one w.tried (all_map (TriedOk Old) (TriedOk New) (tried_ok_grows Old New grows sites) w.tried h) k
-
-  pub made_grow : (made : Option (Made Term ℕ))
-      → AllOf (MadeOk Old sites w.tried) w.made
-      → OfSome (MadeOk New sites (with_one one w.tried)) made
-      → AllOf (MadeOk New sites (with_one one w.tried)) (with_one made w.made)
-  made_grow made h k =
-      all_one (MadeOk New sites (with_one one w.tried)) made w.made
-      (all_map (MadeOk Old sites w.tried) (MadeOk New sites (with_one one w.tried)) (made_ok_grows Old New grows sites w.tried one) w.made h) k
-
-pub some_map : {A : Type 0} (P Q : A → Type 0) → ((x : A) → P x → Q x) → (o : Option A) → OfSome P o → OfSome Q o
-some_map P Q f None h = tt
-some_map P Q f (Some x) h = f x h
-
-pub outs_map : (P Q : Term → Type 0) → ((t : Term) → P t → Q t) → (ds : List (Derivation Term)) → OutsAre P ds → OutsAre Q ds
-outs_map P Q f ds h = all_map (λ d. P d.out) (λ d. Q d.out) (λ d k. f d.out k) ds h
+keyless_gives other h t a g = g
 
 -- THE STEP OF ONE ACTOR
 
@@ -187,28 +146,19 @@ module _ (G : Gifts) (sites : List Site) (tried : List (Tried Term ℕ)) (same :
   row_needs : (fields : Fields) (key : NumberedKey Term ℕ) → May G sites s.id key.key × OwnCell sites s.id key.key →
       FieldsOk tried fields (Some key) → (on : Interface) (row : RecordRow) → RecordHas r s on fields row →
       RecordNeeds G sites tried s.id row key
-  row_needs fields key m f on (RecordRefused answer) c = tt
   row_needs fields key m f on (ContextGiven conn cell caps algs air) c = (m.0, subst (λ g. FieldsOk tried g (Some key)) c.fields_is f, own cell c.own)
-  row_needs fields key m f on ContextReleased c = tt
   row_needs fields key m f on (PairTaken conn origin) c = m.0
   row_needs fields key m f on (PreparedByS1 w) c =
       (m.0, subst (λ g. FieldsOk tried g (Some key)) c.fields_is f, own w.cell c.admits.own)
   row_needs fields key m f on (PreparedByX2 w) c = (m.0, subst (λ g. FieldsOk tried g (Some key)) c.fields_is f, m.1, own w.cell c.admits.own)
-  row_needs fields key m f on (AckedByS1 ncc algs air) c = tt
-  row_needs fields key m f on (AckedByX2 algs air) c = tt
-  row_needs fields key m f on (PreparationCancelled from) c = tt
-  row_needs fields key m f on SourceReleased c = tt
   row_needs fields key m f on (KeyRenewed conn number air count) c = m.0
+  row_needs fields key m f on other c = tt
 
   abbrev row_at : Interface → Outgoing Term ℕ → RecordRow
   row_at on x = record_row (plain_station (term_reading_by same) s) on (map_read unseen (term_reading_by same).ncc (content_of x))
 
   pub record_stepped : (on : Interface) (x : Outgoing Term ℕ) (outcome : Outcome) → address_of x ≡ address_on on s.id → FlyOk G sites tried x →
       Stepped (station_step (term_reading_by same) s (StationRecord on (content_of x)) outcome)
-  record_stepped on (SealedNas dir header u e text) outcome a f = unread_stepped on RecFault.Short outcome
-  record_stepped on (PlainNas octets) outcome a f = unread_stepped on RecFault.Short outcome
-  record_stepped on (SealedRrc dir station air srb u e text) outcome a f = unread_stepped on RecFault.Short outcome
-  record_stepped on (UserPacket dir station air drb e text) outcome a f = unread_stepped on RecFault.Short outcome
   record_stepped on (Between to fields None) outcome a f = (record_kept G sites tried same s h.cells (row_at on (Between to fields None)) None tt h.keys, tt)
   record_stepped on (Between to fields (Some key)) outcome a f =
       let m = goes_may on to key.key a f.0 in (
@@ -216,3 +166,4 @@ module _ (G : Gifts) (sites : List Site) (tried : List (Tried Term ℕ)) (same :
             (row_needs fields key m f.1 on (row_at on (Between to fields (Some key))) (record_has r s on (record { fields = fields; key = Some key }))) h.keys,
         may_hold G sites s.id key.key m.0,
       )
+  record_stepped on other outcome a f = unread_stepped on RecFault.Short outcome

@@ -1,5 +1,5 @@
 -- Which keys a station may have, and what the keys of each actor are.
-use Rattle.std.proofs.Common.{◌≡◌, ℕ, ◌⊎◌, inl, inr, List, [], ◌∷◌, ◌++◌, map, Option, Some, None}
+use Rattle.std.proofs.Common.{◌≡◌, subst, ℕ, ◌⊎◌, inl, inr, List, [], ◌∷◌, ◌++◌, map, Option, Some, None}
 use Rattle.std.specs.Prelude.{⊤}
 use Rattle.annex_a_keys.specs.Cell.{Place}
 use Rattle.lte_events.specs.declared.addresses.Address.{Address}
@@ -45,6 +45,12 @@ module _ {A : Type 0} (P : A → Type 0) where
 
   pub any_new : (x : A) (xs : List A) → P x → AnyOf P (with_one (Some x) xs)
   any_new x xs h = any_behind xs (x ∷ []) (inl h)
+
+  -- this one is so
+  pub any_this : (x : A) (xs : List A) → AnyOf (λ y. x ≡ y) xs → P x → AnyOf P xs
+  any_this x [] i h = absurd i
+  any_this x (y ∷ xs) (inl e) h = inl (subst P e h)
+  any_this x (y ∷ xs) (inr i) h = inr (any_this x xs i h)
 
 -- one in another way
 pub any_map : {A : Type 0} (P Q : A → Type 0) → ((x : A) → P x → Q x) → (xs : List A) → AnyOf P xs → AnyOf Q xs
@@ -131,11 +137,8 @@ module _ (G : Gifts) (sites : List Site) (id : ℕ) where
   may_derives (Alg t type i) h = absurd h
 
   pub may_hold : (t : Term) → May G sites id t → MayHold G sites id t
-  may_hold (Root r octets) h = h
-  may_hold (Kenb r n) h = h
-  may_hold (Nh r t) h = h
-  may_hold (Star t pci earfcn) h = h
   may_hold (Alg t type i) h = absurd h
+  may_hold other h = h
 
   pub may_hold_well : (t : Term) → MayHold G sites id t → IsWellFormed t
   may_hold_well (Root r octets) h = absurd h
@@ -163,35 +166,6 @@ module _ (G : Gifts) (sites : List Site) (id : ℕ) where
   may_go (Star t p q) cell target e h = star_may_derives t p q h
   may_go (Alg t type i) cell target e h = h
 
-  -- more gifts
-  module _ (H : Gifts) (le : (t : Term) (a : ℕ) → G t a → H t a) where
-    star_may_grows : (t : Term) (pci earfcn : ℕ) → StarMay G sites id t pci earfcn → StarMay H sites id t pci earfcn
-    star_may_grows (Root r octets) pci earfcn h = h
-    star_may_grows (Kenb r n) pci earfcn h = (h.0, or h.1) where
-      or : G (Kenb r n) id ⊎ CellIs sites pci earfcn id → H (Kenb r n) id ⊎ CellIs sites pci earfcn id
-      or (inl k) = inl (le (Kenb r n) id k)
-      or (inr k) = inr k
-    star_may_grows (Nh r t) pci earfcn h = (h.0, h.1, or h.2) where
-      or : G (Nh r t) id ⊎ CellIs sites pci earfcn id → H (Nh r t) id ⊎ CellIs sites pci earfcn id
-      or (inl k) = inl (le (Nh r t) id k)
-      or (inr k) = inr k
-    star_may_grows (Star t p e) pci earfcn h = h
-    star_may_grows (Alg t type i) pci earfcn h = h
-
-    pub may_grows : (t : Term) → May G sites id t → May H sites id t
-    may_grows (Root r octets) h = h
-    may_grows (Kenb r n) h = (h.0, le (Kenb r n) id h.1)
-    may_grows (Nh r t) h = (h.0, h.1, le (Nh r t) id h.2)
-    may_grows (Star t pci earfcn) h = star_may_grows t pci earfcn h
-    may_grows (Alg t type i) h = h
-
-    pub may_hold_grows : (t : Term) → MayHold G sites id t → MayHold H sites id t
-    may_hold_grows (Root r octets) h = h
-    may_hold_grows (Kenb r n) h = may_grows (Kenb r n) h
-    may_hold_grows (Nh r t) h = may_grows (Nh r t) h
-    may_hold_grows (Star t pci earfcn) h = star_may_grows t pci earfcn h
-    may_hold_grows (Alg t type i) h = may_grows t h
-
 -- THE KEYS OF A STATION
 
 abbrev pub OfPairKey : (Term → Type 0) → Option (NumberedKey Term ℕ) → Type 0
@@ -212,22 +186,6 @@ pub record StationHas (P : Term → Type 0) (C : Place → Type 0) (s : Station 
 abbrev pub OwnPlace : List Site → ℕ → Place → Type 0
 OwnPlace sites id cell = station_of cell sites ≡ Some id
 
-module _ (P Q : Term → Type 0) (f : (t : Term) → P t → Q t) where
-  pub pair_has_map : (o : Option (NumberedKey Term ℕ)) → OfPairKey P o → OfPairKey Q o
-  pair_has_map None h = tt
-  pair_has_map (Some pair) h = f pair.key h
-
-  context_has_map : (C : Place → Type 0) (o : Option (Context Term ℕ)) → OfSome (ContextHas P C) o → OfSome (ContextHas Q C) o
-  context_has_map C None h = tt
-  context_has_map C (Some c) h = (f c.key.kenb h.0, pair_has_map c.key.pair h.1, pair_has_map (spent_in c.attempt) h.2, h.3)
-
-  preps_have_map : (C : Place → Type 0) (ps : List (Prep Term ℕ)) → AllOf (PrepHas P C) ps → AllOf (PrepHas Q C) ps
-  preps_have_map C [] h = tt
-  preps_have_map C (p ∷ ps) h = ((f p.key.kenb h.0.0, pair_has_map p.key.pair h.0.1, h.0.2), preps_have_map C ps h.1)
-
-  pub station_has_map : (C : Place → Type 0) (s : Station Term ℕ) → StationHas P C s → StationHas Q C s
-  station_has_map C s h = record { context = context_has_map C s.context h.context; preps = preps_have_map C s.preps h.preps }
-
 -- a station knows the cells of the run, and has such keys alone, for cells of its own
 pub record StationOk (G : Gifts) (sites : List Site) (s : Station Term ℕ) : Type 0 where
   pub cells : s.cells ≡ sites
@@ -245,10 +203,6 @@ BaseGiven G id other = ⊤
 abbrev pub OfStar : (Term → Type 0) → Handover Term ℕ → Type 0
 OfStar P (BySource star) = P star.key
 OfStar P ByTarget = ⊤
-
-star_has_map : (P Q : Term → Type 0) → ((t : Term) → P t → Q t) → (kind : Handover Term ℕ) → OfStar P kind → OfStar Q kind
-star_has_map P Q f (BySource star) h = f star.key h
-star_has_map P Q f ByTarget h = tt
 
 abbrev pub TriedOk : Gifts → Tried Term ℕ → Type 0
 TriedOk G e = OfStar (BaseGiven G e.station) e.kind
@@ -320,87 +274,3 @@ pub step_held : (G : Gifts) (sites : List Site) (holder : Holder) (o : Option Te
     OutsAre (HolderMay G sites holder) ds → AllOf (HoldOk G sites) (holds holder o ds)
 step_held G sites holder None ds h k = outs_held G sites holder ds k
 step_held G sites holder (Some t) ds h k = (h, outs_held G sites holder ds k)
-
--- MORE GIFTS, AND MORE ATTEMPTS
-
-module _ (G H : Gifts) (le : (t : Term) (a : ℕ) → G t a → H t a) (sites : List Site) where
-  pub holder_may_grows : (holder : Holder) (t : Term) → HolderMay G sites holder t → HolderMay H sites holder t
-  holder_may_grows AtPhone t h = h
-  holder_may_grows AtCore t h = h
-  holder_may_grows (AtStation id) t h = may_hold_grows G sites id H le t h
-
-  pub station_ok_grows : (s : Station Term ℕ) → StationOk G sites s → StationOk H sites s
-  station_ok_grows s h = record {
-    cells = h.cells;
-    keys =
-        station_has_map (May G sites s.id) (May H sites s.id) (may_grows G sites s.id H le)
-        (OwnPlace sites s.id) s h.keys;
-  }
-
-  pub base_grows : (id : ℕ) (t : Term) → BaseGiven G id t → BaseGiven H id t
-  base_grows id (Root r octets) h = h
-  base_grows id (Kenb r n) h = h
-  base_grows id (Nh r t) h = h
-  base_grows id (Alg t type i) h = h
-  base_grows id (Star (Root r octets) pci earfcn) h = h
-  base_grows id (Star (Kenb r n) pci earfcn) h = le (Kenb r n) id h
-  base_grows id (Star (Nh r t) pci earfcn) h = le (Nh r t) id h
-  base_grows id (Star (Star t p e) pci earfcn) h = h
-  base_grows id (Star (Alg t type i) pci earfcn) h = h
-
-  pub tried_ok_grows : (e : Tried Term ℕ) → TriedOk G e → TriedOk H e
-  tried_ok_grows e h = star_has_map (BaseGiven G e.station) (BaseGiven H e.station) (base_grows e.station) e.kind h
-
-  key_goes_grows : (to : Address) (t : Term) → KeyGoes G sites to t → KeyGoes H sites to t
-  key_goes_grows (StationS1 id) t h = (may_grows G sites id H le t h.0, h.1)
-  key_goes_grows (StationX2 id) t h = (may_grows G sites id H le t h.0, h.1)
-  key_goes_grows (Phone station air bearer) t h = h
-  key_goes_grows PhoneNas t h = h
-  key_goes_grows CoreNas t h = h
-  key_goes_grows CoreS1 t h = h
-  key_goes_grows (StationAir station air bearer) t h = h
-
-  made_by_grows : (m : Made Term ℕ) (o : Handover Term ℕ) → MadeBy G m o → MadeBy H m o
-  made_by_grows m ByTarget h = base_grows m.station m.key h
-  made_by_grows m (BySource star) h = h
-
-  module _ (tried : List (Tried Term ℕ)) (one : Option (Tried Term ℕ)) where
-    fields_grow : (fields : Fields) (key : Option (NumberedKey Term ℕ)) → FieldsOk tried fields key → FieldsOk (with_one one tried) fields key
-    fields_grow (InitialContext conn cell caps) None h = h
-    fields_grow (InitialContext conn cell caps) (Some key) h = h
-    fields_grow (ContextRelease conn) key h = h
-    fields_grow (PathSwitchRequest conn station number cell caps) key h = h
-    fields_grow (PathSwitchAnswer conn number) key h = h
-    fields_grow (HandoverRequired conn station attempt cell) key h =
-        any_old (λ e. (e.station ≡ station) × (e.attempt ≡ attempt) × (e.kind ≡ ByTarget)) one tried h
-    fields_grow (HandoverRequest conn source attempt cell caps) key h =
-        any_old (λ e. (e.station ≡ source) × (e.attempt ≡ attempt) × (e.kind ≡ ByTarget)) one tried h
-    fields_grow (HandoverRequestAck conn source attempt cell ncc algs air) key h = h
-    fields_grow (HandoverCommand conn attempt cell ncc algs air) key h = h
-    fields_grow (HandoverNotify conn station cell) key h = h
-    fields_grow (HandoverCancel conn source attempt cell) key h = h
-    fields_grow (ContextModification conn next) key h = h
-    fields_grow (X2Request conn source attempt cell caps) None h = h
-    fields_grow (X2Request conn source attempt cell caps) (Some key) h =
-        any_old (λ e. (e.station ≡ source) × (e.attempt ≡ attempt) × (e.kind ≡ BySource key)) one tried h
-    fields_grow (X2Ack conn attempt cell algs air) key h = h
-    fields_grow (X2Cancel conn source attempt) key h = h
-    fields_grow (X2Release conn attempt) key h = h
-
-    pub fly_grows : (x : Outgoing Term ℕ) → FlyOk G sites tried x → FlyOk H sites (with_one one tried) x
-    fly_grows (SealedNas dir header u e text) h = tt
-    fly_grows (PlainNas octets) h = tt
-    fly_grows (SealedRrc dir station air srb u e text) h = tt
-    fly_grows (UserPacket dir station air drb e text) h = tt
-    fly_grows (Between to fields key) h = (pair_has_map (KeyGoes G sites to) (KeyGoes H sites to) (key_goes_grows to) key h.0, fields_grow fields key h.1)
-
-    made_from_grows : (m : Made Term ℕ) (o : From Term) → MadeFrom G tried m o → MadeFrom H (with_one one tried) m o
-    made_from_grows m BySetup h = h
-    made_from_grows m (ByChange before) h = base_grows m.station m.key h
-    made_from_grows m (ByAttempt o) h =
-        let Q = λ (e : Tried Term ℕ). (e.station ≡ o.source) × (e.attempt ≡ o.attempt) × MadeBy H m e.kind in
-        any_old Q one tried (any_map (λ e. (e.station ≡ o.source) × (e.attempt ≡ o.attempt) × MadeBy G m e.kind) Q
-        (λ e k. (k.0, k.1, made_by_grows m e.kind k.2)) tried h)
-
-    pub made_ok_grows : (m : Made Term ℕ) → MadeOk G sites tried m → MadeOk H sites (with_one one tried) m
-    made_ok_grows m h = (made_from_grows m m.from h.0, h.1)

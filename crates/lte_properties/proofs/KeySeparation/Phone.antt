@@ -22,10 +22,7 @@ use Rattle.lte_properties.proofs.KeySeparation.Keys.{Gifts, FlyOk, OutsAre}
 
 pub root_derives : (t : Term) → IsRoot t → IsDerivationKey t
 root_derives (Root r octets) h = tt
-root_derives (Kenb r n) h = absurd h
-root_derives (Nh r t) h = absurd h
-root_derives (Star t pci earfcn) h = absurd h
-root_derives (Alg t type i) h = absurd h
+root_derives other h = absurd h
 
 -- A CHAIN
 
@@ -67,12 +64,8 @@ pub record PhoneOk (s : Phone Term ℕ) : Type 0 where
 
 -- what is sent holds no key
 pub keyless_flies : (G : Gifts) (sites : List Site) (tried : List (Tried Term ℕ)) (o : Option (Outgoing Term ℕ)) → NotBetween o → OfSome (FlyOk G sites tried) o
-keyless_flies G sites tried None h = tt
-keyless_flies G sites tried (Some (SealedNas dir header u e text)) h = tt
-keyless_flies G sites tried (Some (PlainNas octets)) h = tt
-keyless_flies G sites tried (Some (SealedRrc dir station air srb u e text)) h = tt
-keyless_flies G sites tried (Some (UserPacket dir station air drb e text)) h = tt
 keyless_flies G sites tried (Some (Between to fields key)) h = absurd h
+keyless_flies other sites tried rest h = tt
 
 -- what a step keeps
 pub record PhoneKept (d : Phone Term ℕ × Reply Term ℕ) : Type 0 where

@@ -15,7 +15,7 @@ use Rattle.lte_properties.specs.Separation.{IsStationOf, HeldBy, GivenTo, HasNei
 use Rattle.lte_properties.proofs.ChainNumbers.Lists.{all_map}
 use Rattle.lte_properties.proofs.KeySeparation.Keys.{any_with, any_out, Gifts, MayHold, may_hold_well, BaseGiven, TriedOk, MadeBy, MadeFrom, MadeOk, HolderMay, HoldOk}
 use Rattle.lte_properties.proofs.KeySeparation.All.{HeldAll}
-use Rattle.lte_properties.proofs.KeySeparation.Holders.{Holders}
+use Rattle.lte_properties.proofs.KeySeparation.Holders.{HoldersIn}
 
 -- a key of a chain that a station may hold was given to it
 chain_given : (G : Gifts) (sites : List Site) (id : ℕ) (r : ℕ) (octets : List ℕ) (n i : ℕ)
@@ -37,7 +37,7 @@ base_given_is : (G : Gifts) (id : ℕ) (r : ℕ) (octets : List ℕ) (n i pci ea
 base_given_is G id r octets n zero pci earfcn h = h
 base_given_is G id r octets n (suc i) pci earfcn h = h
 
-module _ (sites : List Site) (w : World Term ℕ (Outgoing Term ℕ)) (h : Holders sites w) where
+module _ (sites : List Site) (w : World Term ℕ (Outgoing Term ℕ)) (h : HoldersIn (GivenTo w.sent) w.tried sites w) where
   abbrev G : Gifts
   G = GivenTo w.sent
 

@@ -16,13 +16,13 @@ use Rattle.lte_machine.proofs.Tests.{by_some}
 use Rattle.lte_properties.proofs.ChainNumbers.Lists.{OfSome, all_find, all_map}
 use Rattle.lte_properties.proofs.KeySeparation.Keys.{any_map, OwnCell, MadeFrom, MadeOk}
 use Rattle.lte_properties.proofs.KeySeparation.Run.{neither_derives, as_given}
-use Rattle.lte_properties.proofs.KeySeparation.Holders.{Holders}
+use Rattle.lte_properties.proofs.KeySeparation.Holders.{HoldersIn}
 
 -- made at this station
 at_station : (a b c d : ℕ) → ((a == b) && (c == d)) ≡ true → a ≡ b
 at_station a b c d e = grind (arith, nat_tests)
 
-module _ (sites : List Site) (w : World Term ℕ (Outgoing Term ℕ)) (h : Holders sites w) where
+module _ (sites : List Site) (w : World Term ℕ (Outgoing Term ℕ)) (h : HoldersIn (GivenTo w.sent) w.tried sites w) where
   -- a station that has neither the key of the chain nor the cell is outside
   outside_cannot : (r : ℕ) (octets : List ℕ) (n i : ℕ) (cell : Place) (key : Term) (source target : ℕ) (kind : Handover Term ℕ) →
       key ≡ Star (nh (Root r octets) n i) cell.pci cell.earfcn → station_of cell sites ≡ Some target →

@@ -16,12 +16,12 @@ use Rattle.lte_machine.specs.StationState.{Station, Context}
 use Rattle.lte_machine.specs.StationRows.{Admitted, RecordRow, ContextGiven, PairTaken, PreparedByS1, PreparedByX2, AirRow, ActRow, KeyRenewed}
 use Rattle.lte_machine.specs.StationKeys.{spent_in, given_up, with_security, with_rrc_taken, with_packet_taken, with_skipped, started_by_x2, started_within, air_does, act_does}
 use Rattle.lte_machine.specs.StationRecords.{with_pair, with_s1_ack, with_x2_ack, source_release, admitted_made, prepared_by_s1, prepared_by_x2, record_does, key_renewed}
-use Rattle.lte_machine.specs.World.{with_one}
+use Rattle.lte_properties.specs.Separation.{AnyOf}
 use Rattle.lte_machine.proofs.StationCases.{Any, RecordCases, AirCases, ActCases, record_case, air_case, act_case}
 use Rattle.lte_machine.proofs.StationActFacts.{StationActHas}
 use Rattle.lte_machine.proofs.AttemptSteps.{s1_acked_so, x2_acked_so, commanded_so}
 use Rattle.lte_properties.proofs.ChainNumbers.Lists.{OfSome, all_append, all_filter, all_find}
-use Rattle.lte_properties.proofs.KeySeparation.Keys.{any_map, any_new, GivesIn, Gifts, May, MayHold, may_star, may_go, OfPairKey, ContextHas, PrepHas, StationHas, BaseGiven, TriedOk, HasTried, IsKenb, OwnCell, FlyOk, MadeBy, MadeOk, OutsAre, OwnPlace}
+use Rattle.lte_properties.proofs.KeySeparation.Keys.{any_map, any_this, GivesIn, Gifts, May, MayHold, may_star, may_go, OfPairKey, ContextHas, PrepHas, StationHas, BaseGiven, TriedOk, HasTried, IsKenb, OwnCell, FlyOk, MadeBy, MadeOk, OutsAre, OwnPlace}
 
 -- CONTEXTS
 
@@ -54,6 +54,10 @@ context_map_has P C f each (Some c) h = each c h
 
 -- WHAT A STEP KEEPS
 
+-- its attempt is one of those that the run knows in the end
+abbrev pub IsKnown : List (Tried Term ℕ) → Option (Tried Term ℕ) → Type 0
+IsKnown tried one = OfSome (λ e. AnyOf (λ f. e ≡ f) tried) one
+
 -- new station, what it sent, what it derived, the attempt that it opened, and what it made
 pub record StationKept (G : Gifts) (sites : List Site) (tried : List (Tried Term ℕ)) (id : ℕ) (t : Station Term ℕ)
     (sent : Option (Outgoing Term ℕ)) (derived : List (Derivation Term)) (one : Option (Tried Term ℕ))
@@ -62,10 +66,10 @@ pub record StationKept (G : Gifts) (sites : List Site) (tried : List (Tried Term
   pub cells : t.cells ≡ sites
   pub keys : StationHas (May G sites id) (OwnPlace sites id) t
   pub outs : OutsAre (MayHold G sites id) derived
-  pub sends : OfSome (FlyOk G sites (with_one one tried)) sent
+  pub sends : IsKnown tried one → OfSome (FlyOk G sites tried) sent
   pub gives : (u : Term) (a : ℕ) → GivesIn sent u a → ⊥
   pub tries : OfSome (TriedOk G) one
-  pub makes : OfSome (MadeOk G sites (with_one one tried)) made
+  pub makes : IsKnown tried one → OfSome (MadeOk G sites tried) made
 
 -- what a row needs of the key of the record that it read
 abbrev pub RecordNeeds : Gifts → List Site → List (Tried Term ℕ) → ℕ → RecordRow → NumberedKey Term ℕ → Type 0
@@ -85,11 +89,9 @@ KeyNeeds G sites tried id row (Some key) = RecordNeeds G sites tried id row key
 
 -- the key from which KeNB* comes was given to the station that has it
 base_given : (G : Gifts) (sites : List Site) (id : ℕ) (t : Term) (pci earfcn : ℕ) → May G sites id t → BaseGiven G id (Star t pci earfcn)
-base_given G sites id (Root r octets) pci earfcn h = tt
 base_given G sites id (Kenb r n) pci earfcn h = h.1
 base_given G sites id (Nh r t) pci earfcn h = h.2
-base_given G sites id (Star t p e) pci earfcn h = tt
-base_given G sites id (Alg t type i) pci earfcn h = tt
+base_given other sites id rest pci earfcn h = tt
 
 module _ (G : Gifts) (sites : List Site) (tried : List (Tried Term ℕ)) (same : Term → Term → Bool) (s : Station Term ℕ) (cells : s.cells ≡ sites) where
   abbrev P : Term → Type 0
@@ -109,10 +111,10 @@ module _ (G : Gifts) (sites : List Site) (tried : List (Tried Term ℕ)) (same :
     cells = subst (λ l. l ≡ sites) (sym f) cells;
     keys = h;
     outs = tt;
-    sends = k;
+    sends = λ is. k;
     gives = g;
     tries = tt;
-    makes = tt;
+    makes = λ is. tt;
   }
 
   quiet : (t : Station Term ℕ) → t.id ≡ s.id → t.cells ≡ s.cells → StationHas P C t → StationKept G sites tried s.id t None [] None None
@@ -128,11 +130,8 @@ module _ (G : Gifts) (sites : List Site) (tried : List (Tried Term ℕ)) (same :
   -- BY A RECORD
 
   kenb_own : (t : Term) → IsKenb t → OwnCell sites s.id t
-  kenb_own (Root r octets) k = tt
-  kenb_own (Kenb r n) k = tt
-  kenb_own (Nh r t) k = tt
   kenb_own (Star t pci earfcn) k = absurd k
-  kenb_own (Alg t type i) k = tt
+  kenb_own other k = tt
 
   released_gives : (conn : ℕ) (o : Option Origin) (u : Term) (a : ℕ) → GivesIn (source_release conn o) u a → ⊥
   released_gives conn None u a g = g
@@ -159,10 +158,10 @@ module _ (G : Gifts) (sites : List Site) (tried : List (Tried Term ℕ)) (same :
               (all_filter (PrepHas P C) (λ p. nat_le w.conn p.conn) s.preps h.preps) ((k, tt, n.2), tt);
         };
         outs = (k, (k, (k, (k, tt))));
-        sends = (tt, tt);
+        sends = λ is. (tt, tt);
         gives = λ u a g. g;
         tries = tt;
-        makes = (
+        makes = λ is. (
           any_map (λ e. (e.station ≡ w.from.source) × (e.attempt ≡ w.from.attempt) × (e.kind ≡ ByTarget)) _
               (λ e q. (
                 q.0,
@@ -187,10 +186,10 @@ module _ (G : Gifts) (sites : List Site) (tried : List (Tried Term ℕ)) (same :
           (all_filter (PrepHas P C) (λ p. nat_le w.conn p.conn) s.preps h.preps) ((n.0, tt, n.3), tt);
     };
     outs = (n.0, (n.0, (n.0, tt)));
-    sends = (tt, tt);
+    sends = λ is. (tt, tt);
     gives = λ u a g. g;
     tries = tt;
-    makes = (
+    makes = λ is. (
       any_map (λ e. (e.station ≡ w.from.source) × (e.attempt ≡ w.from.attempt) × (e.kind ≡ BySource key)) _
           (λ e q. (q.0, q.1, subst (AdmittedBy w key) (sym q.2) refl)) tried n.1,
       n.2,
@@ -205,10 +204,10 @@ module _ (G : Gifts) (sites : List Site) (tried : List (Tried Term ℕ)) (same :
         cells = cells;
         keys = record { context = (c.0, c.1, tt, c.3); preps = ((k, tt, c.3), tt) };
         outs = (k, (k, (k, (k, tt))));
-        sends = tt;
+        sends = λ is. tt;
         gives = λ u a g. g;
         tries = tt;
-        makes = (base_given G sites s.id kenb.key context.cell.pci context.cell.earfcn n, c.3);
+        makes = λ is. (base_given G sites s.id kenb.key context.cell.pci context.cell.earfcn n, c.3);
       }
 
   -- the context, and a preparation
@@ -227,10 +226,10 @@ module _ (G : Gifts) (sites : List Site) (tried : List (Tried Term ℕ)) (same :
           cells = cells;
           keys = record { context = (k.0, tt, tt, k.2); preps = tt };
           outs = (k.0, (k.0, (k.0, tt)));
-          sends = tt;
+          sends = λ is. tt;
           gives = λ u a g. g;
           tries = tt;
-          makes = (k.1, kenb_own kenb.key k.1);
+          makes = λ is. (k.1, kenb_own kenb.key k.1);
         };
         released = λ key k. quiet (record s { context = None; preps = [] }) refl refl (record { context = tt; preps = tt });
         taken = λ conn origin pair k.
@@ -295,16 +294,16 @@ module _ (G : Gifts) (sites : List Site) (tried : List (Tried Term ℕ)) (same :
         cells = cells;
         keys = record { context = (c.0, tt, c.1, c.3); preps = h.preps };
         outs = (may_star G sites s.id base.key cell.pci cell.earfcn b, tt);
-        sends = (
+        sends = λ is. (
           (may_go G sites s.id base.key cell target e b, e),
-          any_new (λ t. (t.station ≡ s.id)
+          any_this (λ t. (t.station ≡ s.id)
               × (t.attempt ≡ number)
               × (t.kind ≡ BySource (opened (term_reading_by same) context.key cell).star))
-              _ tried (refl, refl, refl),
+              _ tried is (refl, refl, refl),
         );
         gives = λ u a g. g;
         tries = base_given G sites s.id base.key cell.pci cell.earfcn b;
-        makes = tt;
+        makes = λ is. tt;
       }
 
   started_within_kept : (number air : ℕ) (cell : Place) (context : Context Term ℕ) → station_of cell sites ≡ Some s.id →
@@ -329,10 +328,10 @@ module _ (G : Gifts) (sites : List Site) (tried : List (Tried Term ℕ)) (same :
         cells = cells;
         keys = record { context = (c.0, tt, c.1, c.3); preps = all_append (PrepHas P C) s.preps _ h.preps ((k, tt, e), tt) };
         outs = (k, (k, (k, (k, tt))));
-        sends = tt;
+        sends = λ is. tt;
         gives = λ u a g. g;
         tries = base_given G sites s.id base.key cell.pci cell.earfcn b;
-        makes = (any_new (λ e. (e.station ≡ s.id) × (e.attempt ≡ number) × MadeBy G made e.kind) _ tried (refl, refl, refl), e);
+        makes = λ is. (any_this (λ e. (e.station ≡ s.id) × (e.attempt ≡ number) × MadeBy G made e.kind) _ tried is (refl, refl, refl), e);
       }
 
   -- KeNB* goes to the station of its cell
@@ -349,10 +348,10 @@ module _ (G : Gifts) (sites : List Site) (tried : List (Tried Term ℕ)) (same :
           cells = cells;
           keys = record { context = (m.0, m.1, tt, m.3); preps = h.preps };
           outs = tt;
-          sends = (tt, any_new (λ t. (t.station ≡ s.id) × (t.attempt ≡ number) × (t.kind ≡ ByTarget)) _ tried (refl, refl, refl));
+          sends = λ is. (tt, any_this (λ t. (t.station ≡ s.id) × (t.attempt ≡ number) × (t.kind ≡ ByTarget)) _ tried is (refl, refl, refl));
           gives = λ u a g. g;
           tries = tt;
-          makes = tt;
+          makes = λ is. tt;
         };
         within = λ number air cell k c e. started_within_kept number air cell c (goes cell s.id k.starts.site) (here h c e) h;
         commanded = λ order count k c e.

@@ -99,13 +99,10 @@ module _ (setup : Setup) (set : IsSetup setup) where
     station_reaches id i came h = let k = here id h in turn_reaches id i came (station_of_id id w.stations) k.0 k.1
 
     arrives_reaches : (to : Address) → IsAmong (Has setup) to → (pdu : List ℕ) (came : Option (Outgoing Term ℕ)) → ReachesActor (arrives m w to pdu came).1
-    arrives_reaches Address.PhoneNas h pdu came = λ who. absurd cc
-    arrives_reaches (Address.Phone station air bearer) h pdu came = λ who. absurd cc
-    arrives_reaches Address.CoreNas h pdu came = λ who. absurd cc
-    arrives_reaches Address.CoreS1 h pdu came = λ who. absurd cc
     arrives_reaches (Address.StationAir station air bearer) h pdu came = station_reaches station (AirPdu air bearer pdu) came h
     arrives_reaches (Address.StationS1 station) h pdu came = station_reaches station (StationRecord OnS1 (content_in m came)) came h
     arrives_reaches (Address.StationX2 station) h pdu came = station_reaches station (StationRecord OnX2 (content_in m came)) came h
+    arrives_reaches other h pdu came = λ who. absurd cc
 
     delivered_reaches : (o : Option (Outgoing Term ℕ)) → OfSome (λ x. IsAmong (Has setup) (address_of x)) o → ReachesActor (delivery m w o).1
     delivered_reaches None h = λ who e. absurd cc
@@ -120,13 +117,10 @@ module _ (setup : Setup) (set : IsSetup setup) where
     auth_reaches ksi key caps (Some row) = λ who e. absurd cc
 
     may_come : (to : Address) → TakesInjected to → IsThere setup to → IsAmong (Has setup) to
-    may_come Address.PhoneNas takes there = tt
-    may_come (Address.Phone station air bearer) takes there = tt
-    may_come Address.CoreNas takes there = tt
-    may_come Address.CoreS1 takes there = tt
     may_come (Address.StationAir station air bearer) takes there = there
     may_come (Address.StationS1 station) takes there = absurd takes
     may_come (Address.StationX2 station) takes there = absurd takes
+    may_come other takes there = tt
 
     pub happens_reaches : (e : Event) → CanHappen setup e → ReachesActor (happens m w e).1
     happens_reaches (Event.Auth ksi key caps) can =

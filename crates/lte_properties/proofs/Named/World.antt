@@ -51,19 +51,12 @@ module _ (P : ℕ → Type 0) (cells : List Site) (sites : (cell : Place) (id : 
 
   -- the phone sends nothing on S1 and X2
   phone_sends : (o : Option (Outgoing Term ℕ)) → NotBetween o → OfSome (λ x. RecordNamed P x) o
-  phone_sends None h = tt
-  phone_sends (Some (SealedNas dir header u e text)) h = tt
-  phone_sends (Some (PlainNas octets)) h = tt
-  phone_sends (Some (SealedRrc dir station air srb u e text)) h = tt
-  phone_sends (Some (UserPacket dir station air drb e text)) h = tt
   phone_sends (Some (Between to fields key)) h = absurd h
+  phone_sends other h = tt
 
   read_named : (x : Outgoing Term ℕ) → RecordNamed P x → ReadNamed P (content_of x)
-  read_named (SealedNas dir header u e text) h = tt
-  read_named (PlainNas octets) h = tt
-  read_named (SealedRrc dir station air srb u e text) h = tt
-  read_named (UserPacket dir station air drb e text) h = tt
   read_named (Between to fields key) h = h.1
+  read_named other h = tt
 
   -- EVERY EVENT
 

@@ -66,12 +66,10 @@ AirOk g (UserPacket dir id air drb e text) = PacketSealed g dir id air drb e tex
 AirOk g other = ⊤
 
 pub air_later : (g h : Ghost) → Later g h → (x : Outgoing Term ℕ) → AirOk g x → AirOk h x
-air_later g h l (SealedNas dir header u e text) k = tt
-air_later g h l (PlainNas octets) k = tt
 air_later g h l (SealedRrc dir id air srb u e text) k = λ sent is.
     let f = k sent is in (f.0, f.1, f.2, f.3, keys_later g h l id air f.3 f.4, f.5)
 air_later g h l (UserPacket dir id air drb e text) k = (k.0, k.1, k.2, k.3, keys_later g h l id air k.3 k.4, k.5)
-air_later g h l (Between to fields key) k = tt
+air_later g h l other k = tt
 
 -- the keys of a connected phone, and of a context
 abbrev pub RadioKeys : Ghost → Radio Term ℕ → Type 0

@@ -17,23 +17,13 @@ use Rattle.lte_properties.proofs.Opening.Air.{SendNeeds}
 
 module _ (r : Reading Term ℕ) (s : Station Term ℕ) (act : StationAct) where
   sends : (row : station.ActRow) → StationActHas r s act row → IsStationAct act → SendNeeds row
-  sends (station.ActRefused answer) f h = tt
-  sends (station.StartedByX2 number target cell) f h = tt
-  sends (station.StartedByS1 number target cell) f h = tt
-  sends (station.StartedWithin number air cell) f h = tt
-  sends (station.HandoverCommanded order count) f h = tt
-  sends (station.ChangeCommanded renewal count) f h = tt
-  sends (station.CancelledByX2 conn number target) f h = tt
-  sends (station.CancelledByS1 conn number cell) f h = tt
-  sends (station.CancelledWithin number) f h = tt
-  sends (station.PathSwitchAsked number) f h = tt
   sends (station.PacketSent drb count text) f h =
       let short : IsStationAct (station_acts.TheVariants.SendUser f.bearer text) = subst IsStationAct f.act_is h in
       (subst (λ n. n < count_limit) (sym f.count_is) (above_of count_limit (drb_counts drb f.context.bearers).send f.unspent), short.1)
   sends (station.RrcSent srb count text) f h =
       let short : IsStationAct (station_acts.TheVariants.SendRrc f.bearer text) = subst IsStationAct f.act_is h in
       (subst (λ n. n < count_limit) (sym f.count_is) (above_of count_limit (srb_counts srb f.context.bearers).send f.unspent), short.1)
-  sends (station.BearerSkipped on n) f h = tt
+  sends other f h = tt
 
   -- the row of an act of a station
   pub station_act_needs : IsStationAct act → SendNeeds (act_row (plain_station r s) act)

@@ -7,7 +7,7 @@ use Rattle.std.proofs.Math.Nat.{mod-mod}
 use Rattle.key_model.specs.Least.{least}
 use Rattle.key_model.proofs.LeastFacts.{least_in_window}
 use Rattle.key_model.specs.Term.{Term}
-use Rattle.nas_guard.specs.Estimate.{estimate_of, nas_count_limit}
+use Rattle.nas_count.specs.Estimate.{estimate_of, nas_count_limit}
 use Rattle.nas_guard.specs.Seal.{first_octet}
 use Rattle.nas_guard.specs.Open.{sn_in, sent_in, first_in}
 use Rattle.pdcp_guard.specs.Counts.{count_limit, in_32_bits}
@@ -42,12 +42,8 @@ abbrev pub HasParts : List ℕ → ℕ → ℕ → List ℕ → Type 0
 HasParts pdu first sn rest = (first_in pdu ≡ first) × (sn_in pdu ≡ sn) × (sent_in pdu ≡ rest) × (6 ≤ length pdu)
 
 parts_of : (first sn : ℕ) (mac rest : List ℕ) → length mac ≡ 4 → HasParts (first ∷ mac ++ sn ∷ rest) first sn rest
-parts_of first sn [] rest h = absurd (omega arith)
-parts_of first sn (a ∷ []) rest h = absurd (omega arith)
-parts_of first sn (a ∷ b ∷ []) rest h = absurd (omega arith)
-parts_of first sn (a ∷ b ∷ d ∷ []) rest h = absurd (omega arith)
 parts_of first sn (a ∷ b ∷ d ∷ g ∷ []) rest h = (refl, refl, refl, omega arith)
-parts_of first sn (a ∷ b ∷ d ∷ g ∷ x ∷ mac) rest h = absurd (omega arith)
+parts_of first sn other rest h = absurd (omega arith)
 
 pub nas_parts : (c : Ciphers Term) → AreCiphers c → (header : ℕ) (u : KeyUse Term) (e : Option (Ciphering Term)) (text : List ℕ)
     → HasParts (nas_octets c header u e text) (first_octet header) (u.count % 256) (ciphered_by c e text)

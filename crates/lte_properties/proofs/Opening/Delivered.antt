@@ -6,7 +6,7 @@ use Rattle.lte_events.specs.declared.addresses.Address.{Address}
 use Rattle.lte_events.specs.declared.answers.Answer.TheVariants.{Done}
 use Rattle.key_model.specs.HandoverTable.{NumberedKey}
 use Rattle.key_model.specs.Term.{Term}
-use Rattle.nas_guard.specs.Estimate.{nas_count_limit}
+use Rattle.nas_count.specs.Estimate.{nas_count_limit}
 use Rattle.nas_rec.specs.declared.records.NasRecord.TheVariants.{NasData}
 use Rattle.nas_rec.specs.Spelling.{spelling_of as nas_spelling}
 use Rattle.nas_rec.specs.Reading.{read_nas}

@@ -8,7 +8,7 @@ use Rattle.rec_base.specs.declared.uses.Dir.{Dir}
 use Rattle.rec_base.specs.declared.uses.Dir.TheVariants.{Up, Down}
 use Rattle.lte_events.specs.Site.{Site}
 use Rattle.key_model.specs.Term.{Term, Alg}
-use Rattle.nas_guard.specs.Estimate.{nas_count_limit}
+use Rattle.nas_count.specs.Estimate.{nas_count_limit}
 use Rattle.nas_rec.specs.declared.records.NasRecord.{NasRecord}
 use Rattle.nas_rec.specs.declared.records.NasRecord.TheVariants.{SecurityModeCommand, SecurityModeComplete, SecurityModeReject, ServiceRequest, NasData}
 use Rattle.nas_rec.specs.Spelling.{spelling_of}
@@ -51,7 +51,7 @@ at_context : (cells : List Site) (g : Ghost) (ss : List (Station Term ℕ))
 at_context cells g ss ok id air keys sealed P h s k found context there =
     let f = subst (OfSome (λ s. StationOk cells g s × ((s.id == id) ≡ true))) found (all_find (StationOk cells g) (λ s. s.id == id) ss ok) in
     let number : s.id ≡ id = is_number s.id id f.1 in
-    let mine : KeysAre g s.id k.air k.keys = subst (ContextKeys g s.id) context (context_keys g s.id s.context f.0.0) in
+    let mine : KeysAre g s.id k.air k.keys = subst (ContextKeys g s.id) context (context_keys g s.id s.context f.0.context) in
     let at : KeysAre g id air k.keys = subst (λ n. KeysAre g n air k.keys) number (subst (λ n. KeysAre g s.id n k.keys) there mine) in
     subst P (one_keys g id air keys k.keys sealed at) h
   where

@@ -9,7 +9,7 @@ use Rattle.alg_choice.specs.declared.algs.Eea.{Eea}
 use Rattle.alg_choice.specs.declared.choices.NoAlgorithm.{NoAlgorithm as NoneChosen}
 use Rattle.key_model.specs.Term.{Term, Root, Alg}
 use Rattle.key_model.specs.Reading.{term_reading}
-use Rattle.nas_guard.specs.Estimate.{nas_count_limit}
+use Rattle.nas_count.specs.Estimate.{nas_count_limit}
 use Rattle.nas_guard.specs.Keys.{Keys}
 use Rattle.nas_rec.specs.declared.records.NasRecord.{NasRecord}
 use Rattle.nas_rec.specs.declared.records.NasRecord.TheVariants.{SecurityModeCommand, SecurityModeComplete, SecurityModeReject, ServiceRequest, NasData}
@@ -146,10 +146,7 @@ module _ (g h : Choices) (next later : ℕ) (more : More g next h later) where
 
   pub sent_more : (x : Outgoing Term ℕ) → SentOk g next x → SentOk h later x
   sent_more (SealedNas dir header u e text) k = (k.0, k.1, k.2, chosen_more (Ok k.1) k.0 k.3, k.4, k.5, k.6, k.7)
-  sent_more (PlainNas octets) k = tt
-  sent_more (SealedRrc dir station air srb u e text) k = tt
-  sent_more (UserPacket dir station air drb e text) k = tt
-  sent_more (Between to fields key) k = tt
+  sent_more other k = tt
 
 -- one KASME has one choice
 pub one_choice : (g : Choices) (next : ℕ) (root : Term) (a b : Algs) → RootHas g next root a → RootHas g next root b → a ≡ b

@@ -113,11 +113,8 @@ module _ (same : Term → Term → Bool) (g : Choices) (next : ℕ) (c : Ciphers
       where
         root_of : (a b : Term) → Alg a 2 eia2_identity ≡ Alg b 2 eia2_identity → a ≡ b
         root_of a b e = cc
-    taken_of p ksi algs caps (Some (SealedNas Up header u e text)) h under type reads = absurd h
-    taken_of p ksi algs caps (Some (PlainNas octets)) h under type reads = absurd h
-    taken_of p ksi algs caps (Some (SealedRrc dir station air srb u e text)) h under type reads = absurd h
-    taken_of p ksi algs caps (Some (UserPacket dir station air drb e text)) h under type reads = absurd h
     taken_of p ksi algs caps (Some (Between to fields key)) h under type reads = absurd under
+    taken_of p ksi algs caps other h under type reads = absurd h
 
     taken_needs : (count : ℕ) (algs : Algs) (text : List ℕ) (ksi : ℕ) (caps : Caps)
         → header_for_phone pdu ≡ Ok 3
@@ -172,9 +169,6 @@ module _ (same : Term → Term → Bool) (g : Choices) (next : ℕ) (c : Ciphers
           (subst (λ o. SenderIs (known derived) (keys.nas_expects q (phone_nas q s pdu) s) (sender_of came) o) f.opened h)
 
       row_needs : (row : phone.NasRow) → NasHas q s pdu outcome row → Granted row
-      row_needs (phone.NasRefused answer) f h = tt
-      row_needs (phone.RejectedPlain answer cause) f h = tt
-      row_needs (phone.RejectedUnder answer cause) f h = tt
       row_needs (phone.ContextTaken algs count) f h =
           taken_needs count algs f.text f.by.partial.ksi f.caps f.by.header_is f.by.reads s.partial
           (at_command _ algs count f (h (taken_done algs count s.partial)))
@@ -182,7 +176,7 @@ module _ (same : Term → Term → Bool) (g : Choices) (next : ℕ) (c : Ciphers
           let x = f.0 in
           connected_needs count algs x.text x.by.partial.ksi x.caps x.by.header_is x.by.reads s.partial
           (at_command _ algs count x (h (connected_done algs count s.partial)))
-      row_needs (phone.NasOpened count text) f h = tt
+      row_needs other f h = tt
 
       -- the row of a message: where a command is taken, its algorithms are those chosen for its KASME
       pub nas_pdu_needs : Granted (choice.nas_row s.caps (plain_phone q s).context (plain_phone q s).radio (phone_nas q s pdu) outcome)

@@ -11,7 +11,7 @@ use Rattle.lte_events.specs.Ranges.{IsCoreAct, IsPhoneAct}
 use Rattle.lte_events.specs.declared.acts.CoreAct.{CoreAct}
 use Rattle.key_model.specs.Term.{Term}
 use Rattle.key_model.specs.Reading.{Reading, term_reading_by}
-use Rattle.nas_guard.specs.Estimate.{nas_count_limit}
+use Rattle.nas_count.specs.Estimate.{nas_count_limit}
 use Rattle.nas_rec.specs.declared.records.NasRecord.{NasRecord}
 use Rattle.nas_rec.specs.declared.records.NasRecord.TheVariants.{SecurityModeCommand, SecurityModeComplete, SecurityModeReject, ServiceRequest, NasData}
 use Rattle.nas_rec.specs.Spelling.{spelling_of}

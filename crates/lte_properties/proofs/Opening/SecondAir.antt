@@ -219,7 +219,7 @@ module _ (same : Term → Term → Bool) (cells : List Site) (g : Ghost) (s : St
       → Starts s.context
   found_prep count None is = λ e. absurd cc
   found_prep count (Some p) is = λ e.
-      absurd (prepared_never p (all_found (PrepOk g s.id) (is_at air) s.preps p ok.1 is)
+      absurd (prepared_never p (all_found (PrepOk g s.id) (is_at air) s.preps p ok.preps is)
       (eqb-true p.air air (found_holds (is_at air) s.preps p is)) count came came_ok e)
 
   counted_prepared : (by : By) (count : Result ℕ PdcpFault) → Second (st.counted (st.OnPrepared air by) count)
@@ -227,14 +227,12 @@ module _ (same : Term → Term → Bool) (cells : List Site) (g : Ghost) (s : St
   counted_prepared by (Ok count) = found_prep count (at_air air s.preps) refl
 
   prepared_second : (o : Option (Prep (Unit {0}) ℕ)) (on : Which) (pdu : List ℕ) → Second (st.prepared_front o air on pdu)
-  prepared_second None on pdu = λ e. absurd cc
   prepared_second (Some p) (OnSrb Signalling1) pdu = counted_prepared p.by (srb_count 0 pdu)
-  prepared_second (Some p) (OnSrb Signalling2) pdu = λ e. absurd cc
-  prepared_second (Some p) (OnDrb drb) pdu = λ e. absurd cc
+  prepared_second other rest pdu = λ e. absurd cc
 
   module _ (c : Context Term ℕ) (is : s.context ≡ Some c) (there : c.air ≡ air) where
     own : CtxOk g s.id (Some c)
-    own = subst (CtxOk g s.id) is ok.0
+    own = subst (CtxOk g s.id) is ok.context
 
     listened : Heard (Some c)
     listened = subst Heard is heard

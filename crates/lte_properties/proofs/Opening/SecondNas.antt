@@ -109,11 +109,8 @@ module _ (g : Choices) (next : ℕ) where
           never_nas (nas_use Down d.keys.int count) i (ciphering_if (is_ciphered header) (nas_ciphering Down d.keys count)) f Down sent text
           (λ e. (λ j. ciphering_if (is_ciphered (one j)) (ciphering_by d.keys.algs.eea (nas_use Down (k.1 j).enc count)))
           ∙ sym (under_one Down sent i f text h.1 d.root d.keys.algs k.0 (nas_use Down d.keys.int count) key e))
-      message_never count header type (Some d) k (Some (SealedNas Up sent i f text)) h = absurd h
-      message_never count header type (Some d) k (Some (PlainNas octets)) h = absurd h
-      message_never count header type (Some d) k (Some (SealedRrc dir station air srb i f text)) h = absurd h
-      message_never count header type (Some d) k (Some (UserPacket dir station air drb e text)) h = absurd h
       message_never count header type (Some d) k (Some (Between to fields key)) h = λ e. absurd cc
+      message_never count header type other k rest h = absurd h
 
       command_never : (count : ℕ) (algs : Algs) → header_for_phone pdu ≡ Ok 3 → (o : Option (Partial Term))
           → (x : Option (Outgoing Term ℕ)) → CameDown same g next c good pdu x → Never (keys.command_expects q count algs o) x
@@ -123,11 +120,8 @@ module _ (g : Choices) (next : ℕ) where
           let one : 3 ≡ sent = header_is sent 3 i f text h.0 type in
           never_nas (nas_use Down (Alg p.root 2 eia2_identity) count) i None f Down sent text
           (λ e. sym (h.1.7 ∙ (λ j. ciphered_for Down (sym one j) i h.1.0 h.1.1)))
-      command_never count algs type (Some p) (Some (SealedNas Up sent i f text)) h = absurd h
-      command_never count algs type (Some p) (Some (PlainNas octets)) h = absurd h
-      command_never count algs type (Some p) (Some (SealedRrc dir station air srb i f text)) h = absurd h
-      command_never count algs type (Some p) (Some (UserPacket dir station air drb e text)) h = absurd h
       command_never count algs type (Some p) (Some (Between to fields key)) h = λ e. absurd cc
+      command_never count algs type other rest h = absurd h
 
       phone_front_never : (front : choice.NasFront) → FrontHas q s pdu front → NeverAt front
       phone_front_never (choice.NasSettled row) f = λ e. absurd cc
@@ -159,9 +153,7 @@ module _ (g : Choices) (next : ℕ) where
 
       complete_never : (count : ℕ) → core_header pdu ≡ Ok 4 → (partial : Option (CorePartial Term)) (o : Option (Keys Term)) → ProcedureOk g next partial o
           → (x : Option (Outgoing Term ℕ)) → CameUp pdu x → Never (core_keys.opens_by_procedure o count) x
-      complete_never count type partial None k x h = λ e. absurd cc
       complete_never count type None (Some own_keys) k x h = absurd cc
-      complete_never count type (Some p) (Some own_keys) k None h = λ e. absurd cc
       complete_never count type (Some p) (Some own_keys) k (Some (SealedNas Up sent i f text)) h =
           let key : own_keys.int ≡ Alg p.root 2 eia2_identity = ap (λ x. x.int) k.1 in
           let one : 4 ≡ sent = core_header_is sent 4 i f text h.0 type in
@@ -169,15 +161,11 @@ module _ (g : Choices) (next : ℕ) where
           (λ e. (λ j. ciphering_if (is_ciphered (one j)) (ciphering_by own_keys.algs.eea (nas_use Up (k.1 j).enc count)))
           ∙ sym (under_one Up sent i f text h.1 p.root own_keys.algs k.0 (nas_use Up own_keys.int count) key e))
       complete_never count type (Some p) (Some own_keys) k (Some (SealedNas Down sent i f text)) h = absurd h
-      complete_never count type (Some p) (Some own_keys) k (Some (PlainNas octets)) h = λ e. absurd cc
       complete_never count type (Some p) (Some own_keys) k (Some (SealedRrc dir station air srb i f text)) h = absurd h
-      complete_never count type (Some p) (Some own_keys) k (Some (UserPacket dir station air drb f text)) h = λ e. absurd cc
-      complete_never count type (Some p) (Some own_keys) k (Some (Between to fields key)) h = λ e. absurd cc
+      complete_never count type other rest k more h = λ e. absurd cc
 
       protected_never : (header count : ℕ) → core_header pdu ≡ Ok header → (o : Option (CoreContext Term)) → CoreContextOk g next o
           → (x : Option (Outgoing Term ℕ)) → CameUp pdu x → Never (core_keys.opens_by_context o header count) x
-      protected_never header count type None k x h = λ e. absurd cc
-      protected_never header count type (Some d) k None h = λ e. absurd cc
       protected_never header count type (Some d) k (Some (SealedNas Up sent i f text)) h =
           let key : d.nas.keys.int ≡ Alg d.nas.root 2 eia2_identity = ap (λ x. x.int) k.1 in
           let one : header ≡ sent = core_header_is sent header i f text h.0 type in
@@ -185,10 +173,8 @@ module _ (g : Choices) (next : ℕ) where
           (λ e. (λ j. ciphering_if (is_ciphered (one j)) (ciphering_by d.nas.keys.algs.eea (nas_use Up (k.1 j).enc count)))
           ∙ sym (under_one Up sent i f text h.1 d.nas.root d.nas.keys.algs k.0 (nas_use Up d.nas.keys.int count) key e))
       protected_never header count type (Some d) k (Some (SealedNas Down sent i f text)) h = absurd h
-      protected_never header count type (Some d) k (Some (PlainNas octets)) h = λ e. absurd cc
       protected_never header count type (Some d) k (Some (SealedRrc dir station air srb i f text)) h = absurd h
-      protected_never header count type (Some d) k (Some (UserPacket dir station air drb f text)) h = λ e. absurd cc
-      protected_never header count type (Some d) k (Some (Between to fields key)) h = λ e. absurd cc
+      protected_never header count type other k rest h = λ e. absurd cc
 
       core_front_never : (front : core_choice.CoreNasFront) → CoreFrontHas q s pdu front → NeverCore front
       core_front_never (core_choice.NasSettled row) f = λ e. absurd cc

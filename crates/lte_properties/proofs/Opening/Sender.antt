@@ -115,10 +115,8 @@ module _ (c : Ciphers Term) (ts : List Term) (own : OneValueOneTerm ts) where
   sender_is : (o : Opening Term) (pdu : List ℕ) (came : Option (Outgoing Term ℕ))
       → OfSome (SentKnown InTs) came
       → SenderIs ts o (sender_of came) (by_terms c o pdu came)
-  sender_is OpensNothing pdu came h = tt
   sender_is (OpensNas u e) pdu came h = nas_sender_is u e pdu came h
-  sender_is (OpensSrb u e) pdu came h = tt
-  sender_is (OpensDrb e) pdu came h = tt
+  sender_is other pdu came h = tt
 
 -- ALONG A RUN
 

@@ -6,7 +6,7 @@ use Rattle.rec_base.specs.declared.uses.Dir.TheVariants.{Up, Down}
 use Rattle.lte_events.specs.declared.answers.Answer.TheVariants.{Done, NotAddressed, Short}
 use Rattle.key_model.specs.Term.{Term}
 use Rattle.key_model.specs.Reading.{Reading, term_reading_by}
-use Rattle.nas_guard.specs.Estimate.{estimate_of}
+use Rattle.nas_count.specs.Estimate.{estimate_of}
 use Rattle.nas_guard.specs.Open.{sn_in}
 use Rattle.nas_rec.specs.declared.records.NasRecord.TheVariants.{NasData}
 use Rattle.nas_rec.specs.Reading.{read_nas}

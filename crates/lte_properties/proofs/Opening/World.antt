@@ -83,20 +83,14 @@ some_later g h l None k = tt
 some_later g h l (Some x) k = air_later g h l x k
 
 station_nas : (g : Choices) (next : ℕ) (k : Ghost) (o : Option (Outgoing Term ℕ)) → FromStation k o → OfSome (SentOk g next) o
-station_nas g next k None h = tt
 station_nas g next k (Some (SealedNas dir header u e text)) h = absurd h
-station_nas g next k (Some (PlainNas octets)) h = tt
-station_nas g next k (Some (SealedRrc dir station air srb u e text)) h = tt
-station_nas g next k (Some (UserPacket dir station air drb e text)) h = tt
-station_nas g next k (Some (Between to fields key)) h = tt
+station_nas g next k other h = tt
 
 station_air : (k : Ghost) (o : Option (Outgoing Term ℕ)) → FromStation k o → OfSome (AirOk k) o
-station_air k None h = tt
 station_air k (Some (SealedNas dir header u e text)) h = absurd h
-station_air k (Some (PlainNas octets)) h = tt
 station_air k (Some (SealedRrc dir station air srb u e text)) h = h
 station_air k (Some (UserPacket dir station air drb e text)) h = h
-station_air k (Some (Between to fields key)) h = tt
+station_air k other h = tt
 
 phone_air : (same : Term → Term → Bool) (k : Ghost) (o : Option (Outgoing Term ℕ)) → FromPhone same k o → OfSome (AirOk k) o
 phone_air same k None h = tt
@@ -110,12 +104,9 @@ FromCore (Some (UserPacket dir station air drb e text)) = ⊥
 FromCore (Some x) = ⊤
 
 core_air : (k : Ghost) (o : Option (Outgoing Term ℕ)) → FromCore o → OfSome (AirOk k) o
-core_air k None h = tt
-core_air k (Some (SealedNas dir header u e text)) h = tt
-core_air k (Some (PlainNas octets)) h = tt
 core_air k (Some (SealedRrc dir station air srb u e text)) h = absurd h
 core_air k (Some (UserPacket dir station air drb e text)) h = absurd h
-core_air k (Some (Between to fields key)) h = tt
+core_air k other h = tt
 
 module _ (same : Term → Term → Bool) where
   abbrev r : Reading Term ℕ
@@ -298,6 +289,6 @@ module _ (same : Term → Term → Bool) (sender : Option (Outgoing Term ℕ) �
   station_turn_keeps g k d w id input came s h needs ok later =
       let outcome = opener (station_opens q s input) (station_pdu_in input) came in
       station_after_keeps g k d w id (station_step q s input outcome) h
-      (station_sends same (ghost k w) s (context_keys (ghost k w) s.id s.context ok.0)
+      (station_sends same (ghost k w) s (context_keys (ghost k w) s.id s.context ok.context)
       (station_row_of q s input outcome) (station_key input) (needs outcome))
       later

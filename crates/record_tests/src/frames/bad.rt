@@ -1,8 +1,8 @@
 // The place of the first bad octet of a body: of a field out of its range or repeated, the end where
 // octets are wanting, or the first octet too many.
 use super::expect_fault;
-use actor_frames::FrameFault;
 use edge_io::Role;
+use role_wire::FrameFault;
 use std::test::Fail;
 
 // Bodies of a first frame of a station or the core.

@@ -1,6 +1,5 @@
 // Each kind of frame for each role.
 use super::{cell, expect_frame, octets_of};
-use actor_frames::{FrameIn, RoleSetup};
 use alg_choice::{Caps, Eea, Priority};
 use annex_a_keys::Kasme;
 use edge_io::Role;
@@ -8,6 +7,7 @@ use lte_events::{
     ActorIn, Cells, CoreAct, CoreIn, HoKind, PhoneAct, PhoneIn, StationAct, StationIn,
 };
 use rec_base::Bearer;
+use role_wire::{FrameIn, RoleSetup};
 use std::process::Abort;
 use std::test::Fail;
 

@@ -1,13 +1,13 @@
 // The frames of replies.
 use super::octets_of;
 use crate::values::{same, same_at};
-use actor_frames::{reply_frame, setup_reply};
 use alg_choice::{Algs, Caps, Eea};
 use annex_a_keys::Derived;
 use hex::FromHex;
 use hmac_kdf::KdfInput;
 use lte_events::{ActorOut, Address, Answer, KeyNote, Record};
 use rec_base::{Bearer, RecFault, Way};
+use role_wire::{reply_frame, setup_reply};
 use std::process::Abort;
 use std::test::Fail;
 

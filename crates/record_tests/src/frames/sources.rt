@@ -1,8 +1,8 @@
 // What a frame takes of a source, and how its end and its faults are answered.
 use crate::values::{same, same_at};
-use actor_frames::{FrameFault, FrameIn, RoleSetup, read_frame};
 use alg_choice::Caps;
 use edge_io::{MemSource, Role, SliceSource, read_fill};
+use role_wire::{FrameFault, FrameIn, RoleSetup, read_frame};
 use std::test::Fail;
 
 // Two Setup frames of the phone.

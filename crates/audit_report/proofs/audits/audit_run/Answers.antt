@@ -27,24 +27,24 @@ returns-in_err-write_ladder-in-Ok-Ended-clause-report g c =
     (one_cut (audit_ended c.ladder.result.now.rows c.requires.is_scenario ended c.ladder.ensures) c.requires.out_ready
     c.in_err-write_ladder-in-Ok-Ended.ensures.text)
 
-pub returns-in_ok-write_coincidence-in-Ok-Coincidence-clause-report : goal.returns-in_ok-write_coincidence-in-Ok-Coincidence-clause-report
-returns-in_ok-write_coincidence-in-Ok-Coincidence-clause-report g c =
+pub returns-in_ok-write_coincidence-in-Ok-Chance-clause-report : goal.returns-in_ok-write_coincidence-in-Ok-Chance-clause-report
+returns-in_ok-write_coincidence-in-Ok-Chance-clause-report g c =
     let coincidence = subst (ComesOut c.args.world.now.setup c.args.events.now.items c.run_through.new.tally
     (run_of c.run_through.new.world))
-    c.in-Ok-Coincidence.field-0-is c.in-Ok-Coincidence.ensures.comes_out in
-    one_piece (audit_coincidence c.in-Ok-Coincidence.step c.in-Ok-Coincidence.proof c.requires.is_scenario coincidence.0)
-    c.in_ok-write_coincidence-in-Ok-Coincidence.ensures
+    c.in-Ok-Chance.field-0-is c.in-Ok-Chance.ensures.comes_out in
+    one_piece (audit_coincidence c.in-Ok-Chance.step c.in-Ok-Chance.proof c.requires.is_scenario coincidence.0)
+    c.in_ok-write_coincidence-in-Ok-Chance.ensures
 
-pub returns-in_err-write_coincidence-in-Ok-Coincidence-clause-report : goal.returns-in_err-write_coincidence-in-Ok-Coincidence-clause-report
-returns-in_err-write_coincidence-in-Ok-Coincidence-clause-report g c =
-    let out = c.from_residual-in_err-write_coincidence-in-Ok-Coincidence in
+pub returns-in_err-write_coincidence-in-Ok-Chance-clause-report : goal.returns-in_err-write_coincidence-in-Ok-Chance-clause-report
+returns-in_err-write_coincidence-in-Ok-Chance-clause-report g c =
+    let out = c.from_residual-in_err-write_coincidence-in-Ok-Chance in
     let p = err_from_is_err_and out.result out.ensures.1 in
     let coincidence = subst (ComesOut c.args.world.now.setup c.args.events.now.items c.run_through.new.tally
     (run_of c.run_through.new.world))
-    c.in-Ok-Coincidence.field-0-is c.in-Ok-Coincidence.ensures.comes_out in
+    c.in-Ok-Chance.field-0-is c.in-Ok-Chance.ensures.comes_out in
     rw (p.1, p.2)
-    (one_cut (audit_coincidence c.in-Ok-Coincidence.step c.in-Ok-Coincidence.proof c.requires.is_scenario coincidence.0)
-    c.requires.out_ready c.in_err-write_coincidence-in-Ok-Coincidence.ensures)
+    (one_cut (audit_coincidence c.in-Ok-Chance.step c.in-Ok-Chance.proof c.requires.is_scenario coincidence.0)
+    c.requires.out_ready c.in_err-write_coincidence-in-Ok-Chance.ensures)
 
 pub returns-in_ok-write_ladder-in-Ok-Ended-clause-exact : goal.returns-in_ok-write_ladder-in-Ok-Ended-clause-exact
 returns-in_ok-write_ladder-in-Ok-Ended-clause-exact g c = λ _.

@@ -14,10 +14,10 @@ pub write_coincidence-requires-clause-string : goal.write_coincidence-requires-c
 write_coincidence-requires-clause-string g c =
     let v = c.args.two.now in
     let e = c.args.event.now in
-    shown_in v.world e c.in-Err-Coincidence.proof c.apply.ensures.ranges.0 c.apply.ensures.ranges.1 c.requires.runs c.requires.can.can.0
+    shown_in v.world e c.in-Err-Chance.proof c.apply.ensures.ranges.0 c.apply.ensures.ranges.1 c.requires.runs c.requires.can.can.0
     (coincidence_told (away v.cores (station_in v.senders e) e) (acting v.cores (station_in v.senders e))
-    (length v.events) (told_of v.world e) c.in-Err-Coincidence.field-0 c.in-Err-Coincidence.proof
-    c.in-Err-Coincidence.field-0-is c.in-Err-Coincidence.ensures.says)
+    (length v.events) (told_of v.world e) c.in-Err-Chance.field-0 c.in-Err-Chance.proof
+    c.in-Err-Chance.field-0-is c.in-Err-Chance.ensures.says)
 
 pub write_text-requires-clause-lines : goal.write_text-requires-clause-lines
 write_text-requires-clause-lines g c = text_is _ _ _ c.two_text.ensures.text (is_lines _ (two_ends c.len-step.result c.in-Ok.line))
@@ -36,16 +36,16 @@ returns-in_err-write_text-in-Ok-clause-report g c =
     (sym (c.in-Ok.ensures.written c.requires.runs (λ same. cc)) j))
     c.requires.out_ready (c.in_err-write_text-in-Ok.ensures _ c.two_text.ensures.text))
 
-pub returns-in_ok-write_coincidence-in-Err-Coincidence-clause-report : goal.returns-in_ok-write_coincidence-in-Err-Coincidence-clause-report
-returns-in_ok-write_coincidence-in-Err-Coincidence-clause-report g c =
-    let told = ap Err (sym c.in-Err-Coincidence.field-0-is) ∙ c.in-Err-Coincidence.ensures.written c.requires.runs (λ same. cc) in
-    one_piece (λ j. answer_report (sym (c.len-step.ensures ∙ ap length c.events.ensures) j) (sym told j)) c.in_ok-write_coincidence-in-Err-Coincidence.ensures
+pub returns-in_ok-write_coincidence-in-Err-Chance-clause-report : goal.returns-in_ok-write_coincidence-in-Err-Chance-clause-report
+returns-in_ok-write_coincidence-in-Err-Chance-clause-report g c =
+    let told = ap Err (sym c.in-Err-Chance.field-0-is) ∙ c.in-Err-Chance.ensures.written c.requires.runs (λ same. cc) in
+    one_piece (λ j. answer_report (sym (c.len-step.ensures ∙ ap length c.events.ensures) j) (sym told j)) c.in_ok-write_coincidence-in-Err-Chance.ensures
 
-pub returns-in_err-write_coincidence-in-Err-Coincidence-clause-report : goal.returns-in_err-write_coincidence-in-Err-Coincidence-clause-report
-returns-in_err-write_coincidence-in-Err-Coincidence-clause-report g c =
-    let told = ap Err (sym c.in-Err-Coincidence.field-0-is) ∙ c.in-Err-Coincidence.ensures.written c.requires.runs (λ same. cc) in
-    let out = c.from_residual-in_err-write_coincidence-in-Err-Coincidence in
+pub returns-in_err-write_coincidence-in-Err-Chance-clause-report : goal.returns-in_err-write_coincidence-in-Err-Chance-clause-report
+returns-in_err-write_coincidence-in-Err-Chance-clause-report g c =
+    let told = ap Err (sym c.in-Err-Chance.field-0-is) ∙ c.in-Err-Chance.ensures.written c.requires.runs (λ same. cc) in
+    let out = c.from_residual-in_err-write_coincidence-in-Err-Chance in
     let p = err_from_is_err_and out.result out.ensures.1 in
     rw (p.1, p.2)
     (one_cut (λ j. answer_report (sym (c.len-step.ensures ∙ ap length c.events.ensures) j) (sym told j)) c.requires.out_ready
-    c.in_err-write_coincidence-in-Err-Coincidence.ensures)
+    c.in_err-write_coincidence-in-Err-Chance.ensures)

@@ -33,13 +33,13 @@ loop-number-preserved g c =
       runs = takes.runs;
     }
 
-pub returns-in-Coincidence : goal.returns-in-Coincidence
-returns-in-Coincidence g c =
+pub returns-in-Chance : goal.returns-in-Chance
+returns-in-Chance g c =
     let so_far = c.loop-number.invariant in
     coincidence_reported so_far.report
     (follows c.args.setup.now c.args.core_of.now c.args.events.now.items c.loop-number.two so_far.setup so_far.core_of
     c.loop-number.number so_far.events c.at-event.result c.at-event.ensures)
-    c.in-Coincidence.is c.in_ok-write_answer.ensures.report
+    c.in-Chance.is c.in_ok-write_answer.ensures.report
 
 pub returns-in_err-write_answer : goal.returns-in_err-write_answer
 returns-in_err-write_answer g c =

@@ -62,14 +62,14 @@ loop-number-preserved g c =
       phones = takes.worlds ∙ so_far.phones;
     }
 
-pub returns-in-Coincidence : goal.returns-in-Coincidence
-returns-in-Coincidence g c =
+pub returns-in-Chance : goal.returns-in-Chance
+returns-in-Chance g c =
     let so_far = c.loop-number.invariant in
     let next = event_next c.loop-number.fleet c.args.events.now.items c.loop-number.number c.at-step.result so_far.over
     so_far.count (slice_get_within c.args.events.now.items c.loop-number.number c.at-step.result c.at-step.ensures)
     (sym (get_or_from_slice_get c.args.events.now.items c.loop-number.number c.at-step.result c.at-step.result
     c.at-step.ensures)) in
-    coincidence_reported so_far.report next c.in-Coincidence.is c.in_ok-write_event.ensures.report
+    coincidence_reported so_far.report next c.in-Chance.is c.in_ok-write_event.ensures.report
 
 pub returns-in_err-write_event : goal.returns-in_err-write_event
 returns-in_err-write_event g c =

@@ -25,6 +25,7 @@ returns-in-Root c =
       answer = λ rows line stand met asks. (both rows line stand met asks).0;
       rows = λ rows line stand met asks. (both rows line stand met asks).1;
       ladder = root.ladder;
+      memory = root.memory;
     }
 
 pub add-requires : goal.add-requires
@@ -57,4 +58,5 @@ returns-in-Derivation c =
       answer = λ rows line stand met asks. (both rows line stand met asks).0;
       rows = λ rows line stand met asks. (both rows line stand met asks).1;
       ladder = add.ladder;
+      memory = add.memory;
     }

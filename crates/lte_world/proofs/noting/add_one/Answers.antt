@@ -20,8 +20,8 @@ add-added-requires-clause-root c = (awaits_can c.args.ladder.now.rows c.args.mad
 pub add-added-requires-clause-sync : goal.add-added-requires-clause-sync
 add-added-requires-clause-sync c = (awaits_can c.args.ladder.now.rows c.args.made.now c.requires.awaits).sync
 
-pub told-requires : goal.told-requires
-told-requires c = never_repeated c.args.ladder.now.rows c.args.made.now c.add-added.result c.add-added.ensures.cause
+pub told-requires-clause-derived : goal.told-requires-clause-derived
+told-requires-clause-derived c = never_repeated c.args.ladder.now.rows c.args.made.now c.add-added.result c.add-added.ensures.cause
 
 pub returns-clause-added : goal.returns-clause-added
 returns-clause-added c =

@@ -50,20 +50,20 @@ loop-number-preserved c =
           c.in-Ok.ensures.tells c.count.ensures.lines takes.run;
     }
 
-pub returns-in-Err-Coincidence-clause-comes_out : goal.returns-in-Err-Coincidence-clause-comes_out
-returns-in-Err-Coincidence-clause-comes_out c =
+pub returns-in-Err-Chance-clause-comes_out : goal.returns-in-Err-Chance-clause-comes_out
+returns-in-Err-Chance-clause-comes_out c =
     let so_far = c.loop-number.invariant in
     let events = c.args.events.now.items in
     let i = c.loop-number.number in
     let v = c.loop-number.world in
     let e = c.at-event.result in
     let left = left_at events i e (slice_get_within events i e c.at-event.ensures) (item_at events i e c.at-event.ensures) in
-    let step = c.len-step.ensures ∙ ap length c.journal.ensures ∙ ap length c.in-Err-Coincidence.ensures.same ∙ so_far.took.count in
-    let tells = subst (λ f. Tells (told_of (run_of v) e) (Err f)) c.in-Err-Coincidence.field-0-is c.in-Err-Coincidence.ensures.tells in
-    let found = coincides_at c.len-step.result e c.in-Err-Coincidence.proof so_far.counted left step tells in
+    let step = c.len-step.ensures ∙ ap length c.journal.ensures ∙ ap length c.in-Err-Chance.ensures.same ∙ so_far.took.count in
+    let tells = subst (λ f. Tells (told_of (run_of v) e) (Err f)) c.in-Err-Chance.field-0-is c.in-Err-Chance.ensures.tells in
+    let found = coincides_at c.len-step.result e c.in-Err-Chance.proof so_far.counted left step tells in
     subst (λ p.
     (outcome_from [] (octet_report c.args.world.now.setup events) ≡ Coincides c.len-step.result p) × CanShow p)
-    (sym c.in-Err-Coincidence.proof-is) found
+    (sym c.in-Err-Chance.proof-is) found
 
 pub returns-clause-comes_out : goal.returns-clause-comes_out
 returns-clause-comes_out c = all_counted c.loop-number.invariant.counted c.loop-number.invariant.took.goes

@@ -28,23 +28,23 @@ returns-in_err-write_text-in-Ok-clause-report g c =
 pub write_coincidence-requires-clause-string : goal.write_coincidence-requires-clause-string
 write_coincidence-requires-clause-string g c =
     let told = told_of (run_of c.args.world.now) c.args.event.now in
-    can_show told c.in-Err-Coincidence.proof (subst (λ f. Tells told (Err f)) c.in-Err-Coincidence.field-0-is c.in-Err-Coincidence.ensures.tells)
+    can_show told c.in-Err-Chance.proof (subst (λ f. Tells told (Err f)) c.in-Err-Chance.field-0-is c.in-Err-Chance.ensures.tells)
 
-pub returns-in_ok-write_coincidence-in-Err-Coincidence-clause-report : goal.returns-in_ok-write_coincidence-in-Err-Coincidence-clause-report
-returns-in_ok-write_coincidence-in-Err-Coincidence-clause-report g c =
+pub returns-in_ok-write_coincidence-in-Err-Chance-clause-report : goal.returns-in_ok-write_coincidence-in-Err-Chance-clause-report
+returns-in_ok-write_coincidence-in-Err-Chance-clause-report g c =
     let told = told_of (run_of c.args.world.now) c.args.event.now in
-    let tells = subst (λ f. Tells told (Err f)) c.in-Err-Coincidence.field-0-is c.in-Err-Coincidence.ensures.tells in
+    let tells = subst (λ f. Tells told (Err f)) c.in-Err-Chance.field-0-is c.in-Err-Chance.ensures.tells in
     one_piece (ap (λ step. told_report step told) (sym (c.len-step.ensures ∙ ap length c.journal.ensures))
-    ∙ a_coincidence told c.in-Err-Coincidence.proof c.len-step.result tells)
-    c.in_ok-write_coincidence-in-Err-Coincidence.ensures
+    ∙ a_coincidence told c.in-Err-Chance.proof c.len-step.result tells)
+    c.in_ok-write_coincidence-in-Err-Chance.ensures
 
-pub returns-in_err-write_coincidence-in-Err-Coincidence-clause-report : goal.returns-in_err-write_coincidence-in-Err-Coincidence-clause-report
-returns-in_err-write_coincidence-in-Err-Coincidence-clause-report g c =
-    let out = c.from_residual-in_err-write_coincidence-in-Err-Coincidence in
+pub returns-in_err-write_coincidence-in-Err-Chance-clause-report : goal.returns-in_err-write_coincidence-in-Err-Chance-clause-report
+returns-in_err-write_coincidence-in-Err-Chance-clause-report g c =
+    let out = c.from_residual-in_err-write_coincidence-in-Err-Chance in
     let p = err_from_is_err_and out.result out.ensures.1 in
     let told = told_of (run_of c.args.world.now) c.args.event.now in
-    let tells = subst (λ f. Tells told (Err f)) c.in-Err-Coincidence.field-0-is c.in-Err-Coincidence.ensures.tells in
+    let tells = subst (λ f. Tells told (Err f)) c.in-Err-Chance.field-0-is c.in-Err-Chance.ensures.tells in
     rw (p.1, p.2)
     (one_cut (ap (λ step. told_report step told) (sym (c.len-step.ensures ∙ ap length c.journal.ensures))
-    ∙ a_coincidence told c.in-Err-Coincidence.proof c.len-step.result tells)
-    c.requires.out_ready c.in_err-write_coincidence-in-Err-Coincidence.ensures)
+    ∙ a_coincidence told c.in-Err-Chance.proof c.len-step.result tells)
+    c.requires.out_ready c.in_err-write_coincidence-in-Err-Chance.ensures)

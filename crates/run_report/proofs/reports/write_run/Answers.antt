@@ -39,8 +39,8 @@ loop-number-preserved g c =
       report = more_reported so_far.report follows done c.in_ok-write_event.ensures.report;
     }
 
-pub returns-in-Coincidence : goal.returns-in-Coincidence
-returns-in-Coincidence g c =
+pub returns-in-Chance : goal.returns-in-Chance
+returns-in-Chance g c =
     let so_far = c.loop-number.invariant in
     let events = c.args.events.now.items in
     let i = c.loop-number.number in
@@ -49,7 +49,7 @@ returns-in-Coincidence g c =
     let left = left_at events i e (slice_get_within events i e c.at-event.ensures) (item_at events i e c.at-event.ensures) in
     coincidence_reported so_far.report
     (report_more (length events) i (length v.journal) (run_of v) _ events e left so_far.took.count refl)
-    c.in-Coincidence.is c.in_ok-write_event.ensures.report
+    c.in-Chance.is c.in_ok-write_event.ensures.report
 
 pub returns-in_err-write_event : goal.returns-in_err-write_event
 returns-in_err-write_event g c =

@@ -8,10 +8,5 @@ returns-in-Err-clause-failed g c = took_part c.args.peer c.args.self.now.peers.i
 
 pub returns-in-Err-clause-named : goal.returns-in-Err-clause-named
 returns-in-Err-clause-named g c =
-    at_number c.args.peer c.args.self.now.peers.items c.index.result.now (λ child. c.count_fault.new.self.failed ≡ Some (child.role, NoReply))
+    at_number c.args.peer c.args.self.now.peers.items c.index.result.now (λ child. c.count_fault.new.failed ≡ Some (child.role, NoReply))
     (search rules) (search rules) c.count_fault.ensures.failed
-
-pub returns-in-Err-clause-heard : goal.returns-in-Err-clause-heard
-returns-in-Err-clause-heard g c =
-    at_number c.args.peer c.args.self.now.peers.items c.index.result.now (λ child. c.count_fault.new.self.heard ≡ Some child.role)
-    (search rules) (search rules) c.count_fault.ensures.heard

@@ -8,5 +8,5 @@ returns-in-Err-clause-failed g c = took_part c.args.peer c.args.self.now.peers.i
 
 pub returns-in-Err-clause-named : goal.returns-in-Err-clause-named
 returns-in-Err-clause-named g c =
-    at_number c.args.peer c.args.self.now.peers.items c.index.result.now (λ child. c.count_fault.new.self.failed ≡ Some (child.role, NotSent))
+    at_number c.args.peer c.args.self.now.peers.items c.index.result.now (λ child. c.count_fault.new.failed ≡ Some (child.role, NotSent))
     (search rules) (search rules) c.count_fault.ensures.failed

@@ -1,10 +1,10 @@
 use Rattle.std.proofs.Common.{◌≡◌, ◌≤◌, ◌<◌, Ok, Err, Some, None, sym, ap, subst, ◌∙◌, length, ◌++◌, ◌∷◌, []}
 use Rattle.std.specs.List.{AllByRecursion as AllOf}
-use Rattle.lte_world.specs.declared.faults.WorldFault.TheVariants.{Coincidence, Memory}
+use Rattle.lte_world.specs.declared.faults.WorldFault.TheVariants.{Chance, Memory}
 use Rattle.fleet_world.specs.Fleets.{most_phones}
 use Rattle.fleet_world.specs.Worlds.{Goes, TakesAt, taken_in}
 use Rattle.fleet_world.proofs.Applying.{Found, AtEvent, goes, few, low, can_take_at, says_taken, keeps_taken, leaves_taken, says_coincidence, leaves_coincidence, goes_then, few_then, low_then, says_line, keeps_line, leaves_line, says_cross, leaves_cross, keeps_memory, memory_is, leaves_memory}
-use Rattle.fleet_world.proofs.fleet.Fleet.apply.Goals.{After-reserve, In-Some-taken, After-take, In-Ok-take, After-crossing, In-Err-Coincidence, In-Err-Memory}
+use Rattle.fleet_world.proofs.fleet.Fleet.apply.Goals.{After-reserve, In-Some-taken, After-take, In-Ok-take, After-crossing, In-Err-Chance, In-Err-Memory}
 use Rattle.fleet_world.proofs.fleet.Fleet.apply.Goals as goal
 
 -- the fleet stands, and a phone of it can take the event
@@ -24,11 +24,11 @@ took : (c : In-Ok-take)
     → TakesAt c.self.inside.worlds.items c.take.new.worlds.items c.args.phone c.args.event.now (Ok (c.in-Ok-take.rows, c.in-Ok-take.line))
 took c = subst (TakesAt c.self.inside.worlds.items c.take.new.worlds.items c.args.phone c.args.event.now) c.in-Ok-take.is c.take.ensures.takes
 
-met : (c : In-Err-Coincidence)
-    → TakesAt c.self.inside.worlds.items c.take.new.worlds.items c.args.phone c.args.event.now (Err (Coincidence c.in-Err-Coincidence.proof))
+met : (c : In-Err-Chance)
+    → TakesAt c.self.inside.worlds.items c.take.new.worlds.items c.args.phone c.args.event.now (Err (Chance c.in-Err-Chance.proof))
 met c =
     subst (TakesAt c.self.inside.worlds.items c.take.new.worlds.items c.args.phone c.args.event.now)
-    (c.in-Err-Coincidence.is ∙ ap Err c.in-Err-Coincidence.field-0-is)
+    (c.in-Err-Chance.is ∙ ap Err c.in-Err-Chance.field-0-is)
     c.take.ensures.takes
 
 lacked : (c : In-Err-Memory) → TakesAt c.self.inside.worlds.items c.take.new.worlds.items c.args.phone c.args.event.now (Err Memory)
@@ -117,14 +117,14 @@ returns-in-Some-crossing-clause-worlds c none =
     let at = goal.at.returns-in-Some-crossing-clause-worlds c in
     leaves_cross (event at.After-reserve) (untaken at.After-take) (took at.In-Ok-take) (found at.After-crossing) c.in-Some-crossing.fault c.in-Some-crossing.is
 
-pub returns-in-Err-Coincidence-clause-says : goal.returns-in-Err-Coincidence-clause-says
-returns-in-Err-Coincidence-clause-says c differs =
-    let at = goal.at.returns-in-Err-Coincidence-clause-says c in says_coincidence (event at.After-reserve) (untaken at.After-take) (met at.In-Err-Coincidence)
+pub returns-in-Err-Chance-clause-says : goal.returns-in-Err-Chance-clause-says
+returns-in-Err-Chance-clause-says c differs =
+    let at = goal.at.returns-in-Err-Chance-clause-says c in says_coincidence (event at.After-reserve) (untaken at.After-take) (met at.In-Err-Chance)
 
-pub returns-in-Err-Coincidence-clause-worlds : goal.returns-in-Err-Coincidence-clause-worlds
-returns-in-Err-Coincidence-clause-worlds c none =
-    let at = goal.at.returns-in-Err-Coincidence-clause-worlds c in
-    leaves_coincidence (event at.After-reserve) (untaken at.After-take) (met at.In-Err-Coincidence)
+pub returns-in-Err-Chance-clause-worlds : goal.returns-in-Err-Chance-clause-worlds
+returns-in-Err-Chance-clause-worlds c none =
+    let at = goal.at.returns-in-Err-Chance-clause-worlds c in
+    leaves_coincidence (event at.After-reserve) (untaken at.After-take) (met at.In-Err-Chance)
 
 -- NO MEMORY
 

@@ -1,0 +1,8 @@
+use Rattle.std.proofs.Common.{rules}
+use Rattle.refusal.specs.Refusal.{was_refused}
+use Rattle.edge_io.proofs.network.AnyNetwork.connect_to.Goals as goal
+
+pub returns-clause-memory : goal.returns-clause-memory
+returns-clause-memory g c =
+    let refused = was_refused 0 in
+    search rules

@@ -1,0 +1,170 @@
+-- One event: what is written of it, and whom it tells.
+use Rattle.std.proofs.Common.{◌≡◌, ℕ, zero, suc, ◌<◌, Option, Some, None, List, [], ◌∷◌, ◌++◌, length, get_or, All, Ok, Err, refl, sym, subst, append-nil, arith}
+use Rattle.std.specs.List.{AllByRecursion as AllOf}
+use Rattle.edge_io.specs.Octets.{Grows}
+use Rattle.edge_io.specs.Peers.{PeersTold}
+use Rattle.edge_io.specs.Told.{Told}
+use Rattle.lte_events.specs.declared.events.Event.{Event}
+use Rattle.lte_events.specs.declared.inputs.ActorIn.{ActorIn}
+use Rattle.lte_events.specs.declared.inputs.ActorIn.TheVariants as input
+use Rattle.lte_events.specs.declared.replies.ActorOut.{ActorOut}
+use Rattle.lte_events.specs.declared.setups.Setup.{Setup}
+use Rattle.key_terms.specs.declared.proof.Proof.{Proof}
+use Rattle.lte_machine.specs.BothRuns.{octet_run}
+use Rattle.lte_machine.specs.Machines.{Kept}
+use Rattle.lte_machine.specs.Run.{RunState, Running, Stopped, EventReport, Reported, Coincided, GoesOn}
+use Rattle.lte_world.specs.Replies.{RepliedLast, IsOfSetup}
+use Rattle.lte_world.specs.Whole.{Whole, run_of, unless_over}
+use Rattle.run_report.specs.declared.unwritten.Unwritten.{Unwritten}
+use Rattle.run_report.specs.declared.unwritten.Unwritten.TheVariants as unwritten
+use Rattle.run_report.specs.declared.endings.Ending.{Ending}
+use Rattle.run_report.specs.declared.endings.Ending.TheVariants.{Done, Chance}
+use Rattle.run_report.specs.Events.{told_of, event_text, event_ends}
+use Rattle.run_report.specs.Takes.{Takes}
+use Rattle.run_report.specs.Written.{Written}
+use Rattle.run_report.proofs.Telling.{still_goes}
+use Rattle.hub_drive.proofs.Composing.{cut_after, cut_at, cut_before, did_none, done_twice}
+use Rattle.hub_drive.specs.declared.faults.DriveFault.{DriveFault}
+use Rattle.hub_drive.specs.declared.faults.DriveFault.TheVariants.{Memory, WriteFault}
+use Rattle.hub_drive.specs.Acts.{Writing}
+use Rattle.hub_drive.specs.Driven.{PlanWent}
+use Rattle.hub_drive.specs.Exchanges.{replied, HasActor}
+use Rattle.hub_drive.specs.Outside.{Outside, outside, AllDone}
+use Rattle.hub_drive.specs.Went.{CutAt, fault_of}
+use Rattle.hub_drive.specs.Plan.{event_plan, replies_at}
+
+-- a run that goes on has met no coincidence
+not_over : (o : Option Proof) (run : RunState (List ℕ) ℕ Kept) → GoesOn (unless_over o run) → o ≡ None
+not_over None run goes = refl
+not_over (Some proof) run goes = absurd goes
+
+pub no_coincidence : (v : Whole) → GoesOn (run_of v) → v.over ≡ None
+no_coincidence v goes = not_over v.over (octet_run v.setup v.journal) goes
+
+in_octets : (o : Option Proof) (run : RunState (List ℕ) ℕ Kept) → GoesOn (unless_over o run) → unless_over o run ≡ run
+in_octets None run goes = refl
+in_octets (Some proof) run goes = absurd goes
+
+-- a system to which an event happened that is no coincidence
+pub goes_after : (v after : Whole) (e : Event) → event_ends (told_of (run_of v) e) ≡ Done → Takes v e after → GoesOn (run_of after)
+goes_after v after e plain takes = subst (λ r. GoesOn r) (sym takes.run) (still_goes (run_of v) e plain)
+
+-- the replies to the event are those of the local actors
+reply_in : (setup : Setup) (journal : List Event) (e : Event) (replies : List (ActorIn × ActorOut))
+    (run : RunState (List ℕ) ℕ Kept)
+    → GoesOn run
+    → octet_run setup journal ≡ run
+    → RepliedLast setup (journal ++ e ∷ []) replies
+    → replies ≡ replies_at run e
+reply_in setup journal e replies (Running w) goes is last = last.last journal e w refl is
+reply_in setup journal e replies (Stopped coincidence) goes is last = absurd goes
+
+pub replies_are : (v after : Whole) (e : Event) (replies : List (ActorIn × ActorOut))
+    → GoesOn (run_of v)
+    → after.setup ≡ v.setup
+    → after.journal ≡ v.journal ++ e ∷ []
+    → RepliedLast after.setup after.journal replies
+    → replies ≡ replies_at (run_of v) e
+replies_are v after e replies goes setup journal last =
+    let P : Setup → Type 0 = λ s. RepliedLast s after.journal replies in
+    let Q : List Event → Type 0 = λ j. RepliedLast v.setup j replies in
+    let same : run_of v ≡ octet_run v.setup v.journal = in_octets v.over (octet_run v.setup v.journal) goes in
+    reply_in v.setup v.journal e replies (run_of v) goes (sym same) (subst Q journal (subst P setup last))
+
+-- each goes to an actor of the setup
+actor_of : (setup : Setup) (i : ActorIn) → IsOfSetup setup i → HasActor setup i
+actor_of setup (input.Phone i) is = tt
+actor_of setup (input.Station id i) is = is
+actor_of setup (input.Core i) is = tt
+
+has_at : (setup : Setup) (replies : List (ActorIn × ActorOut))
+    → AllOf (λ r. IsOfSetup setup r.0) replies
+    → (i : ℕ) (d : ActorIn × ActorOut)
+    → i < length replies
+    → HasActor setup (get_or replies i d).0
+has_at setup [] all i d below = absurd (omega (arith, below))
+has_at setup (r ∷ replies) all zero d below = actor_of setup r.0 all.0
+has_at setup (r ∷ replies) all (suc i) d below = has_at setup replies all.1 i d (omega (arith, below))
+
+pub all_have : (setup : Setup) (replies : List (ActorIn × ActorOut)) → AllOf (λ r. IsOfSetup setup r.0) replies → All (λ r. HasActor setup r.0) replies
+all_have setup replies all = λ i d below. has_at setup replies all i d below
+
+-- WRITING
+
+-- a text that was not written to its end
+writing_cut : (A : Type 0) (fault : Unwritten) (text : List ℕ) (first now : Told) (peers : Option PeersTold)
+    → Written {A = A} text (Err fault) first now
+    → CutAt (Writing text ∷ []) (fault_of fault) (outside first.written peers) (outside now.written peers)
+writing_cut A unwritten.Memory text first now peers written =
+    cut_at (Writing text) Memory (outside first.written peers) (outside now.written peers) (written, refl)
+writing_cut A unwritten.WriteFault text first now peers written =
+    cut_at (Writing text) WriteFault (outside first.written peers) (outside now.written peers) (written.1, refl)
+
+-- a text that was written
+pub writing_done : (text : List ℕ) (first now : Told) (peers : Option PeersTold)
+    → Grows first.written now.written text
+    → AllDone (Writing text ∷ []) (outside first.written peers) (outside now.written peers)
+writing_done text first now peers grown =
+    let P : List ℕ → Type 0 = λ octets. Grows first.written now.written octets in
+    record { written = subst P (sym (append-nil text)) grown; did = did_none peers }
+
+-- its line was written, and then the peers were told
+pub event_told : (setup : Setup) (step : ℕ) (told : EventReport (List ℕ)) (replies : List (ActorIn × ActorOut))
+    (first mid : Told) (peers peers' : Option PeersTold)
+    → event_ends told ≡ Done
+    → Grows first.written mid.written (event_text step told)
+    → AllDone (replied setup step replies) (outside mid.written peers) (outside mid.written peers')
+    → PlanWent (event_plan setup step told replies) (Ok Done) (outside first.written peers) (outside mid.written peers')
+event_told setup step (Reported line) replies first mid peers peers' plain grown did =
+    let text : List ℕ = event_text step (Reported line) in (
+      done_twice (Writing text ∷ []) (replied setup step replies) (outside first.written peers) (outside mid.written peers)
+          (outside mid.written peers') (writing_done text first mid peers grown) did,
+      refl,
+    )
+event_told setup step (Coincided coincidence) replies first mid peers peers' plain grown did = absurd cc
+
+-- its line was written, and the peers were not told to the end
+pub event_untold : (setup : Setup) (step : ℕ) (told : EventReport (List ℕ)) (replies : List (ActorIn × ActorOut))
+    (fault : DriveFault) (first mid : Told) (peers peers' : Option PeersTold)
+    → event_ends told ≡ Done
+    → Grows first.written mid.written (event_text step told)
+    → CutAt (replied setup step replies) fault (outside mid.written peers) (outside mid.written peers')
+    → PlanWent (event_plan setup step told replies) (Err fault) (outside first.written peers) (outside mid.written peers')
+event_untold setup step (Reported line) replies fault first mid peers peers' plain grown cut =
+    let text : List ℕ = event_text step (Reported line) in
+    cut_after (Writing text ∷ []) (replied setup step replies) fault (outside first.written peers) (outside mid.written peers)
+    (outside mid.written peers') (writing_done text first mid peers grown) cut
+event_untold setup step (Coincided coincidence) replies fault first mid peers peers' plain grown cut = absurd cc
+
+-- a coincidence was written
+pub event_coincides : (setup : Setup) (step : ℕ) (told : EventReport (List ℕ)) (replies : List (ActorIn × ActorOut))
+    (first now : Told) (peers : Option PeersTold)
+    → event_ends told ≡ Chance
+    → Grows first.written now.written (event_text step told)
+    → PlanWent (event_plan setup step told replies) (Ok Chance) (outside first.written peers) (outside now.written peers)
+event_coincides setup step (Reported line) replies first now peers is grown = absurd cc
+event_coincides setup step (Coincided coincidence) replies first now peers is grown =
+    (writing_done (event_text step (Coincided coincidence)) first now peers grown, refl)
+
+-- what is told was not written to its end
+event_cut : (setup : Setup) (step : ℕ) (told : EventReport (List ℕ)) (replies : List (ActorIn × ActorOut))
+    (out : DriveFault) (x y : Outside)
+    → CutAt (Writing (event_text step told) ∷ []) out x y
+    → CutAt (event_plan setup step told replies).acts out x y
+event_cut setup step (Reported line) replies out x y cut = cut_before (Writing (event_text step (Reported line)) ∷ []) (replied setup step replies) out x y cut
+event_cut setup step (Coincided coincidence) replies out x y cut = cut
+
+pub event_unwritten : (setup : Setup) (step : ℕ) (told : EventReport (List ℕ)) (replies : List (ActorIn × ActorOut))
+    (fault : Unwritten) (first now : Told) (peers : Option PeersTold)
+    → Written {A = Ending} (event_text step told) (Err fault) first now
+    → PlanWent (event_plan setup step told replies) (Err (fault_of fault)) (outside first.written peers) (outside now.written peers)
+event_unwritten setup step told replies fault first now peers written =
+    event_cut setup step told replies (fault_of fault) (outside first.written peers) (outside now.written peers)
+    (writing_cut Ending fault (event_text step told) first now peers written)
+
+-- an event whose plan no coincidence ends
+pub plain_of : (setup : Setup) (step : ℕ) (told : EventReport (List ℕ)) (replies : List (ActorIn × ActorOut))
+    → (event_plan setup step told replies).ends ≡ Done
+    → event_ends told ≡ Done
+plain_of setup step (Reported line) replies is = refl
+plain_of setup step (Coincided coincidence) replies is = absurd cc

@@ -1,0 +1,6 @@
+pub mod Entries
+pub mod Changes
+pub mod Faults
+pub mod AtOnce
+pub mod Steps
+pub mod Laws

@@ -1,0 +1,10 @@
+//! The lines of a run of items, each with the name of its item, and what is read from them by these names.
+#![tactic(auto)]
+
+mod lines;
+mod same;
+
+pub use lines::{
+    Told, is_done, is_no_ue, line_of, note_in, opens, opens_to, phone_note, station_note,
+};
+pub use same::same_told;

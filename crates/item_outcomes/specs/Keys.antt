@@ -1,0 +1,54 @@
+-- The keys that the phone came by.
+use Rattle.std.specs.Prelude.{ℕ, ◌&&◌, ◌||◌, nat_lt, Bool, true, false, not, List, [], ◌∷◌, ◌++◌, length, Option, Some, None}
+use Rattle.std.specs.List.{list_any}
+use Rattle.std.specs.Str.{bytes_eq}
+use Rattle.lte_events.specs.declared.replies.KeyNote.{KeyNote}
+use Rattle.item_lines.specs.declared.lines.Told.{Told}
+use Rattle.item_lines.specs.Lines.{line_of, phone_note, station_note, note_in, is_vertical, is_horizontal}
+use Rattle.item_outcomes.specs.Probe.{probe}
+use Rattle.item_outcomes.specs.Standing.{Standing}
+
+abbrev pub is_told : Option KeyNote → Bool
+is_told None = false
+is_told (Some note) = true
+
+abbrev pub is_key : List ℕ → Option KeyNote → Bool
+is_key key None = false
+is_key key (Some note) = bytes_eq note.key key
+
+abbrev pub with_if : Bool → ℕ → List ℕ → List ℕ
+with_if true name names = names ++ name ∷ []
+with_if false name names = names
+
+-- NOT MADE: the phone came by a key at an item of the scenario, and not here
+abbrev pub is_made : Option Told → Bool
+is_made None = false
+is_made (Some t) = is_told (phone_note t)
+
+abbrev pub is_missed : List Told → Told → Bool
+is_missed here t = is_told (phone_note t) && (nat_lt t.name probe && not (is_made (line_of t.name here)))
+
+abbrev pub not_made : List Told → List Told → Bool
+not_made usual here = list_any (is_missed here) usual
+
+-- WEAKER KEY: the phone came by a key `horizontal` that is `vertical` in the scenario, or more stations can derive its last key
+abbrev pub is_weaker : List Told → Told → Bool
+is_weaker here t = is_vertical (phone_note t) && is_horizontal (note_in (line_of t.name here))
+
+abbrev pub weaker_key : Standing → Standing → Bool
+weaker_key usual here = list_any (is_weaker here.told) usual.told || nat_lt (length usual.reach) (length here.reach)
+
+-- KEYS DIFFER: the items by which the phone came by a key that no station told before are more than in the scenario
+abbrev pub is_untold_key : List Told → Option KeyNote → Bool
+is_untold_key before None = false
+is_untold_key before (Some note) = not (list_any (λ t. is_key note.key (station_note t)) before)
+
+unfoldable pub untold_from : List Told → List Told → List ℕ → List ℕ
+untold_from before [] found = found
+untold_from before (t ∷ ts) found = untold_from (before ++ t ∷ []) ts (with_if (is_untold_key before (phone_note t)) t.name found)
+
+abbrev pub untold : List Told → List ℕ
+untold told = untold_from [] told []
+
+abbrev pub keys_differ : List Told → List Told → Bool
+keys_differ usual here = nat_lt (length (untold usual)) (length (untold here))

@@ -1,0 +1,7 @@
+pub mod Probe
+pub mod Standing
+pub mod Packets
+pub mod Keys
+pub mod Handovers
+pub mod Same
+pub mod Outcomes

@@ -1,0 +1,15 @@
+//! What became of phone, stations and core in a run of items with a probe behind it, beside that of a scenario.
+#![tactic(auto)]
+
+mod handovers;
+mod judging;
+mod keys;
+mod names;
+mod packets;
+mod same;
+mod standing;
+
+pub use judging::{Outcome, outcomes};
+pub use names::{PROBE, acts_of_probe};
+pub use packets::{Fate, Fates};
+pub use standing::Standing;

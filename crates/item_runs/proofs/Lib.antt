@@ -1,0 +1,4 @@
+pub mod OneEvent
+pub mod OneMore
+pub mod AtOnce
+pub mod Marking

@@ -1,0 +1,62 @@
+-- A run of items: what they come to in the run of the written machine.
+use Rattle.std.specs.Prelude.{◌≡◌, List, map, Option, Result, Ok}
+use Rattle.key_terms.specs.declared.proof.Proof.{Proof}
+use Rattle.lte_events.specs.Scenario.{IsScenario}
+use Rattle.lte_events.specs.declared.events.Event.{Event}
+use Rattle.lte_events.specs.declared.lines.Line.{Line}
+use Rattle.lte_events.specs.declared.setups.Setup.{Setup}
+use Rattle.lte_machine.specs.BothRuns.{annex_b_terms, written_run, written_report}
+use Rattle.lte_machine.specs.Carried.{report_value}
+use Rattle.lte_machine.specs.Ciphers.{annex_b}
+use Rattle.lte_machine.specs.Machines.{written_machine}
+use Rattle.lte_machine.specs.Opening.{open_octets}
+use Rattle.lte_machine.specs.Run.{event_report}
+use Rattle.lte_properties.specs.Headline.{Headline}
+use Rattle.lte_world.specs.Whole.{Whole, answer_of}
+use Rattle.lte_world.specs.declared.faults.WorldFault.{WorldFault}
+use Rattle.item_lines.specs.declared.lines.Told.{Told}
+use Rattle.item_runs.specs.Coming.{Coming, nothing, coming_from}
+use Rattle.items.specs.declared.Item.{Item}
+use Rattle.item_runs.specs.declared.sent.Sent.{Sent}
+
+-- what the written machine's run over terms tells of one event more, in values: a line or the coincidence
+unfoldable pub told_written : Setup → List Event → Event → Result Line WorldFault
+told_written setup events e = answer_of (report_value (event_report (open_octets annex_b_terms) (written_machine annex_b) (written_run setup events) e))
+
+-- what items come to behind those that have come to this
+abbrev pub going_on : Setup → List Event → List Item → Coming → Coming
+going_on setup acts items c = coming_from (told_written setup) acts items c
+
+-- WHAT THESE ITEMS COME TO; its events are the list that `run` takes
+abbrev pub coming_of : Setup → List Event → List Item → Coming
+coming_of setup acts items = going_on setup acts items nothing
+
+-- lines are what the written machine's run of the events tells, no more and no fewer
+abbrev pub Tells : Setup → List Event → List Told → Type 0
+Tells setup events told = map (λ r. answer_of (report_value r)) (written_report setup events) ≡ map (λ t. Ok t.line) told
+
+-- a run of items as a caller sees it
+pub record Seen : Type 0 where
+  pub setup : Setup
+  pub coming : Coming
+
+-- by its system, its lines, what was sent, and the coincidence
+abbrev pub seen : Whole → List Told → List Sent → Option Proof → Seen
+seen w told sent over = record {
+  setup = w.setup;
+  coming = record { events = w.journal; told = told; sent = sent; over = over };
+}
+
+-- what holds of it: its events are a scenario, and its lines are those of their run
+pub record Stands (setup : Setup) (events : List Event) (told : List Told) : Type 0 where
+  pub scenario : IsScenario setup events
+  pub tells : Tells setup events told
+
+-- WHAT HOLDS OF EVERY RUN OF ITEMS
+pub record Promises (s : Seen) : Type 0 where
+  -- its events are a scenario, as `run` takes it
+  pub scenario : IsScenario s.setup s.coming.events
+  -- its lines are those that the written machine's run of these events tells
+  pub tells : Tells s.setup s.coming.events s.coming.told
+  -- and all that holds of every run holds of it
+  pub headline : Headline s.setup s.coming.events

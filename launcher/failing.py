@@ -1,0 +1,136 @@
+"""How each word ends where its input or its output fails: python3 launcher/failing.py. The statuses are those of the README's table."""
+import concurrent.futures
+import os
+import pathlib
+import signal
+import subprocess
+import sys
+import tempfile
+import unittest
+from collections.abc import Iterator
+
+sys.dont_write_bytecode = True
+HERE = pathlib.Path(__file__).resolve().parent
+TOP = HERE.parent
+EXAMPLES = TOP / "examples"
+SCENARIO, REPORT = EXAMPLES / "run/ordinary.toml", EXAMPLES / "run/ordinary.out"
+TRACE, KASME = EXAMPLES / "traces/A.json.gz", "e61a3129c8e399d6dd3cec512a9c671da2004c5e8e780d3df853bb3055ee7cba"
+PAGE = pathlib.Path(tempfile.gettempdir()) / f"lte_sec-page-{os.getpid()}.html"
+READ_FAILS, WRITE_FAILS, INTERRUPTED = 4, 5, 130
+
+# Each word, as it is called, and its standard input where it reads that.
+READERS: dict[str, tuple[list[str | pathlib.Path], pathlib.Path]] = {
+    "run": ([], SCENARIO),
+    "drive": ([], SCENARIO),
+    "fleet": ([], EXAMPLES / "fleet/two-phones.toml"),
+    "two": ([], EXAMPLES / "two/relocation.toml"),
+    "audit": ([], SCENARIO),
+    "ladder": ([], EXAMPLES / "ladder/first.txt"),
+    "calc": ([], EXAMPLES / "calc/keys.txt"),
+    "calc --strict": ([], EXAMPLES / "calc/keys.txt"),
+    "run --json": ([], SCENARIO),
+    "drive --json": ([], SCENARIO),
+    "drive --timeout 20": ([], SCENARIO),
+    "verdict": ([], REPORT),
+    "verdict --json": ([], REPORT),
+    "repeats": ([], HERE / "failing.uses"),
+    "explain": ([KASME], REPORT),
+}
+OTHERS: dict[str, list[str | pathlib.Path]] = {
+    "gen": ["100", "7"],
+    "draw": ["messages", SCENARIO],
+    "draw messages --html": [PAGE, SCENARIO],
+    "what-if": [SCENARIO],
+    "what-if --html": [PAGE, SCENARIO],
+    "check-trace": [TRACE, KASME],
+    "check-trace --html": [PAGE, TRACE, KASME],
+    "wireshark": [TRACE, KASME],
+    "replay": [TRACE, KASME],
+    "vectors": ["--count", "10"],
+    "--help": [],
+    "--version": [],
+    "run --help": [],
+    "check-trace --help": [],
+}
+# Words that this does not call, and why.
+LEFT = {
+    "serve": "its port fails with 6, which examples/serve/check tries",
+    "library": "it prints nothing but on standard error",
+    "package": "the same",
+    "--prove": "the same",
+    "--proved": "the same",
+    "--program": "it builds",
+}
+
+
+def calls() -> Iterator[tuple[str, list[str | pathlib.Path], pathlib.Path | None]]:
+    for word, (more, text) in READERS.items():
+        yield word, [*word.split(), *more], text
+    for word, words in OTHERS.items():
+        yield word, [*word.split(), *words], None
+
+
+def ends(words: list[str | pathlib.Path], more: str, text: pathlib.Path | None) -> tuple[int, str]:
+    """The status of the launcher with these words and redirections of a shell, and what it says on standard error."""
+    shell: list[str | pathlib.Path] = ["bash", "-c", f'set -o pipefail; "$@" {more}', "bash", TOP / "lte_sec", *words]
+    with open(text or os.devnull, "rb") as given:
+        ran = subprocess.run(shell, stdin=given, stdout=subprocess.PIPE, stderr=subprocess.PIPE, text=True, timeout=600)
+    return ran.returncode, ran.stderr
+
+
+class Failing(unittest.TestCase):
+    @classmethod
+    def tearDownClass(cls) -> None:
+        PAGE.unlink(missing_ok=True)
+
+    def each(self, more: str, wanted: int, lines: int, words: list[tuple[str, list[str | pathlib.Path], pathlib.Path | None]]) -> None:
+        with concurrent.futures.ThreadPoolExecutor() as pool:
+            for (word, *_), (status, said) in zip(words, pool.map(lambda it: ends(it[1], more, it[2]), words)):
+                with self.subTest(word=word, more=more):
+                    told = [line for line in said.splitlines() if "built without proof" not in line and " runs, " not in line]
+                    self.assertNotIn("Traceback", said)
+                    self.assertEqual((wanted, lines), (status, sum(f"status {wanted}" in line for line in told)), said)
+
+    def test_a_full_disk_is_status_5_and_one_line(self) -> None:
+        self.each(">/dev/full", WRITE_FAILS, 1, list(calls()))
+
+    def test_a_closed_output_is_status_5_and_one_line(self) -> None:
+        self.each(">&-", WRITE_FAILS, 1, list(calls()))
+
+    def test_a_reader_that_has_read_enough_is_status_5_and_no_line(self) -> None:
+        self.each("> >(exec true; sleep 0)", WRITE_FAILS, 0, [it for it in calls() if it[0] in ("verdict", "vectors", "--help", "run --help", "check-trace")])
+
+    def test_a_closed_input_is_status_4_and_one_line(self) -> None:
+        self.each("<&-", READ_FAILS, 1, [it for it in calls() if it[2]])
+
+    def test_a_folder_as_input_is_status_4_and_one_line(self) -> None:
+        self.each("<.", READ_FAILS, 1, [it for it in calls() if it[2]])
+
+    def test_an_interrupt_is_status_130_and_no_traceback(self) -> None:
+        tried: list[list[str | pathlib.Path]] = [["what-if", "--faults", "2", "--lines", SCENARIO], ["vectors", "--count", "1000"], ["verdict"]]
+        for words in tried:
+            with self.subTest(words=words):
+                process = subprocess.Popen(
+                    [TOP / "lte_sec", *words], stdin=subprocess.PIPE, stdout=subprocess.PIPE, stderr=subprocess.PIPE, start_new_session=True,
+                    preexec_fn=lambda: signal.signal(signal.SIGINT, signal.SIG_DFL),  # what a script starts in the background ignores it
+                )
+                assert process.stdin and process.stdout
+                # Its first octet, or that it takes more of a text than a pipe holds, tells that it is at work. What it writes is read no further, so it cannot end.
+                if words == ["verdict"]:
+                    process.stdin.write(REPORT.read_bytes() * 100)
+                else:
+                    process.stdout.read(1)
+                os.killpg(process.pid, signal.SIGINT)
+                said = process.communicate(timeout=60)[1].decode()
+                self.assertNotIn("Traceback", said)
+                self.assertEqual(INTERRUPTED, process.returncode, said)
+
+    def test_each_word_is_tried(self) -> None:
+        lines = (HERE / "words").read_text().splitlines()
+        words = {line.split(" |")[0] for line in lines if line and not line.startswith((" ", "#"))}
+        tried = {word.split()[0] for word in (*READERS, *OTHERS)} | LEFT.keys()
+        self.assertEqual(set(), words - tried)
+
+
+if __name__ == "__main__":
+    unittest.main()

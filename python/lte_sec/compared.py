@@ -1,0 +1,152 @@
+"""The keys of a capture beside those of the run: same, another, or not replayed; and what the run refuses."""
+from __future__ import annotations
+
+import re
+from collections.abc import Iterator
+from dataclasses import dataclass, field
+from enum import Enum
+
+from .chain_steps import number_of
+from .courses import Course
+from .nas_steps import Row
+from .report import DIFFERS
+from .script import Script
+
+ROW = re.compile(r"row \d+ (\w+)(?:\((\d+),([\d,]*)\))? ([0-9a-f]{64}) \S+")
+
+
+class Verdict(str, Enum):
+    """What a key of the capture is beside the run."""
+
+    SAME = "same"
+    DIFFERS = "differs"
+    NOT_REPLAYED = "not replayed"
+
+
+@dataclass(frozen=True)
+class Told:
+    """A key of the capture with its verdict: derivation and NCC of both, and the step of the run."""
+
+    frame: str
+    message: str
+    what: str
+    verdict: Verdict
+    term: str
+    ncc: int | None
+    run_term: str = ""
+    run_ncc: int | None = None
+    step: int | None = None
+    reason: str = ""
+    follows: str = ""  # the frame of the difference that this one follows from
+
+    @property
+    def text(self) -> str:
+        head = f"frame {self.frame} {self.message} {self.what} "
+        if self.verdict == Verdict.NOT_REPLAYED:
+            return f"{head}not replayed: {self.reason}"
+        here = self.term + (f" NCC {self.ncc}" if self.ncc is not None else "")
+        if self.verdict == Verdict.SAME:
+            return f"{head}same: {here} (step {self.step})"
+        run = self.run_term + (f" NCC {self.run_ncc}" if self.ncc is not None else "")
+        return f"{head}differs: the capture has {here}, the run {run} (step {self.step})" + (f"; it follows from frame {self.follows}" if self.follows else "")
+
+
+@dataclass(frozen=True)
+class Refused:
+    """A step that the run refuses."""
+
+    step: int
+    do: str
+    frame: str
+    answer: str
+
+    @property
+    def text(self) -> str:
+        return f"step {self.step} ({self.do}, frame {self.frame}) is refused here: {self.answer}"
+
+
+@dataclass
+class Replayed:
+    """A scenario with its run: the keys of the capture beside it, what is assumed, and what is refused."""
+
+    script: Script
+    course: Course
+    told: list[Told] = field(default_factory=list)
+    refused: list[Refused] = field(default_factory=list)
+
+
+@dataclass(frozen=True)
+class Term:
+    """The derivation of a key of the run, with the KeNB that it begins at and its KASME."""
+
+    form: str
+    base: str
+    root: str
+
+
+def terms_of(report: str) -> dict[str, Term]:
+    """The derivations of the keys of a report, as those of traces are written."""
+    lines = report.splitlines()
+    rows = lines[next((place for place, line in enumerate(lines) if line.startswith("end ")), len(lines)) + 1:]
+    found: list[Term] = []
+    for line in rows:
+        row = ROW.fullmatch(line)
+        assert row is not None
+        form, first, more, key = row.groups()
+        above = found[int(first)] if first else None
+        if above is None:
+            found.append(Term("root", "", key))
+        elif form == "kenb":
+            found.append(Term(f"kenb({more})", f"kenb({more})", above.root))
+        elif form == "nh":
+            sync = found[int(more)]
+            found.append(Term(f"nh({number_of(sync.form) + 1})", sync.base, above.root))
+        else:
+            found.append(Term(f"{form}({above.form},{more})", above.base, above.root))
+    return {line.split()[3]: term for line, term in zip(rows, found)}
+
+
+def compared(script: Script, course: Course, rows: list[Row], kasmes: dict[str, bytes]) -> Replayed:
+    """Each key of the capture beside the run."""
+    done = Replayed(script, course)
+    names = {value.hex(): name for name, value in kasmes.items()}
+    steps = {item.name: number for number, item in enumerate(course.items)}
+    terms = terms_of(course.report)
+    root = ""
+    for row in rows:
+        one = beside(row, course, steps, terms, root, names)
+        if one.verdict == Verdict.DIFFERS and row.key.verdict == DIFFERS:
+            root = row.met.frame
+        done.told.append(one)
+    done.refused += refusals(script, course, steps)
+    return done
+
+
+def beside(row: Row, course: Course, steps: dict[str, int], terms: dict[str, Term], root: str, names: dict[str, str]) -> Told:
+    key, met = row.key, row.met
+    head = (met.frame, met.title, key.what)
+    if not row.item:
+        return Told(*head, Verdict.NOT_REPLAYED, key.term, key.ncc, reason=row.reason)
+    line = course.lines.get(row.item)
+    if line is None or line.note is None:
+        why = f"the run refuses its step: {line.answer}" if line is not None else "the run does not come to it"
+        return Told(*head, Verdict.NOT_REPLAYED, key.term, key.ncc, step=steps.get(row.item), reason=why)
+    ncc, run = int(line.note.ncc), terms[line.note.key]
+    if line.note.key == key.value.hex() and key.ncc in (None, ncc):
+        return Told(*head, Verdict.SAME, key.term if key.term != "none" else run.form, key.ncc, run.form, ncc, steps[row.item])
+    own, other = key.term, run.form
+    if key.term == run.form and line.note.key != key.value.hex():  # chains that begin at different KeNBs have like forms
+        if key.base not in (run.base, key.term):
+            own, other = f"{own} on {key.base}", f"{other} on {run.base}"
+        if key.kasme != names.get(run.root):
+            own, other = f"{own} of {key.kasme}", f"{other} of {names.get(run.root)}"
+    follows = root if key.verdict != DIFFERS else ""
+    return Told(*head, Verdict.DIFFERS, own, key.ncc, other, ncc, steps[row.item], follows=follows)
+
+
+def refusals(script: Script, course: Course, steps: dict[str, int]) -> Iterator[Refused]:
+    """The steps that the run refuses."""
+    for item in course.items:
+        line = course.lines.get(item.name)
+        if line is not None and line.answer != "done":
+            yield Refused(steps[item.name], item.do, script.at[item.name].frame, line.answer)

@@ -1,0 +1,96 @@
+"""Lines on keys: what a key is and what it was to be, with the search for a derivation and the reason of a mistake."""
+from __future__ import annotations
+
+from collections.abc import Callable, Iterator
+
+from .cells import Cells
+from .coverage import Coverage
+from .decoding import Command, Message, title
+from .histories import Radio
+from .moves import Moves
+from .report import Line, key_line, note_line, unknown_line
+from .search import Search
+from .service import ServiceBook
+from .state import Connection
+from .terms import NONE, UP, Key, counted
+
+REASONS = 200  # keys of a trace for which a reason is sought
+OTHERS = 16  # contexts of other phones whose KeNBs are at hand for the search
+
+
+class KeyLines:
+    """What judges of keys share: what is known of the trace, and the lines so far."""
+
+    def __init__(self, book: ServiceBook, cells: Cells, search: Search, firsts: dict[str, int], coverage: Coverage):
+        self.book, self.cells, self.search, self.firsts, self.coverage = book, cells, search, firsts, coverage
+        self.moves = Moves(book, cells, coverage)
+        self.replies: dict[int, Command] = {}  # what the target of a handover over X2 answers, by its request
+        self.in_use: dict[bytes, str] = {}  # KeNBs that stations took, with the frame of each
+        self.last_sent: dict[int, Connection] = {}  # by KASME, the connection of the last KeNB
+        self.gaps: list[tuple[int, int]] = []  # places between which the capture lost frames
+        self.reasoned = 0  # keys for which a reason was sought
+        self.derivations = book.derivations
+        self.lines: list[Line] = []
+        self.seen_firsts: dict[str, list[int]] = {}
+
+    def at_hand(self, connection: Connection) -> list[Key]:
+        """The keys of a connection, the most likely first."""
+        held = [*connection.states(), *(one for states in connection.left.values() for one in states)]
+        keys = [one.base()[0] for one in held] + [one.key for one in held] + [chain.sync for chain in connection.cores()]
+        if connection.phone:
+            keys += [connection.phone.key, connection.phone.chain.sync]
+        keys += [key for _, _, key in connection.keys[-8:]]
+        bases = [self.derivations.kenb(key.kasme, counted(key.term.base())) for key in keys if counted(key.term.base()) >= 0 and key.kasme >= 0]
+        context = connection.side.current
+        own = [(context.kasme, context.next[UP])] if context else []
+        others = [(one.kasme, one.next[UP]) for one in list(self.book.contexts.values())[-OTHERS:]]
+        others += [(kasme, context.next[UP]) for kasme in range(len(self.derivations.kasmes))[:OTHERS] if context]
+        near = dict.fromkeys((kasme, max(0, count - back)) for kasme, count in [*own, *others] for back in range(4))
+        return [*keys, *bases, *(self.derivations.kenb(*one) for one in near)]
+
+    def named(self, value: bytes, connection: Connection, more: list[Key], cell: Radio | None = None) -> Key:
+        """The term of a key that is not the wanted one."""
+        found = self.search.find(value, [*more, *self.at_hand(connection)], cell[0] if cell else None, bool(more))
+        return found or Key(value, NONE)
+
+    def reason(self, found: Key, tries: Callable[[], Iterator[str]]) -> str:
+        """The mistake that gives a key which no derivation gives, as far as the reasons of a trace go."""
+        if found.known or self.reasoned >= REASONS:
+            return ""
+        self.reasoned += 1
+        return next(filter(None, tries()), "")
+
+    def show(self, key: Key, beside: Key | None = None) -> str:
+        return self.derivations.shown(key, beside)
+
+    def judged(self, message: Message, what: str, found: Key, wanted: Key, ncc: tuple[int, int] | None = None, why: str = "", cell: Radio | None = None) -> Line:
+        line = self.line_of(message, what, found, wanted, ncc, why)
+        line.cell = cell
+        self.lines.append(line)
+        return line
+
+    def line_of(self, message: Message, what: str, found: Key, wanted: Key, ncc: tuple[int, int] | None = None, why: str = "") -> Line:
+        differs = found.value != wanted.value
+        shown = self.show(found, wanted if differs else None), self.derivations.form(wanted, found) + self.derivations.whose(wanted)
+        if differs and not found.known and wanted.value:
+            why = "; ".join([*([why] if why else []), f"got {found.value.hex()}, wanted {wanted.value.hex()}"])
+        line = key_line(message.frame, title(message), what, *shown, differs, ncc, why)
+        line.found, line.wanted, line.base, line.hex = found.form, wanted.form, found.base, found.value.hex()
+        line.wanted_hex, line.key, line.wanted_key = wanted.value.hex(), found, wanted
+        line.kasme = self.derivations.kasmes[found.kasme].name if found.kasme >= 0 else ""
+        return line
+
+    def unjudged(self, message: Message, what: str, why: str, found: Key | None = None) -> None:
+        line = unknown_line(message.frame, title(message), what, why, self.show(found) if found and found.known else "")
+        line.hex, line.key = found.value.hex() if found else "", found
+        if found is not None and found.known:
+            line.found, line.base = found.form, found.base
+            line.kasme = self.derivations.kasmes[found.kasme].name if found.kasme >= 0 else ""
+        self.lines.append(line)
+
+    def cell(self, eci: int | None) -> Radio | None:
+        site = self.cells.at(eci) if eci is not None else None
+        return (site.pci, site.earfcn) if site else None
+
+    def note(self, frame: str, text: str) -> None:
+        self.lines.append(note_line(frame, text))

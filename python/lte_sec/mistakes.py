@@ -1,0 +1,66 @@
+"""Why a key of a driven actor is not the wanted one: the mistakes of `reasons`, from the keys of the same scenario's own run."""
+from __future__ import annotations
+
+import subprocess
+from collections.abc import Iterator
+
+from lte_sec import frames, reasons, records
+from lte_sec.ladders import Row, rows_of
+
+STARRED = ("kenb", "nh", "star")  # rows of keys that a KeNB* is made of
+
+
+def rows_by_run(program: str, scenario: bytes) -> dict[int, Row]:
+    """The rows of the ladder, by number, of the run of a scenario; none where it does not end."""
+    ran = subprocess.run([program, "run"], input=scenario, stdout=subprocess.PIPE, stderr=subprocess.DEVNULL)
+    return {row.number: row for row in rows_of(ran.stdout.decode(errors="replace").splitlines()).values()} if ran.returncode == 0 else {}
+
+
+def of_key(rows: dict[int, Row], row: Row, value: bytes) -> str:
+    """The mistake by which these octets stand in the place of this row's key, or nothing."""
+    above = bytes.fromhex(rows[row.parent].key) if row.parent is not None else b""
+    numbers = [int(number) for number in row.values[1:]]
+    if row.word == "kenb":
+        return reasons.kenb(value, above, numbers[0])
+    if row.word == "nh":
+        return reasons.nh(value, above, bytes.fromhex(rows[numbers[0]].key))
+    if row.word == "alg":
+        found = reasons.algorithm(value, above, numbers[0], numbers[1])
+    else:
+        found = reasons.star(value, above, numbers[0], numbers[1]) if row.word == "star" else ""
+    return found or next((told for told, made in of_another(rows, row) if made == value), "")
+
+
+def of_another(rows: dict[int, Row], row: Row) -> Iterator[tuple[str, bytes]]:
+    """The same derivation of another key of the run; of a KeNB* also with another PCI or EARFCN-DL of the run."""
+    stars = [one.values[1:] for one in rows.values() if one.word == "star"]
+    inputs = list(dict.fromkeys((pci, earfcn) for pci, _ in stars for _, earfcn in stars)) if row.word == "star" else [(row.values[1], row.values[2])]
+    for key in rows.values():
+        above = bytes.fromhex(key.key)
+        made_of = [f"it is made of {key.kind}, row {key.number}, not of row {row.parent}"] if key.number != row.parent else []
+        for first, second in inputs if key.word in STARRED else ():
+            given = [f"it is for PCI {first}, EARFCN-DL {second}"] if [first, second] != row.values[1:] else []
+            yield "; ".join([*made_of, *given]), derived(row.word, above, int(first), int(second))
+
+
+def derived(word: str, above: bytes, first: int, second: int) -> bytes:
+    """KeNB* for a cell, or the key of an algorithm type and identity."""
+    if word == "alg":
+        return reasons.kdf(above, reasons.ALGORITHM, bytes([first]), bytes([second]))
+    return reasons.kdf(above, reasons.STAR, first.to_bytes(2, "big"), second.to_bytes(2 if second < reasons.SMALLER else 3, "big"))
+
+
+def of_reply(rows: dict[int, Row], wanted: bytes, got: bytes, role: str) -> list[str]:
+    """The mistake of the first key of a reply that differs, by the name of that key: those behind it are made of it."""
+    try:
+        want, have = (frames.read_reply(frames.unframed(octets)) for octets in (wanted, got))
+    except frames.BadFrame:
+        return []
+    names = records.derivation_names(role, want)
+    by_key = {row.key: row for row in rows.values()}
+    for place, (key, value) in enumerate(zip(want.derived, have.derived)):
+        row = by_key.get(key.hex())
+        if key != value:
+            found = of_key(rows, row, value) if row else ""
+            return [f"{names[place] if place < len(names) else 'key'}: {found}"] if found else []
+    return []

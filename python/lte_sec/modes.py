@@ -1,0 +1,127 @@
+"""Security Mode Command, Complete and Reject: which context they bring, and what each must say (TS 24.301 5.4.3, TS 33.401 7.2.4)."""
+from __future__ import annotations
+
+from dataclasses import replace
+
+from .contexts import COMMAND, COMPLETE, FOREIGN, NasContext, NasSeen, NasSide
+from .nas import AHEAD, Later, NasBook, is_protected
+from .plain import EMM, MODE_COMMAND, NO_KEY, capability_fault, of_octets, replayed
+from .terms import COMPUTED, DOWN, UP
+
+FIRST_COUNTS = 4  # the most that a Command's COUNT may be where a KASME begins: it is sent again four times (5.4.3.7)
+
+
+class ModeBook(NasBook):
+    """The NAS contexts of a trace, with what Security Mode messages do to them."""
+
+    def command(self, side: NasSide, pdu: bytes, later: Later) -> NasSeen:
+        """A Security Mode Command: its own octets tell algorithms and KSI; the KASME is the one under which its MAC is right."""
+        plain, seq = pdu[6:], pdu[5]
+        octet, ksi = (plain[2], plain[3] & 7) if len(plain) >= 4 and plain[:2] == bytes([EMM, MODE_COMMAND]) else (0x22, None)
+        eea, eia = octet >> 4 & 7, octet & 7
+        side.commands += 1
+        if eia == 0:
+            side.pending = NasContext(FOREIGN, eea, 0, ksi)
+            right = pdu[1:5] == bytes(4)
+            return self.found(side, side.pending, DOWN, pdu, seq) if right else self.refused(side.pending, DOWN, pdu, seq)
+        fresh = [NasContext(kasme, eea, eia, ksi) for kasme in self.kasmes()]
+        context = next((one for one in fresh if self.judged(one) and self.has_mac(one, DOWN, seq, pdu)), None)
+        old = self.contexts.get(context.kasme) if context else side.current
+        if old is not None and old.given and eia in COMPUTED:  # a context in use may go on under other algorithms: its COUNTs do too
+            count = self.opens(replace(old, eia=eia), DOWN, pdu)
+            if count is not None:
+                side.pending = replace(old, eea=eea, eia=eia, ksi=ksi, guessed=False, resumed=True)
+                return self.found(side, side.pending, DOWN, pdu, count)
+        if context is not None:
+            side.pending, self.turn = context, context.kasme + 1
+            return self.begun(side, self.found(side, context, DOWN, pdu, seq))
+        return self.wrong_command(side, pdu, fresh, ksi, later)
+
+    def begun(self, side: NasSide, seen: NasSeen) -> NasSeen:
+        """A Command with which a KASME begins; its COUNT is one of the first (TS 24.301 4.4.3.1)."""
+        begins = side.fresh or side.current is not None and side.current.given
+        if begins and seen.count is not None and seen.count > FIRST_COUNTS:
+            seen.blame(f"COUNT differs: is {seen.count}, where a KASME begins at 0")
+        return seen
+
+    def wrong_command(self, side: NasSide, pdu: bytes, fresh: list[NasContext], ksi: int | None, later: Later) -> NasSeen:
+        """A Command under no KASME that was given, unless what follows it stands under one."""
+        context = next((one for one in fresh if self.evidence(side, one, later)), None)
+        side.authenticated = False
+        if context is None:
+            side.pending = NasContext(FOREIGN, fresh[0].eea if fresh else 2, fresh[0].eia if fresh else 2, ksi)
+            return self.nothing(DOWN, pdu)
+        side.pending = context
+        context.next[DOWN] = pdu[5] + 1
+        seen = self.refused(context, DOWN, pdu, pdu[5], self.whose(context, DOWN, pdu, pdu[5]))
+        if self.judged(context):  # what a message with a wrong MAC says of its context is not believed
+            context.ksi, context.guessed = None, True
+        return seen
+
+    def evidence(self, side: NasSide, context: NasContext, later: Later) -> bool:
+        """Whether what comes later in the connection stands under this new context; a MAC that is right tells its algorithm.
+
+        What stands under the context in use says nothing of a new one, and a KeNB of neither says that the Command brought another KASME.
+        """
+        for place, one in enumerate(later()):
+            if place == AHEAD:
+                break
+            if isinstance(one, bytes):
+                return any(self.derivations.kenb(context.kasme, count).value == one for count in range(FIRST_COUNTS))
+            direction, pdu = one
+            in_use = side.current if side.current is not None and side.current.given else None
+            if in_use is not None and is_protected(pdu) and pdu[0] >> 4 not in (COMMAND, COMPLETE) and self.opens(in_use, direction, pdu) is not None:
+                continue
+            if is_protected(pdu) and pdu[0] >> 4 == COMMAND:
+                break
+            right = self.under(context, direction, pdu[5], pdu) if is_protected(pdu) else None
+            if right is not None:
+                context.eia = right.eia
+                return True
+            if is_protected(pdu) and direction == UP and pdu[0] >> 4 == COMPLETE:
+                break  # the Complete of another KASME: what comes behind it stands under that
+        return False
+
+    def commanded(self, side: NasSide, context: NasContext, plain: bytes, seen: NasSeen) -> None:
+        """What a Security Mode Command says beside its COUNT: algorithms, KSI and replayed capabilities."""
+        back = replayed(plain)
+        for fault in (capability_fault(side, plain), *algorithm_faults(side, context), ksi_fault(side, plain[3] & 7 if len(plain) > 3 else None)):
+            if fault:
+                seen.blame(fault)
+        if back is not None and (side.capabilities is None or capability_fault(side, plain)):  # the core goes on from what it took
+            side.capabilities = of_octets(back)
+        side.authenticated, side.offered = False, None
+        if context.eia == 0 and not side.emergency:
+            if side.established and side.initial:  # else its first message may have asked for an emergency
+                seen.blame("EIA0 in a secured connection without emergency, which TS 33.401 5.1.4.2 does not allow")
+            else:
+                seen.warning = "EIA0 outside an emergency call, which TS 33.401 5.1.4.2 does not allow"
+
+    def completed(self, side: NasSide, context: NasContext, count: int) -> list[str]:
+        """What is wrong with a Complete: it stands under the context that its Command brought, at one of its first COUNTs (5.4.3.3)."""
+        brought, commands, begins = side.pending, side.commands, side.fresh
+        side.commands, side.fresh = 0, False
+        if brought is not None and brought.given and context.kasme != brought.kasme:
+            return ["Security mode complete under the KASME before, where the Command brought another"]
+        begins |= side.current is not None and side.current.given and side.current.kasme != context.kasme
+        if brought is context and begins and 0 < commands <= count and not context.resumed:
+            return [f"COUNT differs: is {count}, where a KASME begins at 0"]
+        return []
+
+
+def algorithm_faults(side: NasSide, context: NasContext) -> list[str]:
+    """Algorithms that the phone did not say it has (TS 33.401 7.2.4.4)."""
+    told = side.told
+    if told is None or len(told) < 2:
+        return []
+    chosen = ((context.eea, "EEA", told[0]), (context.eia, "EIA", told[1]))
+    return [f"{name}{identity} is commanded, which the phone does not have" for identity, name, octet in chosen if identity and not octet >> 7 - identity & 1]
+
+
+def ksi_fault(side: NasSide, ksi: int | None) -> str:
+    """A KSI that no context has, or another than that of the authentication before (TS 24.301 5.4.3.2, 9.9.3.21)."""
+    if ksi == NO_KEY:
+        return "KSI differs: is 7, which means that there is no key"
+    if ksi is not None and side.offered is not None and ksi != side.offered:
+        return f"KSI differs: is {ksi}, wanted {side.offered}, that of the Authentication Request"
+    return ""

@@ -1,0 +1,113 @@
+"""What `replay` takes of a trace: each message with its connection, station, NAS messages and keys, all from the list of what was seen."""
+from __future__ import annotations
+
+from dataclasses import dataclass, field
+
+from .cells import Cells
+from .contexts import PLAIN
+from .decoding import Message
+from .escaped import shown
+from .report import UNKNOWN, Verdict
+from .seen import Seen, Value
+from .trace import Trace
+
+NO_TERM = "none"  # what nothing gives
+AGAIN = ("sent again", "COUNT used twice")
+KEYS = ("KeNB", "KeNB*", "NH", "key")
+
+
+@dataclass(frozen=True)
+class Nas:
+    """A protected NAS message of a KASME that was given."""
+
+    is_up: bool
+    header: int
+    count: int
+    kasme: str
+    plain: bytes | None
+    is_right: bool
+    name: str
+
+
+@dataclass(frozen=True)
+class KeySeen:
+    """A key of a message: what it is, its octets and NCC, the derivations that give it and that were wanted, and what was said of it."""
+
+    what: str
+    value: bytes
+    ncc: int | None
+    term: str  # `none` where nothing gives it
+    wanted: str
+    base: str
+    kasme: str
+    verdict: Verdict
+    reason: str
+
+
+@dataclass
+class Met:
+    """A message of the capture. `connection` and `handover` are numbers, None where it belongs to none."""
+
+    frame: str
+    title: str
+    message: Message
+    place: int
+    station: str = ""  # of S1 the station, of X2 the sender
+    connection: int | None = None
+    handover: int | None = None
+    nas: list[Nas] = field(default_factory=list)
+    key: KeySeen | None = None
+    more: list[KeySeen] = field(default_factory=list)  # of cells for re-establishment
+    within: tuple[int, int] | None = None  # the cell that a command within the station names
+
+
+@dataclass
+class Record:
+    """What a trace has for `replay`."""
+
+    met: list[Met]
+    cells: Cells
+    kasmes: dict[str, bytes]
+
+
+def nas_of(value: Value) -> Nas | None:
+    """The NAS message of a value, where it stands under a KASME that was given and does not come again."""
+    part = value.nas
+    if part is None or part.header == PLAIN or value.count is None or not value.kasme or any(word in value.reason for word in AGAIN):
+        return None
+    right = value.verdict != UNKNOWN and value.wanted in ("", value.got)
+    return Nas(part.is_up, part.header, value.count, value.kasme, value.plain, right, part.name)
+
+
+def key_of(value: Value, message: Message) -> KeySeen:
+    octets = bytes.fromhex(value.got) if value.got else message.key or message.nh or b""
+    term = value.term or NO_TERM
+    return KeySeen(value.what, octets, message.ncc, term, value.wanted_term or term, value.base or term, value.kasme, value.verdict, value.reason)
+
+
+def met_of(place: int, seen: Seen, begun: set[int], cells: Cells) -> Met:
+    """A message as it was seen; `begun` are the handovers before it."""
+    message = seen.decoded
+    station = shown(cells.station(message.source_eci)) if seen.link.kind == "X2" and message.source_eci is not None else seen.link.one
+    met = Met(seen.frame, seen.title, message, place, station, seen.connection, seen.handover)
+    met.nas = [one for value in seen.values if (one := nas_of(value)) is not None]
+    for value in seen.values:
+        if message.key is None and message.nh is None:
+            break
+        if value.what in KEYS and met.key is None:
+            met.key = key_of(value, message)
+        elif value.what.startswith("KeNB* for "):
+            met.more.append(key_of(value, message))
+    if message.link == "RRC" and seen.handover is not None and seen.handover not in begun:
+        met.within = next((value.cell for value in seen.values if value.what == "command"), None)
+    return met
+
+
+def record(trace: Trace) -> Record:
+    """What was seen of a trace, for `replay`."""
+    met: list[Met] = []
+    begun: set[int] = set()
+    for place, seen in enumerate(trace.seen.messages):
+        met.append(met_of(place, seen, begun, trace.cells))
+        begun |= {seen.handover} if seen.handover is not None else set()
+    return Record(met, trace.cells, {shown(one.name): one.value for one in trace.derivations.kasmes})

@@ -1,0 +1,156 @@
+"""Links that a trace covers, second taps, clocks, stations behind one end, and cells that change: what is told of them."""
+from __future__ import annotations
+
+import copy
+import unittest
+from dataclasses import replace
+
+from lte_sec.cells import Cells, Site
+from lte_sec.coverage import Coverage, word
+from lte_sec.decoding import Message
+from lte_sec.reading import Said, check
+from lte_sec.report import DIFFERS
+from lte_sec.seen import Account
+from lte_sec.taps import without_second_taps
+from lte_sec.terms import Derivations, Kasme, TraceError
+
+from .simulated import CALLS, CELLS, ENDS, World
+from .test_simulated import ENB1, ENB2, ENB3, KASMES, attached
+
+
+def seen(messages: list[Message], said: Said = Said()) -> Account:
+    named = [Kasme(f"k{place}", kasme) for place, kasme in enumerate(KASMES)]
+    return check(Derivations(CALLS, named), Cells(CELLS), copy.deepcopy(messages), budget=1_000, said=said).seen
+
+
+def differing(account: Account) -> list[str]:
+    return [value.text for _, value in account.values() if value.verdict == DIFFERS]
+
+
+def world() -> World:
+    made, phone = attached()
+    for eci in (ENB2, ENB1, ENB2):
+        made.x2(phone, eci)
+    made.s1(phone, ENB3)
+    return made
+
+
+class Covered(unittest.TestCase):
+    def test_the_note_names_links(self) -> None:
+        self.assertEqual(seen(world().messages).head, ("links covered: S1 of enb1, enb2, enb3; X2 of enb1 and enb2",))
+        at_one = [one for one in world().messages if one.link == "X2" or ENDS["enb1"] in (one.source, one.target)]
+        self.assertEqual(seen(at_one).head[0], "links covered: S1 of enb1; X2 of enb1 and enb2")
+        self.assertTrue(seen(at_one).head[1].startswith("links not covered: S1 of enb2: "))
+
+    def test_the_user_has_the_last_word(self) -> None:
+        told = seen(world().messages, Said(("X2/enb1/enb3",), ("S1/enb2/down",)))
+        self.assertIn("S1 of enb1, enb3, enb2 up", told.head[0])
+        self.assertIn("S1 of enb2 down", told.head[1])
+        for wrong in ("enb1", "S1", "S1/enb1/left", "X2/enb1", "S1/"):
+            with self.assertRaisesRegex(TraceError, "^a link is S1/STATION"):
+                word(wrong)
+
+    def test_one_direction_is_missed_only_where_the_other_is_thick(self) -> None:
+        coverage = Coverage()
+        for station, ways in (("a", "up down"), ("b", "up"), ("c", "up up up up")):
+            for way in ways.split():
+                coverage.s1_seen(station, way)
+        self.assertEqual([coverage.s1(station) for station in "abcd"], [True, True, False, False])
+
+
+class Taps(unittest.TestCase):
+    def test_a_second_tap_is_left_out(self) -> None:
+        messages = world().messages
+        again = sorted([*messages, *(replace(one, frame=f"b.pcap {one.frame}", time=one.time + 0.001, tag="0x7") for one in messages)], key=lambda one: one.time)
+        doubled = [copy.copy(one) for one in messages for _ in range(2)]
+        for place, one in enumerate(doubled):
+            one.frame = str(place + 1)
+        for name, both in (("two captures", again), ("one capture", doubled)):
+            with self.subTest(name):
+                told = seen(both)
+                self.assertEqual(differing(told), [])
+                self.assertIn(f"{len(messages)} messages are shown twice", told.head[-1])
+
+    def test_what_comes_again_by_itself_stays(self) -> None:
+        messages = world().messages
+        repeated = [*messages[:5], replace(messages[4], frame="5b"), *messages[5:]]
+        self.assertEqual(without_second_taps(repeated), (repeated, ""))
+
+    def test_a_clock_of_x2_that_is_off(self) -> None:
+        for off in (-1.2, -0.02, 0.3, 1.4):
+            made = world()
+            last: dict[str, float] = {}
+            for place, one in enumerate(made.messages):
+                one.time = 100.0 + 0.5 * place
+                last[one.link] = one.time
+            moved = sorted((replace(one, time=one.time + off) if one.link == "X2" else one for one in made.messages), key=lambda one: one.time)
+            with self.subTest(off):
+                told = seen(moved)
+                self.assertEqual(differing(told), [])
+                self.assertEqual(any("clock of X2" in line for line in told.head), moved != made.messages and [one.frame for one in moved] != [one.frame for one in made.messages])
+
+
+class Gaps(unittest.TestCase):
+    def test_a_lost_exchange_with_the_core(self) -> None:
+        """A handover over S1 that was cancelled is not in the capture: SCTP's numbers tell it from a core that skips a number."""
+        for lost in (True, False):
+            made, phone = attached()
+            made.x2(phone, ENB2)
+            before = len(made.messages)
+            made.s1(phone, ENB3, cancel="early")
+            gone = made.messages[before:]
+            made.x2(phone, ENB1)
+            made.x2(phone, ENB2)
+            numbers: dict[tuple[str, str], int] = {}
+            for one in made.messages:
+                stream = one.source, one.target
+                if one.link == "S1" and (lost or one not in gone):
+                    numbers[stream] = numbers.get(stream, (1 << 32) - 3) + 1
+                    one.tsns = (numbers[stream] % (1 << 32),)
+            told = seen([one for one in made.messages if one not in gone])
+            texts = [value.text for _, value in told.values() if value.what == "NH"]
+            self.assertEqual([text for text in differing(told) if "NH" in text] == [], lost, texts)
+            self.assertEqual(any("after frames that the capture lost" in text for text in texts), lost, texts)
+
+
+class Places(unittest.TestCase):
+    def test_stations_behind_one_end(self) -> None:
+        for setup in (False, True):
+            made, phone = attached()
+            for eci in (ENB2, ENB1, ENB3, ENB2):
+                made.x2(phone, eci)
+            gateway = "10.9.9.9:36412"
+            hidden = {ENDS["enb1"]: gateway, ENDS["enb2"]: gateway}
+            moved = [replace(one, source=hidden.get(one.source, one.source), target=hidden.get(one.target, one.target)) if one.link == "S1" else one for one in made.messages]
+            if setup:
+                moved.insert(0, Message("0", 0.0, "S1", "S1SetupRequest", gateway, made.core, station=0x7777, station_name="gateway"))
+            self.assertEqual(differing(seen(moved)), [], setup)
+
+    def test_a_cell_that_changes(self) -> None:
+        made, phone = attached()
+        made.x2(phone, ENB2)
+        changed = Site(ENB1, 40, 100, 18100, "enb1")
+        update = made.add("X2", "ENBConfigurationUpdate", ENDS["enb1"], ENDS["enb2"], sites=[changed])
+        before = CELLS[0]
+        CELLS[0] = changed
+        try:
+            made.x2(phone, ENB1)
+            made.x2(phone, ENB2)
+        finally:
+            CELLS[0] = before
+        setup = Message("0", 0.0, "X2", "X2SetupRequest", ENDS["enb1"], ENDS["enb2"], sites=[replace(site, station="") for site in CELLS if site.up])
+        named = [Kasme("k0", KASMES[0])]
+        trace = check(Derivations(CALLS, named), Cells(), copy.deepcopy([setup, *made.messages]), budget=1_000)
+        self.assertEqual(differing(trace.seen), [])
+        unseen = [setup, *(one for one in made.messages if one is not update)]
+        trace = check(Derivations(CALLS, named), Cells(), copy.deepcopy(unseen), budget=1_000)
+        self.assertEqual(differing(trace.seen), [])
+        self.assertIn("(the cell has PCI 40 now, as the target answers)", "\n".join(map(str, trace.lines)))
+        one_way = [one for one in unseen if one.link != "X2" or one.source != ENDS["enb1"] or one is setup]
+        trace = check(Derivations(CALLS, named), Cells(), copy.deepcopy(one_way), budget=2_000, said=Said((), ("X2/eNB 101/eNB 102",)))
+        self.assertEqual(differing(trace.seen), [])
+        self.assertIn("right if the cell has PCI 40 now", "\n".join(map(str, trace.lines)))
+
+
+if __name__ == "__main__":
+    unittest.main()

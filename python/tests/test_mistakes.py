@@ -1,0 +1,59 @@
+"""Mistakes of a driven actor by their names: each entry of the catalogue of keys, made in the place of a key of the ordinary run."""
+from __future__ import annotations
+
+import unittest
+from pathlib import Path
+
+from lte_sec import frames, mistakes, reasons
+from lte_sec.ladders import Row, rows_of
+
+REPORT = (Path(__file__).resolve().parents[2] / "examples/run/ordinary.out").read_text().splitlines()
+ROWS = {row.number: row for row in rows_of(REPORT).values()}
+
+
+def octets(row: Row) -> bytes:
+    return bytes.fromhex(row.key)
+
+
+def first(word: str) -> Row:
+    return next(row for row in ROWS.values() if row.word == word)
+
+
+class Mistakes(unittest.TestCase):
+    def test_each_entry_is_named(self) -> None:
+        star, nh, kenb, alg = (first(word) for word in ("star", "nh", "kenb", "alg"))
+        above = {row.number: octets(ROWS[row.parent or 0]) for row in (star, nh, kenb, alg)}
+        made = [
+            (star, reasons.star_mistakes(above[star.number], int(star.values[1]), int(star.values[2]))), (nh, reasons.nh_mistakes(above[nh.number], octets(ROWS[int(nh.values[1])]))),
+            (kenb, reasons.kenb_mistakes(above[kenb.number], int(kenb.values[1]))), (alg, reasons.algorithm_mistakes(above[alg.number], int(alg.values[1]), int(alg.values[2]))),
+        ]
+        count = 0
+        for row, entries in made:
+            for name, value in entries:
+                count += 1
+                self.assertEqual(mistakes.of_key(ROWS, row, value), name, row.word)
+            self.assertEqual(mistakes.of_key(ROWS, row, b"\x12" * 32), "", row.word)
+        self.assertGreater(count, 50)
+
+    def test_another_key_or_cell_of_the_run_is_named(self) -> None:
+        star = first("star")
+        above = ROWS[star.parent or 0]
+        self.assertEqual(mistakes.of_key(ROWS, star, mistakes.derived("star", octets(above), 10, 101)), "it is for PCI 10, EARFCN-DL 101")
+        nh = first("nh")
+        self.assertEqual(mistakes.of_key(ROWS, star, mistakes.derived("star", octets(nh), 11, 101)), f"it is made of NH, row {nh.number}, not of row {above.number}")
+        alg = next(row for row in ROWS.values() if row.word == "alg" and row.parent == star.number)
+        self.assertEqual(mistakes.of_key(ROWS, alg, mistakes.derived("alg", octets(above), int(alg.values[1]), int(alg.values[2]))), f"it is made of {above.kind}, row {above.number}, not of row {star.number}")
+
+    def test_the_first_key_of_a_reply_is_named(self) -> None:
+        star = first("star")
+        algs = [octets(row) for row in ROWS.values() if row.word == "alg" and row.parent == star.number][:3]
+        note = frames.Note(0, frames.WAYS.index("horizontal"), octets(star))
+        wanted = frames.Reply(derived=(octets(star), *algs), note=note)
+        got = frames.Reply(derived=(octets(star)[::-1], *(bytes(32) for _ in algs)), note=note)
+        self.assertEqual(mistakes.of_reply(ROWS, wanted.spelled(), got.spelled(), "phone"), ["KeNB*: the octets are reversed"])
+        self.assertEqual(mistakes.of_reply(ROWS, wanted.spelled(), wanted.spelled(), "phone"), [])
+        self.assertEqual(mistakes.of_reply(ROWS, wanted.spelled(), b"\0\1\0", "phone"), [])
+
+
+if __name__ == "__main__":
+    unittest.main()

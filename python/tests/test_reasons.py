@@ -1,0 +1,176 @@
+"""Each mistake of the catalogue, made here by hand, is named."""
+from __future__ import annotations
+
+import hmac
+import unittest
+
+from lte_sec import reasons, strict
+from lte_sec.reasons import Nas
+
+from .standin import StandIn
+
+CALLS = StandIn()
+KEY, KASME, SYNC = bytes(range(32)), bytes(range(32, 64)), bytes(range(64, 96))
+
+
+def made(key: bytes, text: str) -> bytes:
+    """The KDF over a text in hex."""
+    return hmac.digest(key, bytes.fromhex(text), "sha256")
+
+
+STARS = {  # PCI 301 (012d), EARFCN 1575 (0627)
+    "PCI and EARFCN are swapped": "13 0627 0002 012d 0002", "PCI is little-endian": "13 2d01 0002 0627 0002", "EARFCN is little-endian": "13 012d 0002 2706 0002",
+    "PCI and EARFCN are little-endian": "13 2d01 0002 2706 0002", "EARFCN has 3 octets, not 2": "13 012d 0002 000627 0003", "EARFCN has 4 octets, not 2": "13 012d 0002 00000627 0004",
+    "PCI has one octet": "13 2d 0001 0627 0002", "EARFCN is left out": "13 012d 0002", "PCI is left out": "13 0627 0002", "the inputs have no lengths": "13 012d 0627",
+    "FC is 0x11, not 0x13": "11 012d 0002 0627 0002", "FC is 0x12, not 0x13": "12 012d 0002 0627 0002", "FC is 0x14, not 0x13": "14 012d 0002 0627 0002",
+    "FC is 0x15, not 0x13": "15 012d 0002 0627 0002",
+}
+KENBS = {  # COUNT 258
+    "COUNT is 2, the low 5 bits of 258": "11 00000002 0004", "COUNT is 257, 1 less than 258": "11 00000101 0004", "COUNT is 260, 2 more than 258": "11 00000104 0004",
+    "COUNT is 226, 32 less than 258": "11 000000e2 0004", "COUNT is 322, 64 more than 258": "11 00000142 0004", "COUNT is 514, 256 more than 258": "11 00000202 0004",
+    "COUNT is 65794, 65536 more than 258": "11 00010102 0004", "COUNT is little-endian": "11 02010000 0004", "COUNT has three octets": "11 000102 0003",
+    "FC is 0x12, not 0x11": "12 00000102 0004", "FC is 0x13, not 0x11": "13 00000102 0004", "COUNT has no length": "11 00000102",
+}
+
+
+ALGORITHMS = {  # type 4, identity 2
+    "algorithm type and identity are swapped": "15 02 0001 04 0001", "the inputs have no lengths": "15 04 02", "the inputs have two octets each": "15 0004 0002 0002 0002",
+    "the identity is left out": "15 04 0001", "FC is 0x11, not 0x15": "11 04 0001 02 0001", "FC is 0x12, not 0x15": "12 04 0001 02 0001", "FC is 0x13, not 0x15": "13 04 0001 02 0001",
+    "FC is 0x14, not 0x15": "14 04 0001 02 0001",
+}
+
+
+class OnAnSrb(unittest.TestCase):
+    def test_each_mistake_of_a_mac_is_named(self) -> None:
+        whole, cipher, body = bytes(range(32)), bytes(range(32, 64)), bytes.fromhex("03010203")
+        it = reasons.Srb(whole, cipher, 2, 0, 7, 1, body)
+        key = whole[16:]
+        right = CALLS.eia2(key, 7, 1, 0, body)
+        for value, name in (
+            (CALLS.eia2(key, 7, 1, 1, body), "it is that of the other direction"), (CALLS.eia2(whole[:16], 7, 1, 0, body), "it is that of the first half of KRRCint"),
+            (CALLS.eia2(cipher[16:], 7, 1, 0, body), "it is that of KRRCenc"), (right[::-1], "it is reversed"), (CALLS.eia2(key, 7, 1, 0, body[1:]), "it is without the header"),
+            (CALLS.eia1(key, 7, 1, 0, body), "it is that of 128-EIA1"), (CALLS.eia3(key, 7, 1, 0, body), "it is that of 128-EIA3"), (CALLS.eia2(key, 7, 0, 0, body), "it is that of BEARER 0"),
+            (CALLS.eia2(key, 39, 1, 0, body), "it is that of COUNT 39"), (bytes(4), "it is zeros"), (right, ""), (b"\1\2\3\4", ""),
+        ):
+            self.assertEqual(reasons.srb(CALLS, value, it), name)
+        self.assertEqual(reasons.srb(CALLS, right, reasons.Srb(whole, cipher, 0, 0, 7, 1, body)), "")
+
+
+class Strict(unittest.TestCase):
+    """The mistake of a line of calc by its answer; the answers here are made by the stand-in."""
+
+    def test_lines_nas_and_srb(self) -> None:
+        kasme = KASME.hex()
+        integrity = CALLS.algorithm_key(KASME, 2, 2)[16:]
+        body = b"\5" + bytes.fromhex("0748")
+        right, wrong = CALLS.eia2(integrity, 5, 0, 0, body), CALLS.eia2(integrity, 5, 0, 1, body)
+        answer = f"mac fails 5 wanted {right.hex()} got {wrong.hex()} text 0748".encode()
+        self.assertEqual(strict.mistake(CALLS, ["nas", kasme, "0", "5", "uplink", (b"\x17" + wrong + body).hex()], answer), "it is that of the other direction")
+        key = CALLS.algorithm_key(KASME, 4, 2)[16:]
+        right, wrong = (CALLS.eia2(key, 5, bearer, 1, b"\5\7") for bearer in (0, 1))
+        answer = f"mac fails 5 wanted {right.hex()} got {wrong.hex()} text 07".encode()
+        self.assertEqual(strict.mistake(CALLS, ["srb", kasme, "0/2", "5", "0", "downlink", (b"\5\7" + wrong).hex()], answer), "it is that of BEARER 1")
+        self.assertEqual(strict.mistake(CALLS, ["service-request", kasme, "5", "c70512ab"], b"mac fails 5 wanted 1234 got 12ab"), "")
+
+
+class Keys(unittest.TestCase):
+    def test_kenb_star(self) -> None:
+        for name, text in STARS.items():
+            self.assertEqual(reasons.star(made(KEY, text), KEY, 301, 1575), name)
+        right = made(KEY, "13 012d 0002 0627 0002")
+        self.assertEqual(reasons.star(made(KEY[::-1], "13 012d 0002 0627 0002"), KEY, 301, 1575), "the key is reversed")
+        self.assertEqual(reasons.star(right[::-1], KEY, 301, 1575), "the octets are reversed")
+        self.assertEqual(reasons.star(KEY, KEY, 301, 1575), "it is the key without the step to the cell")
+        self.assertEqual(reasons.star(made(KEY, "13 004d 0002 0384 0002"), KEY, 77, 66436), "EARFCN has its low two octets only")
+        self.assertEqual((reasons.star(right, KEY, 301, 1575), reasons.star(SYNC, KEY, 301, 1575)), ("", ""))
+
+    def test_algorithm_keys(self) -> None:
+        for name, text in ALGORITHMS.items():
+            self.assertEqual(reasons.algorithm(made(KEY, text), KEY, 4, 2), name)
+            self.assertEqual(reasons.algorithm(made(KEY, text)[16:], KEY, 4, 2), name)
+        right = made(KEY, "15 04 0001 02 0001")
+        self.assertEqual(reasons.algorithm(made(KEY[::-1], "15 04 0001 02 0001"), KEY, 4, 2), "the key is reversed")
+        self.assertEqual((reasons.algorithm(right[::-1], KEY, 4, 2), reasons.algorithm(right[16:][::-1], KEY, 4, 2)), ("the octets are reversed",) * 2)
+        self.assertEqual(reasons.algorithm(right[:16], KEY, 4, 2), "it is the first half of the key, not the last")
+        self.assertEqual(reasons.algorithm(KEY[:16], KEY, 4, 2), "it is the first half of the key that it is made of")
+        self.assertEqual(reasons.algorithm(KEY[16:], KEY, 4, 2), "it is the last half of the key that it is made of")
+        self.assertEqual(reasons.algorithm(KEY, KEY, 4, 2), "it is the key that it is made of")
+        self.assertEqual((reasons.algorithm(right, KEY, 4, 2), reasons.algorithm(right[16:], KEY, 4, 2)), ("", ""))
+
+    def test_kenb(self) -> None:
+        for name, text in KENBS.items():
+            self.assertEqual(reasons.kenb(made(KASME, text), KASME, 258), name)
+        self.assertEqual(reasons.kenb(made(KASME, "11 00000001 0004"), KASME, 65537), "COUNT is 1, the low 5 bits of 65537")
+        self.assertEqual(reasons.kenb(made(KASME, "11 00000021 0004"), KASME, 65569), "COUNT is 33, the low 8 bits of 65569")
+        self.assertEqual(reasons.kenb(made(KASME, "11 00000121 0004"), KASME, 65825), "COUNT is 289, the low 16 bits of 65825")
+        for name, value in (("it is KASME itself", KASME), ("it is KASME, reversed", KASME[::-1]), ("all octets are 00", bytes(32)), ("all octets are ff", b"\xff" * 32)):
+            self.assertEqual(reasons.kenb(value, KASME, 258), name)
+        self.assertEqual(reasons.kenb(made(KASME[::-1], "11 00000102 0004"), KASME, 258), "KASME is reversed")
+        self.assertEqual(reasons.kenb(made(KASME, "11 00000102 0004")[::-1], KASME, 258), "the octets are reversed")
+
+    def test_nh(self) -> None:
+        sync, kasme = SYNC.hex(), KASME.hex()
+        for name, value in {
+            "FC is 0x11, not 0x12": made(KASME, f"11 {sync} 0020"), "FC is 0x13, not 0x12": made(KASME, f"13 {sync} 0020"), "SYNC-input has no length": made(KASME, f"12 {sync}"),
+            "KASME and SYNC-input are swapped": made(SYNC, f"12 {kasme} 0020"), "SYNC-input is reversed": made(KASME, f"12 {SYNC[::-1].hex()} 0020"),
+            "KASME is reversed": made(KASME[::-1], f"12 {sync} 0020"), "the octets are reversed": made(KASME, f"12 {sync} 0020")[::-1], "it is the SYNC-input itself": SYNC,
+            "all octets are 00": bytes(32), "all octets are ff": b"\xff" * 32,
+        }.items():
+            self.assertEqual(reasons.nh(value, KASME, SYNC), name)
+
+
+TEXT = bytes.fromhex("0755aabbcc")
+COUNT = 258
+
+
+def key(type: int, identity: int = 2, kasme: bytes = KASME) -> bytes:
+    return CALLS.algorithm_key(kasme, type, identity)
+
+
+def ciphered(count: int = COUNT, bearer: int = 0, direction: int = 0, of: bytes = key(1)[16:]) -> bytes:
+    return CALLS.eea2(of, count, bearer, direction, TEXT)
+
+
+def message(mac: bytes, text: bytes | None = None) -> Nas:
+    return Nas(KASME, 2, 2, 0, COUNT, b"\x27" + mac + bytes([COUNT & 255]) + (ciphered() if text is None else text))
+
+
+class NasReasons(unittest.TestCase):
+    def test_macs(self) -> None:
+        body, of = bytes([2]) + ciphered(), key(2)[16:]
+        right = CALLS.eia2(of, COUNT, 0, 0, body)
+        whole = b"\x27" + bytes(4) + body
+        for name, mac in {
+            "it is that of the other direction": CALLS.eia2(of, COUNT, 0, 1, body), "it is that of BEARER 1": CALLS.eia2(of, COUNT, 1, 0, body), "it is that of BEARER 31": CALLS.eia2(of, COUNT, 31, 0, body),
+            "it is without the sequence number": CALLS.eia2(of, COUNT, 0, 0, body[1:]), "it is over the plain text": CALLS.eia2(of, COUNT, 0, 0, body[:1] + TEXT),
+            "it is over the message with zeros in place of the MAC": CALLS.eia2(of, COUNT, 0, 0, whole), "it is over the header and the message": CALLS.eia2(of, COUNT, 0, 0, b"\x27" + body),
+            "it is that of the first half of KNASint": CALLS.eia2(key(2)[:16], COUNT, 0, 0, body), "it is that of KNASenc": CALLS.eia2(key(1)[16:], COUNT, 0, 0, body),
+            "it is that of 128-EIA1": CALLS.eia1(key(2, 1)[16:], COUNT, 0, 0, body), "it is that of 128-EIA3": CALLS.eia3(key(2, 3)[16:], COUNT, 0, 0, body),
+            "it is zeros": bytes(4), "it is reversed": right[::-1], "it is that of COUNT 2, the sequence number": CALLS.eia2(of, 2, 0, 0, body), "it is that of COUNT 300": CALLS.eia2(of, 300, 0, 0, body),
+            "it is that of other at COUNT 258": CALLS.eia2(key(2, 2, SYNC)[16:], COUNT, 0, 0, body), "it is that of other at COUNT 2": CALLS.eia2(key(2, 2, SYNC)[16:], 2, 0, 0, body),
+        }.items():
+            self.assertEqual(reasons.mac(CALLS, message(mac), iter([("other", SYNC)])), name)
+
+    def test_short_macs(self) -> None:
+        head = bytes([0xC7, 0x02])
+        other = CALLS.eia2(key(2)[16:], COUNT, 0, 1, head)
+        nas = Nas(KASME, 2, 2, 0, COUNT, head + other[2:4])
+        self.assertEqual(reasons.mac(CALLS, nas, tag=slice(2, 4)), "it is that of the other direction")
+        self.assertEqual(reasons.mac(CALLS, Nas(KASME, 2, 2, 0, COUNT, head + bytes(2)), tag=slice(2, 4)), "it is zeros")
+
+    def test_texts(self) -> None:
+        def reads(text: bytes) -> bool:
+            return text == TEXT
+
+        for name, text in {
+            "it is not ciphered": TEXT, "it is ciphered for the other direction": ciphered(direction=1), "it is ciphered by the first half of KNASenc": ciphered(of=key(1)[:16]),
+            "it is ciphered by KNASint": ciphered(of=key(2)[16:]), "it is ciphered by 128-EEA1": CALLS.eea1(key(1, 1)[16:], COUNT, 0, 0, TEXT),
+            "it is ciphered by 128-EEA3": CALLS.eea3(key(1, 3)[16:], COUNT, 0, 0, TEXT), "it is ciphered with BEARER 1": ciphered(bearer=1), "it is ciphered with BEARER 31": ciphered(bearer=31),
+            "it is ciphered at COUNT 2": ciphered(count=2), "it is ciphered at COUNT 242": ciphered(count=242), "it is ciphered at COUNT 299": ciphered(count=299),
+        }.items():
+            self.assertEqual(reasons.text(CALLS, message(bytes(4), text), reads), (name, TEXT))
+        self.assertEqual(reasons.text(CALLS, message(bytes(4), bytes(5)), reads), ("", b""))
+
+
+if __name__ == "__main__":
+    unittest.main()

@@ -1,0 +1,126 @@
+"""Each document that --json prints is of its schema in share/schema, and each scenario of that for editors."""
+from __future__ import annotations
+
+import contextlib
+import io
+import json
+import subprocess
+import sys
+import tomllib
+import unittest
+from collections.abc import Iterator
+from functools import lru_cache
+from pathlib import Path
+from typing import Any
+from unittest import mock
+
+from lte_sec import drive, verdict, words
+
+from .schemas import SCHEMAS, is_of, schema_of, validator
+from .standin import StandIn
+from .test_traces import TRACES
+
+TOP = Path(__file__).resolve().parents[2]
+EXAMPLES = TOP / "examples"
+DIALECT = "https://json-schema.org/draft/2020-12/schema"
+KASME = json.loads((TRACES / "A.truth.json").read_text())["kasme"][0]["hex"]
+NO_REPORTS = ("coincidence",)  # runs that end without one
+
+
+@lru_cache(maxsize=None)
+def is_built() -> bool:
+    return subprocess.run([TOP / "lte_sec", "--program"], capture_output=True).returncode == 0
+
+
+def launched(*given: object) -> Any:
+    """The document that a call of the launcher prints."""
+    return json.loads(subprocess.run([TOP / "lte_sec", *map(str, given)], capture_output=True, stdin=subprocess.DEVNULL).stdout)
+
+
+def traced(name: str) -> Any:
+    out = io.StringIO()
+    with mock.patch.object(words, "proved_calls", StandIn), contextlib.redirect_stdout(out), contextlib.redirect_stderr(io.StringIO()):
+        words.main(["check-trace", "--json", "--cells", str(TRACES / f"{name}.cells.txt"), str(TRACES / f"{name}.json.gz"), KASME])
+    return json.loads(out.getvalue())
+
+
+def documents() -> Iterator[tuple[str, Any]]:
+    """Documents of the examples, each with the name of its schema."""
+    for file in sorted((EXAMPLES / "run").glob("*.out")):
+        if file.stem not in NO_REPORTS:
+            with contextlib.suppress(verdict.NoReport):
+                yield "verdict", json.loads(json.dumps(verdict.judged(file.read_text()).document()))
+    yield "drive", drive.document(8, ["0 both done"], drive.Difference(None, "core", ["answer: wanted 0 (done), got 1 (NoContext)"]), None)
+    yield "drive", drive.document(6, [], None, {"step": 3, "actor": "phone", "how": "it was silent"})
+    for name in ("A", "B1-star-earfcn"):
+        yield "check-trace", traced(name)
+    if is_built():
+        yield from by_the_program()
+
+
+def by_the_program() -> Iterator[tuple[str, Any]]:
+    yield "drive", launched("drive", "--json", EXAMPLES / "run/ordinary.toml")
+    for name in ("run/ordinary", "run/eight-ahead", "run/coincidence", "run/two-preparations", "run/key-change"):
+        yield "run", launched("run", "--json", EXAMPLES / f"{name}.toml")
+    yield "what-if", launched("what-if", "--json", "--kinds", "late", EXAMPLES / "run/ordinary.toml")
+    yield "what-if", launched("what-if", "--json", "--kinds", "again", "--faults", "2", "--part", "1/2", EXAMPLES / "run/seven-ahead.toml")
+    for name in ("A", "B2-nh-twice"):
+        yield "replay", launched("replay", "--json", "--cells", TRACES / f"{name}.cells.txt", TRACES / f"{name}.json.gz", KASME)
+    yield "check-trace", launched("check-trace", "--json", "--cells", TRACES / "A.cells.txt", TRACES / "A.json.gz", KASME)
+    yield "vectors", launched("vectors", "--count", "100")
+    yield "drive-suite", launched("drive", "--suite", "--json", "--scenario", "air-01", "--phone", "false")
+    for given in (("drive", "--json", "nowhere"), ("run", "--json", EXAMPLES / "ladder/first.txt"), ("verdict", "--json", "/dev/null"), ("what-if", "--json", "--faults", "9"), ("check-trace", "--json", "nowhere"), ("replay", "--json"),
+                  ("drive", "--json", EXAMPLES / "ladder/first.txt"), ("drive", "--suite", "--json", "--what"), ("what-if", "--json", EXAMPLES / "run/coincidence.toml")):
+        yield "error", launched(*given)
+
+
+class Schemas(unittest.TestCase):
+    def test_each_document_is_of_its_schema_and_has_no_member_more(self) -> None:
+        seen = set()
+        for name, document in documents():
+            seen.add(name)
+            schema, check = schema_of(name), validator()
+            self.assertTrue(is_of(schema, schema, document), f"{name}: {json.dumps(document)[:400]}")
+            if check is not None:
+                check(schema).validate(document)
+        if validator() is None:
+            print("python: jsonschema is not here (Debian's python3-jsonschema), so that documents are compared with schemas by the tests' own code alone", file=sys.stderr)
+        missing = {file.name.removesuffix(".schema.json") for file in SCHEMAS.glob("*.json")} - seen - {"scenario"}
+        self.assertEqual(set() if is_built() else missing, missing)
+
+    def test_each_schema_is_one(self) -> None:
+        for file in SCHEMAS.glob("*.json"):
+            schema = json.loads(file.read_text())
+            self.assertEqual(DIALECT, schema["$schema"], file.name)
+            check = validator()
+            if check is not None:
+                check.check_schema(schema)
+
+    def test_another_document_is_not_of_a_schema(self) -> None:
+        schema = schema_of("verdict")
+        document = verdict.judged((EXAMPLES / "run/ordinary.out").read_text()).document()
+        for name, value in (("version", 2), ("status", 4), ("items", [{}]), ("verdict", None)):
+            self.assertFalse(is_of(schema, schema, {**document, name: value}), name)
+        self.assertFalse(is_of(schema, schema, {**document, "more": 1}))
+        self.assertTrue(is_of(schema, schema, {**document, "more": 1}, closed=False))  # a member may come
+
+    def test_each_scenario_is_of_its_schema(self) -> None:
+        schema, check = schema_of("scenario"), validator()
+        files = [file for room in ("run", "worked", "fleet", "two", "what-if", "procedures", "runs") for file in sorted((EXAMPLES / room).glob("*.toml"))]
+        self.assertGreater(len(files), 60)
+        for file in files:
+            document = tomllib.loads(file.read_text())
+            self.assertTrue(is_of(schema, schema, document), file)
+            if check is not None:
+                check(schema).validate(document)
+
+    def test_a_mistake_is_not_of_the_schema_of_scenarios(self) -> None:
+        schema = schema_of("scenario")
+        right = 'phone = { caps = "a020" }\nstation = [{ id = 0, cells = [[10, 100]] }]\nstep = [{ do = "x2", station = 0, cell = [10, 100] }]\n'
+        self.assertTrue(is_of(schema, schema, tomllib.loads(right)))
+        for old, new in (("a020", "a02"), ("id = 0", "id = 8"), ("[[10, 100]]", "[[504, 100]]"), ("[[10, 100]]", "[[10]]"), ("x2", "x3"), ("station = 0", "stations = 0"), (", station = 0", ""), ("caps", "cap")):
+            self.assertFalse(is_of(schema, schema, tomllib.loads(right.replace(old, new, 1))), new)
+
+
+if __name__ == "__main__":
+    unittest.main()
