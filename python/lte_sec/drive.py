@@ -124,17 +124,26 @@ class Driven:
         self.lines: list[bytes] = []
         self.read_last = self.failed_at = time.monotonic()
         self.report: list[str] | None = [] if is_kept else None
+        self.is_unwritten = False
         if text is not None:
             text.seek(0)
         self.process = subprocess.Popen(command, stdin=text, stdout=subprocess.PIPE, stderr=subprocess.PIPE, env=os.environ | more, start_new_session=True)
 
     def print_on(self, source: IO[bytes]) -> None:
-        """Hands on what the program prints, or keeps it, but for its last line. Where that fails the program is to see it."""
-        with contextlib.suppress(OSError), source:
+        """Hands on what the program prints, or keeps it, but for its last line. Where that fails the program, if it still writes, is to see it."""
+        with source:
             for line in source:
-                if self.last:
-                    self.hand_on(self.last)
+                if self.last and not self.hands_on(self.last):
+                    return
                 self.last, self.read_last = line, time.monotonic()
+
+    def hands_on(self, line: bytes) -> bool:
+        """As `hand_on`; whether it was written."""
+        try:
+            self.hand_on(line)
+        except OSError:
+            self.is_unwritten = True
+        return not self.is_unwritten
 
     def hand_on(self, line: bytes) -> None:
         self.lines.append(line)
@@ -171,11 +180,11 @@ class Driven:
 
     def tell(self) -> None:
         """Says how an actor failed, or prints the last line."""
-        with contextlib.suppress(OSError):
-            if self.failed:
+        if self.failed:
+            with contextlib.suppress(OSError):
                 put(2, f"lte_sec: {self.failure()}\n".encode())
-            elif self.last:
-                self.hand_on(self.last)
+        elif self.last and not self.is_unwritten:
+            self.hands_on(self.last)
 
     def step(self) -> int | None:
         """The step of the last line, which is not done and not handed on where an actor failed; None for the setup."""
@@ -340,7 +349,7 @@ class Run:
                 status = self.driven.run()
                 self.relays.finish()
                 late = self.relays.of.get(self.driven.failed.decode()) if status == FAULT else None
-                if late is None or not late.comes():
+                if self.driven.is_unwritten or late is None or not late.comes():
                     self.driven.how = late.failure() if late else ""
                     return status, self.driven, given(text.fileno())
                 printed = len(self.driven.lines)
@@ -357,6 +366,8 @@ def answered(run: Run) -> int:
     seconds = run.options.seconds
     status, driven, scenario = run.once() if seconds is None else run.patiently(seconds)
     driven.tell()
+    if driven.is_unwritten:
+        return WRITING  # the launcher says so
     found = difference_of(driven.last, driven.whose, driven.rest) if status == DIFFERS_AT else None
     found = with_mistake(with_cell(found, steps_of(scenario), driven.lines), driven, run.command[0], scenario) if found else None
     for line in found.lines() if found else ():

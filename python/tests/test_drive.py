@@ -72,6 +72,14 @@ class Drive(unittest.TestCase):
             driven.failed_at = driven.read_last + drive.PATIENCE
             self.assertIn("it was silent for 10 seconds", driven.failure())
 
+    def test_a_report_that_cannot_be_written_is_status_5_also_where_the_program_ended_before(self) -> None:
+        for lines in ("0 both done", "0 both done\\n1 core done"):
+            run = drive.Run([sys.executable, "-c", f"print('{lines}')"], drive.Options({}))
+            with mock.patch("lte_sec.drive.put", side_effect=OSError):
+                self.assertEqual(drive.WRITING, drive.answered(run))
+            assert run.driven and run.driven.process.stderr
+            run.driven.process.stderr.close()
+
     def test_an_actor_that_did_not_start_is_in_the_document(self) -> None:
         fails = "import sys; sys.stderr.write('lte_sec: core: its program did not start\\n'); sys.exit(6)"
         driven = drive.Driven([sys.executable, "-c", fails], {}, True)
