@@ -70,9 +70,8 @@ class Tables(unittest.TestCase):
                          {name: sum(width for _, width in values) for name, values in frames.ANSWERS.values() if values})
 
     def test_pages_tell_each_answer(self) -> None:
-        told = re.search(r"The answers by number: (.*?)\. \[", page("FRAMES"), re.S)
-        assert told
-        self.assertEqual([f"{number} {name}" for number, name in sorted(answers().items())], re.split(r"[,;]\s+", " ".join(told[1].split())))
+        told = page("FRAMES").partition("| from | answers |")[2].partition("\n\n")[0]
+        self.assertEqual([f"{number} {name}" for number, name in sorted(answers().items())], re.findall(r"\d+ [a-zA-Z]+", told))
         rows = page("SCENARIOS").partition("| answer | keeps |")[2].partition("After the last step")[0]
         keeps, _, means = rows.partition("| answer | means |")
         for name, values in frames.ANSWERS.values():
