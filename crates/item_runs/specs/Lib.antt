@@ -1,3 +1,4 @@
 pub mod Coming
 pub mod Course
 pub mod Reach
+pub mod CoreStation

@@ -7,6 +7,7 @@ ghost use Rattle.items.specs.Items.{most_at_once, IsItemOf};
 ghost use Rattle.item_runs.specs.Coming.{after_told, happening, kept, nothing, number_told, record_of, with_item};
 ghost use Rattle.item_runs.specs.Course.{coming_of, going_on, told_written, Promises};
 ghost use Rattle.item_runs.specs.Reach.{reach_of};
+ghost use Rattle.item_runs.specs.CoreStation.{core_station_of};
 
 use crate::Sent;
 use crate::events::happen;
@@ -262,6 +263,16 @@ impl Course {
             Ok(found) => Ok(found),
             Err(_) => Err(WorldFault::Memory),
         }
+    }
+
+    /// The station at which the core has the phone: none where it has no connection of the phone, and none after a coincidence.
+    pub fn core_station(&self) -> Option<u8>
+        ensures { result ≡ core_station_of self.now }
+    {
+        if self.over.is_some() {
+            return None;
+        }
+        self.world.core_station()
     }
 }
 

@@ -24,7 +24,7 @@ use Rattle.store_laws.specs.Records.{view_of, world_uses}
 use Rattle.store_laws.specs.Rows.{world_rows}
 use Rattle.lte_world.specs.InOctets.{NoTwoEqual, IsJoined}
 use Rattle.lte_world.specs.Systems.{Actors, Are}
-use Rattle.lte_world.specs.Whole.{Whole, unless_over, run_of, InRun, Goes, Stands, context_kenb, phone_kenb_in, station_kenb_in}
+use Rattle.lte_world.specs.Whole.{Whole, unless_over, run_of, InRun, Goes, Stands, context_kenb, phone_kenb_in, station_kenb_in, core_station_in}
 use Rattle.lte_machine.proofs.Routing.{found_id}
 use Rattle.lte_world.proofs.StationsStand.{stations_stand}
 
@@ -110,6 +110,9 @@ module _ (setup : Setup) (journal : List Event) (over : Option Proof) (ready : B
 
   pub phone_read : (r : Option (List ℕ)) → r ≡ kenb_of a.phone.radio → InRun (λ w. r ≡ phone_kenb_in w) (run_of v)
   phone_read r is = reads (λ w. r ≡ phone_kenb_in w) (λ w runs are. is ∙ ap (λ p. kenb_of p.radio) are.phone)
+
+  pub core_read : (r : Option ℕ) → r ≡ option_map (λ l. l.station) a.core.link → InRun (λ w. r ≡ core_station_in w) (run_of v)
+  core_read r is = reads (λ w. r ≡ core_station_in w) (λ w runs are. is ∙ ap (λ c. option_map (λ l. l.station) c.link) are.core)
 
   module _ (id : ℕ) (r : Option (List ℕ)) (is : r ≡ context_kenb (station_of_id id a.stations)) where
     station_is : (w : World (List ℕ) ℕ Kept) → Are w a → r ≡ station_kenb_in id w

@@ -104,3 +104,7 @@ phone_kenb_in w = kenb_of w.phone.radio
 
 abbrev pub station_kenb_in : ℕ → World (List ℕ) ℕ Kept → Option (List ℕ)
 station_kenb_in id w = context_kenb (station_of_id id w.stations)
+
+-- the station at which the core has the phone
+abbrev pub core_station_in : World (List ℕ) ℕ Kept → Option ℕ
+core_station_in w = option_map (λ l. l.station) w.core.link

@@ -1,5 +1,5 @@
 // What is read from the actors and from what is kept beside them.
-ghost use Rattle.std.specs.Prelude.{◌≡◌, length};
+ghost use Rattle.std.specs.Prelude.{◌≡◌, length, option_map};
 ghost use Rattle.lte_machine.specs.World.{station_of_id};
 ghost use Rattle.ue_context.specs.Step.{kenb_of};
 ghost use Rattle.lte_world.specs.Whole.{context_kenb};
@@ -45,5 +45,12 @@ impl System {
             return None;
         };
         self.stations[place].kenb()
+    }
+
+    // The station at which the core has the phone.
+    pub fn core_station(&self) -> Option<u8>
+        ensures { result ≡ option_map (λ l. l.station) self.now.core.link }
+    {
+        self.core.station()
     }
 }

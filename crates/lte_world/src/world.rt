@@ -13,7 +13,7 @@ ghost use Rattle.store_laws.specs.Rows.{world_rows};
 ghost use Rattle.lte_properties.specs.InOctets.{FarNeverThere};
 ghost use Rattle.lte_world.specs.InOctets.{answers_of, NoTwoEqual, IsJoined, CommandsShare, PacketsOpen};
 ghost use Rattle.lte_world.specs.Replies.{RepliedLast, IsOfSetup};
-ghost use Rattle.lte_world.specs.Whole.{begun, run_of, told_of, turned, journal_after, AreFew, CanApply, InRun, phone_kenb_in, station_kenb_in};
+ghost use Rattle.lte_world.specs.Whole.{begun, run_of, told_of, turned, journal_after, AreFew, CanApply, InRun, phone_kenb_in, station_kenb_in, core_station_in};
 
 use crate::WorldFault;
 use crate::replies::Replies;
@@ -211,6 +211,13 @@ impl World {
         ensures joined { InRun (λ w. IsJoined id w → result ≡ phone_kenb_in w) (run_of self.now) }
     {
         self.system.station_kenb(id)
+    }
+
+    /// The station at which the core has the phone. `None` where it has no connection of the phone.
+    pub fn core_station(&self) -> Option<u8>
+        ensures { InRun (λ w. result ≡ core_station_in w) (run_of self.now) }
+    {
+        self.system.core_station()
     }
 
     /// The inputs of the last event with their replies: none, that of one actor, or at an authentication the phone's

@@ -1,4 +1,4 @@
-ghost use Rattle.std.specs.Prelude.{◌≡◌, ◌≢◌, ◌≤◌};
+ghost use Rattle.std.specs.Prelude.{◌≡◌, ◌≢◌, ◌≤◌, option_map};
 ghost use Rattle.lte_events.specs.declared.answers.Answer.TheVariants.{Done};
 ghost use Rattle.lte_events.specs.declared.setups.FirstNcc.TheVariants.{One};
 ghost use Rattle.lte_machine.specs.Calls.{core_call, core_input};
@@ -108,6 +108,16 @@ impl Core {
             CoreIn::Act(act) => self.act(act, out),
             CoreIn::Nas(pdu) => self.nas(pdu.as_slice(), out),
             CoreIn::S1(octets) => self.s1(octets.as_slice(), out),
+        }
+    }
+
+    /// The station at which it has the phone. `None` where it has no connection.
+    pub fn station(&self) -> Option<u8>
+        ensures { result ≡ option_map (λ l. l.station) self.now.link }
+    {
+        match &self.link {
+            Some(link) => Some(link.station),
+            None => None,
         }
     }
 }
