@@ -6,7 +6,7 @@ use Rattle.lte_events.specs.declared.inputs.ActorIn.{ActorIn}
 use Rattle.lte_events.specs.declared.lines.Line.{Line}
 use Rattle.lte_events.specs.declared.replies.ActorOut.{ActorOut}
 use Rattle.key_terms.specs.declared.proof.Proof.{Proof}
-use Rattle.lte_machine.specs.BothRuns.{octet_run, written_run}
+use Rattle.lte_machine.specs.BothRuns.{written_run}
 use Rattle.lte_machine.specs.Carried.{run_value}
 use Rattle.lte_machine.specs.Ciphers.{annex_b}
 use Rattle.lte_machine.specs.Run.{GoesOn}
@@ -22,7 +22,7 @@ use Rattle.core_relocation.specs.Run.{answer_by, answer_in, fields_of_run, next_
 use Rattle.core_relocation.specs.Whole.{TwoWhole, Keeps, StillRuns, state_of, state_written}
 use Rattle.core_relocation.proofs.Keeping.{answer_written, keeps_away, keeps_line, line_state}
 use Rattle.core_relocation.proofs.Taking.{held_told}
-use Rattle.core_relocation.proofs.Told.{none_over, with_line}
+use Rattle.lte_world.proofs.TellsAsWritten.{not_over, with_line}
 
 -- what is answered by the system is answered in the written run
 pub in_written : (v now : TwoWhole)
@@ -75,7 +75,7 @@ module _ (v : TwoWhole) (k : Keeps v) (e : Event) (is : IsEvent e) (reserved : W
     still = subst GoesOn (sym (turns ∙ ap (λ u. turned u e) same)) goes.1
 
     replied : RepliedLast w.setup w.journal replies
-    replied = last (none_over w.over (octet_run w.setup w.journal) still)
+    replied = last (not_over w still)
 
     held_same : held ≡ held_after v.cores (acting v.cores (station_in v.senders e)) e (fields_of_run (run_of v.world) e) line
     held_same =

@@ -18,7 +18,7 @@ use Rattle.core_relocation.specs.declared.senders.Sender.{Sender}
 use Rattle.core_relocation.specs.Holder.{acting, away, held_after, sent_by, station_in}
 use Rattle.core_relocation.specs.Run.{TwoState, answer_in, state_in, state_by, fields_of_run, cores_of, next_answer, next_state, run_after, told_after, states, two_state, first_state}
 use Rattle.core_relocation.specs.Whole.{TwoWhole, Keeps, StillRuns, state_of, state_written}
-use Rattle.core_relocation.proofs.Told.{told_written, with_line}
+use Rattle.lte_world.proofs.TellsAsWritten.{tells_as_written, with_line}
 
 -- ONE EVENT MORE
 
@@ -48,7 +48,7 @@ module _ (v : TwoWhole) (k : Keeps v) (e : Event) (is : IsEvent e) (runs : Still
   cores_same = ap (λ sites. record { core_of = v.cores.core_of; cells = sites; held = v.cores.held }) k.cells
 
   told_same : told_of v.world e ≡ told_after setup core_of v.world.journal e
-  told_same = told_written v.world k.set k.are runs core_of e is
+  told_same = tells_as_written v.world runs k.set k.are e is
 
   -- with what the system tells in place of what the written machine's run tells
   pub answer_written : answer_in v.cores (state_of v) (run_of v.world) (told_of v.world e) e ≡ next_answer setup core_of (state_written v) e

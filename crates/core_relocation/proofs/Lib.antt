@@ -1,4 +1,3 @@
-pub mod Told
 pub mod Taking
 pub mod Keeping
 pub mod Starting

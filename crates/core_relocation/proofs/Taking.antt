@@ -16,7 +16,7 @@ use Rattle.lte_world.specs.Whole.{Whole, run_of}
 use Rattle.core_relocation.specs.declared.cores.Cores.{Cores}
 use Rattle.core_relocation.specs.Holder.{fields_at, fields_in, fields_to, fields_told, held_after, if_done, moved}
 use Rattle.core_relocation.specs.Run.{fields_of_run}
-use Rattle.core_relocation.proofs.Told.{runs_octets}
+use Rattle.lte_world.proofs.TellsAsWritten.{runs_octets}
 
 at_station : (id : ℕ) (i : StationIn) (o : Option (Station (List ℕ) ℕ)) → fields_told (station_replies id i o) ≡ None
 at_station id i None = refl

@@ -2,7 +2,7 @@
 use Rattle.std.proofs.Common.{◌≡◌, refl, sym, ap, subst, ◌∙◌, ℕ, zero, suc, ◌+◌, ◌<◌, ◌≤◌, false, List, [], ◌∷◌, ◌++◌, length, map, drop, get_or, set, Option, Some, None, Ok, Err, arith}
 use Rattle.std.specs.Prelude.{slice_get, is_ok}
 use Rattle.std.proofs.Math.ListN.{length-set}
-use Rattle.std.proofs.lemmas.List.{get_or-set_same, length-map, map-set, map-append}
+use Rattle.std.proofs.lemmas.List.{get_or-set_same, length-map, map-set}
 use Rattle.std.proofs.lemmas.Option.{slice_get-get_or}
 use Rattle.std.specs.List.{AllByRecursion as AllOf}
 use Rattle.lte_events.specs.Ranges.{IsEvent, IsSetup}
@@ -11,19 +11,16 @@ use Rattle.lte_events.specs.declared.events.Event.{Event}
 use Rattle.lte_events.specs.declared.lines.Line.{Line}
 use Rattle.lte_events.specs.declared.setups.Setup.{Setup}
 use Rattle.key_terms.specs.declared.proof.Proof.{Proof}
-use Rattle.lte_machine.specs.BothRuns.{annex_b_terms, written_run, written_report, octet_run, octet_report}
+use Rattle.lte_machine.specs.BothRuns.{octet_run}
 use Rattle.lte_machine.specs.Calls.{line_out}
-use Rattle.lte_machine.specs.Carried.{report_value}
 use Rattle.lte_machine.specs.Ciphers.{annex_b}
-use Rattle.lte_machine.specs.Machines.{machine_in_octets, written_machine}
+use Rattle.lte_machine.specs.Machines.{machine_in_octets}
 use Rattle.lte_machine.specs.Opening.{open_octets}
-use Rattle.lte_machine.specs.Run.{Running, EventReport, Reported, Coincided, event_report, first_world, GoesOn}
-use Rattle.lte_machine.proofs.AnnexB.{annex_b_ciphers}
-use Rattle.lte_machine.proofs.EventByEvent.{tale_snoc}
-use Rattle.lte_machine.proofs.WholeRun.{tale_is_value}
+use Rattle.lte_machine.specs.Run.{EventReport, Reported, Coincided, event_report, GoesOn}
 use Rattle.lte_world.specs.declared.faults.WorldFault.TheVariants as world_fault
 use Rattle.lte_world.specs.Whole.{Whole, run_of}
 use Rattle.lte_world.specs.Whole as whole
+use Rattle.lte_world.proofs.TellsAsWritten.{told_same}
 use Rattle.store_laws.specs.Proofs.{proof_of}
 use Rattle.fleet_world.specs.declared.faults.FleetFault.TheVariants as fault
 use Rattle.fleet_world.specs.declared.lines.FleetLine.{FleetLine}
@@ -40,10 +37,6 @@ use Rattle.fleet_world.proofs.Together.{octets_are}
 
 -- WHAT IS TOLD OF ONE EVENT MORE
 
-same_last : {A : Type 0} (xs : List A) (x y : A) → xs ++ x ∷ [] ≡ xs ++ y ∷ [] → x ≡ y
-same_last [] x y e = cc
-same_last (z ∷ xs) x y e = let rest : xs ++ x ∷ [] ≡ xs ++ y ∷ [] = cc in same_last xs x y rest
-
 all_more : (own : List Event) (e : Event) → AllOf IsEvent own → IsEvent e → AllOf IsEvent (own ++ e ∷ [])
 all_more [] e are is = (is, tt)
 all_more (x ∷ own) e are is = (are.0, all_more own e are.1 is)
@@ -52,16 +45,7 @@ all_more (x ∷ own) e are is = (are.0, all_more own e are.1 is)
 pub told_is : (setup : Setup) (own : List Event) (e : Event) → IsSetup setup → AllOf IsEvent own → IsEvent e
     → event_report (open_octets annex_b) (machine_in_octets annex_b) (octet_run setup own) e ≡ phone_told setup own e
 unfolding phone_told
-told_is setup own e is are good =
-    same_last (octet_report setup own) _ _
-    (sym (tale_snoc (open_octets annex_b) (machine_in_octets annex_b) (Running (first_world setup)) own e)
-    ∙ tale_is_value annex_b annex_b_ciphers setup is (own ++ e ∷ []) (all_more own e are good)
-    ∙ ap (map report_value) (tale_snoc (open_octets annex_b_terms) (written_machine annex_b) (Running (first_world setup)) own e)
-    ∙ map-append report_value (written_report setup own) (_ ∷ [])
-    ∙ ap (λ l. l
-    ++ report_value (event_report (open_octets annex_b_terms) (written_machine annex_b) (written_run setup own) e)
-    ∷ [])
-    (sym (tale_is_value annex_b annex_b_ciphers setup is own are)))
+told_is setup own e is are good = told_same setup is own are e good
 
 -- THE WORLDS
 

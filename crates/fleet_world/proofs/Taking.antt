@@ -1,20 +1,15 @@
--- A world that took an event, and a fleet that begins.
-use Rattle.std.proofs.Common.{◌≡◌, refl, sym, ap, subst, ◌∙◌, ℕ, zero, suc, ◌≤◌, false, List, [], ◌∷◌, ◌++◌, length, map, replicate, Option, Some, None, Ok, arith}
+-- A fleet that begins, and a world that goes on behind an event.
+use Rattle.std.proofs.Common.{◌≡◌, refl, sym, ap, subst, ◌∙◌, ℕ, zero, suc, ◌≤◌, false, List, [], ◌∷◌, ◌++◌, length, map, replicate, Option, None, Ok, arith}
 use Rattle.std.proofs.lemmas.List.{length-replicate}
 use Rattle.std.specs.List.{AllByRecursion as AllOf}
 use Rattle.lte_events.specs.Ranges.{IsSetup}
 use Rattle.lte_events.specs.declared.events.Event.{Event}
 use Rattle.lte_events.specs.declared.lines.Line.{Line}
 use Rattle.lte_events.specs.declared.setups.Setup.{Setup}
-use Rattle.key_terms.specs.declared.proof.Proof.{Proof}
 use Rattle.key_terms.specs.declared.row.LadderRow.{LadderRow}
-use Rattle.lte_machine.specs.Ciphers.{annex_b}
-use Rattle.lte_machine.specs.Machines.{Kept}
-use Rattle.lte_machine.specs.Opening.{open_octets}
-use Rattle.lte_machine.specs.Run.{RunState, Running, Stopped, turn, after, reported, event_report, GoesOn}
-use Rattle.lte_machine.specs.Step.{StepResult, Continues, Stops, next}
-use Rattle.lte_world.specs.Systems.{octets}
-use Rattle.lte_world.specs.Whole.{Whole, InRun, run_of, unless_over, told_of, answer_of, turned, begun}
+use Rattle.lte_machine.specs.Run.{GoesOn}
+use Rattle.lte_world.specs.Whole.{Whole, InRun, run_of, told_of, turned, begun}
+use Rattle.lte_world.proofs.TellsAsWritten.{not_over, with_line}
 use Rattle.store_laws.specs.Rows.{world_rows}
 use Rattle.fleet_world.specs.Answers.{no_events}
 use Rattle.fleet_world.specs.Fleets.{IsOwn, Stands, StandsUnless, most_phones, world_of}
@@ -23,23 +18,9 @@ use Rattle.fleet_world.specs.Phones.{phone_run}
 use Rattle.fleet_world.specs.Worlds.{Goes, rows_at, with_room}
 use Rattle.fleet_world.proofs.Searching.{ladder_is}
 
--- A LINE LEAVES THE RUN GOING ON
+-- AFTER AN EVENT
 
-goes_by : (s : StepResult (List ℕ) ℕ Kept) (line : Line) → Ok line ≡ answer_of (reported s) → GoesOn (after s)
-goes_by (Continues w told) line is = tt
-goes_by (Stops coincidence) line is = absurd cc
-
-goes_turned : (r : RunState (List ℕ) ℕ Kept) (e : Event) (line : Line)
-    → Ok line ≡ answer_of (event_report (open_octets annex_b) octets r e)
-    → GoesOn (turn (open_octets annex_b) octets r e)
-goes_turned (Running w) e line is = goes_by (next (open_octets annex_b) octets w e) line is
-goes_turned (Stopped coincidence) e line is = absurd cc
-
-not_over : (over : Option Proof) (r : RunState (List ℕ) ℕ Kept) → GoesOn (unless_over over r) → over ≡ None
-not_over None r goes = refl
-not_over (Some proof) r goes = absurd goes
-
--- the world as it is then
+-- the world as it is behind an event that it told with a line
 pub took : (v u : Whole) (e : Event) (line : Line)
     → Goes v
     → u.setup ≡ v.setup
@@ -49,8 +30,8 @@ pub took : (v u : Whole) (e : Event) (line : Line)
     → Ok line ≡ told_of v e
     → u ≡ record v { journal = v.journal ++ e ∷ []; ready = false }
 took v u e line goes setup journal ready runs says =
-    let mine = not_over v.over _ goes in
-    let its = not_over u.over _ (subst GoesOn (sym runs) (goes_turned (run_of v) e line says)) in
+    let mine = not_over v goes in
+    let its = not_over u (subst GoesOn (sym runs) (with_line v e line (sym says)).1) in
     λ j. record { setup = setup j; journal = journal j; over = (its ∙ sym mine) j; ready = ready j }
 
 pub rows_before : (v u : Whole) (rows : List LadderRow) → u ≡ with_room v → Goes v → InRun (λ w. rows ≡ world_rows w) (run_of u) → rows ≡ rows_at v

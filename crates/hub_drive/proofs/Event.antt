@@ -1,5 +1,5 @@
 -- One event: what is written of it, and whom it tells.
-use Rattle.std.proofs.Common.{◌≡◌, ℕ, zero, suc, ◌<◌, Option, Some, None, List, [], ◌∷◌, ◌++◌, length, get_or, All, Ok, Err, refl, sym, subst, append-nil, arith}
+use Rattle.std.proofs.Common.{◌≡◌, ℕ, zero, suc, ◌<◌, Option, List, [], ◌∷◌, ◌++◌, length, get_or, All, Ok, Err, refl, sym, subst, append-nil, arith}
 use Rattle.std.specs.List.{AllByRecursion as AllOf}
 use Rattle.edge_io.specs.Octets.{Grows}
 use Rattle.edge_io.specs.Peers.{PeersTold}
@@ -9,12 +9,12 @@ use Rattle.lte_events.specs.declared.inputs.ActorIn.{ActorIn}
 use Rattle.lte_events.specs.declared.inputs.ActorIn.TheVariants as input
 use Rattle.lte_events.specs.declared.replies.ActorOut.{ActorOut}
 use Rattle.lte_events.specs.declared.setups.Setup.{Setup}
-use Rattle.key_terms.specs.declared.proof.Proof.{Proof}
 use Rattle.lte_machine.specs.BothRuns.{octet_run}
 use Rattle.lte_machine.specs.Machines.{Kept}
 use Rattle.lte_machine.specs.Run.{RunState, Running, Stopped, EventReport, Reported, Coincided, GoesOn}
 use Rattle.lte_world.specs.Replies.{RepliedLast, IsOfSetup}
-use Rattle.lte_world.specs.Whole.{Whole, run_of, unless_over}
+use Rattle.lte_world.specs.Whole.{Whole, run_of}
+use Rattle.lte_world.proofs.TellsAsWritten.{runs_octets}
 use Rattle.run_report.specs.declared.unwritten.Unwritten.{Unwritten}
 use Rattle.run_report.specs.declared.unwritten.Unwritten.TheVariants as unwritten
 use Rattle.run_report.specs.declared.endings.Ending.{Ending}
@@ -32,18 +32,6 @@ use Rattle.hub_drive.specs.Exchanges.{replied, HasActor}
 use Rattle.hub_drive.specs.Outside.{Outside, outside, AllDone}
 use Rattle.hub_drive.specs.Went.{CutAt, fault_of}
 use Rattle.hub_drive.specs.Plan.{event_plan, replies_at}
-
--- a run that goes on has met no coincidence
-not_over : (o : Option Proof) (run : RunState (List ℕ) ℕ Kept) → GoesOn (unless_over o run) → o ≡ None
-not_over None run goes = refl
-not_over (Some proof) run goes = absurd goes
-
-pub no_coincidence : (v : Whole) → GoesOn (run_of v) → v.over ≡ None
-no_coincidence v goes = not_over v.over (octet_run v.setup v.journal) goes
-
-in_octets : (o : Option Proof) (run : RunState (List ℕ) ℕ Kept) → GoesOn (unless_over o run) → unless_over o run ≡ run
-in_octets None run goes = refl
-in_octets (Some proof) run goes = absurd goes
 
 -- a system to which an event happened that is no coincidence
 pub goes_after : (v after : Whole) (e : Event) → event_ends (told_of (run_of v) e) ≡ Done → Takes v e after → GoesOn (run_of after)
@@ -68,8 +56,7 @@ pub replies_are : (v after : Whole) (e : Event) (replies : List (ActorIn × Acto
 replies_are v after e replies goes setup journal last =
     let P : Setup → Type 0 = λ s. RepliedLast s after.journal replies in
     let Q : List Event → Type 0 = λ j. RepliedLast v.setup j replies in
-    let same : run_of v ≡ octet_run v.setup v.journal = in_octets v.over (octet_run v.setup v.journal) goes in
-    reply_in v.setup v.journal e replies (run_of v) goes (sym same) (subst Q journal (subst P setup last))
+    reply_in v.setup v.journal e replies (run_of v) goes (sym (runs_octets v goes)) (subst Q journal (subst P setup last))
 
 -- each goes to an actor of the setup
 actor_of : (setup : Setup) (i : ActorIn) → IsOfSetup setup i → HasActor setup i

@@ -1,64 +1,16 @@
 -- What a system tells of one event more is what the written machine's run tells.
-use Rattle.std.proofs.Common.{◌≡◌, refl, sym, ap, subst, ◌∙◌, ℕ, true, List, [], ◌∷◌, ◌++◌, map, Option, Some, None, Result, Ok, Err, OnOk}
-use Rattle.std.proofs.lemmas.List.{map-append}
+use Rattle.std.proofs.Common.{◌≡◌, sym, ap, subst, ◌∙◌, true, Result, Ok, Err, OnOk}
 use Rattle.std.specs.List.{AllByRecursion as AllOf}
-use Rattle.key_terms.specs.declared.proof.Proof.{Proof}
 use Rattle.lte_events.specs.Ranges.{IsEvent, IsSetup}
 use Rattle.lte_events.specs.declared.events.Event.{Event}
 use Rattle.lte_events.specs.declared.lines.Line.{Line}
-use Rattle.lte_events.specs.declared.setups.Setup.{Setup}
-use Rattle.lte_machine.specs.BothRuns.{annex_b_terms, written_run, written_report, octet_run, octet_report}
-use Rattle.lte_machine.specs.Carried.{report_value}
-use Rattle.lte_machine.specs.Ciphers.{annex_b}
-use Rattle.lte_machine.specs.Machines.{Kept, machine_in_octets, written_machine}
-use Rattle.lte_machine.specs.Opening.{open_octets}
-use Rattle.lte_machine.specs.Run.{RunState, Running, Stopped, after, event_report, reported, turn, first_world, GoesOn}
-use Rattle.lte_machine.specs.Step.{StepResult, Continues, Stops, next}
-use Rattle.lte_machine.proofs.AnnexB.{annex_b_ciphers}
-use Rattle.lte_machine.proofs.EventByEvent.{tale_snoc}
-use Rattle.lte_machine.proofs.RangeStation.{all_append}
-use Rattle.lte_machine.proofs.WholeRun.{tale_is_value}
-use Rattle.lte_world.specs.Whole.{Whole, answer_of, run_of, told_of, turned, unless_over}
+use Rattle.lte_machine.specs.Run.{GoesOn}
+use Rattle.lte_world.specs.Whole.{Whole, run_of, told_of, turned}
 use Rattle.lte_world.specs.declared.faults.WorldFault.{WorldFault}
+use Rattle.lte_world.proofs.TellsAsWritten.{tells_as_written, with_line}
 use Rattle.item_runs.specs.Course.{told_written}
 
--- THE LAST OF A LIST
-
-last_of : {A : Type 0} → A → List A → A
-last_of d [] = d
-last_of d (x ∷ xs) = last_of x xs
-
-last_more : {A : Type 0} (d : A) (xs : List A) (x : A) → last_of d (xs ++ x ∷ []) ≡ x
-unfolding last_of
-last_more d [] x = refl
-last_more d (y ∷ ys) x = last_more y ys x
-
-last_same : {A : Type 0} (xs ys : List A) (x y : A) → xs ++ x ∷ [] ≡ ys ++ y ∷ [] → x ≡ y
-last_same xs ys x y e = sym (last_more x xs x) ∙ ap (last_of x) e ∙ last_more x ys y
-
--- BOTH MACHINES TELL THE SAME
-
-module _ (setup : Setup) (set : IsSetup setup) (heard : List Event) (are : AllOf IsEvent heard) where
-  told_same : (e : Event) → IsEvent e → event_report (open_octets annex_b) (machine_in_octets annex_b) (octet_run setup heard) e
-      ≡ report_value (event_report (open_octets annex_b_terms) (written_machine annex_b) (written_run setup heard) e)
-  told_same e is =
-      let all = all_append IsEvent heard (e ∷ []) are (is, tt) in
-      let whole = tale_is_value annex_b annex_b_ciphers setup set (heard ++ e ∷ []) all in
-      last_same (octet_report setup heard) (map report_value (written_report setup heard))
-      (event_report (open_octets annex_b) (machine_in_octets annex_b) (octet_run setup heard) e)
-      (report_value (event_report (open_octets annex_b_terms) (written_machine annex_b) (written_run setup heard) e))
-      (sym (tale_snoc (open_octets annex_b) (machine_in_octets annex_b) (Running (first_world setup)) heard e) ∙ whole
-      ∙ ap (map report_value) (tale_snoc (open_octets annex_b_terms) (written_machine annex_b) (Running (first_world setup)) heard e)
-      ∙ map-append report_value (written_report setup heard)
-      (event_report (open_octets annex_b_terms) (written_machine annex_b) (written_run setup heard) e ∷ []))
-
--- A SYSTEM THAT GOES ON
-
-same_over : (o : Option Proof) (run : RunState (List ℕ) ℕ Kept) → GoesOn (unless_over o run) → unless_over o run ≡ run
-same_over None run goes = refl
-same_over (Some proof) run goes = absurd goes
-
--- tells what the written machine's run tells
+-- with room for one event more
 pub told_here : (v reserved : Whole) (e : Event)
     → reserved ≡ record v { ready = true }
     → GoesOn (run_of v)
@@ -67,22 +19,9 @@ pub told_here : (v reserved : Whole) (e : Event)
     → IsEvent e
     → told_of reserved e ≡ told_written v.setup v.journal e
 unfolding told_written
-told_here v reserved e same goes set are is =
-    ap (λ (u : Whole). told_of u e) same
-    ∙ ap (λ run. answer_of (event_report (open_octets annex_b) (machine_in_octets annex_b) run e)) (same_over v.over (octet_run v.setup v.journal) goes)
-    ∙ ap answer_of (told_same v.setup set v.journal are e is)
-
-line_goes : (s : StepResult (List ℕ) ℕ Kept) (line : Line) → answer_of (reported s) ≡ Ok line → GoesOn (after s)
-line_goes (Continues w told) line e = tt
-line_goes (Stops coincidence) line e = cc
-
-tells_line : (run : RunState (List ℕ) ℕ Kept) (e : Event) (line : Line)
-    → answer_of (event_report (open_octets annex_b) (machine_in_octets annex_b) run e) ≡ Ok line
-    → GoesOn (turn (open_octets annex_b) (machine_in_octets annex_b) run e)
-tells_line (Running w) e line told = line_goes (next (open_octets annex_b) (machine_in_octets annex_b) w e) line told
-tells_line (Stopped coincidence) e line told = cc
+told_here v reserved e same goes set are is = ap (λ (u : Whole). told_of u e) same ∙ tells_as_written v goes set are e is
 
 -- and with a line it goes on
 pub still_goes : (r : Result Line WorldFault) (v w : Whole) (e : Event) → r ≡ told_of v e → run_of w ≡ turned v e → OnOk r (GoesOn (run_of w))
-still_goes (Ok line) v w e told runs = subst GoesOn (sym runs) (tells_line (run_of v) e line (sym told))
+still_goes (Ok line) v w e told runs = subst GoesOn (sym runs) (with_line v e line (sym told)).1
 still_goes (Err fault) v w e told runs = tt

@@ -20,3 +20,4 @@ pub mod OneTerm
 pub mod Answered
 pub mod Telling
 pub mod Counting
+pub mod TellsAsWritten

@@ -19,8 +19,9 @@ use Rattle.lte_machine.specs.Tuples.{Coincidence, Tuples, Rows, tuple_coincidenc
 use Rattle.lte_machine.specs.World.{World, Line, happens}
 use Rattle.lte_events.specs.Ranges.{IsEvent, IsSetup}
 use Rattle.lte_world.specs.declared.faults.WorldFault.TheVariants as fault
-use Rattle.lte_world.specs.Whole.{Whole, run_of, unless_over, answer_of}
+use Rattle.lte_world.specs.Whole.{Whole, run_of, answer_of}
 use Rattle.lte_world.specs.Whole as whole
+use Rattle.lte_world.proofs.TellsAsWritten.{runs_octets}
 use Rattle.store_laws.specs.Additions.{IsInput, CanAddTo, AllCanAdd}
 use Rattle.store_laws.specs.Proofs.{proof_of, clash_proof}
 use Rattle.store_laws.proofs.EveryRun.{event_keeps}
@@ -171,11 +172,6 @@ of_run (Running w) setup events e (Coincided coincidence) proof is are runs good
     let one : proof ≡ proof_of coincidence = cc in
     subst HasString (sym one) (shown setup events w e coincidence is are (sym runs) good tells (subst HasCounts one counts))
 
--- the run of a world that goes on is that of its setup and its journal
-of_over : (over : Option Proof) (run : RunState (List ℕ) ℕ Kept) → GoesOn (unless_over over run) → unless_over over run ≡ run
-of_over None run goes = refl
-of_over (Some proof) run goes = absurd goes
-
 pub shown_in : (v : Whole) (e : Event) (proof : Proof)
     → IsSetup v.setup
     → AllOf IsEvent v.journal
@@ -185,4 +181,4 @@ pub shown_in : (v : Whole) (e : Event) (proof : Proof)
     → HasCounts proof
     → HasString proof
 shown_in v e proof is are goes good answer counts =
-    of_run (run_of v) v.setup v.journal e (told_of (run_of v) e) proof is are (of_over v.over (octet_run v.setup v.journal) goes) good goes refl answer counts
+    of_run (run_of v) v.setup v.journal e (told_of (run_of v) e) proof is are (runs_octets v goes) good goes refl answer counts

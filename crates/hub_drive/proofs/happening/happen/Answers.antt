@@ -6,7 +6,8 @@ use Rattle.hub_drive.specs.Outside.{Outside, outside, AllDone}
 use Rattle.hub_drive.specs.Went.{CutAt}
 use Rattle.run_report.specs.declared.endings.Ending.TheVariants.{Done}
 use Rattle.run_report.specs.Events.{told_of, event_ends}
-use Rattle.hub_drive.proofs.Event.{goes_after, no_coincidence, replies_are, all_have, event_told, event_untold, event_coincides, event_unwritten}
+use Rattle.lte_world.proofs.TellsAsWritten.{not_over}
+use Rattle.hub_drive.proofs.Event.{goes_after, replies_are, all_have, event_told, event_untold, event_coincides, event_unwritten}
 use Rattle.hub_drive.specs.Plan.{replies_at}
 use Rattle.hub_drive.proofs.happening.happen.Goals as goal
 
@@ -35,7 +36,7 @@ tell_all-requires-clause-inputs g c =
     let setup : w.setup ≡ c.args.setup.now = takes.setup ∙ c.requires.same in
     subst (λ s. All (λ r. HasActor s r.0) c.as_slice.result.now) setup
     (subst (All (λ r. HasActor w.setup r.0)) (sym c.as_slice.ensures.value)
-    (all_have w.setup c.replies.result.now.items (c.replies.ensures.there (no_coincidence w (goes_after v w e plain takes)))))
+    (all_have w.setup c.replies.result.now.items (c.replies.ensures.there (not_over w (goes_after v w e plain takes)))))
 
 pub returns-clause-went : goal.returns-clause-went
 returns-clause-went g c =
@@ -46,7 +47,7 @@ returns-clause-went g c =
     let plain : event_ends (told_of (run_of v) e) ≡ Done = sym c.in_ok-write_event.ensures.report.ends ∙ c.in-Done.is in
     let same : c.as_slice.result.now ≡ replies_at (run_of v) e =
     c.as_slice.ensures.value ∙ replies_are v w e c.replies.result.now.items c.requires.can.goes_on takes.setup takes.journal
-    (c.replies.ensures.last (no_coincidence w (goes_after v w e plain takes))) in
+    (c.replies.ensures.last (not_over w (goes_after v w e plain takes))) in
     let step = c.len-step.ensures ∙ ap length c.journal.ensures in
     let x : Outside = outside (g.W.Edge.told c.write_event.new.out).written (g.P.Peers.told c.args.peers.now) in
     let y : Outside = outside (g.W.Edge.told c.write_event.new.out).written (g.P.Peers.told c.tell_all.new.peers) in
@@ -65,7 +66,7 @@ returns-in_err-tell_all-clause-went g c =
     let plain : event_ends (told_of (run_of v) e) ≡ Done = sym c.in_ok-write_event.ensures.report.ends ∙ c.in-Done.is in
     let same : c.as_slice.result.now ≡ replies_at (run_of v) e =
     c.as_slice.ensures.value ∙ replies_are v w e c.replies.result.now.items c.requires.can.goes_on takes.setup takes.journal
-    (c.replies.ensures.last (no_coincidence w (goes_after v w e plain takes))) in
+    (c.replies.ensures.last (not_over w (goes_after v w e plain takes))) in
     let step = c.len-step.ensures ∙ ap length c.journal.ensures in
     let x : Outside = outside (g.W.Edge.told c.write_event.new.out).written (g.P.Peers.told c.args.peers.now) in
     let y : Outside = outside (g.W.Edge.told c.write_event.new.out).written (g.P.Peers.told c.tell_all.new.peers) in

@@ -1,4 +1,4 @@
--- What a system in octets tells of an event is what the written machine's run tells, in values.
+-- A system that goes on tells of one event what the written machine's run tells, in values.
 use Rattle.std.proofs.Common.{◌≡◌, refl, sym, ap, ◌∙◌, ℕ, List, [], ◌∷◌, ◌++◌, map, Option, Some, None, Ok}
 use Rattle.std.proofs.lemmas.List.{map-append}
 use Rattle.std.specs.List.{AllByRecursion as AllOf}
@@ -19,9 +19,8 @@ use Rattle.lte_machine.proofs.EventByEvent.{tale_snoc}
 use Rattle.lte_machine.proofs.RangeStation.{all_append}
 use Rattle.lte_machine.proofs.WholeRun.{tale_is_value}
 use Rattle.lte_world.specs.Whole.{Whole, answer_of, run_of, told_of, turned, unless_over}
-use Rattle.core_relocation.specs.Run.{told_after}
 
--- LISTS
+-- THE LAST OF A LIST
 
 last_of : {A : Type 0} → A → List A → A
 last_of d [] = d
@@ -35,10 +34,9 @@ last_more d (y ∷ ys) x = last_more y ys x
 last_same : {A : Type 0} (xs ys : List A) (x y : A) → xs ++ x ∷ [] ≡ ys ++ y ∷ [] → x ≡ y
 last_same xs ys x y e = sym (last_more x xs x) ∙ ap (last_of x) e ∙ last_more x ys y
 
--- ONE EVENT MORE
+-- BOTH MACHINES TELL THE SAME
 
 module _ (setup : Setup) (set : IsSetup setup) (heard : List Event) (are : AllOf IsEvent heard) where
-  -- and so is what it tells of one event more
   pub told_same : (e : Event) → IsEvent e → event_report (open_octets annex_b) (machine_in_octets annex_b) (octet_run setup heard) e
       ≡ report_value (event_report (open_octets annex_b_terms) (written_machine annex_b) (written_run setup heard) e)
   told_same e is =
@@ -54,30 +52,33 @@ module _ (setup : Setup) (set : IsSetup setup) (heard : List Event) (are : AllOf
 
 -- A SYSTEM THAT GOES ON
 
-pub none_over : (o : Option Proof) (run : RunState (List ℕ) ℕ Kept) → GoesOn (unless_over o run) → o ≡ None
+none_over : (o : Option Proof) (run : RunState (List ℕ) ℕ Kept) → GoesOn (unless_over o run) → o ≡ None
 none_over None run goes = refl
 none_over (Some proof) run goes = absurd goes
+
+-- it met no coincidence
+pub not_over : (v : Whole) → GoesOn (run_of v) → v.over ≡ None
+not_over v goes = none_over v.over (octet_run v.setup v.journal) goes
 
 same_over : (o : Option Proof) (run : RunState (List ℕ) ℕ Kept) → GoesOn (unless_over o run) → unless_over o run ≡ run
 same_over None run goes = refl
 same_over (Some proof) run goes = absurd goes
 
+-- its run is that of its setup and its journal
 pub runs_octets : (v : Whole) → GoesOn (run_of v) → run_of v ≡ octet_run v.setup v.journal
 runs_octets v goes = same_over v.over (octet_run v.setup v.journal) goes
 
--- what it tells of an event is what the written machine's run tells
-pub told_written : (v : Whole)
+-- it tells what the written machine's run tells
+pub tells_as_written : (v : Whole)
+    → GoesOn (run_of v)
     → IsSetup v.setup
     → AllOf IsEvent v.journal
-    → GoesOn (run_of v)
-    → (core_of : List ℕ) (e : Event)
+    → (e : Event)
     → IsEvent e
-    → told_of v e ≡ told_after v.setup core_of v.journal e
-told_written v set are goes core_of e is =
+    → told_of v e ≡ answer_of (report_value (event_report (open_octets annex_b_terms) (written_machine annex_b) (written_run v.setup v.journal) e))
+tells_as_written v goes set are e is =
     ap (λ run. answer_of (event_report (open_octets annex_b) (machine_in_octets annex_b) run e)) (runs_octets v goes)
     ∙ ap answer_of (told_same v.setup set v.journal are e is)
-
--- WITH A LINE, AND WITHOUT
 
 line_goes : (s : StepResult (List ℕ) ℕ Kept) (line : Line) → answer_of (reported s) ≡ Ok line → GoesOn (after s)
 line_goes (Continues w told) line e = tt
@@ -89,5 +90,6 @@ tells_line : (run : RunState (List ℕ) ℕ Kept) (e : Event) (line : Line)
 tells_line (Running w) e line told = (tt, line_goes (next (open_octets annex_b) (machine_in_octets annex_b) w e) line told)
 tells_line (Stopped coincidence) e line told = cc
 
+-- where it tells a line it went on before, and goes on
 pub with_line : (v : Whole) (e : Event) (line : Line) → told_of v e ≡ Ok line → GoesOn (run_of v) × GoesOn (turned v e)
 with_line v e line told = tells_line (run_of v) e line told
