@@ -15,7 +15,7 @@ use Rattle.run_report.specs.declared.endings.Ending.TheVariants.{Done, Chance}
 use Rattle.run_report.specs.Counted.{Ended}
 use Rattle.lte_events.specs.Scenario.{IsScenario}
 use Rattle.run_report.specs.Summary.{Coincides, outcome_from}
-use Rattle.run_report.proofs.Telling.{in_octets}
+use Rattle.run_report.proofs.ReportByEvent.{in_octets}
 use Rattle.store_laws.specs.Rows.{world_rows}
 use Rattle.audit_report.specs.AuditReport.{audit_in, audit_with, audit_report_of}
 

@@ -21,7 +21,7 @@ use Rattle.core_relocation.specs.Holder.{acting, away, fields_of, fields_told, h
 use Rattle.core_relocation.specs.Run.{answer_by, answer_in, fields_of_run, next_answer, state_in}
 use Rattle.core_relocation.specs.Whole.{TwoWhole, Keeps, StillRuns, state_of, state_written}
 use Rattle.core_relocation.proofs.Keeping.{answer_written, keeps_away, keeps_line, line_state}
-use Rattle.core_relocation.proofs.Taking.{held_told}
+use Rattle.core_relocation.proofs.HeldByReplies.{held_told}
 use Rattle.lte_world.proofs.TellsAsWritten.{not_over, with_line}
 
 -- what is answered by the system is answered in the written run

@@ -1,4 +1,4 @@
-pub mod Taking
+pub mod HeldByReplies
 pub mod Keeping
 pub mod Starting
 pub mod Applied

@@ -11,7 +11,7 @@ use Rattle.lte_world.specs.Whole.{Whole, run_of}
 use Rattle.run_report.specs.declared.endings.Ending.TheVariants.{Done}
 use Rattle.run_report.specs.Report.{Report, end_of}
 use Rattle.run_report.proofs.Partly.{followed, Follows}
-use Rattle.run_report.proofs.Taking.{item_at, left_at}
+use Rattle.run_report.proofs.HappenedSoFar.{item_at, left_at}
 use Rattle.core_relocation.specs.declared.lines.TwoLine.{TwoLine}
 use Rattle.core_relocation.specs.Report.{answer_report, two_report_of, two_told_from}
 use Rattle.core_relocation.specs.Run.{TwoState, answers, heard_of, next_answer, next_state, run_after, two_state}

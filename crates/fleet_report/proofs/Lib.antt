@@ -1,6 +1,6 @@
-pub mod Telling
+pub mod ReportByPiece
 pub mod Holding
-pub mod Shown
+pub mod CoincidenceHasText
 pub mod Looping
 pub mod Ending
 mod Ends

@@ -17,8 +17,8 @@ use Rattle.run_report.proofs.Partly.{followed, Follows}
 use Rattle.fleet_report.specs.Events.{answer_report, event_report, IsOfPhone, Takes}
 use Rattle.fleet_report.specs.Lines.{texts}
 use Rattle.fleet_report.specs.Report.{report_from, ends_from, fleet_report_of}
-use Rattle.fleet_report.proofs.Shown.{answers_are}
-use Rattle.fleet_report.proofs.Telling.{events_left, none_left, event_more}
+use Rattle.fleet_report.proofs.CoincidenceHasText.{answers_are}
+use Rattle.fleet_report.proofs.ReportByPiece.{events_left, none_left, event_more}
 
 pub can_take : (setup : Setup) (v : Fleeted) (phones : ℕ) (events : List (ℕ × Event)) (i : ℕ) (x : ℕ × Event)
     → v.setup ≡ setup

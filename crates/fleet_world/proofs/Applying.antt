@@ -19,7 +19,7 @@ use Rattle.fleet_world.specs.Meeting.{Meeting, meeting_from, ladder_at}
 use Rattle.fleet_world.specs.Steps.{Leaves, world_after}
 use Rattle.fleet_world.specs.Worlds.{Goes, ladders_in, others_in, taken_in, TakesAt, CanTakeAt}
 use Rattle.fleet_world.proofs.Standing.{go, taken_is, can_take, answer_taken, stands_taken, answer_coincidence, go_after, few_after, low_after, crossing_is, answer_of_line, answer_cross, stands_line, new_is}
-use Rattle.fleet_world.proofs.Taking.{stands_of}
+use Rattle.fleet_world.proofs.BeginsAndGoesOn.{stands_of}
 
 -- what stands at a place, put there again
 same_put : {A : Type 0} (xs : List A) (k : ℕ) (x : A) → slice_get xs k ≡ Some x → set xs k x ≡ xs

@@ -5,6 +5,6 @@ pub mod Separating
 pub mod Together
 pub mod Isolating
 pub mod Standing
-pub mod Taking
+pub mod BeginsAndGoesOn
 pub mod Applying
 pub mod Reading

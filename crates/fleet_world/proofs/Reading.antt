@@ -16,7 +16,7 @@ use Rattle.fleet_world.specs.Isolation.{LinesAreOwn}
 use Rattle.fleet_world.proofs.Isolating.{lines_are_own}
 use Rattle.fleet_world.proofs.Separating.{Apart, none_apart, all_apart}
 use Rattle.fleet_world.proofs.Standing.{own_stands}
-use Rattle.fleet_world.proofs.Taking.{stands_of}
+use Rattle.fleet_world.proofs.BeginsAndGoesOn.{stands_of}
 use Rattle.fleet_world.proofs.Together.{no_use_twice, phones_separate}
 
 -- no two phones have a key in common after events that were answered by lines

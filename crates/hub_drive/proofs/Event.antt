@@ -22,7 +22,7 @@ use Rattle.run_report.specs.declared.endings.Ending.TheVariants.{Done, Chance}
 use Rattle.run_report.specs.Events.{told_of, event_text, event_ends}
 use Rattle.run_report.specs.Takes.{Takes}
 use Rattle.run_report.specs.Written.{Written}
-use Rattle.run_report.proofs.Telling.{still_goes}
+use Rattle.run_report.proofs.ReportByEvent.{still_goes}
 use Rattle.hub_drive.proofs.Composing.{cut_after, cut_at, cut_before, did_none, done_twice}
 use Rattle.hub_drive.specs.declared.faults.DriveFault.{DriveFault}
 use Rattle.hub_drive.specs.declared.faults.DriveFault.TheVariants.{Memory, WriteFault}

@@ -15,7 +15,7 @@ use Rattle.role_wire.specs.declared.frames.RoleSetup.{RoleSetup}
 use Rattle.run_report.specs.Events.{told_of}
 use Rattle.lte_events.specs.Scenario.{IsScenario}
 use Rattle.run_report.specs.Report.{Report, told_from, end_of, report_of}
-use Rattle.run_report.proofs.Telling.{report_from, report_is}
+use Rattle.run_report.proofs.ReportByEvent.{report_from, report_is}
 use Rattle.hub_drive.proofs.Composing.{writes-append}
 use Rattle.hub_drive.specs.Acts.{Act, writes}
 use Rattle.hub_drive.specs.Driven.{Plan}

@@ -21,7 +21,7 @@ pub mod StationAct
 pub mod StationOpens
 pub mod StationSends
 pub mod Terms
-pub mod Told
+pub mod ToldIsFound
 pub mod Whole
 pub mod World
 pub mod Came

@@ -28,7 +28,7 @@ use Rattle.lte_machine.proofs.Worlds.{TheWorld}
 use Rattle.lte_properties.specs.Agreement.{is_made_at, made_at, ahead, ObeysMade, Obeys, Reported, MadeIsTold, TookIsTold, TellsNote, CompletedLines}
 use Rattle.lte_properties.specs.BySteps.{MakesAt, TakesAt, TellOneKey, Follows}
 use Rattle.lte_properties.proofs.Agreement.Noted.{keys_told, BothTold}
-use Rattle.lte_properties.proofs.Agreement.Told.{made_there}
+use Rattle.lte_properties.proofs.Agreement.ToldIsFound.{made_there}
 use Rattle.lte_properties.proofs.EveryLine.{lines_completed}
 use Rattle.lte_properties.proofs.EveryRun.{agrees}
 

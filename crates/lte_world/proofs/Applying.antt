@@ -26,7 +26,7 @@ use Rattle.lte_machine.proofs.WholeRun.{run_is_value}
 use Rattle.store_laws.specs.Additions.{CanKeep}
 use Rattle.store_laws.specs.Proofs.{coincidence_of}
 use Rattle.store_laws.proofs.EveryRun.{event_keeps}
-use Rattle.store_laws.proofs.Shown.{coincidence_back}
+use Rattle.store_laws.proofs.ProofsAreCoincidences.{coincidence_back}
 use Rattle.lte_world.specs.declared.faults.WorldFault.{WorldFault}
 use Rattle.lte_world.specs.Systems.{octets, Actors, CameOut, Happens, EventCan, MayHappen}
 use Rattle.lte_world.specs.Whole.{answer_of, Goes}

@@ -1,6 +1,6 @@
 pub mod Deriving
 pub mod Holders
-pub mod Settled
+pub mod ReplyIsKept
 pub mod Stations
 pub mod Turning
 pub mod Applying
@@ -18,6 +18,6 @@ pub mod StationsStand
 pub mod MadeKeys
 pub mod OneTerm
 pub mod Answered
-pub mod Telling
+pub mod OneLineMore
 pub mod Counting
 pub mod TellsAsWritten

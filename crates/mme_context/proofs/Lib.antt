@@ -1,3 +1,3 @@
 pub mod Refused
-pub mod Told
+pub mod RefusalsTellNumbers
 pub mod Whole

@@ -18,7 +18,7 @@ use Rattle.run_report.specs.Events.{told_of, CanShow}
 use Rattle.run_report.specs.Counted.{Tells, Ended}
 use Rattle.lte_events.specs.Scenario.{IsScenario}
 use Rattle.run_report.specs.Summary.{Coincides, outcome_from, rows_in, summary_with, summary_of}
-use Rattle.run_report.proofs.Telling.{turned, replayed, reports, in_octets}
+use Rattle.run_report.proofs.ReportByEvent.{turned, replayed, reports, in_octets}
 
 -- the first i events are counted, and the run is in this state
 pub record CountedTo (setup : Setup) (events : List Event) (i : ℕ) (run : RunState (List ℕ) ℕ Kept) (tally : Tallied) : Type 0 where

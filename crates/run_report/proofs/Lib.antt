@@ -1,7 +1,7 @@
 pub mod Partly
-pub mod Shown
-pub mod Telling
-pub mod Taking
+pub mod CoincidenceHasString
+pub mod ReportByEvent
+pub mod HappenedSoFar
 pub mod EndText
 pub mod Ends
 pub mod Counting

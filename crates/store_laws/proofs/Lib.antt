@@ -5,5 +5,5 @@ pub mod CellsElsewhere
 pub mod Adding
 pub mod Keeping
 pub mod EveryRun
-pub mod Shown
+pub mod ProofsAreCoincidences
 pub mod Found

@@ -26,7 +26,7 @@ use Rattle.lte_properties.proofs.Agreement.Ghost.{is_tried_at, taken, TermOk, Pa
 use Rattle.lte_properties.proofs.Agreement.Later.{same_found}
 use Rattle.lte_properties.proofs.Agreement.Phone.{all_found}
 use Rattle.lte_properties.proofs.Agreement.PhoneWalk.{both_named}
-use Rattle.lte_properties.proofs.Agreement.Told.{found_holds, term_number}
+use Rattle.lte_properties.proofs.Agreement.ToldIsFound.{found_holds, term_number}
 use Rattle.lte_properties.proofs.Agreement.World.{Conns, ghost, WorldOk}
 use Rattle.lte_machine.specs.Distinct.{Member}
 use Rattle.lte_machine.specs.StationChoice.{x2_number, s1_number}

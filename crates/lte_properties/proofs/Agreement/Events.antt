@@ -28,7 +28,7 @@ use Rattle.lte_properties.proofs.ChainNumbers.Lists.{OfSome, all_both, each_of}
 use Rattle.lte_properties.proofs.Agreement.Ghost.{CoreLinkOk, StationOk, SentOk, BetweenOk}
 use Rattle.lte_properties.proofs.Agreement.Later.{Later, later_itself, later_after}
 use Rattle.lte_properties.proofs.Agreement.PhoneWalk.{by_test}
-use Rattle.lte_properties.proofs.Agreement.Told.{SiteOk}
+use Rattle.lte_properties.proofs.Agreement.ToldIsFound.{SiteOk}
 use Rattle.lte_properties.proofs.Agreement.Core.{equal_below, StaysOff, as_before, CoreGoes, core_unread_goes, core_record_goes, core_nas_goes, core_act_goes}
 use Rattle.lte_properties.proofs.Agreement.CoreOpens.{core_nas_zero}
 use Rattle.lte_properties.proofs.Agreement.Station.{CellFits}

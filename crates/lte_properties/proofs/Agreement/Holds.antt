@@ -23,7 +23,7 @@ use Rattle.lte_properties.proofs.Freshness.PhoneUses.{TookInOrder}
 use Rattle.lte_properties.proofs.Freshness.Sequence.{IsBefore}
 use Rattle.lte_properties.proofs.Agreement.Follows.{InTurn}
 use Rattle.lte_properties.proofs.Agreement.Later.{Later, same_found, here_later}
-use Rattle.lte_properties.proofs.Agreement.Told.{SiteOk, term_number}
+use Rattle.lte_properties.proofs.Agreement.ToldIsFound.{SiteOk, term_number}
 use Rattle.lte_properties.proofs.Agreement.World.{Conns, ghost, WorldOk}
 use Rattle.lte_machine.specs.Distinct.{Member}
 use Rattle.lte_machine.proofs.Worlds.{TheWorld}

@@ -26,7 +26,7 @@ use Rattle.lte_machine.proofs.PhoneCases.{NasCases, nas_case, AirCases, air_case
 use Rattle.lte_machine.proofs.Tests.{Anything}
 use Rattle.rec_base.specs.declared.uses.Dir.TheVariants.{Up}
 use Rattle.lte_properties.proofs.Agreement.Ghost.{Ghost, keys_of, is_took_at, took_at, taken, FromIs, HereIs, Leads, FromOk, MadeOk, HadMade, TookOk, OrderIs, ChangeIs, LinkIs, RadioOk, UpOk, OutOk}
-use Rattle.lte_properties.proofs.Agreement.Told.{found_new, both_same, made_there}
+use Rattle.lte_properties.proofs.Agreement.ToldIsFound.{found_new, both_same, made_there}
 use Rattle.lte_properties.proofs.Agreement.Later.{Later, found_later, in_front, in_last, same_found}
 
 -- what is told after the phone took a key, or none

@@ -12,7 +12,7 @@ use Rattle.lte_properties.specs.ChainBelow.{AllOf}
 use Rattle.lte_properties.proofs.ChainNumbers.Lists.{all_map, all_both}
 use Rattle.lte_properties.proofs.Agreement.Ghost.{Ghost, tried_at, SeenBy, FromOk, MadeOk}
 use Rattle.lte_properties.proofs.Agreement.Later.{same_found}
-use Rattle.lte_properties.proofs.Agreement.Told.{MadeBy, all_append}
+use Rattle.lte_properties.proofs.Agreement.ToldIsFound.{MadeBy, all_append}
 
 -- two things that were made did not come of one attempt
 abbrev pub NotBoth : Made Term ℕ → Made Term ℕ → Type 0

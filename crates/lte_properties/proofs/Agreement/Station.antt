@@ -42,7 +42,7 @@ use Rattle.lte_properties.proofs.Agreement.Phone.{all_found}
 use Rattle.lte_properties.proofs.Agreement.PhoneWalk.{both_named}
 use Rattle.lte_properties.proofs.Agreement.Seen.{NotBoth, setup_no_attempt, change_no_attempt, change_no_setup, apart_always, apart_unseen, seen_more, seen_there}
 use Rattle.lte_properties.proofs.Agreement.StationSends.{sends_down, change_says}
-use Rattle.lte_properties.proofs.Agreement.Told.{found_holds, told, told_more, made_new, made_none, MadeBy, TriedBy, all_append, all_filter, reads_as, term_number, leads_up, star_term}
+use Rattle.lte_properties.proofs.Agreement.ToldIsFound.{found_holds, told, told_more, made_new, made_none, MadeBy, TriedBy, all_append, all_filter, reads_as, term_number, leads_up, star_term}
 
 -- what is told anew
 abbrev pub NewMade : Ghost → Ghost → Option (Made Term ℕ) → Type 0

@@ -34,7 +34,7 @@ use Rattle.lte_properties.specs.Agreement.{made_at, HadTaken}
 use Rattle.lte_properties.proofs.Agreement.Terms.{lands}
 use Rattle.lte_properties.proofs.Agreement.Ghost.{Ghost, tried_at, TermOk, PairOk, PairsOk, MadeOk, TriedOk, GivenOk, IsOrder, AttemptOk, StartedOk, CtxOk, FreshFrom, SeenBy, StationOk, SaysOk, OutOk}
 use Rattle.lte_properties.proofs.Agreement.Later.{term_later, ctx_later, preps_later}
-use Rattle.lte_properties.proofs.Agreement.Told.{told, told_more, made_new, made_none, tried_new, tried_none, all_append, all_filter, SiteOk, reads_as, term_number, leads_up, leads_level, star_term}
+use Rattle.lte_properties.proofs.Agreement.ToldIsFound.{told, told_more, made_new, made_none, tried_new, tried_none, all_append, all_filter, SiteOk, reads_as, term_number, leads_up, leads_level, star_term}
 use Rattle.lte_properties.proofs.Agreement.Station.{StationGoes, started_map, started_any, with_both, next_drawn, with_ctx, mapped, ctx_at, had}
 use Rattle.lte_properties.proofs.Agreement.Seen.{setup_no_attempt, one_origin, apart_new}
 use Rattle.lte_properties.proofs.Agreement.StationSends.{sends_down, order_says, change_says}

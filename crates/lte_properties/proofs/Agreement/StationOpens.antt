@@ -26,7 +26,7 @@ use Rattle.lte_properties.proofs.Agreement.Later.{same_found}
 use Rattle.lte_properties.proofs.Agreement.Phone.{all_found}
 use Rattle.lte_properties.proofs.Agreement.PhoneWalk.{one_key}
 use Rattle.lte_properties.proofs.Agreement.Station.{StationGoes, with_both, next_drawn, mapped, mapped_at, ctx_at}
-use Rattle.lte_properties.proofs.Agreement.Told.{found_holds, if_tried}
+use Rattle.lte_properties.proofs.Agreement.ToldIsFound.{found_holds, if_tried}
 
 -- what came to a station's air address: nothing that was sent, or what the phone sent there
 abbrev pub CameUp : Ghost → ℕ → ℕ → Option (Outgoing Term ℕ) → Type 0

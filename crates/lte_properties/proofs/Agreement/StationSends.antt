@@ -15,7 +15,7 @@ use Rattle.lte_properties.specs.ChainBelow.{AllOf}
 use Rattle.lte_properties.specs.Agreement.{HadTaken}
 use Rattle.lte_properties.proofs.Agreement.Ghost.{Ghost, keys_of, FromOk, MadeOk, TriedOk, IsOrder, ChangeIs, CtxOk, SaysOk, TextOk, OutOk}
 use Rattle.lte_properties.proofs.Agreement.Phone.{all_found}
-use Rattle.lte_properties.proofs.Agreement.Told.{made_there, SiteOk, cell_found, reads_as}
+use Rattle.lte_properties.proofs.Agreement.ToldIsFound.{made_there, SiteOk, cell_found, reads_as}
 
 module _ (g : Ghost) where
   -- what a station sends on an SRB is under the key made for the air address

@@ -23,7 +23,7 @@ use Rattle.lte_properties.proofs.ChainNumbers.World.{happens_holds, run_holds, f
 use Rattle.lte_properties.proofs.Freshness.PhoneUses.{RadioInOrder, PhoneFresh}
 use Rattle.lte_properties.proofs.Freshness.PhoneRun.{in_order, happens_order, first_order, phone_always_in_order}
 use Rattle.lte_properties.proofs.Agreement.Later.{later_itself}
-use Rattle.lte_properties.proofs.Agreement.Told.{SiteOk}
+use Rattle.lte_properties.proofs.Agreement.ToldIsFound.{SiteOk}
 use Rattle.lte_properties.proofs.Agreement.World.{Conns, ghost, WorldOk, OctetsTell, Settled}
 use Rattle.lte_properties.proofs.Agreement.Events.{fits_after, RunGoes, happens_goes, run_goes}
 use Rattle.lte_properties.proofs.Agreement.Holds.{cells_of, no_conns, first_ok, first_fits, agrees, none_before, of_each}

@@ -45,7 +45,7 @@ use Rattle.lte_properties.proofs.Agreement.Ghost.{Ghost, tried_at, SeenBy, CoreO
 use Rattle.lte_properties.proofs.Agreement.Later.{Later, later_itself, ctx_later, preps_later, radio_later, sent_later, made_later, tried_later, took_later}
 use Rattle.lte_properties.proofs.Agreement.Phone.{PhoneGoes, NewTook, PhoneNeeds, took_more, phone_goes}
 use Rattle.lte_properties.proofs.Agreement.PhoneWalk.{CameDown, NothingYet, air_walks}
-use Rattle.lte_properties.proofs.Agreement.Told.{told_more, fresh_beside, SiteOk}
+use Rattle.lte_properties.proofs.Agreement.ToldIsFound.{told_more, fresh_beside, SiteOk}
 use Rattle.lte_properties.proofs.Agreement.Station.{StationGoes, NewMade, NewTried, CellFits, record_goes}
 use Rattle.lte_properties.proofs.Agreement.StationAct.{act_goes}
 use Rattle.lte_properties.proofs.Agreement.StationOpens.{CameUp, air_goes}

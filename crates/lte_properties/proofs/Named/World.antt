@@ -26,7 +26,7 @@ use Rattle.lte_properties.specs.ChainHolds.{machine_by}
 use Rattle.lte_properties.proofs.ChainNumbers.Lists.{OfSome, all_one, all_put}
 use Rattle.lte_properties.proofs.Agreement.Ghost.{SentOk}
 use Rattle.lte_properties.proofs.Agreement.Phone.{all_found}
-use Rattle.lte_properties.proofs.Agreement.Told.{made_there}
+use Rattle.lte_properties.proofs.Agreement.ToldIsFound.{made_there}
 use Rattle.lte_properties.proofs.Agreement.World.{Conns, ghost}
 use Rattle.lte_properties.proofs.Opening.Air.{AirOk}
 use Rattle.lte_properties.proofs.Named.Facts.{StationNamed, CoreNamed, RecordNamed, SentNamed, ReadNamed, InputNamed, CoreInputNamed}

@@ -34,7 +34,7 @@ use Rattle.lte_properties.proofs.Agreement.Later.{same_found}
 use Rattle.lte_properties.proofs.Agreement.Phone.{all_found}
 use Rattle.lte_properties.proofs.Agreement.PhoneWalk.{CameDown, by_test, one_key, no_cipher}
 use Rattle.lte_properties.proofs.Agreement.StationOpens.{CameUp}
-use Rattle.lte_properties.proofs.Agreement.Told.{found_holds}
+use Rattle.lte_properties.proofs.Agreement.ToldIsFound.{found_holds}
 use Rattle.lte_properties.proofs.Opening.Heard.{Heard}
 use Rattle.lte_properties.proofs.Opening.SecondNas.{Never, never_srb}
 

@@ -38,7 +38,7 @@ use Rattle.lte_properties.proofs.ChainNumbers.Lists.{all_map, one_root_more}
 use Rattle.lte_properties.proofs.ChainNumbers.World.{happens_holds, first_holds}
 use Rattle.lte_properties.proofs.Agreement.Ghost.{Ghost, StationOk}
 use Rattle.lte_properties.proofs.Agreement.Later.{Later}
-use Rattle.lte_properties.proofs.Agreement.Told.{SiteOk}
+use Rattle.lte_properties.proofs.Agreement.ToldIsFound.{SiteOk}
 use Rattle.lte_properties.proofs.Agreement.World.{Conns, ghost, WorldOk, Settled}
 use Rattle.lte_properties.proofs.Agreement.Events.{happens_goes}
 use Rattle.lte_properties.proofs.Agreement.Holds.{cells_of, no_conns, first_ok}

@@ -3,7 +3,7 @@ use Rattle.std.proofs.lemmas.Result.{err_from_is_err_and}
 use Rattle.run_report.proofs.Partly.{one_piece, one_cut}
 use Rattle.core_relocation.specs.Report.{answer_report}
 use Rattle.lte_world.specs.Whole.{told_of}
-use Rattle.run_report.proofs.Shown.{shown_in}
+use Rattle.run_report.proofs.CoincidenceHasString.{shown_in}
 use Rattle.core_relocation.specs.Holder.{acting, away, station_in}
 use Rattle.core_relocation.proofs.Applied.{coincidence_told}
 use Rattle.edge_io.proofs.Ending.{is_lines, text_is}

@@ -5,7 +5,7 @@ use Rattle.report_text.specs.End.{end_text}
 use Rattle.run_report.specs.Written.{WritesText}
 use Rattle.run_report.proofs.Partly.{both_written, first_cut}
 use Rattle.fleet_report.specs.Lines.{texts, phone_text, row_outputs}
-use Rattle.fleet_report.proofs.Telling.{end_is, if_ok}
+use Rattle.fleet_report.proofs.ReportByPiece.{end_is, if_ok}
 use Rattle.edge_io.specs.Lines.{EndsLine}
 use Rattle.run_report.proofs.Ends.{end_ends}
 use Rattle.fleet_report.proofs.reports.write_end.Goals as goal

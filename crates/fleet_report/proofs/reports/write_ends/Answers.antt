@@ -6,7 +6,7 @@ use Rattle.fleet_world.specs.Fleets.{owns_in}
 use Rattle.fleet_report.specs.Lines.{texts}
 use Rattle.fleet_report.specs.Report.{ends_from}
 use Rattle.fleet_report.proofs.Ending.{goes_on, few, text_is}
-use Rattle.fleet_report.proofs.Telling.{end_next, ends_past, many_owns}
+use Rattle.fleet_report.proofs.ReportByPiece.{end_next, ends_past, many_owns}
 use Rattle.fleet_report.proofs.reports.write_ends.Goals as goal
 
 pub loop-phone-init : goal.loop-phone-init

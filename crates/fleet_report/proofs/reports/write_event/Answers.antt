@@ -5,8 +5,8 @@ use Rattle.fleet_world.specs.Answers.{own_at}
 use Rattle.fleet_world.specs.Fleets.{owns_in}
 use Rattle.fleet_report.specs.Events.{answer_report, event_report}
 use Rattle.fleet_report.specs.Lines.{output_text, answer_output}
-use Rattle.fleet_report.proofs.Telling.{if_ok}
-use Rattle.fleet_report.proofs.Shown.{ended, fault_shown, fault_reported}
+use Rattle.fleet_report.proofs.ReportByPiece.{if_ok}
+use Rattle.fleet_report.proofs.CoincidenceHasText.{ended, fault_shown, fault_reported}
 use Rattle.fleet_report.proofs.Ends.{told_is}
 use Rattle.edge_io.specs.Lines.{are_lines}
 use Rattle.run_report.specs.Written.{WritesReport}

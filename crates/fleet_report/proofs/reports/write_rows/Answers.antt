@@ -6,7 +6,7 @@ use Rattle.key_terms.specs.declared.row.Origin.{Origin}
 use Rattle.key_terms.specs.Ladder.{unheld}
 use Rattle.report_text.specs.Ladder.{row_text}
 use Rattle.fleet_report.specs.Lines.{texts, row_outputs}
-use Rattle.fleet_report.proofs.Telling.{row_next, rows_past, if_ok}
+use Rattle.fleet_report.proofs.ReportByPiece.{row_next, rows_past, if_ok}
 use Rattle.edge_io.specs.Lines.{EndsLine}
 use Rattle.run_report.proofs.Ends.{row_ends}
 use Rattle.run_report.proofs.Partly.{none_written, more_written, cut_written, all_written}

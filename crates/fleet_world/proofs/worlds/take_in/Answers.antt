@@ -1,6 +1,6 @@
 use Rattle.std.proofs.Common.{◌≡◌, Ok, ap, ◌∙◌, ◌++◌, ◌∷◌, [], length}
 use Rattle.lte_world.specs.Whole.{Whole, told_of, turned}
-use Rattle.fleet_world.proofs.Taking.{took, rows_before}
+use Rattle.fleet_world.proofs.BeginsAndGoesOn.{took, rows_before}
 use Rattle.fleet_world.proofs.worlds.take_in.Goals as goal
 
 pub returns-clause-takes : goal.returns-clause-takes

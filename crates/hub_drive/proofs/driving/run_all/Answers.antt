@@ -5,7 +5,7 @@ use Rattle.lte_machine.specs.Run.{Running, first_world}
 use Rattle.lte_world.specs.Whole.{run_of}
 use Rattle.hub_drive.specs.Driven.{Plan, PlanWent}
 use Rattle.hub_drive.specs.Outside.{Outside, outside}
-use Rattle.run_report.proofs.Taking.{can_take, item_at, one_taken}
+use Rattle.run_report.proofs.HappenedSoFar.{can_take, item_at, one_taken}
 use Rattle.run_report.specs.declared.endings.Ending.TheVariants.{Done}
 use Rattle.run_report.specs.Events.{told_of}
 use Rattle.hub_drive.proofs.Event.{plain_of}

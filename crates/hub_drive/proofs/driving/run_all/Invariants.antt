@@ -3,7 +3,7 @@ use Rattle.edge_io.specs.Cause.{NoFault}
 use Rattle.edge_io.specs.Used.{UsedAsSink}
 use Rattle.lte_machine.specs.Run.{Running, first_world}
 use Rattle.lte_world.specs.Whole.{run_of}
-use Rattle.run_report.proofs.Taking.{Took}
+use Rattle.run_report.proofs.HappenedSoFar.{Took}
 use Rattle.hub_drive.specs.Exchanges.{roles_of}
 use Rattle.hub_drive.specs.Outside.{AllRun, outside}
 use Rattle.hub_drive.proofs.Planned.{PlanGoing}

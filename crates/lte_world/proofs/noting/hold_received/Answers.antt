@@ -1,4 +1,4 @@
-use Rattle.lte_world.proofs.Settled.{received_held}
+use Rattle.lte_world.proofs.ReplyIsKept.{received_held}
 use Rattle.lte_world.proofs.noting.hold_received.Goals as goal
 
 pub returns-in-Some-clause-held : goal.returns-in-Some-clause-held

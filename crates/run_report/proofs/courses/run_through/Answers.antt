@@ -6,8 +6,8 @@ use Rattle.run_report.specs.Counted.{Tells}
 use Rattle.run_report.specs.Events.{told_of, CanShow}
 use Rattle.run_report.specs.Summary.{outcome_from, Coincides}
 use Rattle.run_report.proofs.Counting.{none_counted, next_counted, coincides_at, all_counted}
-use Rattle.run_report.proofs.Taking.{none_taken, can_take, one_taken, item_at, left_at}
-use Rattle.run_report.proofs.Telling.{is_plain}
+use Rattle.run_report.proofs.HappenedSoFar.{none_taken, can_take, one_taken, item_at, left_at}
+use Rattle.run_report.proofs.ReportByEvent.{is_plain}
 use Rattle.run_report.proofs.courses.run_through.Goals as goal
 
 pub loop-number-init : goal.loop-number-init

@@ -6,7 +6,7 @@ use Rattle.run_report.specs.Counted.{Tells}
 use Rattle.run_report.specs.Events.{told_of, told_report}
 use Rattle.run_report.proofs.Ends.{line_ends}
 use Rattle.run_report.proofs.Partly.{one_piece, one_cut}
-use Rattle.run_report.proofs.Telling.{a_line, a_coincidence, can_show}
+use Rattle.run_report.proofs.ReportByEvent.{a_line, a_coincidence, can_show}
 use Rattle.run_report.proofs.reports.write_event.Goals as goal
 
 pub write_text-requires-clause-lines : goal.write_text-requires-clause-lines

@@ -3,8 +3,8 @@ use Rattle.std.proofs.lemmas.Option.{slice_get_within}
 use Rattle.std.proofs.lemmas.Result.{err_from_is_err_and}
 use Rattle.lte_world.specs.Whole.{run_of}
 use Rattle.run_report.proofs.Partly.{none_reported, more_reported, coincidence_reported, cut_reported, end_reported, end_cut}
-use Rattle.run_report.proofs.Taking.{none_taken, can_take, one_taken, item_at, left_at}
-use Rattle.run_report.proofs.Telling.{report_is, report_from, report_more, report_ends}
+use Rattle.run_report.proofs.HappenedSoFar.{none_taken, can_take, one_taken, item_at, left_at}
+use Rattle.run_report.proofs.ReportByEvent.{report_is, report_from, report_more, report_ends}
 use Rattle.run_report.proofs.reports.write_run.Goals as goal
 
 pub loop-number-init : goal.loop-number-init

@@ -1,4 +1,4 @@
-use Rattle.store_laws.proofs.Shown.{coincidence_back, shown_again}
+use Rattle.store_laws.proofs.ProofsAreCoincidences.{coincidence_back, shown_again}
 use Rattle.store_laws.proofs.coincidences.coincidences_are_shown.Goals as goal
 
 pub returns-clause-coincidence : goal.returns-clause-coincidence

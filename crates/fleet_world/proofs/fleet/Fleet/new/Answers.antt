@@ -1,6 +1,6 @@
 use Rattle.std.proofs.Common.{sym, subst}
 use Rattle.fleet_world.specs.Fleets.{Stands}
-use Rattle.fleet_world.proofs.Taking.{stands_first}
+use Rattle.fleet_world.proofs.BeginsAndGoesOn.{stands_first}
 use Rattle.fleet_world.proofs.fleet.Fleet.new.Goals as goal
 
 pub invariant_of-result : goal.invariant_of-result

@@ -3,7 +3,7 @@ use Rattle.std.proofs.lemmas.Result.{err_from_is_err_and}
 use Rattle.lte_machine.specs.Calls.{line_of_reply}
 use Rattle.lte_world.specs.Networks.{Awaits, AddsAll, HasRows, Fits}
 use Rattle.lte_world.specs.Settling.{Settles}
-use Rattle.lte_world.proofs.Settled.{settles_awaits, settles_stand, settled_by_rows, settled, rows_stand, held_as}
+use Rattle.lte_world.proofs.ReplyIsKept.{settles_awaits, settles_stand, settled_by_rows, settled, rows_stand, held_as}
 use Rattle.lte_world.proofs.network.Network.settle.Goals as goal
 
 pub add_all-requires-clause-awaits : goal.add_all-requires-clause-awaits

@@ -6,7 +6,7 @@ use Rattle.lte_world.proofs.Counting.{coincidence_within, line_within}
 use Rattle.lte_world.proofs.Standing.{AtEvent, Gave, event_fits, says_line, run_line, written_line, line_keeps, says_coincidence, run_coincidence}
 use Rattle.lte_world.specs.Replies.{RepliedLast, UnlessOver}
 use Rattle.lte_world.proofs.LastReplies.{next_replied, told_ok}
-use Rattle.lte_world.proofs.Telling.{line_step, line_answers, line_commands, line_never, line_packets}
+use Rattle.lte_world.proofs.OneLineMore.{line_step, line_answers, line_commands, line_never, line_packets}
 use Rattle.lte_world.proofs.world.World.apply.Goals.{After-clear, After-put, In-Err}
 use Rattle.lte_world.proofs.world.World.apply.Goals as goal
 

@@ -22,7 +22,7 @@ use Rattle.run_report.proofs.Partly.{one_cut, one_piece, unreported}
 use Rattle.run_report.specs.declared.unwritten.Unwritten.{Unwritten}
 use Rattle.run_report.specs.declared.unwritten.Unwritten.TheVariants as unwritten
 use Rattle.fleet_world.specs.declared.lines.FleetLine.{FleetLine}
-use Rattle.run_report.proofs.Shown.{shown}
+use Rattle.run_report.proofs.CoincidenceHasString.{shown}
 use Rattle.store_laws.specs.Proofs.{proof_of}
 use Rattle.fleet_world.specs.declared.faults.FleetFault.{FleetFault}
 use Rattle.fleet_world.specs.declared.faults.FleetFault.TheVariants as fault

@@ -10,7 +10,7 @@ use Rattle.lte_world.specs.Whole.{Whole, begun, run_of}
 use Rattle.run_report.specs.declared.endings.Ending.TheVariants.{Done}
 use Rattle.run_report.specs.Events.{told_of, event_ends}
 use Rattle.run_report.specs.Takes.{CanTake, Takes}
-use Rattle.run_report.proofs.Telling.{still_goes}
+use Rattle.run_report.proofs.ReportByEvent.{still_goes}
 
 -- so many happened to it, and it goes on
 pub record Took (setup : Setup) (i : ℕ) (w : Whole) : Type 0 where
