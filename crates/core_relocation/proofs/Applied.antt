@@ -17,7 +17,7 @@ use Rattle.lte_world.specs.Whole.{Whole, run_of, told_of, turned}
 use Rattle.core_relocation.specs.declared.cores.Held.{Held}
 use Rattle.core_relocation.specs.declared.lines.TwoLine.{TwoLine}
 use Rattle.core_relocation.specs.declared.senders.Sender.{Sender}
-use Rattle.core_relocation.specs.Holder.{acting, away, fields_of, fields_told, held_after, sent_by, station_in}
+use Rattle.core_relocation.specs.Holder.{acting, away, fields_of, fields_given, held_after, sent_by, station_in}
 use Rattle.core_relocation.specs.Run.{answer_by, answer_in, fields_of_run, next_answer, state_in}
 use Rattle.core_relocation.specs.Whole.{TwoWhole, Keeps, StillRuns, state_of, state_written}
 use Rattle.core_relocation.proofs.Keeping.{answer_written, keeps_away, keeps_line, line_state}
@@ -53,7 +53,7 @@ module _ (v : TwoWhole) (k : Keeps v) (e : Event) (is : IsEvent e) (reserved : W
       (turns : run_of w ≡ turned reserved e) (set : w.setup ≡ reserved.setup)
       (longer : w.journal ≡ reserved.journal ++ e ∷ [])
       (core : ℕ) (core_is : core ≡ acting v.cores from) (replies : List (ActorIn × ActorOut)) (last : w.over ≡ None → RepliedLast w.setup w.journal replies)
-      (came : Option CoreRecord) (came_is : option_map fields_of came ≡ fields_told replies) (held : Held)
+      (came : Option CoreRecord) (came_is : option_map fields_of came ≡ fields_given replies) (held : Held)
       (held_is : held ≡ held_after v.cores core e (option_map fields_of came) line)
       (after : List Event) (more : after ≡ events ++ e ∷ []) (sent : List Sender) (grown : sent ≡ senders ++ sent_by line.who line.sent) where
     here_is : away v.cores (station_in v.senders e) e ≡ None

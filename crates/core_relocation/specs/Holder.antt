@@ -184,6 +184,7 @@ abbrev pub fields_from : ActorIn → Option Fields
 fields_from (ActorIn.Core (CoreIn.S1 octets)) = fields_read (read_core octets)
 fields_from other = None
 
-abbrev pub fields_told : List (ActorIn × ActorOut) → Option Fields
-fields_told [] = None
-fields_told (reply ∷ rest) = fields_from reply.0
+-- and the replies that are kept with their inputs
+abbrev pub fields_given : List (ActorIn × ActorOut) → Option Fields
+fields_given [] = None
+fields_given (reply ∷ rest) = fields_from reply.0

@@ -2,7 +2,7 @@ use Rattle.std.proofs.Common.{◌≡◌, ap, ◌∙◌, ◌∷◌, [], ◌++◌,
 use Rattle.lte_world.specs.declared.faults.WorldFault.{WorldFault}
 use Rattle.core_relocation.specs.declared.lines.TwoLine.{TwoLine}
 use Rattle.lte_world.specs.Whole.{run_of, told_of}
-use Rattle.core_relocation.specs.Holder.{fields_told}
+use Rattle.core_relocation.specs.Holder.{fields_given}
 use Rattle.core_relocation.specs.Run.{answer_in}
 use Rattle.core_relocation.specs.Whole.{state_of}
 use Rattle.core_relocation.proofs.Applied.{away_keeps, in_written, line_in, line_keeps, line_runs}
@@ -49,7 +49,7 @@ invariant_of-self-2 c =
     c.reserve.new.self.events c.reserve.ensures.events c.reserve.new.self.senders c.reserve.ensures.senders c.station_in-from.result c.station_in-from.ensures
     (search rules) c.in_ok-line.line c.in_ok-line.ensures.says c.apply.new.self c.apply.ensures.run c.apply.ensures.setup c.in_ok-line.ensures.journal
     c.acting-core.result c.acting-core.ensures c.replies.result.now.items c.replies.ensures.last c.taken-came.result
-    (c.taken-came.ensures ∙ ap fields_told c.as_slice.ensures.value) c.held_after-self-inside.result c.held_after-self-inside.ensures
+    (c.taken-came.ensures ∙ ap fields_given c.as_slice.ensures.value) c.held_after-self-inside.result c.held_after-self-inside.ensures
     c.put-2.new.self.events (c.put-2.ensures.events ∙ ap (λ es. es ++ c.args.event.now ∷ []) c.sent.ensures.events)
     c.put-2.new.self.senders (c.put-2.ensures.senders ∙ c.sent.ensures.senders)
     c.in_ok-line.ensures.written
@@ -67,7 +67,7 @@ returns-clause-state c =
     c.reserve.new.self.events c.reserve.ensures.events c.reserve.new.self.senders c.reserve.ensures.senders c.station_in-from.result c.station_in-from.ensures
     (search rules) c.in_ok-line.line c.in_ok-line.ensures.says c.apply.new.self c.apply.ensures.run c.apply.ensures.setup c.in_ok-line.ensures.journal
     c.acting-core.result c.acting-core.ensures c.replies.result.now.items c.replies.ensures.last c.taken-came.result
-    (c.taken-came.ensures ∙ ap fields_told c.as_slice.ensures.value) c.held_after-self-inside.result c.held_after-self-inside.ensures
+    (c.taken-came.ensures ∙ ap fields_given c.as_slice.ensures.value) c.held_after-self-inside.result c.held_after-self-inside.ensures
     c.put-2.new.self.events (c.put-2.ensures.events ∙ ap (λ es. es ++ c.args.event.now ∷ []) c.sent.ensures.events)
     c.put-2.new.self.senders (c.put-2.ensures.senders ∙ c.sent.ensures.senders)
     c.args.self.now c.self.view_is
@@ -101,6 +101,6 @@ returns-clause-runs c runs =
     c.reserve.new.self.events c.reserve.ensures.events c.reserve.new.self.senders c.reserve.ensures.senders c.station_in-from.result c.station_in-from.ensures
     (search rules) c.in_ok-line.line c.in_ok-line.ensures.says c.apply.new.self c.apply.ensures.run c.apply.ensures.setup c.in_ok-line.ensures.journal
     c.acting-core.result c.acting-core.ensures c.replies.result.now.items c.replies.ensures.last c.taken-came.result
-    (c.taken-came.ensures ∙ ap fields_told c.as_slice.ensures.value) c.held_after-self-inside.result c.held_after-self-inside.ensures
+    (c.taken-came.ensures ∙ ap fields_given c.as_slice.ensures.value) c.held_after-self-inside.result c.held_after-self-inside.ensures
     c.put-2.new.self.events (c.put-2.ensures.events ∙ ap (λ es. es ++ c.args.event.now ∷ []) c.sent.ensures.events)
     c.put-2.new.self.senders (c.put-2.ensures.senders ∙ c.sent.ensures.senders)
