@@ -1,0 +1,5 @@
+pub mod Joined
+pub mod Messages
+pub mod Faults
+pub mod Outcomes
+pub mod Lines

@@ -1,0 +1,26 @@
+-- The lines of the answer for a scenario.
+use Rattle.std.specs.Prelude.{ℕ, List, ◌++◌, codes}
+use Rattle.std.specs.Fmt.{decimal}
+use Rattle.item_faults.specs.declared.changes.Fault.{Fault}
+use Rattle.item_faults.specs.declared.messages.Message.{Message}
+use Rattle.item_outcomes.specs.declared.judging.Outcome.{Outcome}
+use Rattle.variant_text.specs.Faults.{faults_text}
+use Rattle.variant_text.specs.Messages.{message_name}
+use Rattle.variant_text.specs.Outcomes.{outcomes_text}
+
+-- `scenario 27 16 serving 1`: how many steps and messages a scenario has, and the station that serves its phone behind them
+unfoldable pub scenario_line : ℕ → ℕ → ℕ → List ℕ
+scenario_line steps messages serving =
+    codes "scenario " ++ (decimal steps ++ (codes " " ++ (decimal messages ++ (codes " serving " ++ (decimal serving ++ codes "\n")))))
+
+-- `message 9 X2 Handover Request`: the step that delivers a message
+unfoldable pub message_line : ℕ → Message → List ℕ
+message_line step message = codes "message " ++ (decimal step ++ (codes " " ++ (message_name message ++ codes "\n")))
+
+-- `late 9 12: stuck; not made`: a variant by its faults, and its outcomes, the worst first
+abbrev pub variant_line : List Fault → List Outcome → List ℕ
+variant_line faults outcomes = faults_text faults ++ (codes ": " ++ (outcomes_text outcomes ++ codes "\n"))
+
+-- `end 151`: how many variants there are
+unfoldable pub end_line : ℕ → List ℕ
+end_line variants = codes "end " ++ (decimal variants ++ codes "\n")

@@ -1,0 +1,10 @@
+//! The texts of a scenario's messages and of its variants, a line each.
+#![tactic(auto)]
+
+mod faults;
+mod joined;
+mod lines;
+mod messages;
+mod outcomes;
+
+pub use lines::{end_line, message_line, scenario_line, variant_line};

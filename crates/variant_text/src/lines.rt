@@ -1,0 +1,64 @@
+ghost use Rattle.growth.specs.Growth.{WasRefused};
+ghost use Rattle.std.specs.Prelude.{◌≡◌, IfOk, OnErr};
+ghost use Rattle.std.specs.String.{string_bytes};
+ghost use Rattle.variant_text.specs.Lines.{end_line, message_line, scenario_line, variant_line};
+
+use crate::faults::faults_text;
+use crate::messages::message_name;
+use crate::outcomes::outcomes_text;
+use item_faults::{Fault, Message};
+use item_outcomes::Outcome;
+use std::alloc::{AllocError, Global};
+
+/// The first line: how many steps and messages a scenario has, and the station that serves its phone behind them.
+#[tactic(auto, unfolding(crate::specs::Lines::scenario_line))]
+pub fn scenario_line(
+    alloc: Global,
+    steps: u32,
+    messages: u32,
+    serving: u8,
+) -> Result<String, AllocError>
+    ensures text { IfOk result (λ text. string_bytes text ≡ scenario_line steps messages serving) }
+    ensures refused { OnErr result WasRefused }
+{
+    growth::format(
+        alloc,
+        format_args!("scenario {steps} {messages} serving {serving}\n"),
+    )
+}
+
+/// The line of a message, by the step that delivers it.
+#[tactic(auto, unfolding(crate::specs::Lines::message_line))]
+pub fn message_line(alloc: Global, step: u32, message: Message) -> Result<String, AllocError>
+    ensures text { IfOk result (λ text. string_bytes text ≡ message_line step message) }
+    ensures refused { OnErr result WasRefused }
+{
+    let name = message_name(message);
+    growth::format(alloc, format_args!("message {step} {name}\n"))
+}
+
+/// The line of a variant: its faults, and its outcomes in this order.
+pub fn variant_line(
+    alloc: Global,
+    faults: &[Fault],
+    outcomes: &[Outcome],
+) -> Result<Vec<u8>, AllocError>
+    ensures text { IfOk result (λ text. text.items ≡ variant_line faults.now outcomes.now) }
+    ensures refused { OnErr result WasRefused }
+{
+    let mut text = faults_text(alloc, faults)?;
+    growth::extend_from_slice(&mut text, b": ")?;
+    let told = outcomes_text(alloc, outcomes)?;
+    growth::extend_from_slice(&mut text, told.as_slice())?;
+    growth::extend_from_slice(&mut text, b"\n")?;
+    Ok(text)
+}
+
+/// The last line: how many variants there are.
+#[tactic(auto, unfolding(crate::specs::Lines::end_line))]
+pub fn end_line(alloc: Global, variants: u32) -> Result<String, AllocError>
+    ensures text { IfOk result (λ text. string_bytes text ≡ end_line variants) }
+    ensures refused { OnErr result WasRefused }
+{
+    growth::format(alloc, format_args!("end {variants}\n"))
+}
