@@ -137,13 +137,23 @@ class Lines(unittest.TestCase):
             process.stdin.close()
             self.assertEqual(3, len(process.stderr.read().splitlines()))
 
-    def test_the_mistake_of_a_mac_is_named_where_the_lines_are_a_file(self) -> None:
+    def test_the_mistake_of_a_mac_is_named_by_a_file_and_a_pipe(self) -> None:
         key = "000102030405060708090a0b0c0d0e0f101112131415161718191a1b1c1d1e1f"
+        text = f"# a remark\n\nkenb {key} 0\nnas {key} 2 0 downlink 270a76966105e7a452c4b5\nsrb {key} 2 102 0 downlink 06917edc43e7c2c10c\n".encode()
+        said = (
+            "lte_sec: line 4: the MAC is wrong: it is that of the other direction\nlte_sec: line 5: text and MAC are wrong: they are those of COUNT 70\n"
+            "lte_sec: status 1: 2 lines with a MAC that fails\n"
+        )
         with tempfile.NamedTemporaryFile() as file:
-            file.write(f"# a remark\n\nkenb {key} 0\nnas {key} 2 0 downlink 270a76966105e7a452c4b5\n".encode())
+            file.write(text)
             file.flush()
-            ran = launched("calc", "--strict", file.name)
-        self.assertEqual((1, "lte_sec: line 4: the MAC is wrong: it is that of the other direction\nlte_sec: status 1: 1 line with a MAC that fails\n"), (ran.returncode, ran.stderr.decode()))
+            for ran in (launched("calc", "--strict", file.name), launched("calc", "--strict", given=text)):
+                self.assertEqual((1, said), (ran.returncode, ran.stderr.decode()))
+
+    def test_a_line_that_is_cut_where_the_copy_ends_is_not_told(self) -> None:
+        remark, line = b"# " + b"x" * 60_000 + b"\n", b"kenb " + b"0" * 64 + b" 1\n"
+        ran = launched("calc", given=remark * (16_777_216 // len(remark)) + line * 600 + b"kenb 00 0\n")
+        self.assertEqual((3, b""), (ran.returncode, ran.stderr))
 
     def test_a_mac_that_fails_is_a_status_where_it_is_asked_for(self) -> None:
         key = "000102030405060708090a0b0c0d0e0f101112131415161718191a1b1c1d1e1f"

@@ -6,10 +6,10 @@ gives them. The first mistake that gives the value names it; no answer is an emp
 from __future__ import annotations
 
 import hmac
-from collections.abc import Callable, Iterator
-from dataclasses import dataclass
+from collections.abc import Callable, Iterable, Iterator
+from dataclasses import dataclass, replace
 
-from .terms import COMPUTED, NAS_ENCRYPTION, NAS_INTEGRITY, Calls
+from .terms import COMPUTED, NAS_ENCRYPTION, NAS_INTEGRITY, RRC_ENCRYPTION, RRC_INTEGRITY, Calls
 
 KENB, NH, STAR, ALGORITHM = 0x11, 0x12, 0x13, 0x15  # FC (TS 33.401 A.3, A.4, A.5, A.7)
 SMALLER = 65536  # EARFCNs below have two octets, the others three (A.5)
@@ -218,7 +218,7 @@ def other_mac(calls: Calls, nas: Nas, value: bytes, body: bytes, tag: slice, oth
 
 @dataclass(frozen=True)
 class Srb:
-    """A message on an SRB: KRRCint and KRRCenc, whole, and what its MAC should be of; `body` is the header and the text."""
+    """A message on an SRB: KRRCint and KRRCenc, whole, and what its MAC should be of; `body` is the header and the text, ciphered by `eea`."""
 
     whole: bytes
     cipher: bytes
@@ -227,6 +227,7 @@ class Srb:
     count: int
     bearer: int
     body: bytes
+    eea: int = 0
 
 
 def srb(calls: Calls, value: bytes, it: Srb) -> str:
@@ -243,10 +244,16 @@ def srb(calls: Calls, value: bytes, it: Srb) -> str:
         ("it is reversed", lambda: make(key, it.count, it.bearer, it.direction, it.body)[::-1]),
         ("it is without the header", lambda: make(key, it.count, it.bearer, it.direction, it.body[1:])),
     ]
+    if it.eea in COMPUTED:
+        ciphered = it.body[:1] + cipher(calls, it.eea, it.cipher[16:], it.count, it.bearer, it.direction, it.body[1:])
+        tries.append(("it is over the ciphered text", lambda: make(key, it.count, it.bearer, it.direction, ciphered)))
     tries += [(f"it is that of 128-EIA{eia}", lambda eia=eia: macs(calls)[eia](key, it.count, it.bearer, it.direction, it.body)) for eia in COMPUTED if eia != it.eia]  # type: ignore[misc]
     tries += [(f"it is that of BEARER {bearer}", lambda bearer=bearer: make(key, it.count, bearer, it.direction, it.body)) for bearer in range(32) if bearer != it.bearer]  # type: ignore[misc]
-    counts = [count for far in range(1, 301) for count in (it.count - far, it.count + far) if count >= 0]
-    tries += [(f"it is that of COUNT {count}", lambda count=count: make(key, count, it.bearer, it.direction, it.body)) for count in counts]  # type: ignore[misc]
+    near = [count for far in range(1, 301) for count in (it.count - far, it.count + far) if count >= 0]
+    for count in dict.fromkeys((it.count & 31, *near)):
+        number = ", the sequence number" if count == it.count & 31 and it.count >> 5 else ""
+        if count != it.count:
+            tries.append((f"it is that of COUNT {count}{number}", lambda count=count: make(key, count, it.bearer, it.direction, it.body)))  # type: ignore[misc]
     return next((name for name, made in tries if made() == value), "")
 
 
@@ -259,29 +266,113 @@ def deciphered(calls: Calls, nas: Nas) -> bytes:
     return cipher(calls, nas.eea, key_of(calls, nas, NAS_ENCRYPTION)[16:], nas.count, 0, nas.direction, nas.pdu[6:])
 
 
+NAMES = {1: "KNASenc", 2: "KNASint", 3: "KRRCenc", 4: "KRRCint", 5: "KUPenc"}  # the keys of algorithms, by type
+
+
+@dataclass(frozen=True)
+class Ciphered:
+    """What is ciphered, or should be: the key above its key, which has this type, and what it should be ciphered by; `beside` are a type and an identity of the key beside it."""
+
+    above: bytes
+    type: int
+    eea: int
+    beside: tuple[int, int]
+    direction: int
+    count: int
+    bearer: int
+    body: bytes
+
+
+def ciphers(calls: Calls, it: Ciphered, bearers: Iterable[int], counts: Iterable[int]) -> Named:
+    """What the octets are where they were ciphered by mistake, each made only when it is asked for."""
+    def key(type: int, identity: int) -> bytes:
+        return calls.algorithm_key(it.above, type, identity)
+
+    def under(of: bytes, eea: int = it.eea, count: int = it.count, bearer: int = it.bearer, direction: int = it.direction) -> bytes:
+        return cipher(calls, eea, of, count, bearer, direction, it.body)
+
+    whole, name = key(it.type, it.eea), NAMES[it.type]
+    if it.eea in COMPUTED:
+        yield "it is not ciphered", it.body
+        yield "it is ciphered for the other direction", under(whole[16:], direction=1 - it.direction)
+        yield f"it is ciphered by the first half of {name}", under(whole[:16])
+        yield f"it is ciphered by {NAMES[it.beside[0]]}", under(key(*it.beside)[16:])
+    for eea in COMPUTED:
+        if eea != it.eea:
+            yield f"it is ciphered by 128-EEA{eea}", under(key(it.type, eea)[16:], eea)
+    for bearer in bearers if it.eea in COMPUTED else ():
+        if bearer != it.bearer:
+            yield f"it is ciphered with BEARER {bearer}", under(whole[16:], bearer=bearer)
+    for count in dict.fromkeys(counts) if it.eea in COMPUTED else ():
+        if count != it.count and count >= 0:
+            yield f"it is ciphered at COUNT {count}", under(whole[16:], count=count)
+
+
+def near(count: int) -> Iterator[int]:
+    """COUNTs near this one, the nearest first."""
+    return (other for far in range(1, 17) for other in (count - far, count + far) if other >= 0)
+
+
 def text(calls: Calls, nas: Nas, reads: Callable[[bytes], bool]) -> tuple[str, bytes]:
     """The mistake by which the text of this message was ciphered, and the text; `reads` says whether octets are a NAS message."""
-    body, key = nas.pdu[6:], key_of(calls, nas, NAS_ENCRYPTION)
-    integrity = calls.algorithm_key(nas.kasme, NAS_INTEGRITY, nas.eia)[16:]
-
-    def under(key: bytes = key[16:], eea: int = nas.eea, count: int = nas.count, bearer: int = 0, direction: int = nas.direction) -> bytes:
-        return cipher(calls, eea, key, count, bearer, direction, body)
-
-    tries: list[tuple[str, Callable[[], bytes]]] = [
-        ("it is not ciphered", lambda: body),
-        ("it is ciphered for the other direction", lambda: under(direction=1 - nas.direction)),
-        ("it is ciphered by the first half of KNASenc", lambda: under(key=key[:16])),
-        ("it is ciphered by KNASint", lambda: under(key=integrity)),
-    ]
-    for eea in COMPUTED:
-        other = calls.algorithm_key(nas.kasme, NAS_ENCRYPTION, eea)[16:]
-        tries.append((f"it is ciphered by 128-EEA{eea}", lambda eea=eea, other=other: under(key=other, eea=eea)))  # type: ignore[misc]
-    tries += [(f"it is ciphered with BEARER {bearer}", lambda bearer=bearer: under(bearer=bearer)) for bearer in (1, 2, 3, 31)]  # type: ignore[misc]
-    near = [count for far in range(1, 17) for count in (nas.count - far, nas.count + far) if count >= 0]
-    counts = [count for count in dict.fromkeys((nas.count & 255, *near, *range(300))) if count != nas.count]
-    tries += [(f"it is ciphered at COUNT {count}", lambda count=count: under(count=count)) for count in counts]  # type: ignore[misc]
-    for name, made in tries:
-        plain = made()
+    it = Ciphered(nas.kasme, NAS_ENCRYPTION, nas.eea, (NAS_INTEGRITY, nas.eia), nas.direction, nas.count, 0, nas.pdu[6:])
+    for name, plain in ciphers(calls, it, (1, 2, 3, 31), (nas.count & 255, *near(nas.count), *range(300))):
         if reads(plain) and (plain[:1] == b"\x07" or "COUNT" not in name):  # a COUNT is believed only of EMM: ESM reads by chance
             return name, plain
     return "", b""
+
+
+def radio(calls: Calls, it: Ciphered, bits: int, fits: Callable[[bytes], bool]) -> str:
+    """The mistake by which what is on a radio bearer, with so many bits of sequence number, was ciphered; `fits` says whether octets are what was meant."""
+    counts = (it.count & (1 << bits) - 1, *near(it.count), *range(300))
+    return next((name for name, plain in ciphers(calls, it, range(32), counts) if fits(plain)), "")
+
+
+# -- PDUs of SRBs
+
+
+@dataclass(frozen=True)
+class Pdu:
+    """A PDU of an SRB, and what it should be protected by; `above` is KeNB or KeNB*."""
+
+    above: bytes
+    eea: int
+    eia: int
+    direction: int
+    count: int
+    bearer: int
+    octets: bytes
+
+    def opened(self, calls: Calls) -> bytes:
+        """Text and MAC, deciphered."""
+        key = calls.algorithm_key(self.above, RRC_ENCRYPTION, self.eea)[16:]
+        return cipher(calls, self.eea, key, self.count, self.bearer, self.direction, self.octets[1:])
+
+    def is_sealed(self, calls: Calls, plain: bytes) -> bool:
+        """Whether the MAC behind this text is right."""
+        key = calls.algorithm_key(self.above, RRC_INTEGRITY, self.eia)[16:]
+        return macs(calls)[self.eia](key, self.count, self.bearer, self.direction, self.octets[:1] + plain[:-4]) == plain[-4:]
+
+    def elsewhere(self) -> Iterator[tuple[str, Pdu]]:
+        """The same for another direction, BEARER or COUNT."""
+        yield "of the other direction", replace(self, direction=1 - self.direction)
+        yield from ((f"of BEARER {bearer}", replace(self, bearer=bearer)) for bearer in range(32) if bearer != self.bearer)
+        counts = dict.fromkeys((self.count & 31, *near(self.count), *range(self.count & 31, self.count + 1024, 32)))
+        yield from ((f"of COUNT {count}", replace(self, count=count)) for count in counts if count != self.count)
+
+
+def pdu(calls: Calls, it: Pdu, wanted: bytes | None = None) -> str:
+    """The mistake by which a PDU of an SRB does not open, of its MAC or of its ciphering or of both; `wanted` is its text, if it is known."""
+    plain = it.opened(calls)
+    if it.eia not in COMPUTED or len(plain) < 4 or it.is_sealed(calls, plain):
+        return ""
+    whole, key = (calls.algorithm_key(it.above, type, identity) for type, identity in ((RRC_INTEGRITY, it.eia), (RRC_ENCRYPTION, it.eea)))
+    found = srb(calls, plain[-4:], Srb(whole, key, it.eia, it.direction, it.count, it.bearer, it.octets[:1] + plain[:-4], it.eea))
+    if found:
+        return f"MAC-I: {found}"
+    of_text = Ciphered(it.above, RRC_ENCRYPTION, it.eea, (RRC_INTEGRITY, it.eia), it.direction, it.count, it.bearer, it.octets[1:])
+    found = radio(calls, of_text, 5, lambda plain: it.is_sealed(calls, plain) or plain[:-4] == wanted)
+    if found:
+        return f"text: {found}"
+    of_both = (name for name, other in it.elsewhere() if other.is_sealed(calls, other.opened(calls))) if it.eea in COMPUTED else iter(())
+    return next((f"text and MAC-I: they are those {name}" for name in of_both), "")

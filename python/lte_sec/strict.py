@@ -1,7 +1,7 @@
 """`./lte_sec calc --strict`: `PROGRAM` answers the lines on standard input, and the status is 1 if a MAC failed.
 
-The answers are passed on as they come. A line that is bad, or another fault of the program, keeps its own status. Where the lines are a
-file, the mistake by which the MAC of a line `nas` or `srb` is wrong is said behind them.
+The answers are passed on as they come. A line that is bad, or another fault of the program, keeps its own status. The mistake by which the MAC
+of a line `nas` or `srb` is wrong is said behind them. For this the lines are read again, from the file that they are or from the launcher's copy.
 """
 from __future__ import annotations
 
@@ -10,6 +10,7 @@ import re
 import stat
 import subprocess
 import sys
+from pathlib import Path
 
 from lte_sec import reasons
 from lte_sec.derive import Calc
@@ -18,18 +19,27 @@ from lte_sec.ending import WRITING
 from lte_sec.terms import Calls
 
 FAILS = (b"mac fails", b"no count")
-FAILED = re.compile(rb"mac fails (\d+) wanted [0-9a-f]{8} got ([0-9a-f]{8}) text ([0-9a-f]+|-)")
+FAILED = re.compile(rb"mac fails (\d+) wanted [0-9a-f]{8} got [0-9a-f]{8} text (?:[0-9a-f]+|-)")
 MOST, MOST_TOLD = 16_777_216, 20  # octets of a file that is read again; lines that are told
-RRC_ENCRYPTION, RRC_INTEGRITY = 3, 4
+COPY = "LTE_SEC_COPY"  # a variable: the file into which the launcher copies lines that come through a pipe
 
 
-def lines_again() -> list[tuple[int, list[str]]]:
-    """The lines that have answers, with their numbers, where the standard input is a file."""
+def is_file() -> bool:
+    """Whether the standard input is a file that is read from its beginning."""
     try:
-        text = os.pread(0, MOST, 0) if stat.S_ISREG(os.fstat(0).st_mode) else b""
+        return stat.S_ISREG(os.fstat(0).st_mode) and os.lseek(0, 0, os.SEEK_CUR) == 0
+    except OSError:
+        return False
+
+
+def lines_again(from_file: bool) -> list[tuple[int, list[str]]]:
+    """The lines that have answers, with their numbers: of the file that they are, or of their copy. A line that is cut there is left out."""
+    try:
+        text = os.pread(0, MOST, 0) if from_file else Path(os.environ[COPY]).read_bytes()[:MOST] if COPY in os.environ else b""
     except OSError:
         text = b""
-    return [(number, line.decode(errors="replace").split(" ")) for number, line in enumerate(text.split(b"\n"), 1) if line and not line.startswith(b"#")]
+    lines = text.split(b"\n")[: -1 if len(text) >= MOST else None]
+    return [(number, line.decode(errors="replace").split(" ")) for number, line in enumerate(lines, 1) if line and not line.startswith(b"#")]
 
 
 def mistake(calls: Calls, words: list[str], answer: bytes) -> str:
@@ -41,15 +51,15 @@ def mistake(calls: Calls, words: list[str], answer: bytes) -> str:
     identities, count, key = (int(eea), int(eia or "2")), int(found[1]), bytes.fromhex(words[1])
     direction, pdu = int(words[-2] == "downlink"), bytes.fromhex(words[-1])
     if words[0] == "nas":
-        return reasons.mac(calls, reasons.Nas(key, *identities, direction, count, pdu))
-    whole, cipher = (calls.algorithm_key(key, type, identity) for type, identity in ((RRC_INTEGRITY, identities[1]), (RRC_ENCRYPTION, identities[0])))
-    body = pdu[:1] + bytes.fromhex(found[3].decode().replace("-", ""))
-    return reasons.srb(calls, bytes.fromhex(found[2].decode()), reasons.Srb(whole, cipher, identities[1], direction, count, int(words[4]), body))
+        why = reasons.mac(calls, reasons.Nas(key, *identities, direction, count, pdu))
+        return f"the MAC is wrong: {why}" if why else ""
+    what, _, why = reasons.pdu(calls, reasons.Pdu(key, *identities, direction, count, int(words[4]), pdu)).replace("MAC-I", "MAC", 1).partition(": ")
+    return f"{what} are wrong: {why}" if " and " in what else f"the {what} is wrong: {why}" if why else ""
 
 
-def told(command: list[str], failed: list[tuple[int, bytes]]) -> None:
+def told(command: list[str], failed: list[tuple[int, bytes]], from_file: bool) -> None:
     """Says why MACs are wrong, of each answer by its place among them."""
-    lines = lines_again()
+    lines = lines_again(from_file)
     places = [(place, answer) for place, answer in failed[:MOST_TOLD] if place < len(lines)]
     if not places:
         return
@@ -58,11 +68,12 @@ def told(command: list[str], failed: list[tuple[int, bytes]]) -> None:
         number, words = lines[place]
         why = mistake(calls, words, answer)
         if why:
-            print(f"lte_sec: line {number}: the MAC is wrong: {why}", file=sys.stderr)
+            print(f"lte_sec: line {number}: {why}", file=sys.stderr)
     calls.close()
 
 
 def main(command: list[str]) -> int:
+    from_file = is_file()
     process = subprocess.Popen(command, stdout=subprocess.PIPE)
     assert process.stdout
     failed, count, rest = list[tuple[int, bytes]](), 0, b""
@@ -80,7 +91,7 @@ def main(command: list[str]) -> int:
     if status == 1:
         print("lte_sec: status 1: memory ran out", file=sys.stderr)
     if status == 0 and failed:
-        told(command, failed)
+        told(command, failed, from_file)
         print(f"lte_sec: status 1: {len(failed)} line{'' if len(failed) == 1 else 's'} with a MAC that fails", file=sys.stderr)
         return 1
     return status if status >= 0 else 128 - status

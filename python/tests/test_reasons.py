@@ -2,7 +2,10 @@
 from __future__ import annotations
 
 import hmac
+import os
+import tempfile
 import unittest
+from unittest import mock
 
 from lte_sec import reasons, strict
 from lte_sec.reasons import Nas
@@ -56,6 +59,56 @@ class OnAnSrb(unittest.TestCase):
         self.assertEqual(reasons.srb(CALLS, right, reasons.Srb(whole, cipher, 0, 0, 7, 1, body)), "")
 
 
+ON_SRB = bytes.fromhex("0748aabb")
+RRC_ENCRYPTION, RRC_INTEGRITY = (CALLS.algorithm_key(KEY, type, 2) for type in (3, 4))
+
+
+def pdu(eea: int = 2, count: int = 70, bearer: int = 0, direction: int = 1, cipher_key: bytes | None = None) -> bytes:
+    """A PDU of an SRB under KEY as KeNB, sealed so."""
+    head = bytes([count & 31])
+    made = CALLS.eia2(RRC_INTEGRITY[16:], count, bearer, direction, head + ON_SRB)
+    key = CALLS.algorithm_key(KEY, 3, eea)[16:] if cipher_key is None else cipher_key
+    return head + reasons.cipher(CALLS, eea, key, count, bearer, direction, ON_SRB + made)
+
+
+def with_mac(made: bytes) -> bytes:
+    """The PDU with this MAC, ciphered right."""
+    return b"\6" + CALLS.eea2(RRC_ENCRYPTION[16:], 70, 0, 1, ON_SRB + made)
+
+
+def ciphered_so(count: int = 70, bearer: int = 0, direction: int = 1) -> bytes:
+    """The PDU with its own MAC, ciphered so."""
+    return b"\6" + CALLS.eea2(RRC_ENCRYPTION[16:], count, bearer, direction, ON_SRB + CALLS.eia2(RRC_INTEGRITY[16:], 70, 0, 1, b"\6" + ON_SRB))
+
+
+PDUS = {  # by what is wrong, at COUNT 70, BEARER 0, down
+    "": pdu(),
+    "MAC-I: it is that of the other direction": with_mac(CALLS.eia2(RRC_INTEGRITY[16:], 70, 0, 0, b"\6" + ON_SRB)),
+    "MAC-I: it is that of COUNT 6, the sequence number": with_mac(CALLS.eia2(RRC_INTEGRITY[16:], 6, 0, 1, b"\6" + ON_SRB)),
+    "MAC-I: it is over the ciphered text": with_mac(CALLS.eia2(RRC_INTEGRITY[16:], 70, 0, 1, b"\6" + CALLS.eea2(RRC_ENCRYPTION[16:], 70, 0, 1, ON_SRB))),
+    "text: it is not ciphered": pdu()[:1] + CALLS.eea2(RRC_ENCRYPTION[16:], 70, 0, 1, pdu()[1:]),
+    "text: it is ciphered for the other direction": ciphered_so(direction=0),
+    "text: it is ciphered by the first half of KRRCenc": pdu(cipher_key=RRC_ENCRYPTION[:16]),
+    "text: it is ciphered by KRRCint": pdu(cipher_key=RRC_INTEGRITY[16:]),
+    "text: it is ciphered by 128-EEA1": pdu(eea=1),
+    "text: it is ciphered with BEARER 1": ciphered_so(bearer=1),
+    "text: it is ciphered at COUNT 6": ciphered_so(count=6),
+    "text: it is ciphered at COUNT 71": ciphered_so(count=71),
+    "text and MAC-I: they are those of the other direction": pdu(direction=0),
+    "text and MAC-I: they are those of BEARER 1": pdu(bearer=1),
+    "text and MAC-I: they are those of COUNT 6": pdu(count=6),
+    "text and MAC-I: they are those of COUNT 102": pdu(count=102),
+}
+
+
+class Pdus(unittest.TestCase):
+    def test_each_mistake_of_a_pdu_is_named(self) -> None:
+        for why, octets in PDUS.items():
+            self.assertEqual(why, reasons.pdu(CALLS, reasons.Pdu(KEY, 2, 2, 1, 70, 0, octets)))
+        self.assertEqual("text: it is ciphered by 128-EEA2", reasons.pdu(CALLS, reasons.Pdu(KEY, 0, 2, 1, 70, 0, pdu())))
+        self.assertEqual("", reasons.pdu(CALLS, reasons.Pdu(KEY, 2, 2, 1, 70, 0, bytes(9))))
+
+
 class Strict(unittest.TestCase):
     """The mistake of a line of calc by its answer; the answers here are made by the stand-in."""
 
@@ -65,12 +118,27 @@ class Strict(unittest.TestCase):
         body = b"\5" + bytes.fromhex("0748")
         right, wrong = CALLS.eia2(integrity, 5, 0, 0, body), CALLS.eia2(integrity, 5, 0, 1, body)
         answer = f"mac fails 5 wanted {right.hex()} got {wrong.hex()} text 0748".encode()
-        self.assertEqual(strict.mistake(CALLS, ["nas", kasme, "0", "5", "uplink", (b"\x17" + wrong + body).hex()], answer), "it is that of the other direction")
+        self.assertEqual(strict.mistake(CALLS, ["nas", kasme, "0", "5", "uplink", (b"\x17" + wrong + body).hex()], answer), "the MAC is wrong: it is that of the other direction")
         key = CALLS.algorithm_key(KASME, 4, 2)[16:]
         right, wrong = (CALLS.eia2(key, 5, bearer, 1, b"\5\7") for bearer in (0, 1))
         answer = f"mac fails 5 wanted {right.hex()} got {wrong.hex()} text 07".encode()
-        self.assertEqual(strict.mistake(CALLS, ["srb", kasme, "0/2", "5", "0", "downlink", (b"\5\7" + wrong).hex()], answer), "it is that of BEARER 1")
+        self.assertEqual(strict.mistake(CALLS, ["srb", kasme, "0/2", "5", "0", "downlink", (b"\5\7" + wrong).hex()], answer), "the MAC is wrong: it is that of BEARER 1")
         self.assertEqual(strict.mistake(CALLS, ["service-request", kasme, "5", "c70512ab"], b"mac fails 5 wanted 1234 got 12ab"), "")
+        answer = b"mac fails 70 wanted 01020304 got 05060708 text 0748aabb"
+        for why, octets in PDUS.items():
+            found = strict.mistake(CALLS, ["srb", KEY.hex(), "2", "70", "0", "downlink", octets.hex()], answer)
+            what, _, rest = why.replace("MAC-I", "MAC", 1).partition(": ")
+            self.assertEqual(f"{what} are wrong: {rest}" if "and" in what else f"the {what} is wrong: {rest}" if why else "", found)
+
+    def test_lines_are_read_again_from_a_file_or_a_copy(self) -> None:
+        with tempfile.NamedTemporaryFile() as file, mock.patch.dict(os.environ, {strict.COPY: file.name}):
+            file.write(b"# a\nkenb x\n\nnas y\n")
+            file.flush()
+            self.assertEqual([(2, ["kenb", "x"]), (4, ["nas", "y"])], strict.lines_again(False))
+            with mock.patch.object(strict, "MOST", 12):  # the line that is cut there is left out
+                self.assertEqual([(2, ["kenb", "x"])], strict.lines_again(False))
+        with mock.patch.dict(os.environ, {strict.COPY: "/nowhere"}):
+            self.assertEqual([], strict.lines_again(False))
 
 
 class Keys(unittest.TestCase):
