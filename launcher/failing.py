@@ -17,6 +17,7 @@ SCENARIO, REPORT = EXAMPLES / "run/ordinary.toml", EXAMPLES / "run/ordinary.out"
 TRACE, KASME = EXAMPLES / "traces/A.json.gz", "e61a3129c8e399d6dd3cec512a9c671da2004c5e8e780d3df853bb3055ee7cba"
 PAGE = pathlib.Path(tempfile.gettempdir()) / f"lte_sec-page-{os.getpid()}.html"
 READ_FAILS, WRITE_FAILS, INTERRUPTED = 4, 5, 130
+SECONDS = 600  # that a call may take, on a busy machine
 
 # Each word, as it is called, and its standard input where it reads that.
 READERS: dict[str, tuple[list[str | pathlib.Path], pathlib.Path]] = {
@@ -70,12 +71,19 @@ def calls() -> Iterator[tuple[str, list[str | pathlib.Path], pathlib.Path | None
         yield word, [*word.split(), *words], None
 
 
-def ends(words: list[str | pathlib.Path], more: str, text: pathlib.Path | None) -> tuple[int, str]:
-    """The status of the launcher with these words and redirections of a shell, and what it says on standard error."""
+def ends(words: list[str | pathlib.Path], more: str, text: pathlib.Path | None, out: int | None = None) -> tuple[int, str]:
+    """The status of the launcher with these words, redirections of a shell and output, and what it says on standard error."""
     shell: list[str | pathlib.Path] = ["bash", "-c", f'set -o pipefail; "$@" {more}', "bash", TOP / "lte_sec", *words]
     with open(text or os.devnull, "rb") as given:
-        ran = subprocess.run(shell, stdin=given, stdout=subprocess.PIPE, stderr=subprocess.PIPE, text=True, timeout=600)
+        ran = subprocess.run(shell, stdin=given, stdout=subprocess.PIPE if out is None else out, stderr=subprocess.PIPE, text=True, timeout=SECONDS)
     return ran.returncode, ran.stderr
+
+
+def unread() -> int:
+    """The end of a pipe whose other end is closed, as by a reader that has read enough."""
+    reads, writes = os.pipe()
+    os.close(reads)
+    return writes
 
 
 class Failing(unittest.TestCase):
@@ -83,9 +91,9 @@ class Failing(unittest.TestCase):
     def tearDownClass(cls) -> None:
         PAGE.unlink(missing_ok=True)
 
-    def each(self, more: str, wanted: int, lines: int, words: list[tuple[str, list[str | pathlib.Path], pathlib.Path | None]]) -> None:
+    def each(self, more: str, wanted: int, lines: int, words: list[tuple[str, list[str | pathlib.Path], pathlib.Path | None]], out: int | None = None) -> None:
         with concurrent.futures.ThreadPoolExecutor() as pool:
-            for (word, *_), (status, said) in zip(words, pool.map(lambda it: ends(it[1], more, it[2]), words)):
+            for (word, *_), (status, said) in zip(words, pool.map(lambda it: ends(it[1], more, it[2], out), words)):
                 with self.subTest(word=word, more=more):
                     told = [line for line in said.splitlines() if "built without proof" not in line and " runs, " not in line]
                     self.assertNotIn("Traceback", said)
@@ -98,7 +106,11 @@ class Failing(unittest.TestCase):
         self.each(">&-", WRITE_FAILS, 1, list(calls()))
 
     def test_a_reader_that_has_read_enough_is_status_5_and_no_line(self) -> None:
-        self.each("> >(exec true; sleep 0)", WRITE_FAILS, 0, [it for it in calls() if it[0] in ("verdict", "vectors", "--help", "run --help", "check-trace")])
+        out = unread()
+        try:
+            self.each("", WRITE_FAILS, 0, [it for it in calls() if it[0] in ("verdict", "vectors", "--help", "run --help", "check-trace")], out)
+        finally:
+            os.close(out)
 
     def test_a_closed_input_is_status_4_and_one_line(self) -> None:
         self.each("<&-", READ_FAILS, 1, [it for it in calls() if it[2]])
@@ -121,7 +133,7 @@ class Failing(unittest.TestCase):
                 else:
                     process.stdout.read(1)
                 os.killpg(process.pid, signal.SIGINT)
-                said = process.communicate(timeout=60)[1].decode()
+                said = process.communicate(timeout=SECONDS)[1].decode()
                 self.assertNotIn("Traceback", said)
                 self.assertEqual(INTERRUPTED, process.returncode, said)
 

@@ -36,7 +36,7 @@ class WrongPhone(phone.Phone):
 
 def main() -> None:
     # A process of its own below it, as a product's program may have: it is not to be left either.
-    helper = subprocess.Popen(["sleep", "60"])
+    helper = subprocess.Popen(["sleep", "1000"])
     for number in (os.getpid(), helper.pid):
         open(f"{FOLDER}/{number}", "w").close()
     if HOW == "says no port":

@@ -25,7 +25,7 @@ from typing import IO
 from lte_sec import frames, mistakes, records, scenarios
 from lte_sec.ending import READING, WRITING, InputFails, answers
 from lte_sec.patient import Relays
-from lte_sec.peers import PeerFault
+from lte_sec.peers import TO_SAY, PeerFault
 
 VERSION = 1  # of the document that --json prints
 FAULT, DIFFERS_AT = 6, 8  # statuses: an actor failed, a reply differs
@@ -99,8 +99,8 @@ def variables(words: list[str]) -> dict[str, str]:
 
 # A shell between the program, which stops an actor that failed at once, and the actor, which may still be writing why it did.
 OUTLIVES = ("/bin/sh", "-c", '"$@" & wait', "sh")
-TIME_TO_SAY = 1  # seconds that what an actor writes to standard error may take when the program has ended
-PATIENCE = 10  # seconds that the program waits for a reply
+PATIENCE, LATE = 10, 2  # seconds that the program waits for a reply; and that may go by here, on a busy machine, before the line above it is read
+TO_HEAR = 20  # seconds that what is left on standard error may take when all has ended, on a busy machine
 
 
 def outliving(found: dict[str, str]) -> dict[str, str]:
@@ -172,10 +172,10 @@ class Driven:
         hearing.start()
         self.print_on(self.process.stdout)
         status = self.process.wait()
-        if status == 6:
-            hearing.join(TIME_TO_SAY)
+        if status == FAULT:
+            hearing.join(TO_SAY)
         self.end()
-        hearing.join(1)
+        hearing.join(TO_HEAR)
         return status if status >= 0 else 128 - status
 
     def tell(self) -> None:
@@ -192,7 +192,7 @@ class Driven:
 
     def failure(self) -> str:
         """How an actor failed, and where."""
-        is_silent = self.failed_at - self.read_last >= PATIENCE
+        is_silent = self.failed_at - self.read_last >= PATIENCE - LATE
         how = f"it was silent for {PATIENCE} seconds, where a reply was due" if is_silent else "it closed the connection before it gave a whole reply"
         return f"{place_of(self.step())}, {self.failed.decode()}: {self.how or how}"
 

@@ -13,7 +13,7 @@ import subprocess
 import threading
 import time
 
-from lte_sec.peers import Peer, PeerFault
+from lte_sec.peers import TO_SAY, Peer, PeerFault
 
 TURN, PIECE = 0.05, 65536  # seconds between two looks at who has ended; octets that are read at once
 STARTS = 10  # seconds that an actor has at least until it has said its port
@@ -139,7 +139,7 @@ class Relay:
         self.is_over.set()
         self.listener.close()
         with contextlib.suppress(subprocess.TimeoutExpired):
-            self.peer.process.wait(1 if self.is_closed else 0)
+            self.peer.process.wait(TO_SAY if self.is_closed else 0)
         self.peer.end()
 
 

@@ -11,6 +11,7 @@ import tempfile
 import time
 
 MOST_SAID = 2000  # octets of standard error that are told
+TO_SAY = 5  # seconds that an actor which closed its connection has to say why, if it does not end before
 
 
 class PeerFault(Exception):
@@ -88,7 +89,7 @@ class Peer:
     def words(self) -> str:
         """The end of what it wrote to standard error; one that closed may still be writing why."""
         with contextlib.suppress(subprocess.TimeoutExpired):
-            self.process.wait(1)
+            self.process.wait(TO_SAY)
         size = self.said.seek(0, os.SEEK_END)
         self.said.seek(max(0, size - MOST_SAID))
         return self.said.read().decode(errors="replace").strip()

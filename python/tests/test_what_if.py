@@ -8,7 +8,6 @@ import json
 import signal
 import subprocess
 import tempfile
-import time
 import tomllib
 import unittest
 import unittest.mock
@@ -315,12 +314,14 @@ class Answers(unittest.TestCase):
 
     def test_interrupted_it_tells_what_it_has(self) -> None:
         call = subprocess.Popen(
-            [TOP / "lte_sec", "what-if", "--faults", "2", EXAMPLES / "what-if/ten-handovers.toml"], stdout=subprocess.PIPE, stderr=subprocess.PIPE, text=True, start_new_session=True,
+            [TOP / "lte_sec", "what-if", "--faults", "2", "--jobs", "2", EXAMPLES / "what-if/ten-handovers.toml"], stdout=subprocess.PIPE, stderr=subprocess.PIPE, text=True, start_new_session=True,
             preexec_fn=lambda: signal.signal(signal.SIGINT, signal.SIG_DFL),  # what a script starts in the background ignores it
         )
-        time.sleep(4)
+        assert call.stderr
+        said = next((line for line in call.stderr if "variants of 2 faults" in line), "")  # it is at work, and has more to do
         call.send_signal(signal.SIGINT)
-        out, err = call.communicate(timeout=60)
+        out, err = call.communicate(timeout=600)
+        self.assertTrue(said, err)
         self.assertEqual(call.returncode, 130)
         self.assertIn("status 130: interrupted", err)
         self.assertTrue(out.startswith("step message"), out[:80])
