@@ -10,11 +10,11 @@ import contextlib
 import dataclasses
 import json
 import os
+import pathlib
 import re
 import shlex
 import shutil
 import signal
-import stat
 import subprocess
 import sys
 import tempfile
@@ -23,15 +23,16 @@ import time
 from typing import IO
 
 from lte_sec import frames, mistakes, records, scenarios
-from lte_sec.ending import READING, WRITING, InputFails, answers
+from lte_sec.ending import HEAD, READING, WRITING, InputFails, answers
 from lte_sec.patient import Relays
 from lte_sec.peers import TO_SAY, PeerFault
 
 VERSION = 1  # of the document that --json prints
-FAULT, DIFFERS_AT = 6, 8  # statuses: an actor failed, a reply differs
+REFUSED, FAULT, DIFFERS_AT = 3, 6, 8  # statuses: the text is no scenario, an actor failed, a reply differs
 ANSWERS = (0, FAULT, 7, DIFFERS_AT)  # statuses with a report
 NO_ANSWER = {1: "memory ran out", READING: "reading the input failed", 9: "the input has more than 16,777,216 octets"}
 MOST = 16_777_216  # octets of a scenario
+REASONS = pathlib.Path(__file__).resolve().parents[2] / "launcher" / "reasons"
 OPTIONS = {"--phone": "LTE_SEC_PHONE", "--station": "LTE_SEC_STATION", "--core": "LTE_SEC_CORE"}
 STATIONS = [str(number) for number in range(8)]
 OTHER = re.compile(rb"lte_sec: (phone|core|station [0-7]): (.*)\n")  # how an actor failed before its first reply
@@ -117,7 +118,7 @@ class Driven:
     """The program, in a group of processes of its own, so that it ends with all that it started."""
 
     def __init__(self, command: list[str], more: dict[str, str], is_kept: bool, text: IO[bytes] | None = None, printed: int = 0):
-        """Starts it, with this text or the standard input; so many lines of the report are printed already."""
+        """Starts it, with this text; so many lines of the report are printed already."""
         self.last, self.whose, self.rest, self.failed = b"", b"", b"", b""
         self.said: list[str] = []
         self.printed, self.how = printed, ""
@@ -241,15 +242,6 @@ class Difference:
         return [f"{place_of(self.step)}, {self.actor}: {part}" for part in self.told]
 
 
-def given(descriptor: int = 0) -> bytes:
-    """The scenario, where it is a file, which can be read a second time."""
-    try:
-        size = os.fstat(descriptor).st_size if stat.S_ISREG(os.fstat(descriptor).st_mode) else 0
-        return os.pread(descriptor, size, 0)
-    except OSError:
-        return b""
-
-
 def steps_of(scenario: bytes) -> list[scenarios.Step]:
     try:
         return scenarios.read(scenario).steps
@@ -300,11 +292,9 @@ def difference_of(line: bytes, whose: bytes, rest: bytes) -> Difference | None:
 
 
 def with_mistake(found: Difference, driven: Driven, program: str, scenario: bytes) -> Difference:
-    """The difference, with the mistake by which the first key that differs was made."""
+    """The difference, with the mistake by which the first key that differs was made, or a MAC or a ciphered text."""
     replies = replies_of(driven.last, driven.rest)
-    if replies is None or not scenario:
-        return found
-    return dataclasses.replace(found, told=[*found.told, *mistakes.of_reply(mistakes.rows_by_run(program, scenario), replies[1], replies[2], found.actor.split()[0])])
+    return dataclasses.replace(found, told=[*found.told, *mistakes.of_reply(program, scenario, *replies, found.actor)]) if replies else found
 
 
 def document(status: int, report: list[str], found: Difference | None, failed: dict[str, object] | None) -> dict[str, object]:
@@ -324,35 +314,37 @@ def commands(more: dict[str, str], octets: bytes) -> dict[str, list[str]]:
 
 
 class Run:
-    """A run of the program, or several where an actor takes longer than it waits; what was started is ended with it."""
+    """A run of the program over a scenario, or several where an actor takes longer than it waits; what was started is ended with it."""
 
-    def __init__(self, command: list[str], options: Options):
-        self.command, self.options = command, options
+    def __init__(self, command: list[str], options: Options, scenario: bytes = b""):
+        self.command, self.options, self.scenario = command, options, scenario
         self.driven: Driven | None = None
         self.relays: Relays | None = None
 
-    def once(self) -> tuple[int, Driven, bytes]:
-        self.driven = Driven(self.command, outliving(self.options.more), self.options.is_json)
-        return self.driven.run(), self.driven, given()
-
-    def patiently(self, seconds: float) -> tuple[int, Driven, bytes]:
-        """As `once`, where actors may be silent for so long."""
+    def run(self) -> tuple[int, Driven]:
         with tempfile.TemporaryFile() as text:
-            octets = sys.stdin.buffer.read(MOST + 1)
-            text.write(octets)
+            text.write(self.scenario)
             text.flush()
-            self.relays = Relays(commands(self.options.more, octets), seconds)
-            printed = 0
-            while True:
-                self.driven = Driven(self.command, self.options.more | self.relays.variables(), self.options.is_json, text, printed)
-                self.relays.begin()
-                status = self.driven.run()
-                self.relays.finish()
-                late = self.relays.of.get(self.driven.failed.decode()) if status == FAULT else None
-                if self.driven.is_unwritten or late is None or not late.comes():
-                    self.driven.how = late.failure() if late else ""
-                    return status, self.driven, given(text.fileno())
-                printed = len(self.driven.lines)
+            return self.once(text) if self.options.seconds is None else self.patiently(text, self.options.seconds)
+
+    def once(self, text: IO[bytes]) -> tuple[int, Driven]:
+        self.driven = Driven(self.command, outliving(self.options.more), self.options.is_json, text)
+        return self.driven.run(), self.driven
+
+    def patiently(self, text: IO[bytes], seconds: float) -> tuple[int, Driven]:
+        """As `once`, where actors may be silent for so long."""
+        self.relays = Relays(commands(self.options.more, self.scenario), seconds)
+        printed = 0
+        while True:
+            self.driven = Driven(self.command, self.options.more | self.relays.variables(), self.options.is_json, text, printed)
+            self.relays.begin()
+            status = self.driven.run()
+            self.relays.finish()
+            late = self.relays.of.get(self.driven.failed.decode()) if status == FAULT else None
+            if self.driven.is_unwritten or late is None or not late.comes():
+                self.driven.how = late.failure() if late else ""
+                return status, self.driven
+            printed = len(self.driven.lines)
 
     def end(self) -> None:
         if self.driven:
@@ -361,35 +353,77 @@ class Run:
             self.relays.end()
 
 
+def printed(document: dict[str, object]) -> bool:
+    """Prints a document; whether it was written."""
+    answers()
+    try:
+        put(1, json.dumps(document, indent=1).encode() + b"\n")
+    except OSError:
+        return False
+    return True
+
+
+def refusal(program: str, scenario: bytes) -> str:
+    """Why the program refuses a scenario, as the launcher says it; nothing where no reason is found."""
+    said = subprocess.run([sys.executable, str(REASONS), "text", program, "drive"], input=scenario, stdout=subprocess.DEVNULL, stderr=subprocess.PIPE).stderr
+    return HEAD.sub("", said.decode(errors="replace").strip())
+
+
+def no_answer(status: int, report: list[str], program: str, scenario: bytes) -> dict[str, object]:
+    """The document where there is no report: why, the status, and what the program printed."""
+    why = refusal(program, scenario) if status == REFUSED else NO_ANSWER.get(status)
+    return {"error": why or "".join(report[-1:]), "status": status, "report": report}
+
+
 def answered(run: Run) -> int:
     """Runs, and tells what there is to tell; the status."""
-    seconds = run.options.seconds
-    status, driven, scenario = run.once() if seconds is None else run.patiently(seconds)
+    status, driven = run.run()
     driven.tell()
     if driven.is_unwritten:
         return WRITING  # the launcher says so
+    program = run.command[0]
     found = difference_of(driven.last, driven.whose, driven.rest) if status == DIFFERS_AT else None
-    found = with_mistake(with_cell(found, steps_of(scenario), driven.lines), driven, run.command[0], scenario) if found else None
+    found = with_mistake(with_cell(found, steps_of(run.scenario), driven.lines), driven, program, run.scenario) if found else None
     for line in found.lines() if found else ():
         print(f"lte_sec: {line}", file=sys.stderr)
     if driven.report is not None:
         failed = driven.fault() if status == FAULT else None
-        told = document(status, driven.report, found, failed) if status in ANSWERS else {"error": NO_ANSWER.get(status) or "".join(driven.report[-1:]), "status": status}
-        answers()
-        try:
-            put(1, json.dumps(told, indent=1).encode() + b"\n")
-        except OSError:
+        told = document(status, driven.report, found, failed) if status in ANSWERS else no_answer(status, driven.report, program, run.scenario)
+        if not printed(told):
             return WRITING  # the launcher says so
     return status
+
+
+def has_stations(more: dict[str, str], scenario: bytes) -> None:
+    """Says where a command is for a station that the scenario lacks."""
+    try:
+        there = [str(number) for number in scenarios.read(scenario).stations]
+    except (scenarios.NoScenario, UnicodeDecodeError, LookupError, TypeError, AttributeError):
+        return  # the program says what is wrong with it
+    for name in more:
+        number = name.removeprefix("LTE_SEC_STATION_")
+        if number in STATIONS and number not in there:
+            raise WrongWords(f"--station {number}=CMD: the scenario has no station {number}, but {listed(there)}")
+
+
+def listed(names: list[str]) -> str:
+    return " and ".join([", ".join(names[:-1]), *names[-1:]] if len(names) > 1 else names) or "none"
 
 
 def main() -> int:
     parts = sys.argv.index("--")
     try:
-        run = Run(sys.argv[parts + 1:], Options.read(sys.argv[1:parts]))
+        options = Options.read(sys.argv[1:parts])
+        scenario = sys.stdin.buffer.read(MOST + 1)
+        has_stations(options.more, scenario)
+        run = Run(sys.argv[parts + 1:], options, scenario)
     except WrongWords as why:
         print(f"lte_sec: status 2: {why}", file=sys.stderr)
         return 2
+    except InputFails:
+        if options.is_json:
+            printed({"error": NO_ANSWER[READING], "status": READING})
+        return READING  # the launcher says so
 
     def stopped(number: int, _: object) -> None:
         run.end()
@@ -402,8 +436,6 @@ def main() -> int:
     except PeerFault as why:
         print(f"lte_sec: {why}", file=sys.stderr)
         return FAULT
-    except InputFails:
-        return READING  # the launcher says so
     finally:
         run.end()
 

@@ -1,11 +1,15 @@
-"""Why a key of a driven actor is not the wanted one: the mistakes of `reasons`, from the keys of the same scenario's own run."""
+"""Why a reply of a driven actor is not the wanted one: the mistakes of `reasons`, from the keys of the same scenario's own run."""
 from __future__ import annotations
 
 import subprocess
 from collections.abc import Iterator
 
-from lte_sec import frames, reasons, records
+from lte_sec import frames, reasons, records, scenarios, unsealed
+from lte_sec.derive import Calc, proved_calls
 from lte_sec.ladders import Row, rows_of
+from lte_sec.network import NoRecord
+from lte_sec.peers import PeerFault
+from lte_sec.terms import TraceError
 
 STARRED = ("kenb", "nh", "star")  # rows of keys that a KeNB* is made of
 
@@ -50,12 +54,19 @@ def derived(word: str, above: bytes, first: int, second: int) -> bytes:
     return reasons.kdf(above, reasons.STAR, first.to_bytes(2, "big"), second.to_bytes(2 if second < reasons.SMALLER else 3, "big"))
 
 
-def of_reply(rows: dict[int, Row], wanted: bytes, got: bytes, role: str) -> list[str]:
-    """The mistake of the first key of a reply that differs, by the name of that key: those behind it are made of it."""
+def of_reply(program: str, scenario: bytes, step: int | None, wanted: bytes, got: bytes, actor: str) -> list[str]:
+    """The mistake of the first key of a reply that differs, or else of its record or its refusal: what stands behind a key is made of it."""
     try:
         want, have = (frames.read_reply(frames.unframed(octets)) for octets in (wanted, got))
     except frames.BadFrame:
         return []
+    rows = rows_by_run(program, scenario)
+    is_of_key = any(key != value for key, value in zip(want.derived, have.derived))
+    return of_keys(rows, want, have, actor.split()[0]) if is_of_key else of_message(program, scenario, rows, step, want, have, actor)
+
+
+def of_keys(rows: dict[int, Row], want: frames.Reply, have: frames.Reply, role: str) -> list[str]:
+    """The mistake of the first key that differs, by the name of that key."""
     names = records.derivation_names(role, want)
     by_key = {row.key: row for row in rows.values()}
     for place, (key, value) in enumerate(zip(want.derived, have.derived)):
@@ -64,3 +75,18 @@ def of_reply(rows: dict[int, Row], wanted: bytes, got: bytes, role: str) -> list
             found = of_key(rows, row, value) if row else ""
             return [f"{names[place] if place < len(names) else 'key'}: {found}"] if found else []
     return []
+
+
+def of_message(program: str, scenario: bytes, rows: dict[int, Row], step: int | None, want: frames.Reply, have: frames.Reply, actor: str) -> list[str]:
+    """The mistake of a record, or of a refusal for its MAC."""
+    if step is None or not rows or (want.record, want.text, want.answer) == (have.record, have.text, have.answer):
+        return []
+    calls = None
+    try:
+        whole, calls = scenarios.read(scenario), proved_calls()
+        return unsealed.mistakes(calls, unsealed.Step(program, rows, whole, step, actor), want, have)
+    except (scenarios.NoScenario, TraceError, PeerFault, NoRecord, frames.BadFrame, LookupError, TypeError, ValueError):
+        return []  # without a mistake the difference is told all the same
+    finally:
+        if isinstance(calls, Calc):
+            calls.close()

@@ -6,6 +6,7 @@ gives them. The first mistake that gives the value names it; no answer is an emp
 from __future__ import annotations
 
 import hmac
+import re
 from collections.abc import Callable, Iterable, Iterator
 from dataclasses import dataclass, replace
 
@@ -154,6 +155,10 @@ class Nas:
     direction: int  # 0 up, 1 down
     count: int
     pdu: bytes
+
+    def ciphered(self) -> Ciphered:
+        """Its text, as it is ciphered."""
+        return Ciphered(self.kasme, NAS_ENCRYPTION, self.eea, (NAS_INTEGRITY, self.eia), self.direction, self.count, 0, self.pdu[6:])
 
 
 def key_of(calls: Calls, nas: Nas, type: int) -> bytes:
@@ -315,17 +320,25 @@ def near(count: int) -> Iterator[int]:
 
 def text(calls: Calls, nas: Nas, reads: Callable[[bytes], bool]) -> tuple[str, bytes]:
     """The mistake by which the text of this message was ciphered, and the text; `reads` says whether octets are a NAS message."""
-    it = Ciphered(nas.kasme, NAS_ENCRYPTION, nas.eea, (NAS_INTEGRITY, nas.eia), nas.direction, nas.count, 0, nas.pdu[6:])
+    it = nas.ciphered()
     for name, plain in ciphers(calls, it, (1, 2, 3, 31), (nas.count & 255, *near(nas.count), *range(300))):
         if reads(plain) and (plain[:1] == b"\x07" or "COUNT" not in name):  # a COUNT is believed only of EMM: ESM reads by chance
             return name, plain
     return "", b""
 
 
-def radio(calls: Calls, it: Ciphered, bits: int, fits: Callable[[bytes], bool]) -> str:
-    """The mistake by which what is on a radio bearer, with so many bits of sequence number, was ciphered; `fits` says whether octets are what was meant."""
+def ciphering(calls: Calls, it: Ciphered, bits: int, fits: Callable[[bytes], bool]) -> str:
+    """The mistake by which this was ciphered, on a bearer with so many bits of sequence number; `fits` says whether octets are what was meant."""
     counts = (it.count & (1 << bits) - 1, *near(it.count), *range(300))
     return next((name for name, plain in ciphers(calls, it, range(32), counts) if fits(plain)), "")
+
+
+SHORT = 4  # a text of fewer octets fits by chance, where much is tried
+
+
+def is_sure(why: str, text: bytes) -> bool:
+    """Whether a text is long enough for this mistake to be believed."""
+    return why != "" and (len(text) >= SHORT or not re.search("COUNT|BEARER", why))
 
 
 # -- PDUs of SRBs
@@ -347,6 +360,10 @@ class Pdu:
         """Text and MAC, deciphered."""
         key = calls.algorithm_key(self.above, RRC_ENCRYPTION, self.eea)[16:]
         return cipher(calls, self.eea, key, self.count, self.bearer, self.direction, self.octets[1:])
+
+    def ciphered(self) -> Ciphered:
+        """Text and MAC, as they are ciphered."""
+        return Ciphered(self.above, RRC_ENCRYPTION, self.eea, (RRC_INTEGRITY, self.eia), self.direction, self.count, self.bearer, self.octets[1:])
 
     def is_sealed(self, calls: Calls, plain: bytes) -> bool:
         """Whether the MAC behind this text is right."""
@@ -370,8 +387,10 @@ def pdu(calls: Calls, it: Pdu, wanted: bytes | None = None) -> str:
     found = srb(calls, plain[-4:], Srb(whole, key, it.eia, it.direction, it.count, it.bearer, it.octets[:1] + plain[:-4], it.eea))
     if found:
         return f"MAC-I: {found}"
-    of_text = Ciphered(it.above, RRC_ENCRYPTION, it.eea, (RRC_INTEGRITY, it.eia), it.direction, it.count, it.bearer, it.octets[1:])
-    found = radio(calls, of_text, 5, lambda plain: it.is_sealed(calls, plain) or plain[:-4] == wanted)
+    if plain[:-4] == wanted:
+        return ""
+    is_long = wanted is not None and len(wanted) >= SHORT
+    found = ciphering(calls, it.ciphered(), 5, lambda other: it.is_sealed(calls, other) or is_long and other[:-4] == wanted)
     if found:
         return f"text: {found}"
     of_both = (name for name, other in it.elsewhere() if other.is_sealed(calls, other.opened(calls))) if it.eea in COMPUTED else iter(())

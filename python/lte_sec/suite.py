@@ -108,7 +108,12 @@ def cases_of(options: Options) -> list[Case]:
         if name not in known:
             raise WrongWords(f"--scenario: the suite has no scenario {name}; examples/suite/scenarios has them")
     files = [known[name] for name in options.names] or files
-    return [Case(file.stem, scenarios.read(file.read_bytes())) for file in files]
+    cases = [Case(file.stem, scenarios.read(file.read_bytes())) for file in files]
+    there = sorted({str(number) for case in cases for number in case.scenario.stations})
+    for number in (name.split()[1] for name in options.product if name.startswith("station ")):
+        if number not in there:
+            raise WrongWords(f"--station {number}=CMD: no scenario that is driven has station {number}, but {drive.listed(there)}")
+    return cases
 
 
 def played(cases: list[Case], commands: Commands, by_answer: bool) -> list[Played]:

@@ -4,7 +4,7 @@ import sys
 import unittest
 from unittest import mock
 
-from lte_sec import drive, frames, patient
+from lte_sec import drive, ending, frames, patient
 
 DONE = "00088000000000000000"
 
@@ -76,7 +76,7 @@ class Drive(unittest.TestCase):
         for lines in ("0 both done", "0 both done\\n1 core done"):
             run = drive.Run([sys.executable, "-c", f"print('{lines}')"], drive.Options({}))
             with mock.patch("lte_sec.drive.put", side_effect=OSError):
-                self.assertEqual(drive.WRITING, drive.answered(run))
+                self.assertEqual(ending.WRITING, drive.answered(run))
             assert run.driven and run.driven.process.stderr
             run.driven.process.stderr.close()
 
@@ -107,6 +107,31 @@ class Drive(unittest.TestCase):
         self.assertEqual({"station 1": ["any"], "station 4": ["own", "x"], "core": ["c"]},
                          drive.commands({"LTE_SEC_STATION": "any", "LTE_SEC_STATION_4": "own\nx", "LTE_SEC_STATION_5": "no", "LTE_SEC_CORE": "c"}, octets))
         self.assertEqual({}, drive.commands({"LTE_SEC_CORE": "c"}, b"phone = "))
+
+    def test_a_command_for_a_station_that_the_scenario_lacks_is_told(self) -> None:
+        octets = b'phone = { caps = "a020" }\nstation = [{ id = 1, cells = [[10, 100]] }, { id = 4, cells = [[11, 100]] }]\n'
+        drive.has_stations({"LTE_SEC_STATION_4": "x", "LTE_SEC_STATION": "y", "LTE_SEC_PHONE": "z"}, octets)
+        with self.assertRaisesRegex(drive.WrongWords, "^--station 5=CMD: the scenario has no station 5, but 1 and 4$"):
+            drive.has_stations({"LTE_SEC_STATION_5": "x"}, octets)
+        for text in (b"", b"station = 3", b"phone = ", b"station = [{ cells = [[10, 100]] }]", b"\xff"):  # the program says what is wrong
+            drive.has_stations({"LTE_SEC_STATION_5": "x"}, text)
+        self.assertEqual(["none", "0", "0 and 1", "0, 1 and 2"], [drive.listed([*map(str, range(count))]) for count in range(4)])
+
+    def test_a_refused_text_has_its_reason_in_the_document(self) -> None:
+        with mock.patch.object(drive, "refusal", lambda *_: "line 1, column 1: why"):
+            self.assertEqual({"error": "line 1, column 1: why", "status": 3, "report": ["refused text"]}, drive.no_answer(3, ["refused text"], "a program", b""))
+        with mock.patch.object(drive, "refusal", lambda *_: ""):
+            self.assertEqual("refused text", drive.no_answer(3, ["refused text"], "a program", b"")["error"])
+        self.assertEqual({"error": "memory ran out", "status": 1, "report": []}, drive.no_answer(1, [], "a program", b""))
+
+    def test_the_program_is_given_the_whole_scenario(self) -> None:
+        run = drive.Run([sys.executable, "-c", "import sys; print(len(sys.stdin.read()))"], drive.Options({}, True), b"x" * 100_000)
+        with mock.patch("lte_sec.drive.put"):
+            status, driven = run.run()
+            driven.tell()
+        self.assertEqual((0, ["100000"]), (status, driven.report))
+        assert driven.process.stderr
+        driven.process.stderr.close()
 
     def test_an_actor_outlives_the_program_that_stops_it(self) -> None:
         self.assertEqual({"LTE_SEC_PHONE": '/bin/sh\n-c\n"$@" & wait\nsh\n/bin/a\nb'}, drive.outliving({"LTE_SEC_PHONE": "/bin/a\nb"}))

@@ -1,11 +1,15 @@
 """Mistakes of a driven actor by their names: each entry of the catalogue of keys, made in the place of a key of the ordinary run."""
 from __future__ import annotations
 
+import dataclasses
 import unittest
 from pathlib import Path
+from unittest import mock
 
 from lte_sec import frames, mistakes, reasons
 from lte_sec.ladders import Row, rows_of
+
+from .standin import StandIn
 
 REPORT = (Path(__file__).resolve().parents[2] / "examples/run/ordinary.out").read_text().splitlines()
 ROWS = {row.number: row for row in rows_of(REPORT).values()}
@@ -50,9 +54,18 @@ class Mistakes(unittest.TestCase):
         note = frames.Note(0, frames.WAYS.index("horizontal"), octets(star))
         wanted = frames.Reply(derived=(octets(star), *algs), note=note)
         got = frames.Reply(derived=(octets(star)[::-1], *(bytes(32) for _ in algs)), note=note)
-        self.assertEqual(mistakes.of_reply(ROWS, wanted.spelled(), got.spelled(), "phone"), ["KeNB*: the octets are reversed"])
-        self.assertEqual(mistakes.of_reply(ROWS, wanted.spelled(), wanted.spelled(), "phone"), [])
-        self.assertEqual(mistakes.of_reply(ROWS, wanted.spelled(), b"\0\1\0", "phone"), [])
+        with mock.patch.object(mistakes, "rows_by_run", lambda *_: ROWS):
+            for reply, told in ((got.spelled(), ["KeNB*: the octets are reversed"]), (wanted.spelled(), []), (b"\0\1\0", [])):
+                self.assertEqual(told, mistakes.of_reply("a program", b"", 14, wanted.spelled(), reply, "phone"))
+
+    def test_a_message_is_judged_only_where_it_differs_and_the_keys_do_not(self) -> None:
+        one, other = frames.Reply(to=b"\2", record=b"\x47abcd\0\2"), frames.Reply(to=b"\2", record=b"\x47abce\0\2")
+        key, wrong = (dataclasses.replace(other, derived=(octets,)) for octets in (bytes(32), bytes([1]) * 32))
+        with mock.patch.object(mistakes, "rows_by_run", lambda *_: ROWS), mock.patch.object(mistakes, "proved_calls", StandIn), \
+                mock.patch("lte_sec.unsealed.mistakes", lambda *_: ["named"]), mock.patch("lte_sec.scenarios.read", lambda _: None):
+            for want, have, told in ((one, other, ["named"]), (one, one, []), (dataclasses.replace(one, derived=(bytes(32),)), wrong, []), (dataclasses.replace(one, derived=(bytes(32),)), key, ["named"])):
+                self.assertEqual(told, mistakes.of_reply("a program", b"", 3, want.spelled(), have.spelled(), "phone"))
+            self.assertEqual([], mistakes.of_reply("a program", b"", None, one.spelled(), other.spelled(), "phone"))  # the setup
 
 
 if __name__ == "__main__":

@@ -158,6 +158,10 @@ class Words(unittest.TestCase):
         with self.assertRaisesRegex(suite.WrongWords, "no scenario nas"):
             suite.cases_of(suite.Options(names=["nas"]))
 
+    def test_a_station_that_no_scenario_has_is_told(self) -> None:
+        with self.assertRaisesRegex(suite.WrongWords, "^--station 7=CMD: no scenario that is driven has station 7, but 0"):
+            suite.cases_of(suite.Options({"station 7": ["x"]}, names=["nas-01"]))
+
 
 class Peers(unittest.TestCase):
     def fault_of(self, program: str, is_silent: bool) -> peers.PeerFault:
