@@ -1,9 +1,11 @@
 """Values against the schemas of share/schema: as far as these go, and by jsonschema where that is installed (Debian's python3-jsonschema)."""
 from __future__ import annotations
 
-import importlib
 import json
 import re
+import subprocess
+import sys
+from functools import lru_cache
 from pathlib import Path
 from typing import Any
 
@@ -44,9 +46,28 @@ def has_members(schema: dict[str, Any], whole: dict[str, Any], value: dict[str, 
         is_of(parts[name], whole, each, closed) if name in parts else others is not False and (others is True or is_of(others, whole, each, closed)) for name, each in value.items())
 
 
-def validator() -> Any:
-    """The validator of Debian's package, or None."""
-    try:
-        return importlib.import_module("jsonschema").Draft202012Validator
-    except (ImportError, AttributeError):
-        return None
+VALIDATES = """
+import json, sys
+from jsonschema import Draft202012Validator as V
+for name, schema, values in json.load(sys.stdin):
+    V.check_schema(schema)
+    for place, value in enumerate(values):
+        print(*(f"{name}, value {place}: {fault.json_path}: {fault.message[:300]}" for fault in V(schema).iter_errors(value)), sep="\\n", end="")
+"""
+SYSTEM = "/usr/bin/python3"  # it has Debian's packages, which another Python does not find
+
+
+@lru_cache(maxsize=None)
+def validator() -> str | None:
+    """A Python that has the package jsonschema, or None."""
+    tried = (sys.executable, SYSTEM)
+    return next((python for python in tried if Path(python).exists() and subprocess.run([python, "-c", "from jsonschema import Draft202012Validator"], capture_output=True).returncode == 0), None)
+
+
+def faults(given: list[tuple[str, dict[str, Any], list[Any]]]) -> str:
+    """What jsonschema finds of schemas and of values of each; nothing where it is not here."""
+    python = validator()
+    if python is None:
+        return ""
+    ran = subprocess.run([python, "-c", VALIDATES], input=json.dumps(given), capture_output=True, text=True)
+    return ran.stdout + (ran.stderr if ran.returncode else "")

@@ -16,7 +16,7 @@ from unittest import mock
 
 from lte_sec import drive, verdict, words
 
-from .schemas import SCHEMAS, is_of, schema_of, validator
+from .schemas import SCHEMAS, faults, is_of, schema_of, validator
 from .standin import StandIn
 from .test_traces import TRACES
 
@@ -76,25 +76,22 @@ def by_the_program() -> Iterator[tuple[str, Any]]:
 
 class Schemas(unittest.TestCase):
     def test_each_document_is_of_its_schema_and_has_no_member_more(self) -> None:
-        seen = set()
+        seen: dict[str, list[Any]] = {}
         for name, document in documents():
-            seen.add(name)
-            schema, check = schema_of(name), validator()
+            seen.setdefault(name, []).append(document)
+            schema = schema_of(name)
             self.assertTrue(is_of(schema, schema, document), f"{name}: {json.dumps(document)[:400]}")
-            if check is not None:
-                check(schema).validate(document)
+        self.assertEqual("", faults([(name, schema_of(name), found) for name, found in seen.items()]))
         if validator() is None:
             print("python: jsonschema is not here (Debian's python3-jsonschema), so that documents are compared with schemas by the tests' own code alone", file=sys.stderr)
-        missing = {file.name.removesuffix(".schema.json") for file in SCHEMAS.glob("*.json")} - seen - {"scenario"}
+        missing = {file.name.removesuffix(".schema.json") for file in SCHEMAS.glob("*.json")} - seen.keys() - {"scenario"}
         self.assertEqual(set() if is_built() else missing, missing)
 
     def test_each_schema_is_one(self) -> None:
         for file in SCHEMAS.glob("*.json"):
             schema = json.loads(file.read_text())
             self.assertEqual(DIALECT, schema["$schema"], file.name)
-            check = validator()
-            if check is not None:
-                check.check_schema(schema)
+        self.assertEqual("", faults([(file.name, json.loads(file.read_text()), []) for file in SCHEMAS.glob("*.json")]))
 
     def test_another_document_is_not_of_a_schema(self) -> None:
         schema = schema_of("verdict")
@@ -105,14 +102,17 @@ class Schemas(unittest.TestCase):
         self.assertTrue(is_of(schema, schema, {**document, "more": 1}, closed=False))  # a member may come
 
     def test_each_scenario_is_of_its_schema(self) -> None:
-        schema, check = schema_of("scenario"), validator()
+        schema = schema_of("scenario")
         files = [file for room in ("run", "worked", "fleet", "two", "what-if", "procedures", "runs") for file in sorted((EXAMPLES / room).glob("*.toml"))]
         self.assertGreater(len(files), 60)
-        for file in files:
-            document = tomllib.loads(file.read_text())
+        found = [tomllib.loads(file.read_text()) for file in files]
+        for file, document in zip(files, found):
             self.assertTrue(is_of(schema, schema, document), file)
-            if check is not None:
-                check(schema).validate(document)
+        self.assertEqual("", faults([("scenario", schema, found)]))
+
+    def test_the_validator_tells_what_is_wrong(self) -> None:
+        told = faults([("a schema", {"type": "integer"}, [1, "x"])])
+        self.assertEqual("a schema, value 1: $: 'x' is not of type 'integer'" if validator() else "", told)
 
     def test_a_mistake_is_not_of_the_schema_of_scenarios(self) -> None:
         schema = schema_of("scenario")
