@@ -8,11 +8,13 @@ import itertools
 import re
 from collections.abc import Callable, Iterable, Iterator
 from dataclasses import dataclass
+from functools import partial
 
 from . import reasons
 from .cells import Cells
 from .dumps import Block, candidates, resolved
-from .search import Search
+from .quick import ready
+from .search import Cell, Made, Search
 from .terms import Derivations, Key, Term, counted
 
 NAS_TYPES, STATION_TYPES, IDENTITIES = (1, 2), (3, 4, 5, 6), range(16)
@@ -20,6 +22,10 @@ OTHER_COUNT = re.compile(r"COUNT is \d")  # KeNB of another COUNT is found by it
 CONSTANT = ("all octets", "it is KASME")  # mistakes that do not tell which key was to be made
 MOST_COUNTS = 301  # KeNBs for which a mistake is sought
 COMMON = range(4)  # identities that algorithms have today
+OF_KENB, OF_STAR = ([(type, identity, bytes([0x15, type, 0, 1, identity, 0, 1])) for type in STATION_TYPES for identity in identities] for identities in (IDENTITIES, COMMON))
+
+
+Mistaken = tuple[Callable[[], Key], str, bytes]  # the key that was wanted, the mistake, and what it gives
 
 
 @dataclass(frozen=True)
@@ -62,42 +68,43 @@ class Explanation:
     def mistakes(self, keys: set[bytes]) -> dict[bytes, Mistake]:
         """Of keys that nothing gives those that a mistake of an implementation gives (`reasons`)."""
         found: dict[bytes, Mistake] = {}
-        for wanted, name, made in self.mistaken() if keys else ():
+        for wanted, name, made in self.mistaken({len(key) for key in keys}) if keys else ():
             if made in keys and made not in found:
-                found[made] = Mistake(name, wanted)
+                found[made] = Mistake(name, wanted())
                 if len(found) == len(keys):
                     break
         return found
 
-    def mistaken(self) -> Iterator[tuple[Key, str, bytes]]:
-        """What mistakes give, each with the key that was wanted and the name of the mistake: from the keys that were found and their chains, or
-        where none was from each KeNB."""
+    def mistaken(self, sizes: set[int]) -> Iterator[Mistaken]:
+        """What mistakes give in so many octets, each with the key that was wanted and the name of the mistake: from the keys that were found and their
+        chains, or where none was from each KeNB."""
+        for wanted, named in self.mistaken_keys(sizes):
+            yield from ((wanted, name, made) for name, made in named)
+
+    def mistaken_keys(self, sizes: set[int]) -> Iterator[tuple[Callable[[], Key], reasons.Named]]:
+        """The keys that may have been wanted, which are made where they are asked for, and what mistakes give in the place of each."""
+        make = self.derivations
         at_hand = [key for key in self.found.values() if key.term.kind in ("kenb", "nh", "star")]
         bases = sorted({(key.kasme, counted(key.term.base())) for key in self.found.values() if counted(key.term.base()) >= 0})
         kenbs = [self.derivations.kenb(kasme, count) for kasme, count in bases] or list(itertools.islice(self.search.kenbs(), MOST_COUNTS))
         chains = [[kenb, *self.search.chain(kenb.kasme, kenb)] for kenb in kenbs] if bases else [[kenb] for kenb in kenbs]
         parents = list({key.value: key for key in [*(key for chain in chains for key in chain), *at_hand]}.values())
-        for place, kasme in enumerate(self.derivations.kasmes):
-            root = Key(kasme.value, Term("kasme"), place)
-            yield from self.mistaken_algorithms(root, NAS_TYPES)
+        for place, kasme in enumerate(make.kasmes):
+            yield from self.mistaken_algorithms(Key(kasme.value, Term("kasme"), place), NAS_TYPES, sizes)
             for count in range(min(self.search.counts + 1, MOST_COUNTS)):
-                wanted = self.derivations.kenb(place, count)
-                yield from ((wanted, *one) for one in reasons.kenb_mistakes(kasme.value, count) if not OTHER_COUNT.match(one[0]))
+                yield partial(make.kenb, place, count), (one for one in reasons.kenb_mistakes(kasme.value, count) if not OTHER_COUNT.match(one[0]))
         for sync in (key for chain in chains for key in chain):
-            wanted = self.derivations.next_nh(sync.kasme, sync)
-            yield from ((wanted, *one) for one in reasons.nh_mistakes(self.derivations.kasmes[sync.kasme].value, sync.value))
+            yield partial(make.next_nh, sync.kasme, sync), reasons.nh_mistakes(make.kasmes[sync.kasme].value, sync.value)
         for parent in parents:
             for cell in sorted(self.cells.pairs()):
-                wanted = self.derivations.star(parent, *cell)
-                yield from ((wanted, *one) for one in reasons.star_mistakes(parent.value, *cell))
+                yield partial(make.star, parent, *cell), reasons.star_mistakes(parent.value, *cell)
         for parent in (key for key in parents if key.term.kind != "nh"):
-            yield from self.mistaken_algorithms(parent, STATION_TYPES)
+            yield from self.mistaken_algorithms(parent, STATION_TYPES, sizes)
 
-    def mistaken_algorithms(self, parent: Key, types: Iterable[int]) -> Iterator[tuple[Key, str, bytes]]:
+    def mistaken_algorithms(self, parent: Key, types: Iterable[int], sizes: set[int]) -> Iterator[tuple[Callable[[], Key], reasons.Named]]:
         for type, identity in itertools.product(types, COMMON):
-            wanted = self.derivations.algorithm(parent, type, identity)
-            for size in (len(wanted.value), len(wanted.value) // 2):
-                yield from ((wanted, *one) for one in reasons.algorithm_mistakes(parent.value, type, identity, size))
+            for size in sorted(sizes, reverse=True):
+                yield partial(self.derivations.algorithm, parent, type, identity), reasons.algorithm_mistakes(parent.value, type, identity, size)
 
     def seek(self, keys: set[bytes]) -> None:
         """Searches for all of these keys together."""
@@ -108,13 +115,16 @@ class Explanation:
         self.take([*roots, *(key for root in roots for key in self.algorithms(root, NAS_TYPES, IDENTITIES))])
         self.take(self.search.roots())
         self.spread()
-        stages: list[Callable[[], Iterable[Key]]] = [
-            lambda: self.search.stars(self.search.roots(), 1), lambda: self.of(self.search.kenbs()), lambda: self.of(self.search.stars(self.search.roots(), 1)),
+        stages: list[Callable[[], None]] = [
+            lambda: self.take_made(self.stars_of_roots()), lambda: self.take_algorithms(as_made(self.search.kenbs())), lambda: self.take_algorithms(self.stars_of_roots()),
         ]
         for stage in stages:
             if self.open:
-                self.take(stage())
+                stage()
                 self.spread()
+
+    def stars_of_roots(self) -> Iterable[Made]:
+        return self.search.made_stars(as_made(self.search.roots()), 1)
 
     def is_mixed(self, key: Key | None) -> bool:
         """Whether a key is for a PCI and an EARFCN of two cells."""
@@ -141,19 +151,44 @@ class Explanation:
             if not fresh:
                 return
             done |= {key.value for key in fresh}
-            stars = list(self.search.stars(fresh, 1))
-            self.take(stars)
-            self.take(self.of(parent for parent in [*fresh, *stars] if parent.term.kind != "nh"))
+            made = list(as_made(fresh))
+            stars = list(self.search.made_stars(made, 1))
+            self.take_made(stars)
+            self.take_algorithms(one for one in [*made, *stars] if one[2] or one[1].term.kind != "nh")
             if self.open:
-                self.take(self.search.stars(fresh, self.search.deep))
+                self.take_made(self.search.made_stars(made, self.search.deep))
 
     def algorithms(self, parent: Key, types: Iterable[int], identities: Iterable[int]) -> Iterator[Key]:
         return (self.derivations.algorithm(parent, type, identity) for type in types for identity in identities)
 
-    def of(self, parents: Iterable[Key]) -> Iterator[Key]:
-        """The keys of a station's algorithms: from KeNBs with each identity, from KeNB*s with those that algorithms have."""
-        for parent in parents:
-            yield from self.algorithms(parent, STATION_TYPES, IDENTITIES if parent.term.kind == "kenb" else COMMON)
+    def take_made(self, candidates: Iterable[Made]) -> None:
+        """Takes those of KeNB*s that are sought, as the proved calls make them."""
+        for value, key, cells in candidates if self.open else ():
+            if value in self.open:
+                self.take([self.proved(key, cells)])
+                if not self.open:
+                    return
+
+    def take_algorithms(self, parents: Iterable[Made]) -> None:
+        """The same with keys of a station's algorithms: from KeNBs with each identity, from KeNB*s with those that algorithms have."""
+        for value, key, cells in parents if self.open else ():
+            make = ready(value)
+            for type, identity, text in OF_KENB if not cells and key.term.kind == "kenb" else OF_STAR:
+                made = make(text)
+                if made in self.open or made[16:] in self.open:
+                    self.take([self.derivations.algorithm(self.proved(key, cells), type, identity)])
+                    if not self.open:
+                        return
+
+    def proved(self, key: Key, cells: tuple[Cell, ...]) -> Key:
+        """KeNB* of a key for these cells, one after the other, by the proved calls."""
+        for cell in cells:
+            key = self.derivations.star(key, *cell)
+        return key
+
+
+def as_made(keys: Iterable[Key]) -> Iterator[Made]:
+    return ((key.value, key, ()) for key in keys)
 
 
 def told(derivations: Derivations, found: Found) -> str:

@@ -1,17 +1,19 @@
 """Why a key, a MAC or a text is not the wanted one: the mistakes that implementations make, each with the octets that it gives.
 
-All is octets in, words out. The wrong derivations are made by Python's own HMAC: they are no keys of the standard, so that no proved call
+All is octets in, words out. The wrong derivations are made by Python's own SHA-256: they are no keys of the standard, so that no proved call
 gives them. The first mistake that gives the value names it; no answer is an empty text.
 """
 from __future__ import annotations
 
-import hmac
+import functools
 import re
 from collections.abc import Callable, Iterable, Iterator
 from dataclasses import dataclass, replace
 
+from .quick import ready
 from .terms import COMPUTED, NAS_ENCRYPTION, NAS_INTEGRITY, RRC_ENCRYPTION, RRC_INTEGRITY, Calls
 
+made_by = functools.lru_cache(maxsize=16)(ready)  # mistakes of one key come one after the other
 KENB, NH, STAR, ALGORITHM = 0x11, 0x12, 0x13, 0x15  # FC (TS 33.401 A.3, A.4, A.5, A.7)
 SMALLER = 65536  # EARFCNs below have two octets, the others three (A.5)
 Named = Iterator[tuple[str, bytes]]
@@ -19,8 +21,8 @@ Named = Iterator[tuple[str, bytes]]
 
 def kdf(key: bytes, code: int, *parts: bytes, lengths: bool = True) -> bytes:
     """The KDF of TS 33.220 B.2, or the same without the lengths of its inputs."""
-    text = b"".join(part + (len(part).to_bytes(2, "big") if lengths else b"") for part in parts)
-    return hmac.digest(key, bytes([code]) + text, "sha256")
+    text = b"".join([part + (len(part).to_bytes(2, "big") if lengths else b"") for part in parts])
+    return made_by(key)(bytes([code]) + text)
 
 
 def first(value: bytes, named: Named) -> str:

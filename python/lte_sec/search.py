@@ -10,11 +10,30 @@ from collections.abc import Iterable, Iterator
 from dataclasses import dataclass
 
 from .cells import Cells
+from .quick import ready
 from .terms import Derivations, Key
 
 PCIS, EARFCNS = 504, 65536
 KEPT = 4096  # chains that are kept
 FEW = 6  # of the keys at hand, so many are taken further
+
+
+Cell = tuple[int, int]
+Made = tuple[bytes, Key, tuple[Cell, ...]]  # octets, and of which key and for which cells, one after the other, they are KeNB*; of none the key itself
+
+
+def star_text(pci: int, earfcn: int) -> bytes:
+    """What KeNB* for a cell is made over (TS 33.401 A.5)."""
+    size = 2 if earfcn < EARFCNS else 3
+    return b"\x13" + pci.to_bytes(2, "big") + b"\0\2" + earfcn.to_bytes(size, "big") + bytes([0, size])
+
+
+def stepped(keys: Iterable[Made], cells: list[tuple[Cell, bytes]]) -> Iterator[Made]:
+    """KeNB*s of keys for each of these cells."""
+    for value, key, path in keys if cells else ():
+        make = ready(value)
+        for cell, text in cells:
+            yield make(text), key, (*path, cell)
 
 
 @dataclass
@@ -73,6 +92,17 @@ class Search:
             yield from next_plain
             next_odd = [star(key, *cell) for key in plain for cell in mixed]
             next_odd += [star(key, *cell) for key in odd for cell in real]
+            yield from next_odd
+            plain, odd = next_plain, next_odd
+
+    def made_stars(self, keys: Iterable[Made], deep: int) -> Iterator[Made]:
+        """As `stars`, in their order, but made by `quick`."""
+        plain, odd = list(keys), list[Made]()
+        real, mixed = ([(cell, star_text(*cell)) for cell in sorted(cells)] for cells in (self.cells.pairs(), self.mixed()))
+        for _ in range(deep):
+            next_plain = list(stepped(plain, real))
+            yield from next_plain
+            next_odd = [*stepped(plain, mixed), *stepped(odd, real)]
             yield from next_odd
             plain, odd = next_plain, next_odd
 

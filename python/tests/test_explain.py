@@ -1,14 +1,16 @@
 """Which derivation a key is: keys of a run and of a log, hexdumps, algorithm keys by half, and cells that are mixed."""
 from __future__ import annotations
 
+import hmac
 import re
 import unittest
 from pathlib import Path
 
-from lte_sec import reasons
+from lte_sec import quick, reasons
 from lte_sec.cells import Cells, Site
 from lte_sec.dumps import blocks, candidates
 from lte_sec.explain import CONSTANT, OTHER_COUNT, Explanation, Found, told
+from lte_sec.search import Search
 from lte_sec.terms import Derivations, Kasme
 
 from .standin import StandIn
@@ -40,6 +42,36 @@ def forms(report: str) -> list[tuple[str, str]]:
         else:
             terms[row] = f"{kind}({terms[words[0]]},{words[1]},{words[2]})"
     return [(key, terms[row]) for row, _, key in ROW.findall(report)]
+
+
+class Quick(unittest.TestCase):
+    """The search makes its keys by `quick`, and shows those that the proved calls make again."""
+
+    def test_it_is_hmac(self) -> None:
+        for size in (0, 16, 32, 64):
+            make = quick.ready(bytes(range(size)))
+            self.assertEqual([hmac.digest(bytes(range(size)), text, "sha256") for text in (b"", b"a", bytes(200))], [make(text) for text in (b"", b"a", bytes(200))])
+
+    def test_stars_are_those_of_the_proved_calls_in_their_order(self) -> None:
+        derivations = Derivations(StandIn(), [Kasme("KASME 1", bytes(32))])
+        search = Search(derivations, Cells([Site(0, 301, 1575), Site(1, 87, 70000)]))
+        keys = [derivations.kenb(0, 0), derivations.next_nh(0, derivations.kenb(0, 0))]
+        for deep in (1, 2, 3):
+            wanted = list(search.stars(keys, deep))
+            made = list(search.made_stars(((key.value, key, ()) for key in keys), deep))
+            self.assertEqual([key.value for key in wanted], [value for value, _, _ in made])
+            self.assertEqual([key.term.cells()[::-1] for key in wanted], [list(cells) for _, _, cells in made])
+
+    def test_what_the_proved_calls_do_not_give_is_not_found(self) -> None:
+        class Wrong(StandIn):
+            def kenb_star(self, key: bytes, pci: int, earfcn: int) -> bytes:
+                return bytes(32)
+
+        key = StandIn().kenb_star(StandIn().kenb(bytes(32), 0), 301, 1575)
+        for calls, is_found in ((StandIn(), True), (Wrong(), False)):
+            explanation = Explanation(Derivations(calls, [Kasme("KASME 1", bytes(32))]), Cells([Site(0, 301, 1575)]), 3, 2)
+            explanation.seek({key})
+            self.assertEqual(is_found, key in explanation.found)
 
 
 class Explained(unittest.TestCase):
