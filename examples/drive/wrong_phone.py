@@ -12,6 +12,7 @@ sys.dont_write_bytecode = True
 sys.path.insert(0, str(pathlib.Path(__file__).resolve().parent.parent / "actor"))
 import phone  # noqa: E402
 import serving  # noqa: E402
+from calls import DOWN  # noqa: E402
 from lte_sec.frames import Reply  # noqa: E402
 
 FOLDER, HOW = sys.argv[1:3]
@@ -29,6 +30,9 @@ class WrongPhone(phone.Phone):
             signal.pause()
         if HOW == "thinks":
             time.sleep(12)
+        if HOW == "turns":
+            assert self.radio
+            return dataclasses.replace(reply, record=reply.record[:-4] + phone.CALLS.eia2(self.radio.rrc_int, 0, 0, DOWN, reply.record[:-4]))
         if HOW == "changes":
             return dataclasses.replace(reply, record=reply.record[:-1] + bytes([reply.record[-1] ^ 1]))
         return dataclasses.replace(reply, record=reply.record + b"\0") if HOW == "lengthens" else reply

@@ -79,7 +79,7 @@ def of_keys(rows: dict[int, Row], want: frames.Reply, have: frames.Reply, role: 
 
 def of_message(program: str, scenario: bytes, rows: dict[int, Row], step: int | None, want: frames.Reply, have: frames.Reply, actor: str) -> list[str]:
     """The mistake of a record, or of a refusal for its MAC."""
-    if step is None or not rows or (want.record, want.text, want.answer) == (have.record, have.text, have.answer):
+    if step is None or not rows or not unsealed.is_protected(want, have):
         return []
     calls = None
     try:

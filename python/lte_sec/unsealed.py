@@ -69,11 +69,22 @@ class Step:
 
 def mistakes(calls: Calls, step: Step, wanted: frames.Reply, got: frames.Reply) -> list[str]:
     """The mistake by which a message that was sent is another, or one that came is refused or opened to another text."""
+    if not is_protected(wanted, got):
+        return []
     if got.answer == MAC_FAILS and (got.answer, got.values) != (wanted.answer, wanted.values):
         return refused(calls, step, got.values[4:8], got.values[8:12])
-    if wanted.record is not None and got.record is not None and wanted.record != got.record and wanted.to[0] == got.to[0]:
+    if wanted.record is not None and got.record is not None and wanted.record != got.record:
         return sent(calls, step, wanted, got.record)
-    return opened(calls, step, wanted.text, got.text) if wanted.text is not None and got.text is not None and wanted.text != got.text else []
+    return opened(calls, step, wanted.text or b"", got.text or b"")
+
+
+def is_protected(wanted: frames.Reply, got: frames.Reply) -> bool:
+    """Whether two replies differ in a message over NAS or the air, or in what became of one."""
+    if got.answer == MAC_FAILS and (got.answer, got.values) != (wanted.answer, wanted.values):
+        return True
+    if wanted.record is not None and got.record is not None and wanted.record != got.record:
+        return bearer_of(wanted) != "" and wanted.to[0] == got.to[0]
+    return None not in (wanted.text, got.text) and wanted.text != got.text
 
 
 def bearer_of(reply: frames.Reply) -> str:
