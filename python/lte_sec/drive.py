@@ -24,7 +24,7 @@ from typing import IO
 
 from lte_sec import frames, mistakes, records, scenarios
 from lte_sec.ending import HEAD, READING, WRITING, InputFails, answers
-from lte_sec.patient import Relays
+from lte_sec.patient import TURN, Relays
 from lte_sec.peers import TO_SAY, PeerFault
 
 VERSION = 1  # of the document that --json prints
@@ -173,8 +173,9 @@ class Driven:
         hearing.start()
         self.print_on(self.process.stdout)
         status = self.process.wait()
-        if status == FAULT:
-            hearing.join(TO_SAY)
+        ends = time.monotonic() + TO_SAY
+        while status == FAULT and hearing.is_alive() and not self.is_silent() and time.monotonic() < ends:
+            hearing.join(TURN)
         self.end()
         hearing.join(TO_HEAR)
         return status if status >= 0 else 128 - status
@@ -191,10 +192,13 @@ class Driven:
         """The step of the last line, which is not done and not handed on where an actor failed; None for the setup."""
         return int(self.last.split()[0]) if self.last else None
 
+    def is_silent(self) -> bool:
+        """Whether an actor failed that was silent for as long as the program waits."""
+        return self.failed != b"" and self.failed_at - self.read_last >= PATIENCE - LATE
+
     def failure(self) -> str:
         """How an actor failed, and where."""
-        is_silent = self.failed_at - self.read_last >= PATIENCE - LATE
-        how = f"it was silent for {PATIENCE} seconds, where a reply was due" if is_silent else "it closed the connection before it gave a whole reply"
+        how = f"it was silent for {PATIENCE} seconds, where a reply was due" if self.is_silent() else "it closed the connection before it gave a whole reply"
         return f"{place_of(self.step())}, {self.failed.decode()}: {self.how or how}"
 
     def fault(self) -> dict[str, object] | None:

@@ -11,7 +11,7 @@ import tempfile
 import time
 
 MOST_SAID = 2000  # octets of standard error that are told
-TO_SAY = 5  # seconds that an actor which closed its connection has to say why, if it does not end before
+TO_SAY = 10  # seconds that an actor which closed its connection has to say why, if it does not end before
 
 
 class PeerFault(Exception):
@@ -86,10 +86,10 @@ class Peer:
             octets += piece
         return octets
 
-    def words(self) -> str:
-        """The end of what it wrote to standard error; one that closed may still be writing why."""
+    def words(self, is_silent: bool = False) -> str:
+        """The end of what it wrote to standard error; one that closed, and is not only silent, may still be writing why."""
         with contextlib.suppress(subprocess.TimeoutExpired):
-            self.process.wait(TO_SAY)
+            self.process.wait(0 if is_silent else TO_SAY)
         size = self.said.seek(0, os.SEEK_END)
         self.said.seek(max(0, size - MOST_SAID))
         return self.said.read().decode(errors="replace").strip()

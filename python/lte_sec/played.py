@@ -148,7 +148,7 @@ class Pair:
     def failed(self, visit: Visit, step: int | None, why: PeerFault) -> None:
         if why.is_silent:
             self.commands.was_silent(self.actor)
-        said = self.product.words() if self.product else ""
+        said = self.product.words(why.is_silent) if self.product else ""
         self.note(visit, step, "failed", [f"{self.actor}: {why}", *said.splitlines()[-3:]])
         self.leave()
 
