@@ -5,6 +5,8 @@
 #[cfg(test)]
 mod driven;
 #[cfg(test)]
+mod faults;
+#[cfg(test)]
 mod kept;
 #[cfg(test)]
 mod relocations;
