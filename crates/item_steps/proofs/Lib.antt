@@ -1,0 +1,2 @@
+pub mod OneStepMore
+pub mod EachIsAStep
