@@ -4,12 +4,11 @@
 mod handovers;
 mod judging;
 mod keys;
-mod names;
+pub mod names;
 mod packets;
 mod same;
 mod standing;
 
 pub use judging::{Outcome, outcomes};
-pub use names::{PROBE, acts_of_probe};
 pub use packets::{Fate, Fates};
 pub use standing::Standing;
