@@ -1,0 +1,5 @@
+pub mod Joining
+pub mod Finding
+pub mod Happens
+pub mod InPlace
+pub mod Chained
