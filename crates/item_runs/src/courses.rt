@@ -63,6 +63,7 @@ pub fn run_items(
     ensures coming { IfOk result (λ c. c.coming ≡ coming_of setup.now acts.now.items items.now) }
     // Its events are a scenario with these lines, of which all holds that holds of every run.
     ensures promises { IfOk result Promises }
+    ensures few { IfOk result (λ c. length c.coming.events ≤ length items.now * (most_at_once + 1)) }
 {
     let mut course = Course::new(alloc, setup)?;
     course.go_on(acts, items)?;
