@@ -1,0 +1,6 @@
+//! What the probe finds behind a run of items.
+#![tactic(auto)]
+
+mod standing;
+
+pub use standing::standing_of;
