@@ -38,6 +38,7 @@ pub fn standing_of(
     ensures memory { IsOkUnless result WorldFault.Memory }
     ensures refused { OnErr result WasRefused }
     ensures standing { IfOk result (λ s. s ≡ standing_of acts.now.items steps serving course) }
+    ensures station { IfOk result (λ s. s.serving ≤ 7) }
 {
     let mut course = course;
     let core = course.core_station();
