@@ -151,9 +151,7 @@ class TracePage(InBrowser):
         before = one.ask("Number(document.querySelector('.row').getAttribute('aria-setsize'))")
         one.key("Enter")
         self.assertGreater(one.ask("Number(document.querySelector('.row').getAttribute('aria-setsize'))"), before)
-        few = {**page, "events": [{**event, "v": "ok", "w": None} for event in page["events"][:77]], "keys": []}
-        for event in few["events"]:
-            event["l"] = []
+        few = {**page, "events": [{**event, "v": "ok", "w": None, "l": []} for event in page["events"][:77]], "keys": []}
         one.open(self.file(pages.html(few, ["few"], [], True)))
         self.assertEqual(one.ask("document.querySelectorAll('.row.fold').length"), 0)
 
