@@ -78,6 +78,8 @@ impl<N: Network + Drop, K: Sink + Drop> Source for LoopbackPort<N, K> {
             HasEnded (⟦<LoopbackPort<N, K> as Edge>⟧.told self.new)) }
         ensures no_end { MetNoEnd result (⟦<LoopbackPort<N, K> as Edge>⟧.told self.old)
             (⟦<LoopbackPort<N, K> as Edge>⟧.told self.new) }
+        ensures nothing { length buf.old ≡ 0 → (⟦<LoopbackPort<N, K> as Edge>⟧.told self.new).ended
+            ≡ (⟦<LoopbackPort<N, K> as Edge>⟧.told self.old).ended }
         ensures most { (⟦<LoopbackPort<N, K> as Edge>⟧.told self.new).most
             + length (octets_of result buf.new) ≤ (⟦<LoopbackPort<N, K> as Edge>⟧.told self.old).most }
         ensures written { (⟦<LoopbackPort<N, K> as Edge>⟧.told self.new).written

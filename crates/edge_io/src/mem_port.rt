@@ -82,6 +82,8 @@ impl Source for MemPort {
             HasEnded (⟦<MemPort as Edge>⟧.told self.new)) }
         ensures no_end { MetNoEnd result (⟦<MemPort as Edge>⟧.told self.old)
             (⟦<MemPort as Edge>⟧.told self.new) }
+        ensures nothing { length buf.old ≡ 0 → (⟦<MemPort as Edge>⟧.told self.new).ended
+            ≡ (⟦<MemPort as Edge>⟧.told self.old).ended }
         ensures most { (⟦<MemPort as Edge>⟧.told self.new).most
             + length (octets_of result buf.new) ≤ (⟦<MemPort as Edge>⟧.told self.old).most }
         ensures written { (⟦<MemPort as Edge>⟧.told self.new).written

@@ -60,6 +60,8 @@ impl Source for MemSource {
             HasEnded (⟦<MemSource as Edge>⟧.told self.new)) }
         ensures no_end { MetNoEnd result (⟦<MemSource as Edge>⟧.told self.old)
             (⟦<MemSource as Edge>⟧.told self.new) }
+        ensures nothing { length buf.old ≡ 0 → (⟦<MemSource as Edge>⟧.told self.new).ended
+            ≡ (⟦<MemSource as Edge>⟧.told self.old).ended }
         ensures most { (⟦<MemSource as Edge>⟧.told self.new).most
             + length (octets_of result buf.new) ≤ (⟦<MemSource as Edge>⟧.told self.old).most }
         ensures written { (⟦<MemSource as Edge>⟧.told self.new).written

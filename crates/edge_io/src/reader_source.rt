@@ -59,6 +59,8 @@ impl<R: Reader + Drop> Source for ReaderSource<R> {
             HasEnded (⟦<ReaderSource<R> as Edge>⟧.told self.new)) }
         ensures no_end { MetNoEnd result (⟦<ReaderSource<R> as Edge>⟧.told self.old)
             (⟦<ReaderSource<R> as Edge>⟧.told self.new) }
+        ensures nothing { length buf.old ≡ 0 → (⟦<ReaderSource<R> as Edge>⟧.told self.new).ended
+            ≡ (⟦<ReaderSource<R> as Edge>⟧.told self.old).ended }
         ensures most { (⟦<ReaderSource<R> as Edge>⟧.told self.new).most
             + length (octets_of result buf.new) ≤ (⟦<ReaderSource<R> as Edge>⟧.told self.old).most }
         ensures written { (⟦<ReaderSource<R> as Edge>⟧.told self.new).written

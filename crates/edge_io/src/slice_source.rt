@@ -46,6 +46,8 @@ impl<'a> Source for SliceSource<'a> {
             HasEnded (⟦<SliceSource<'a> as Edge>⟧.told self.new)) }
         ensures no_end { MetNoEnd result (⟦<SliceSource<'a> as Edge>⟧.told self.old)
             (⟦<SliceSource<'a> as Edge>⟧.told self.new) }
+        ensures nothing { length buf.old ≡ 0 → (⟦<SliceSource<'a> as Edge>⟧.told self.new).ended
+            ≡ (⟦<SliceSource<'a> as Edge>⟧.told self.old).ended }
         ensures most { (⟦<SliceSource<'a> as Edge>⟧.told self.new).most
             + length (octets_of result buf.new) ≤ (⟦<SliceSource<'a> as Edge>⟧.told self.old).most }
         ensures written { (⟦<SliceSource<'a> as Edge>⟧.told self.new).written

@@ -19,6 +19,8 @@ pub trait Source: Edge {
         ensures end { IfOk result (λ n. n ≡ 0 → 0 < length buf.old →
             HasEnded (Self.told self.new)) }
         ensures no_end { MetNoEnd result (Self.told self.old) (Self.told self.new) }
+        ensures nothing { length buf.old ≡ 0 →
+            (Self.told self.new).ended ≡ (Self.told self.old).ended }
         ensures most { (Self.told self.new).most + length (octets_of result buf.new)
             ≤ (Self.told self.old).most }
         ensures written { (Self.told self.new).written ≡ (Self.told self.old).written }
