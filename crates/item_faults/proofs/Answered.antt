@@ -101,7 +101,6 @@ again_of_is acts total steps (Some s) room all h = again_by_is acts total steps 
 
 deed_is : (acts total number : ℕ) (d : Does) → acts + 26 ≤ total → number < acts → IsDeedOf total (deed_of number d)
 deed_is acts total number (does.Delivers of) room low = tt
-deed_is acts total number does.Nothing room low = tt
 deed_is acts total number _ room low = omega arith
 
 entry_is : (acts total : ℕ) (steps : List Step) (s : Step) → acts + 26 ≤ total → All (IsStep acts) steps → IsStep acts s →

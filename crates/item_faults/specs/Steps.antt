@@ -153,10 +153,9 @@ abbrev pub again_of : ℕ → List Step → Option Step → Again
 again_of acts steps None = again.Never
 again_of acts steps (Some s) = again_by acts steps s s.sends
 
--- THE ITEMS: what delivers a record that is not there delivers what nobody sends
+-- THE ITEMS: what delivers a record that is not there stays as it is
 abbrev pub deed_of : ℕ → Does → Deed
 deed_of number (does.Delivers of) = deed.Delivery of
-deed_of number does.Nothing = deed.Delivery number
 deed_of number other = deed.Act number
 
 abbrev pub entry_of : ℕ → List Step → Step → Entry

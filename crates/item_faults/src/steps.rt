@@ -197,7 +197,6 @@ fn deed_of(number: u32, does: Does) -> Deed
 {
     match does {
         Does::Delivers(of) => Deed::Delivery(of),
-        Does::Nothing => Deed::Delivery(number),
         _ => Deed::Act(number),
     }
 }
