@@ -1,0 +1,2 @@
+pub mod OwnItems
+pub mod Through

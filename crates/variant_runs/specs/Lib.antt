@@ -1,0 +1,2 @@
+pub mod Original
+pub mod Judged
