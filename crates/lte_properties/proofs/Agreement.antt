@@ -18,6 +18,7 @@ pub mod PhoneWalk
 pub mod Seen
 pub mod Station
 pub mod StationAct
+pub mod StationContext
 pub mod StationOpens
 pub mod StationSends
 pub mod Terms

@@ -84,10 +84,11 @@ module _ (same : Term → Term → Bool) (g : Ghost) (s : Phone Term ℕ) (stati
   plain_here w never u algs key text (Some (SealedRrc Up st a srb i f sent)) h sealed = absurd h
   plain_here w never u algs key text (Some (SealedRrc Down st a srb i None sent)) h sealed = refl
   plain_here w never u algs key text (Some (SealedRrc Down st a srb i (Some f) sent)) h sealed =
-      let d = h.3 in
-      let had = d.3.1 in
-      let kenb : d.0.key ≡ w.kenb = sym (one_key w.kenb d.0.key _ _ _ _ (sym key ∙ ap (λ v. v.key) sealed.0 ∙ ap (λ v. v.key) d.2)) in
-      absurd (never had.0 had.1 (had.4 ∙ kenb))
+      let d = h.down in
+      let (x, taken, _, _, is) = d.ciphered.1 in
+      let kenb : d.made.key ≡ w.kenb =
+      sym (one_key w.kenb d.made.key _ _ _ _ (sym key ∙ ap (λ v. v.key) sealed.0 ∙ ap (λ v. v.key) d.integrity)) in
+      absurd (never x taken (is ∙ kenb))
   plain_here w never u algs key text other h sealed = tt
 
   -- an unciphered record of this address is the first, which the phone took before
@@ -101,12 +102,12 @@ module _ (same : Term → Term → Bool) (g : Ghost) (s : Phone Term ℕ) (stati
   ciphered_here l h is_s is_a srb count is_on low text (Some (SealedRrc Up st a sr i f sent)) k sealed = absurd k
   ciphered_here l h is_s is_a srb count is_on low text (Some (SealedRrc Down st a sr i (Some f) sent)) k sealed = refl
   ciphered_here l h is_s is_a srb count is_on low text (Some (SealedRrc Down st a sr i None sent)) k sealed =
-      let d = k.3 in
-      let there : made_at g.made station air ≡ Some h.2 = (λ j. made_at g.made (sym is_s j) (sym is_a j)) ∙ h.3 in
-      let from : h.2.from ≡ BySetup = ap (λ x. x.from) (same_found _ h.2 d.0 there d.1) ∙ d.3.0 in
-      let heard : 1 ≤ l.bearers.srb1.receive = h.7 from in
-      let first : srb ≡ Signalling1 = one_srb srb sr (sym is_on ∙ k.2) ∙ d.3.2 in
-      let none : count ≡ 0 = ap (λ v. v.count) sealed.0 ∙ d.3.1 in
+      let d = k.down in
+      let there : made_at g.made station air ≡ Some h.made = (λ j. made_at g.made (sym is_s j) (sym is_a j)) ∙ h.found in
+      let from : h.made.from ≡ BySetup = ap (λ x. x.from) (same_found _ h.made d.made there d.found) ∙ d.ciphered.0 in
+      let heard : 1 ≤ l.bearers.srb1.receive = h.heard from in
+      let first : srb ≡ Signalling1 = one_srb srb sr (sym is_on ∙ k.is_on) ∙ d.ciphered.2 in
+      let none : count ≡ 0 = ap (λ v. v.count) sealed.0 ∙ d.ciphered.1 in
       let low_first : l.bearers.srb1.receive ≤ count = subst (λ x. (srb_counts x l.bearers).receive ≤ count) first low in
       absurd (too_low heard low_first none)
     where

@@ -48,14 +48,14 @@ module _ (octets : Outgoing Term ℕ → List ℕ) (tell : OctetsTell octets) wh
   sent_came g (SealedNas Down header i e text) k = tt
   sent_came g (PlainNas pdu) k = tt
   sent_came g (SealedRrc Up station air srb i e text) k = (refl, refl, k)
-  sent_came g (SealedRrc Down station air srb i e text) k = (
-    refl,
-    refl,
-    which_srb srb,
-    k,
-    (λ none. ap (λ f. unciphered_text (octets (SealedRrc Down station air srb i f text))) none
-        ∙ tell.text Down station air srb i text),
-  )
+  sent_came g (SealedRrc Down station air srb i e text) k = record {
+    is_station = refl;
+    is_air = refl;
+    is_on = which_srb srb;
+    down = k;
+    plain = λ none. ap (λ f. unciphered_text (octets (SealedRrc Down station air srb i f text))) none
+        ∙ tell.text Down station air srb i text;
+  }
   sent_came g (UserPacket Up station air drb e text) k = tt
   sent_came g (UserPacket Down station air drb e text) k = tt
   sent_came g (Between to fields key) k = between_came g to (octets (Between to fields key)) fields key k

@@ -24,9 +24,8 @@ use Rattle.lte_properties.proofs.ChainNumbers.Lists.{all_map}
 use Rattle.lte_properties.proofs.Agreement.Terms.{climb, lands, climb-nh, root_base, root_nh, on_chain_lands}
 use Rattle.lte_properties.proofs.Agreement.Ghost.{is_tried_at, taken, TermOk, PairOk, PairsOk, FromIs, FromOk, MadeOk, GivenOk, TriedOk, TookOk, UnderKey, X2Ok, S1Ok, AttemptOk, CtxOk, PrepOk, StationOk, CoreLinkOk, SentOk}
 use Rattle.lte_properties.proofs.Agreement.Later.{same_found}
-use Rattle.lte_properties.proofs.Agreement.Phone.{all_found}
 use Rattle.lte_properties.proofs.Agreement.PhoneWalk.{both_named}
-use Rattle.lte_properties.proofs.Agreement.ToldIsFound.{found_holds, term_number}
+use Rattle.lte_properties.proofs.Agreement.ToldIsFound.{all_found, found_holds, term_number}
 use Rattle.lte_properties.proofs.Agreement.World.{Conns, ghost, WorldOk}
 use Rattle.lte_machine.specs.Distinct.{Member}
 use Rattle.lte_machine.specs.StationChoice.{x2_number, s1_number}
@@ -68,7 +67,7 @@ module _ (cells : List Site) (c : Conns) (w : TheWorld) (h : WorldOk cells c w) 
   first_of conn key is none = (is ∙ ap (nh (c.root conn) (c.count conn)) (sym none), omega arith)
 
   tried_on : (e : Tried Term ℕ) → TriedOk cells (ghost c w) e → TriedOn chains e
-  tried_on e k = (key_of e.conn e.key e.number k.0, given_on e.kind k.2)
+  tried_on e k = (key_of e.conn e.key e.number k.term, given_on e.kind k.given)
     where
       given_on : (o : Handover Term ℕ) → GivenOk (ghost c w) e o → GivenOn chains e.conn o
       given_on ByTarget g = tt
@@ -76,7 +75,7 @@ module _ (cells : List Site) (c : Conns) (w : TheWorld) (h : WorldOk cells c w) 
 
   context_on : (id : ℕ) (o : Option (Context Term ℕ)) → CtxOk (ghost c w) id o → ContextOn chains o
   context_on id None k = tt
-  context_on id (Some x) k = (key_of x.conn x.key.kenb x.key.number k.0, pairs_of x.conn x.key.pair k.1)
+  context_on id (Some x) k = (key_of x.conn x.key.kenb x.key.number k.term, pairs_of x.conn x.key.pair k.pair)
 
   -- an attempt, under the key of its context
   opened_under : (id : ℕ) (x : Context Term ℕ) (number : ℕ)
@@ -84,25 +83,25 @@ module _ (cells : List Site) (c : Conns) (w : TheWorld) (h : WorldOk cells c w) 
       → UnderKey (ghost c w) id x.conn x.key.kenb number
       → OpenedUnder w.tried id x number
   opened_under id x number own k =
-      let e = k.0 in
-      let at = both_named e.station id e.attempt number (found_holds (is_tried_at id number) w.tried e k.1) in
-      let term = (all_found (TriedOk cells (ghost c w)) _ w.tried e h.tried k.1).0 in
+      let e = k.tried in
+      let at = both_named e.station id e.attempt number (found_holds (is_tried_at id number) w.tried e k.found) in
+      let term = (all_found (TriedOk cells (ghost c w)) _ w.tried e h.tried k.found).term in
       let one : e.number ≡ x.key.number = sym (term_number (ghost c w) e.conn e.key e.number term)
-      ∙ ap chain_number k.2
+      ∙ ap chain_number k.key
       ∙ term_number (ghost c w) x.conn x.key.kenb x.key.number own in
-      (e, found_in (is_tried_at id number) w.tried e k.1, at.0, at.1, k.3, k.2, one)
+      (e, found_in (is_tried_at id number) w.tried e k.found, at.0, at.1, k.conn, k.key, one)
 
   x2_under : (id : ℕ) (x : Context Term ℕ) (state : X2State Term ℕ)
       → X2Ok (ghost c w) id x.conn x.key.kenb state
       → UnderKey (ghost c w) id x.conn x.key.kenb (x2_number state)
-  x2_under id x (X2Open start) k = (k.0.0, k.0.1, k.0.2, k.0.5)
+  x2_under id x (X2Open start) k = let o = k.0 in record { tried = o.tried; found = o.found; key = o.key; conn = o.conn }
   x2_under id x (X2Ready acked) k = k.2
   x2_under id x (X2Commanded sent) k = k.1
 
   s1_under : (id : ℕ) (x : Context Term ℕ) (state : S1State)
       → S1Ok (ghost c w) id x.conn x.key.kenb state
       → UnderKey (ghost c w) id x.conn x.key.kenb (s1_number state)
-  s1_under id x (S1Open start) k = (k.0, k.1, k.2, k.5)
+  s1_under id x (S1Open start) k = record { tried = k.tried; found = k.found; key = k.key; conn = k.conn }
   s1_under id x (S1Ready acked) k = k.1
   s1_under id x (S1Commanded sent) k = k.1
 
@@ -115,26 +114,26 @@ module _ (cells : List Site) (c : Conns) (w : TheWorld) (h : WorldOk cells c w) 
   attempt_on id x own (Some (OverX2 state)) k = opened_under id x (x2_number state) own (x2_under id x state k)
   attempt_on id x own (Some (OverS1 state)) k = opened_under id x (s1_number state) own (s1_under id x state k)
   attempt_on id x own (Some (Within state)) k = opened_under id x (x2_number state) own (x2_under id x state k)
-  attempt_on id x own (Some (Renewing a)) k = (k.0, k.1, k.2)
+  attempt_on id x own (Some (Renewing a)) k = (k.made, k.found, k.from)
 
   attempts_on : (id : ℕ) (o : Option (Context Term ℕ)) → CtxOk (ghost c w) id o → AttemptsOn w.made w.tried id o
   attempts_on id None k = tt
-  attempts_on id (Some x) k = attempt_on id x k.0 x.attempt k.4
+  attempts_on id (Some x) k = attempt_on id x k.term x.attempt k.attempt
 
   preps_on : (id : ℕ) (ps : List (Prep Term ℕ)) → AllOf (PrepOk (ghost c w) id) ps → AllOf (PrepOn chains) ps
   preps_on id ps k =
-      all_map (PrepOk (ghost c w) id) (PrepOn chains) (λ p x. (key_of p.conn p.key.kenb p.key.number x.0, pairs_of p.conn p.key.pair x.1)) ps k
+      all_map (PrepOk (ghost c w) id) (PrepOn chains) (λ p x. (key_of p.conn p.key.kenb p.key.number x.term, pairs_of p.conn p.key.pair x.pair)) ps k
 
   link_on : (next : ℕ) (o : Option (CoreLink Term ℕ)) → CoreLinkOk (ghost c w) o → LinkTop top next o → LinkOn chains o
   link_on next None k t = tt
-  link_on next (Some link) k t = (k.2, t.0, k.3)
+  link_on next (Some link) k t = (k.root, t.0, k.sync)
 
   record_on : (x : Outgoing Term ℕ) → SentOk (ghost c w) x → RecordOn chains x
   record_on (Between to (InitialContext conn cell caps) (Some key)) k = first_of conn key k.1 k.2
   record_on (Between to (PathSwitchAnswer conn number) (Some pair)) k = pair_of conn pair k
   record_on (Between to (HandoverRequest conn source attempt cell caps) (Some pair)) k = pair_of conn pair k.0
   record_on (Between to (X2Request conn source attempt cell caps) (Some star)) k = key_of conn star.key star.number k.0
-  record_on (Between to (ContextModification conn next) (Some key)) k = first_of next key k.1 k.4
+  record_on (Between to (ContextModification conn next) (Some key)) k = first_of next key k.chain k.number
   record_on other k = tt
 
   -- HOW A STATION CAME TO WHAT IT MADE
@@ -160,25 +159,25 @@ module _ (cells : List Site) (c : Conns) (w : TheWorld) (h : WorldOk cells c w) 
       one = same_root r (c.root m.conn) 0 (c.count m.conn) (sym (ap chain_key key) ∙ own.2 ∙ ap (nh (c.root m.conn) (c.count m.conn)) none)
 
   how : (m : Made Term ℕ) → MadeOk (ghost c w) m → (from : From Term) → m.from ≡ from → MadeHow chains w.tried w.took m from
-  how m k BySetup is = let made : FromOk (ghost c w) m BySetup = subst (FromOk (ghost c w) m) is k.3 in (made.0, made.2)
+  how m k BySetup is = let made : FromOk (ghost c w) m BySetup = subst (FromOk (ghost c w) m) is k.from in (made.0, made.2)
   how m k (ByAttempt o) is =
-      let made : FromOk (ghost c w) m (ByAttempt o) = subst (FromOk (ghost c w) m) is k.3 in
-      let e = made.0 in
-      let at = both_named e.station o.source e.attempt o.attempt (found_holds (is_tried_at o.source o.attempt) w.tried e made.1) in
-      let own = (all_found (TriedOk cells (ghost c w)) _ w.tried e h.tried made.1).0 in
-      let low = made.4.0 in (
+      let made : FromOk (ghost c w) m (ByAttempt o) = subst (FromOk (ghost c w) m) is k.from in
+      let e = made.tried in
+      let at = both_named e.station o.source e.attempt o.attempt (found_holds (is_tried_at o.source o.attempt) w.tried e made.found) in
+      let own = (all_found (TriedOk cells (ghost c w)) _ w.tried e h.tried made.found).term in
+      let (low, lands_so) = made.leads in (
         e,
-        found_in (is_tried_at o.source o.attempt) w.tried e made.1,
+        found_in (is_tried_at o.source o.attempt) w.tried e made.found,
         at.0,
         at.1,
-        made.3,
-        made.6,
-        made.7,
-        star_of e m own made.6 made.7 (m.number - e.number) (omega arith) made.4.1,
+        made.target,
+        made.conn,
+        made.cell,
+        star_of e m own made.conn made.cell (m.number - e.number) (omega arith) lands_so,
       )
   how m k (ByChange old) is =
-      let made : FromOk (ghost c w) m (ByChange old) = subst (FromOk (ghost c w) m) is k.3 in
-      (made.0, change_key m made.2 made.0 k.5 made.3, made.4, made.5)
+      let made : FromOk (ghost c w) m (ByChange old) = subst (FromOk (ghost c w) m) is k.from in
+      (made.number, change_key m made.root made.number k.term made.key, made.air, made.had)
 
   -- WHAT THE PHONE TOOK
 
@@ -204,20 +203,20 @@ module _ (cells : List Site) (c : Conns) (w : TheWorld) (h : WorldOk cells c w) 
   belongs : (x : Took Term ℕ) → TookOk (ghost c w) x → (m : Made Term ℕ) → MadeOk (ghost c w) m → FromIs (ghost c w) m x.key m.from
       → (came : Came Term ℕ) → ObeysMade x came m → KeyGrows x came → (x.number ≤ top m.conn) × BelongsTo chains m x came
   belongs x k m ok from Secured obeys grows =
-      let own = made_of x m (key_of m.conn m.key m.number ok.5) obeys.0 in (own.1, own)
+      let own = made_of x m (key_of m.conn m.key m.number ok.term) obeys.0 in (own.1, own)
   belongs x k m ok from (Commanded before) obeys grows =
       let o = obeys.tried.0 in
       let is = obeys.tried.1 in
-      let made : FromOk (ghost c w) m (ByAttempt o) = subst (FromOk (ghost c w) m) is ok.3 in
+      let made : FromOk (ghost c w) m (ByAttempt o) = subst (FromOk (ghost c w) m) is ok.from in
       let here : FromIs (ghost c w) m x.key (ByAttempt o) = subst (FromIs (ghost c w) m x.key) is from in
-      let e = made.0 in
-      let one : here.0 ≡ e = same_found _ here.0 e here.1 made.1 in
+      let e = made.tried in
+      let one : here.0 ≡ e = same_found _ here.0 e here.1 made.found in
       let takes : x.key ≡ taken e m = here.2 ∙ ap (λ y. taken y m) one in
-      let own = (all_found (TriedOk cells (ghost c w)) _ w.tried e h.tried made.1).0 in
-      let bound : x.number ≤ top m.conn = at_most obeys.not_passed (key_of m.conn m.key m.number ok.5).1 in
-      (bound, (tried_key x m e own made.6 takes k.3, bound))
+      let own = (all_found (TriedOk cells (ghost c w)) _ w.tried e h.tried made.found).term in
+      let bound : x.number ≤ top m.conn = at_most obeys.not_passed (key_of m.conn m.key m.number ok.term).1 in
+      (bound, (tried_key x m e own made.conn takes k.on_chain, bound))
   belongs x k m ok from (Changed before root) obeys grows =
-      (at_most (below grows.0) (low (top m.conn)), λ few. made_of x m (key_of m.conn m.key m.number ok.5) (obeys.near few))
+      (at_most (below grows.0) (low (top m.conn)), λ few. made_of x m (key_of m.conn m.key m.number ok.term) (obeys.near few))
     where
       below : x.number ≡ 0 → x.number ≤ 0
       below e = omega arith
@@ -227,16 +226,16 @@ module _ (cells : List Site) (c : Conns) (w : TheWorld) (h : WorldOk cells c w) 
 
   took_on : (x : Took Term ℕ) → TookOk (ghost c w) x → TookOn chains w.made x
   took_on x k =
-      let obeys = k.1 in
-      let m = obeys.0 in
-      let one : k.0.0 ≡ m = same_found _ k.0.0 m k.0.1 obeys.1 in
-      let from : FromIs (ghost c w) m x.key m.from = subst (λ y. FromIs (ghost c w) y x.key y.from) one k.0.2 in
-      let b = belongs x k m (all_found (MadeOk (ghost c w)) _ w.made m h.made obeys.1) from x.came obeys.2 k.2 in
-      (k.3, m, obeys.1, b.0, b.1)
+      let (m, found, obeys) = k.obeys in
+      let (n, there, here) = k.here in
+      let one : n ≡ m = same_found _ n m there found in
+      let from : FromIs (ghost c w) m x.key m.from = subst (λ y. FromIs (ghost c w) y x.key y.from) one here in
+      let b = belongs x k m (all_found (MadeOk (ghost c w)) _ w.made m h.made found) from x.came obeys k.grows in
+      (k.on_chain, m, found, b.0, b.1)
 
   pub are_chains : AreChains (record { root = c.root; count = c.count; top = top }) w
   are_chains = record {
-    made = all_map (MadeOk (ghost c w)) (λ m. IsKeyOf chains m.conn m.key m.number) (λ m k. key_of m.conn m.key m.number k.5) w.made h.made;
+    made = all_map (MadeOk (ghost c w)) (λ m. IsKeyOf chains m.conn m.key m.number) (λ m k. key_of m.conn m.key m.number k.term) w.made h.made;
     how = all_map (MadeOk (ghost c w)) (λ m. MadeHow chains w.tried w.took m m.from) (λ m k. how m k m.from refl) w.made h.made;
     tried = all_map (TriedOk cells (ghost c w)) (TriedOn chains) tried_on w.tried h.tried;
     contexts = all_map (StationOk cells (ghost c w)) (λ s. ContextOn chains s.context) (λ s k. context_on s.id s.context k.context) w.stations h.stations;

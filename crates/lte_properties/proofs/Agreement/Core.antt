@@ -29,7 +29,7 @@ use Rattle.lte_machine.proofs.S1Facts.{RecordHas, record_has}
 use Rattle.lte_properties.specs.ChainBelow.{AllOf}
 use Rattle.lte_properties.proofs.Agreement.Ghost.{Ghost, chain_at, PairOk, TriedOk, CoreLinkOk, CoreOk, AskedIs, IsOther, BetweenOk, OutOk}
 use Rattle.lte_properties.proofs.Agreement.Later.{Later, later_itself, same_found}
-use Rattle.lte_properties.proofs.Agreement.Phone.{all_found}
+use Rattle.lte_properties.proofs.Agreement.ToldIsFound.{all_found}
 
 -- the connections after a step of the core
 abbrev pub with_conns : Ghost → (ℕ → Term) → (ℕ → ℕ) → (ℕ → ℕ) → ℕ → Ghost
@@ -137,14 +137,18 @@ module _ (same : Term → Term → Bool) (cells : List Site) (g : Ghost) (tried_
   begins_link : (conn : ℕ) (root : Term) (count : ℕ) (first : FirstNcc) (is : conn ≡ g.next) (station : ℕ)
       → CoreLinkOk (begun_ghost conn root count first is)
       (Some (record { conn = conn; chain = chain_from (term_reading_by same) first root (Kenb root count); station = station }))
-  begins_link conn root count One is station =
-      (begins_low conn root count One is, sym (here conn 0 g.top), sym (here conn root g.root), begins_key conn root count One is)
-  begins_link conn root count Two is station = (
-    begins_low conn root count Two is,
-    sym (here conn 1 g.top),
-    sym (here conn root g.root),
-    λ j. Nh (sym (here conn root g.root) j) (begins_key conn root count Two is j),
-  )
+  begins_link conn root count One is station = record {
+    conn = begins_low conn root count One is;
+    number = sym (here conn 0 g.top);
+    root = sym (here conn root g.root);
+    sync = begins_key conn root count One is;
+  }
+  begins_link conn root count Two is station = record {
+    conn = begins_low conn root count Two is;
+    number = sym (here conn 1 g.top);
+    root = sym (here conn root g.root);
+    sync = λ j. Nh (sym (here conn root g.root) j) (begins_key conn root count Two is j);
+  }
 
   -- a step of the chain
   module _ (link : CoreLink Term ℕ) (k : CoreLinkOk g (Some link)) where
@@ -167,17 +171,17 @@ module _ (same : Term → Term → Bool) (cells : List Site) (g : Ghost) (tried_
     }
 
     number_up : link.chain.number + 1 ≡ up link.conn
-    number_up = ap (λ n. n + 1) k.1 ∙ sym (here link.conn (g.top link.conn + 1) g.top)
+    number_up = ap (λ n. n + 1) k.number ∙ sym (here link.conn (g.top link.conn + 1) g.top)
 
     key_up : Nh link.chain.root link.chain.sync ≡ chain_at g link.conn (link.chain.number + 1)
-    key_up = (λ j. Nh (k.2 j) (k.3 j)) ∙ ap (nh (g.root link.conn) (g.count link.conn)) next_number
+    key_up = (λ j. Nh (k.root j) (k.sync j)) ∙ ap (nh (g.root link.conn) (g.count link.conn)) next_number
       where
         next_number : suc link.chain.number ≡ link.chain.number + 1
         next_number = omega arith
 
     pair_up : (conn : ℕ) → link.conn ≡ conn → PairOk stepped_ghost conn (record { key = Nh link.chain.root link.chain.sync; number = link.chain.number + 1 })
     pair_up conn e = subst (λ c. PairOk stepped_ghost c (record { key = Nh link.chain.root link.chain.sync; number = link.chain.number + 1 })) e
-        (k.0, equal_below number_up, key_up)
+        (k.conn, equal_below number_up, key_up)
 
   -- a record that does not read, and one that does
   pub core_unread_goes : (fault : RecFault) (s : Core Term ℕ) → CoreOk cells g s
@@ -194,26 +198,29 @@ module _ (same : Term → Term → Bool) (cells : List Site) (g : Ghost) (tried_
       up link h.0,
       g.next,
       steps_later link h.0,
-      ((h.0.0, number_up link h.0, h.0.2, key_up link h.0), h.1, h.2),
+      (record { conn = h.0.conn; number = number_up link h.0; root = h.0.root; sync = key_up link h.0 }, h.1, h.2),
       pair_up link h.0 conn f.linked,
       (λ i off. equal_below (apart link.conn i (g.top link.conn + 1) g.top off)),
     );
     asked = λ conn source attempt cell target caps link f h.
         let asked : AskedIs g conn source attempt cell ByTarget IsOther = subst (λ x. BetweenOk g to x key) f.fields_is k in
-        let e = asked.0 in
-        let ok = all_found (TriedOk cells g) _ g.tried e tried_ok asked.1 in
+        let e = asked.tried in
+        let ok = all_found (TriedOk cells g) _ g.tried e tried_ok asked.found in
         let there : station_of cell cells ≡ Some target = subst (λ x. station_of cell x ≡ Some target) h.2 f.site in
-        let to : target ≡ e.target = same_found (station_of cell cells) target e.target there (ap (λ x. station_of x cells) (sym asked.3) ∙ ok.1) in
-        let one : e.conn ≡ link.conn = asked.2 ∙ sym f.linked in
-        let below : e.number ≤ g.top link.conn = subst (λ c. e.number ≤ g.top c) one ok.0.1 in
-        let low : e.number < link.chain.number + 1 = subst (λ n. e.number < n + 1) (sym h.0.1) (omega arith) in (
+        let to : target ≡ e.target = same_found (station_of cell cells) target e.target there (ap (λ x. station_of x cells) (sym asked.cell) ∙ ok.target) in
+        let one : e.conn ≡ link.conn = asked.conn ∙ sym f.linked in
+        let below : e.number ≤ g.top link.conn = subst (λ c. e.number ≤ g.top c) one ok.term.1 in
+        let low : e.number < link.chain.number + 1 = subst (λ n. e.number < n + 1) (sym h.0.number) (omega arith) in (
           g.root,
           g.count,
           up link h.0,
           g.next,
           steps_later link h.0,
-          ((h.0.0, number_up link h.0, h.0.2, key_up link h.0), h.1, h.2),
-          (pair_up link h.0 conn f.linked, (e, asked.1, asked.2, asked.3, asked.4, (low, to, asked.5))),
+          (record { conn = h.0.conn; number = number_up link h.0; root = h.0.root; sync = key_up link h.0 }, h.1, h.2),
+          (
+            pair_up link h.0 conn f.linked,
+            record { tried = e; found = asked.found; conn = asked.conn; cell = asked.cell; kind = asked.kind; so = (low, to, asked.so) },
+          ),
           (λ i off. equal_below (apart link.conn i (g.top link.conn + 1) g.top off)),
         );
     ordered = λ conn source attempt cell ncc algs air f h.
@@ -248,7 +255,13 @@ module _ (same : Term → Term → Bool) (cells : List Site) (g : Ghost) (tried_
           next + 1,
           begins_later next p.root count s.first_ncc is,
           (begins_link next p.root count s.first_ncc is station, refl, h.2),
-          (begins_low next p.root count s.first_ncc is, begins_key next p.root count s.first_ncc is, p.root, ap (Kenb p.root) (f.1 count f.0.0), refl),
+          record {
+            below = begins_low next p.root count s.first_ncc is;
+            chain = begins_key next p.root count s.first_ncc is;
+            root = p.root;
+            kenb = ap (Kenb p.root) (f.1 count f.0.0);
+            number = refl;
+          },
           (λ i off. equal_below (apart next i (number_from (term_reading_by same) s.first_ncc) g.top off)),
         );
     asked = λ count c f h. stays s h;

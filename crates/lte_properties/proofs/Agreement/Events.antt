@@ -9,7 +9,7 @@ use Rattle.lte_events.specs.declared.events.Event.{Event}
 use Rattle.lte_events.specs.Site.{Site}
 use Rattle.lte_events.specs.Ranges.{IsEvent}
 use Rattle.key_model.specs.Term.{Term}
-use Rattle.lte_machine.specs.Wire.{KeyUse, Outgoing, SealedNas, PlainNas, SealedRrc, UserPacket, Between, address_of}
+use Rattle.lte_machine.specs.Wire.{KeyUse, Outgoing, Between, address_of}
 use Rattle.lte_machine.specs.Opening.{Opening, Outcome}
 use Rattle.lte_machine.specs.PhoneState.{PhoneInput, PhoneAuth, PhoneActs, PhoneNasPdu, PhoneAirPdu}
 use Rattle.lte_machine.specs.StationState.{Interface, OnS1, OnX2}
@@ -31,7 +31,7 @@ use Rattle.lte_properties.proofs.Agreement.PhoneWalk.{by_test}
 use Rattle.lte_properties.proofs.Agreement.ToldIsFound.{SiteOk}
 use Rattle.lte_properties.proofs.Agreement.Core.{equal_below, StaysOff, as_before, CoreGoes, core_unread_goes, core_record_goes, core_nas_goes, core_act_goes}
 use Rattle.lte_properties.proofs.Agreement.CoreOpens.{core_nas_zero}
-use Rattle.lte_properties.proofs.Agreement.Station.{CellFits}
+use Rattle.lte_properties.proofs.Agreement.StationContext.{CellFits}
 use Rattle.lte_properties.proofs.ChainNumbers.World.{FitsAll, happens_holds}
 use Rattle.lte_properties.proofs.Agreement.World.{Conns, ghost, WorldOk, Goes, OctetsTell, Settled, ReadOk, by_world_goes, phone_turn_goes, phone_air_goes, core_turn_goes, IsAt, station_acts_goes, station_air_goes, station_record_goes}
 
@@ -162,7 +162,7 @@ module _ (same : Term → Term → Bool) (root : ℕ → List ℕ → Term) (oct
       by_link None k f = le_trans (f conn tt) (fits conn)
       by_link (Some link) k f =
           by_test (λ n. d.top conn ≤ n) (conn == link.conn) _ _
-          (λ b. equal_below (ap d.top (eqb-true conn link.conn b) ∙ sym k.1))
+          (λ b. equal_below (ap d.top (eqb-true conn link.conn b) ∙ sym k.number))
           (λ b. le_trans (f conn (λ e. eqb-false conn link.conn b (sym e))) (fits conn))
 
   -- what a run leaves, where the core's numbers end so

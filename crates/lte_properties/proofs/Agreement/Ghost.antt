@@ -107,18 +107,36 @@ GivenFits (BySource star) number = star.number ≡ number
 -- what was made; it is all that was made for its air address
 abbrev pub FromOk : Ghost → Made Term ℕ → From Term → Type 0
 FromOk g m BySetup = (m.number ≡ 0) × (m.conn < g.next) × (m.key ≡ chain_at g m.conn 0)
-FromOk g m (ByAttempt o) =
-    (e : Tried Term ℕ) × (tried_at g.tried o.source o.attempt ≡ Some e) × (chain_number e.key ≡ e.number)
-    × (e.target ≡ m.station) × Leads e m.key m.number × GivenFits e.kind m.number × (e.conn ≡ m.conn)
-    × (e.cell ≡ m.cell)
-FromOk g m (ByChange k) =
-    (m.number ≡ 0) × IsCell m.cell × (r : Term) × (m.key ≡ Star (Kenb r 0) m.cell.pci m.cell.earfcn)
-    × (air : ℕ) × HadTaken g.took m.station air k
+FromOk g m (ByAttempt o) = record {
+  tried : Tried Term ℕ;
+  found : tried_at g.tried o.source o.attempt ≡ Some tried;
+  number : chain_number tried.key ≡ tried.number;
+  target : tried.target ≡ m.station;
+  leads : Leads tried m.key m.number;
+  given : GivenFits tried.kind m.number;
+  conn : tried.conn ≡ m.conn;
+  cell : tried.cell ≡ m.cell;
+}
+FromOk g m (ByChange k) = record {
+  number : m.number ≡ 0;
+  is_cell : IsCell m.cell;
+  root : Term;
+  key : m.key ≡ Star (Kenb root 0) m.cell.pci m.cell.earfcn;
+  -- where the phone had taken the key that was to change
+  air : ℕ;
+  had : HadTaken g.took m.station air k;
+}
 
 abbrev pub MadeOk : Ghost → Made Term ℕ → Type 0
-MadeOk g m =
-    (1 ≤ m.air) × (m.air < 4294967296) × (m.station ≤ 7) × FromOk g m m.from
-    × (made_at g.made m.station m.air ≡ Some m) × TermOk g m.conn m.key m.number
+MadeOk g m = record {
+  low : 1 ≤ m.air;
+  high : m.air < 4294967296;
+  station : m.station ≤ 7;
+  from : FromOk g m m.from;
+  -- there is no other for its air address
+  found : made_at g.made m.station m.air ≡ Some m;
+  term : TermOk g m.conn m.key m.number;
+}
 
 -- what was tried
 abbrev pub GivenOk : Ghost → Tried Term ℕ → Handover Term ℕ → Type 0
@@ -126,14 +144,22 @@ GivenOk g e ByTarget = ⊤
 GivenOk g e (BySource star) = TermOk g e.conn star.key star.number × Leads e star.key star.number
 
 abbrev pub TriedOk : List Site → Ghost → Tried Term ℕ → Type 0
-TriedOk cells g e =
-    TermOk g e.conn e.key e.number × (station_of e.cell cells ≡ Some e.target) × GivenOk g e e.kind
-    × (e.station ≤ 7)
+TriedOk cells g e = record {
+  term : TermOk g e.conn e.key e.number;
+  target : station_of e.cell cells ≡ Some e.target;
+  given : GivenOk g e e.kind;
+  station : e.station ≤ 7;
+}
 
 -- a key that the phone had taken at an air address of the station, which had made that very key there
 abbrev pub HadMade : Ghost → ℕ → Term → Type 0
-HadMade g station t =
-    (air : ℕ) × (m : Made Term ℕ) × (made_at g.made station air ≡ Some m) × (t ≡ m.key) × HadTaken g.took station air t
+HadMade g station t = record {
+  air : ℕ;
+  made : Made Term ℕ;
+  found : made_at g.made station air ≡ Some made;
+  key : t ≡ made.key;
+  had : HadTaken g.took station air t;
+}
 
 -- under such a key it obeyed an order
 abbrev pub UnderIs : Ghost → Came Term ℕ → Type 0
@@ -143,9 +169,13 @@ UnderIs g (Changed before root) = HadMade g before.station before.key
 
 -- what was taken
 abbrev pub TookOk : Ghost → Took Term ℕ → Type 0
-TookOk g x =
-    HereIs g x.station x.air x.key × Obeys g.made x × KeyGrows x x.came
-    × OnChain (root_of x.key) (nas_count_of x.key) x.key x.number × UnderIs g x.came
+TookOk g x = record {
+  here : HereIs g x.station x.air x.key;
+  obeys : Obeys g.made x;
+  grows : KeyGrows x x.came;
+  on_chain : OnChain (root_of x.key) (nas_count_of x.key) x.key x.number;
+  under : UnderIs g x.came;
+}
 
 -- a context or preparation is what was made for its air address
 abbrev pub IsMade : Made Term ℕ → Term → ℕ → Algs → Type 0
@@ -153,36 +183,63 @@ IsMade m t number algs = (t ≡ m.key) × (number ≡ m.number) × (algs ≡ m.a
 
 -- a context's, and the phone takes it there, and had
 abbrev pub EntryIs : Ghost → ℕ → ℕ → Term → ℕ → Algs → Type 0
-EntryIs g id air t number algs =
-    (m : Made Term ℕ) × (made_at g.made id air ≡ Some m) × IsMade m t number algs
-    × FromIs g m t m.from × TakenIfTried g.took id air t m.from
+EntryIs g id air t number algs = record {
+  made : Made Term ℕ;
+  found : made_at g.made id air ≡ Some made;
+  is : IsMade made t number algs;
+  from : FromIs g made t made.from;
+  had : TakenIfTried g.took id air t made.from;
+}
 
 -- an order of a source for the phone with this key: of an attempt of that key, for what was made of it
 abbrev pub OrderIs : Ghost → ℕ → Term → Place → ℕ → Algs → ℕ → ℕ → Type 0
-OrderIs g source t cell ncc algs station air =
-    (m : Made Term ℕ) × (o : Origin) × (e : Tried Term ℕ)
-    × (made_at g.made station air ≡ Some m) × (m.from ≡ ByAttempt o) × (tried_at g.tried o.source o.attempt ≡ Some e)
-    × (e.key ≡ t) × (e.cell ≡ cell) × (ncc_of m.number ≡ ncc) × (m.algs ≡ algs) × (o.source ≡ source)
+OrderIs g source t cell ncc algs station air = record {
+  made : Made Term ℕ;
+  origin : Origin;
+  tried : Tried Term ℕ;
+  made_is : made_at g.made station air ≡ Some made;
+  from : made.from ≡ ByAttempt origin;
+  tried_is : tried_at g.tried origin.source origin.attempt ≡ Some tried;
+  key : tried.key ≡ t;
+  cell : tried.cell ≡ cell;
+  ncc : ncc_of made.number ≡ ncc;
+  algs : made.algs ≡ algs;
+  source : origin.source ≡ source;
+}
 
 -- an order for the phone with this key: what was made there is of a change of that key
 abbrev pub ChangeIs : Ghost → Term → Place → Algs → ℕ → ℕ → Type 0
-ChangeIs g t cell algs station air =
-    (m : Made Term ℕ) × (made_at g.made station air ≡ Some m) × (m.from ≡ ByChange t) × (m.cell ≡ cell)
-    × (m.algs ≡ algs)
+ChangeIs g t cell algs station air = record {
+  made : Made Term ℕ;
+  found : made_at g.made station air ≡ Some made;
+  from : made.from ≡ ByChange t;
+  cell : made.cell ≡ cell;
+  algs : made.algs ≡ algs;
+}
 
 abbrev pub IsOrder : Ghost → ℕ → Term → Order → Type 0
 IsOrder g source t o = OrderIs g source t o.cell o.ncc o.algs o.station o.air
 
 -- an attempt of a context: it was opened under the context's key
 abbrev pub StartIs : Ghost → ℕ → ℕ → Term → ℕ → ℕ → Place → Handover Term ℕ → Type 0
-StartIs g id conn t number target cell kind =
-    (e : Tried Term ℕ) × (tried_at g.tried id number ≡ Some e)
-    × (e.key ≡ t) × (e.cell ≡ cell) × (e.target ≡ target) × (e.conn ≡ conn) × (e.kind ≡ kind)
+StartIs g id conn t number target cell kind = record {
+  tried : Tried Term ℕ;
+  found : tried_at g.tried id number ≡ Some tried;
+  key : tried.key ≡ t;
+  cell : tried.cell ≡ cell;
+  target : tried.target ≡ target;
+  conn : tried.conn ≡ conn;
+  kind : tried.kind ≡ kind;
+}
 
 -- and so was the one of this number, whatever has come of it
 abbrev pub UnderKey : Ghost → ℕ → ℕ → Term → ℕ → Type 0
-UnderKey g id conn t number =
-    (e : Tried Term ℕ) × (tried_at g.tried id number ≡ Some e) × (e.key ≡ t) × (e.conn ≡ conn)
+UnderKey g id conn t number = record {
+  tried : Tried Term ℕ;
+  found : tried_at g.tried id number ≡ Some tried;
+  key : tried.key ≡ t;
+  conn : tried.conn ≡ conn;
+}
 
 abbrev pub X2Ok : Ghost → ℕ → ℕ → Term → X2State Term ℕ → Type 0
 X2Ok g id conn t (X2Open start) =
@@ -211,16 +268,25 @@ StartedOk g id air t false attempt = HadTaken g.took id air t
 -- a station's context, and its preparations, which no setup made
 abbrev pub CtxOk : Ghost → ℕ → Option (Context Term ℕ) → Type 0
 CtxOk g id None = ⊤
-CtxOk g id (Some c) =
-    TermOk g c.conn c.key.kenb c.key.number × PairsOk g c.conn c.key.pair × (c.keys ≡ keys_of c.key.kenb c.algs)
-    × EntryIs g id c.air c.key.kenb c.key.number c.algs × AttemptOk g id c.conn c.key.kenb c.attempt
-    × StartedOk g id c.air c.key.kenb c.starting c.attempt
+CtxOk g id (Some c) = record {
+  term : TermOk g c.conn c.key.kenb c.key.number;
+  pair : PairsOk g c.conn c.key.pair;
+  keys : c.keys ≡ keys_of c.key.kenb c.algs;
+  entry : EntryIs g id c.air c.key.kenb c.key.number c.algs;
+  attempt : AttemptOk g id c.conn c.key.kenb c.attempt;
+  started : StartedOk g id c.air c.key.kenb c.starting c.attempt;
+}
 
 abbrev pub PrepOk : Ghost → ℕ → Prep Term ℕ → Type 0
-PrepOk g id p =
-    TermOk g p.conn p.key.kenb p.key.number × PairsOk g p.conn p.key.pair × (p.keys ≡ keys_of p.key.kenb p.algs)
-    × (m : Made Term ℕ) × (made_at g.made id p.air ≡ Some m) × IsMade m p.key.kenb p.key.number p.algs
-    × (m.from ≡ BySetup → ⊥)
+PrepOk g id p = record {
+  term : TermOk g p.conn p.key.kenb p.key.number;
+  pair : PairsOk g p.conn p.key.pair;
+  keys : p.keys ≡ keys_of p.key.kenb p.algs;
+  made : Made Term ℕ;
+  found : made_at g.made id p.air ≡ Some made;
+  is : IsMade made p.key.kenb p.key.number p.algs;
+  no_setup : made.from ≡ BySetup → ⊥;
+}
 
 -- nothing was made or tried at numbers that the station did not draw yet
 abbrev pub FreshFrom : Ghost → ℕ → ℕ → Type 0
@@ -250,10 +316,16 @@ HeardFirst m bearers = m.from ≡ BySetup → 1 ≤ bearers.srb1.receive
 
 -- the phone's connection
 abbrev pub LinkIs : Ghost → Link Term ℕ → Type 0
-LinkIs g l =
-    ChainOf l.kenb l.chain × (l.keys ≡ keys_of l.kenb l.keys.algs)
-    × (m : Made Term ℕ) × (made_at g.made l.station l.air ≡ Some m) × (l.keys.algs ≡ m.algs)
-    × FromIs g m l.kenb m.from × HadTaken g.took l.station l.air l.kenb × HeardFirst m l.bearers
+LinkIs g l = record {
+  chain : ChainOf l.kenb l.chain;
+  keys : l.keys ≡ keys_of l.kenb l.keys.algs;
+  made : Made Term ℕ;
+  found : made_at g.made l.station l.air ≡ Some made;
+  algs : l.keys.algs ≡ made.algs;
+  from : FromIs g made l.kenb made.from;
+  had : HadTaken g.took l.station l.air l.kenb;
+  heard : HeardFirst made l.bearers;
+}
 
 abbrev pub RadioOk : Ghost → Radio Term ℕ → Type 0
 RadioOk g Idle = ⊤
@@ -263,9 +335,12 @@ RadioOk g (Connected l) = LinkIs g l
 -- the core's connection
 abbrev pub CoreLinkOk : Ghost → Option (CoreLink Term ℕ) → Type 0
 CoreLinkOk g None = ⊤
-CoreLinkOk g (Some link) =
-    (link.conn < g.next) × (link.chain.number ≡ g.top link.conn) × (link.chain.root ≡ g.root link.conn)
-    × (link.chain.sync ≡ chain_at g link.conn link.chain.number)
+CoreLinkOk g (Some link) = record {
+  conn : link.conn < g.next;
+  number : link.chain.number ≡ g.top link.conn;
+  root : link.chain.root ≡ g.root link.conn;
+  sync : link.chain.sync ≡ chain_at g link.conn link.chain.number;
+}
 
 abbrev pub CoreOk : List Site → Ghost → Core Term ℕ → Type 0
 CoreOk cells g core = CoreLinkOk g core.link × (core.next ≡ g.next) × (core.cells ≡ cells)
@@ -273,8 +348,12 @@ CoreOk cells g core = CoreLinkOk g core.link × (core.next ≡ g.next) × (core.
 -- what an RRC text of a station says to the phone that has this key
 abbrev pub SaysOk : Ghost → ℕ → Term → RrcRecord → Type 0
 SaysOk g source t (Reconfiguration cell ncc algs station air) = OrderIs g source t cell ncc algs station air
-SaysOk g source t (SecurityModeCommand algs station air) =
-    (m : Made Term ℕ) × (made_at g.made station air ≡ Some m) × (m.from ≡ BySetup) × (m.algs ≡ algs)
+SaysOk g source t (SecurityModeCommand algs station air) = record {
+  made : Made Term ℕ;
+  found : made_at g.made station air ≡ Some made;
+  from : made.from ≡ BySetup;
+  algs : made.algs ≡ algs;
+}
 SaysOk g source t (KeyChange cell algs station air) = ChangeIs g t cell algs station air
 SaysOk g source t other = ⊤
 
@@ -291,9 +370,13 @@ CipheredSo g station air m srb i (Some e) =
 
 -- an RRC text from a station: under the key made for the air address
 abbrev pub DownOk : Ghost → ℕ → ℕ → Srb → KeyUse Term → Option (Ciphering Term) → List ℕ → Type 0
-DownOk g station air srb i f text =
-    (m : Made Term ℕ) × (made_at g.made station air ≡ Some m)
-    × (i ≡ srb_use Down (keys_of m.key m.algs).rrc_int srb i.count) × CipheredSo g station air m srb i f × TextOk g station m.key text
+DownOk g station air srb i f text = record {
+  made : Made Term ℕ;
+  found : made_at g.made station air ≡ Some made;
+  integrity : i ≡ srb_use Down (keys_of made.key made.algs).rrc_int srb i.count;
+  ciphered : CipheredSo g station air made srb i f;
+  says : TextOk g station made.key text;
+}
 
 -- a text of the phone is ciphered under its own use, or not at all in the first of a new connection
 abbrev pub CipheredUp : Made Term ℕ → Term → Srb → KeyUse Term → Option (Ciphering Term) → Type 0
@@ -301,21 +384,33 @@ CipheredUp m t srb i None = (m.from ≡ BySetup) × (i.count ≡ 0) × (srb ≡ 
 CipheredUp m t srb i (Some e) = e ≡ srb_ciphering Up (keys_of t m.algs) srb i.count
 
 abbrev pub SealedUp : Ghost → ℕ → ℕ → Term → Srb → KeyUse Term → Option (Ciphering Term) → Type 0
-SealedUp g station air t srb i f =
-    (m : Made Term ℕ) × (made_at g.made station air ≡ Some m)
-    × (i ≡ srb_use Up (keys_of t m.algs).rrc_int srb i.count) × CipheredUp m t srb i f
+SealedUp g station air t srb i f = record {
+  made : Made Term ℕ;
+  found : made_at g.made station air ≡ Some made;
+  integrity : i ≡ srb_use Up (keys_of t made.algs).rrc_int srb i.count;
+  ciphered : CipheredUp made t srb i f;
+}
 
 -- and from the phone: under the key that it took there
 abbrev pub UpOk : Ghost → ℕ → ℕ → Srb → KeyUse Term → Option (Ciphering Term) → Type 0
-UpOk g station air srb i f =
-    (t : Term) × (i.key ≡ Alg t 4 eia2_identity) × HereIs g station air t × HadTaken g.took station air t
-    × SealedUp g station air t srb i f
+UpOk g station air srb i f = record {
+  kenb : Term;
+  key : i.key ≡ Alg kenb 4 eia2_identity;
+  here : HereIs g station air kenb;
+  had : HadTaken g.took station air kenb;
+  sealed : SealedUp g station air kenb srb i f;
+}
 
 -- records on S1 and X2
 abbrev pub AskedIs : Ghost → ℕ → ℕ → ℕ → Place → Handover Term ℕ → (Tried Term ℕ → Type 0) → Type 0
-AskedIs g conn source attempt cell kind P =
-    (e : Tried Term ℕ) × (tried_at g.tried source attempt ≡ Some e)
-    × (e.conn ≡ conn) × (e.cell ≡ cell) × (e.kind ≡ kind) × P e
+AskedIs g conn source attempt cell kind P = record {
+  tried : Tried Term ℕ;
+  found : tried_at g.tried source attempt ≡ Some tried;
+  conn : tried.conn ≡ conn;
+  cell : tried.cell ≡ cell;
+  kind : tried.kind ≡ kind;
+  so : P tried;
+}
 
 abbrev pub ToStationS1 : Address → ℕ → Type 0
 ToStationS1 (StationS1 station) target = station ≡ target
@@ -327,9 +422,13 @@ ToStationX2 other target = ⊤
 
 -- what was made of an attempt
 abbrev pub AckIs : Ghost → ℕ → ℕ → Algs → ℕ → (Made Term ℕ → Type 0) → Type 0
-AckIs g source attempt algs air P =
-    (m : Made Term ℕ) × (made_at g.made m.station air ≡ Some m)
-    × (m.from ≡ ByAttempt (record { source = source; attempt = attempt })) × (m.algs ≡ algs) × P m
+AckIs g source attempt algs air P = record {
+  made : Made Term ℕ;
+  found : made_at g.made made.station air ≡ Some made;
+  from : made.from ≡ ByAttempt (record { source = source; attempt = attempt });
+  algs : made.algs ≡ algs;
+  so : P made;
+}
 
 abbrev pub HasNcc : ℕ → Made Term ℕ → Type 0
 HasNcc ncc m = ncc_of m.number ≡ ncc
@@ -369,8 +468,13 @@ BetweenOk g to (X2Request conn source attempt cell caps) (Some star) =
     TermOk g conn star.key star.number
     × AskedIs g conn source attempt cell (BySource star) (IsFor to)
 BetweenOk g to (X2Ack conn attempt cell algs air) key = X2AckTo g to attempt algs air
-BetweenOk g to (ContextModification conn next) (Some key) =
-    (next < g.next) × (key.key ≡ chain_at g next 0) × (r : Term) × (key.key ≡ Kenb r 0) × (key.number ≡ 0)
+BetweenOk g to (ContextModification conn next) (Some key) = record {
+  below : next < g.next;
+  chain : key.key ≡ chain_at g next 0;
+  root : Term;
+  kenb : key.key ≡ Kenb root 0;
+  number : key.number ≡ 0;
+}
 BetweenOk g to other key = ⊤
 
 -- what goes up on NAS: a SECURITY MODE COMPLETE, of header type 4, is the first under its context (TS 24.301 4.4.3.1)

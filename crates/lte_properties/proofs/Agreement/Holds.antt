@@ -159,20 +159,20 @@ module _ (cells : List Site) (c : Conns) (w : TheWorld) (h : WorldOk cells c w) 
   none_under : TookInOrder w.took → NoneUnder w
   none_under order =
       all_in _ w.took (λ x i far. all_in _ w.took (λ y j under.
-      let k = under_made (ghost c w) y.came x.key (of_each (TookOk (ghost c w)) w.took y h.took j).4 under in
-      let z = k.1.4 in
-      let one : z.0 ≡ x = same_took w.took order z.0 x z.1 i z.4 in
-      let found : made_at w.made x.station x.air ≡ Some k.1.1 =
-      (λ e. made_at w.made ((ap (λ a. a.station) (sym one) ∙ z.2) e) ((ap (λ a. a.air) (sym one) ∙ z.3) e)) ∙ k.1.2 in
-      far_is_other w.made x (of_each (TookOk (ghost c w)) w.took x h.took i).1 far k.1.1 found k.1.3))
+      let (station, k) = under_made (ghost c w) y.came x.key (of_each (TookOk (ghost c w)) w.took y h.took j).under under in
+      let (z, there, at_station, at_air, key) = k.had in
+      let one : z ≡ x = same_took w.took order z x there i key in
+      let found : made_at w.made x.station x.air ≡ Some k.made =
+      (λ e. made_at w.made ((ap (λ a. a.station) (sym one) ∙ at_station) e) ((ap (λ a. a.air) (sym one) ∙ at_air) e)) ∙ k.found in
+      far_is_other w.made x (of_each (TookOk (ghost c w)) w.took x h.took i).obeys far k.made found k.key))
 
   one_term : OneTerm w
   one_term =
       all_in _ w.took (λ x i. all_in _ w.took (λ y j station air.
       let a = of_each (TookOk (ghost c w)) w.took x h.took i in
       let b = of_each (TookOk (ghost c w)) w.took y h.took j in
-      one_here (ghost c w) x.station x.air x.key y.key a.0
-      (subst (λ n. HereIs (ghost c w) n x.air y.key) (sym station) (subst (λ n. HereIs (ghost c w) y.station n y.key) (sym air) b.0))))
+      one_here (ghost c w) x.station x.air x.key y.key a.here
+      (subst (λ n. HereIs (ghost c w) n x.air y.key) (sym station) (subst (λ n. HereIs (ghost c w) y.station n y.key) (sym air) b.here))))
 
   -- a joined phone and context have what the phone takes there
   joined_one : (l : Link Term ℕ)
@@ -184,16 +184,16 @@ module _ (cells : List Site) (c : Conns) (w : TheWorld) (h : WorldOk cells c w) 
       → ContextAt l.air o (Agree l)
   joined_one l k s is None ok = tt
   joined_one l k s is (Some x) ok = λ at_air.
-      let here : HereIs (ghost c w) l.station l.air l.kenb = (k.2, k.3, k.5) in
-      let e = ok.3 in
-      let m = e.0 in
-      let found : made_at w.made l.station l.air ≡ Some m = (λ j. made_at w.made (sym is j) (sym at_air j)) ∙ e.1 in
-      let there : HereIs (ghost c w) l.station l.air x.key.kenb = (m, found, e.3) in
+      let here : HereIs (ghost c w) l.station l.air l.kenb = (k.made, k.found, k.from) in
+      let e = ok.entry in
+      let m = e.made in
+      let found : made_at w.made l.station l.air ≡ Some m = (λ j. made_at w.made (sym is j) (sym at_air j)) ∙ e.found in
+      let there : HereIs (ghost c w) l.station l.air x.key.kenb = (m, found, e.from) in
       let kenb : l.kenb ≡ x.key.kenb = one_here (ghost c w) l.station l.air l.kenb x.key.kenb here there in
-      let algs : l.keys.algs ≡ x.algs = k.4 ∙ ap (λ y. y.algs) (same_found _ k.2 m k.3 found) ∙ sym e.2.2 in
-      let keys : l.keys ≡ x.keys = k.1 ∙ (λ j. keys_of (kenb j) (algs j)) ∙ sym ok.2 in
+      let algs : l.keys.algs ≡ x.algs = k.algs ∙ ap (λ y. y.algs) (same_found _ k.made m k.found found) ∙ sym e.is.2 in
+      let keys : l.keys ≡ x.keys = k.keys ∙ (λ j. keys_of (kenb j) (algs j)) ∙ sym ok.keys in
       let number : l.chain.number ≡ x.key.number =
-      k.0.2 ∙ ap chain_number kenb ∙ term_number (ghost c w) x.conn x.key.kenb x.key.number ok.0 in
+      k.chain.number ∙ ap chain_number kenb ∙ term_number (ghost c w) x.conn x.key.kenb x.key.number ok.term in
       (kenb, number, keys, algs)
 
   joined : (radio : Radio Term ℕ) → RadioOk (ghost c w) radio → JoinedBy w radio
@@ -205,20 +205,20 @@ module _ (cells : List Site) (c : Conns) (w : TheWorld) (h : WorldOk cells c w) 
 
   comes : (id : ℕ) (o : Option (Context Term ℕ)) → CtxOk (ghost c w) id o → ComesMade w id o
   comes id None ok = tt
-  comes id (Some x) ok = (ok.3.0, ok.3.1, ok.3.2.0, ok.3.2.1, ok.3.2.2, ok.3.4)
+  comes id (Some x) ok = let e = ok.entry in (e.made, e.found, e.is.0, e.is.1, e.is.2, e.had)
 
   preps_made : (id : ℕ) (ps : List (Prep Term ℕ)) → AllOf (PrepOk (ghost c w) id) ps → AllOf (PrepMade w id) ps
   preps_made id ps ok =
-      all_map (PrepOk (ghost c w) id) (PrepMade w id) (λ p k. (k.3, k.4, k.5.0, k.5.1, k.5.2)) ps ok
+      all_map (PrepOk (ghost c w) id) (PrepMade w id) (λ p k. (k.made, k.found, k.is.0, k.is.1, k.is.2)) ps ok
 
   pub agrees : InTurn w → TookInOrder w.took → Agrees w
   agrees turn order = record {
     follow = turn.0;
     last = turn.1;
     tried_once = h.once;
-    made_once = all_map (MadeOk (ghost c w)) (λ m. made_at w.made m.station m.air ≡ Some m) (λ m k. k.4) w.made h.made;
-    obeyed = all_map (TookOk (ghost c w)) (Obeys w.made) (λ x k. k.1) w.took h.took;
-    grow = all_map (TookOk (ghost c w)) (λ x. KeyGrows x x.came) (λ x k. k.2) w.took h.took;
+    made_once = all_map (MadeOk (ghost c w)) (λ m. made_at w.made m.station m.air ≡ Some m) (λ m k. k.found) w.made h.made;
+    obeyed = all_map (TookOk (ghost c w)) (Obeys w.made) (λ x k. k.obeys) w.took h.took;
+    grow = all_map (TookOk (ghost c w)) (λ x. KeyGrows x x.came) (λ x k. k.grows) w.took h.took;
     one_term = one_term;
     none_under = none_under order;
     joined = joined w.phone.radio h.radio;
@@ -231,17 +231,17 @@ module _ (cells : List Site) (c d : Conns) (v u : TheWorld) (l : Later (ghost c 
   -- a context's key is the one made, and what the phone takes there
   far_differs : (x : Took Term ℕ) → TookOk (ghost d u) x → IsFar u.made x
       → (m : Made Term ℕ) → made_at u.made x.station x.air ≡ Some m → HereIs (ghost d u) x.station x.air m.key → ⊥
-  far_differs x k far m found here = far_is_other u.made x k.1 far m found (one_here (ghost d u) x.station x.air x.key m.key k.0 here)
+  far_differs x k far m found here = far_is_other u.made x k.obeys far m found (one_here (ghost d u) x.station x.air x.key m.key k.here here)
 
   -- a context of the earlier world
   none_before_at : (x : Took Term ℕ) → TookOk (ghost d u) x → IsFar u.made x → (s : Station Term ℕ) → s.id ≡ x.station
       → (o : Option (Context Term ℕ)) → CtxOk (ghost c v) s.id o → ContextAt x.air o (λ y. ⊥)
   none_before_at x k far s is None ok = tt
   none_before_at x k far s is (Some y) ok = λ at_air.
-      let e = ok.3 in
-      let m = e.0 in
-      let found : made_at v.made x.station x.air ≡ Some m = (λ j. made_at v.made (sym is j) (sym at_air j)) ∙ e.1 in
-      let here : HereIs (ghost c v) x.station x.air m.key = subst (HereIs (ghost c v) x.station x.air) e.2.0 (m, found, e.3) in
+      let e = ok.entry in
+      let m = e.made in
+      let found : made_at v.made x.station x.air ≡ Some m = (λ j. made_at v.made (sym is j) (sym at_air j)) ∙ e.found in
+      let here : HereIs (ghost c v) x.station x.air m.key = subst (HereIs (ghost c v) x.station x.air) e.is.0 (m, found, e.from) in
       far_differs x k far m (l.made x.station x.air m found) (here_later (ghost c v) (ghost d u) l x.station x.air m.key here)
 
   pub none_before : NoneThere v u

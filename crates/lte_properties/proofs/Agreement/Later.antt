@@ -1,20 +1,16 @@
 -- What holds of the invariant's parts stays so, as more is told of the run.
 use Rattle.rec_base.specs.declared.uses.Dir.TheVariants.{Up, Down}
 use Rattle.alg_choice.specs.declared.algs.Algs.{Algs}
-use Rattle.annex_a_keys.specs.Cell.{Place}
 use Rattle.lte_events.specs.declared.addresses.Address.{Address}
 use Rattle.lte_events.specs.declared.addresses.Address.TheVariants.{StationS1, StationX2}
 use Rattle.lte_events.specs.Site.{Site}
 use Rattle.key_model.specs.Term.{Term}
-use Rattle.key_model.specs.Chain.{nh, ncc_of}
+use Rattle.key_model.specs.Chain.{nh}
 use Rattle.key_model.specs.HandoverTable.{NumberedKey}
 use Rattle.rrc_rec.specs.declared.records.RrcRecord.{RrcRecord}
 use Rattle.rrc_rec.specs.declared.records.RrcRecord.TheVariants.{SecurityModeCommand, Reconfiguration, KeyChange}
 use Rattle.s1x2_rec.specs.Fields.{Fields, InitialContext, PathSwitchAnswer, HandoverRequired, HandoverRequest, HandoverRequestAck, HandoverCommand, X2Request, X2Ack, ContextModification}
 use Rattle.ho_prep.specs.Prep.{Prep}
-use Rattle.x2_handover.specs.declared.orders.Order.{Order}
-use Rattle.x2_handover.specs.Attempt.{x2_order}
-use Rattle.s1_handover.specs.Attempt.{s1_order}
 use Rattle.lte_machine.specs.Bearers.{Srb}
 use Rattle.lte_machine.specs.Wire.{KeyUse, Ciphering, Outgoing, SealedNas, SealedRrc, Between}
 use Rattle.lte_machine.specs.Reply.{From, BySetup, ByAttempt, ByChange, Made, Tried, Came, Secured, Commanded, Changed, Took, Handover, BySource, ByTarget}
@@ -25,8 +21,8 @@ use Rattle.std.proofs.Common.{◌≡◌, ℕ, ◌<◌, ◌≤◌, refl, sym, ◌
 use Rattle.std.specs.Prelude.{find}
 use Rattle.std.specs.Option.{option_or}
 use Rattle.std.proofs.lemmas.List.Folds.{find-append}
-use Rattle.lte_properties.specs.Agreement.{made_at, Obeys, HadTaken, TakenIfTried}
-use Rattle.lte_properties.proofs.Agreement.Ghost.{Ghost, tried_at, took_at, chain_at, TermOk, PairOk, PairsOk, FromIs, HereIs, FromOk, MadeOk, GivenOk, TriedOk, HadMade, UnderIs, TookOk, EntryIs, OrderIs, IsOrder, StartIs, UnderKey, X2Ok, S1Ok, ChangeIs, AttemptOk, StartedOk, CtxOk, PrepOk, RadioOk, SaysOk, CipheredSo, DownOk, UpOk, AskedIs, AckIs, CommandTo, X2AckTo, HasNcc, AnyMade, IsOther, Surpasses, IsFor, BetweenOk, SentOk}
+use Rattle.lte_properties.specs.Agreement.{made_at, HadTaken, TakenIfTried}
+use Rattle.lte_properties.proofs.Agreement.Ghost.{Ghost, tried_at, took_at, chain_at, TermOk, PairOk, PairsOk, FromIs, HereIs, FromOk, MadeOk, GivenOk, TriedOk, UnderIs, TookOk, EntryIs, X2Ok, S1Ok, AttemptOk, StartedOk, CtxOk, PrepOk, RadioOk, SaysOk, CipheredSo, DownOk, UpOk, CommandTo, X2AckTo, BetweenOk, SentOk}
 use Rattle.lte_machine.specs.Distinct.{Member}
 
 -- more is told, connections go on, and none begins anew
@@ -110,7 +106,7 @@ module _ (g h : Ghost) (l : Later g h) where
   here_later station air t x = search (l.made, from_later)
 
   pub had_later : (station air : ℕ) (t : Term) → HadTaken g.took station air t → HadTaken h.took station air t
-  had_later station air t x = (x.0, l.took x.0 x.1, x.2, x.3, x.4)
+  had_later station air t x = search (l.took)
 
   -- what was made and tried is found again
   made_found : (station air : ℕ) (m : Made Term ℕ) → made_at g.made station air ≡ Some m → made_at h.made station air ≡ Some m
@@ -131,7 +127,7 @@ module _ (g h : Ghost) (l : Later g h) where
 
   given_later : (e : Tried Term ℕ) (o : Handover Term ℕ) → GivenOk g e o → GivenOk h e o
   given_later e ByTarget x = tt
-  given_later e (BySource star) x = (term_later e.conn star.number star.key x.0, x.1)
+  given_later e (BySource star) x = search known
 
   pub tried_later : (cells : List Site) (e : Tried Term ℕ) → TriedOk cells g e → TriedOk cells h e
   tried_later cells e x = search (known, given_later)
@@ -199,13 +195,18 @@ module _ (g h : Ghost) (l : Later g h) where
       → CipheredSo g station air n srb i f
       → CipheredSo h station air n srb i f
   ciphered_later station air n srb i None x = x
-  ciphered_later station air n srb i (Some e) x = (x.0, had_later station air n.key x.1)
+  ciphered_later station air n srb i (Some e) x = search known
 
   down_later : (station air : ℕ) (srb : Srb) (i : KeyUse Term) (f : Option (Ciphering Term)) (text : List ℕ)
       → DownOk g station air srb i f text
       → DownOk h station air srb i f text
-  down_later station air srb i f text x =
-      (x.0, l.made station air x.0 x.1, x.2, ciphered_later station air x.0 srb i f x.3, λ r e. says_later station x.0.key r (x.4 r e))
+  down_later station air srb i f text x = record {
+    made = x.made;
+    found = l.made station air x.made x.found;
+    integrity = x.integrity;
+    ciphered = ciphered_later station air x.made srb i f x.ciphered;
+    says = λ r e. says_later station x.made.key r (x.says r e);
+  }
 
   up_later : (station air : ℕ) (srb : Srb) (i : KeyUse Term) (f : Option (Ciphering Term)) → UpOk g station air srb i f → UpOk h station air srb i f
   up_later station air srb i f x = search (known, here_later)
@@ -229,7 +230,8 @@ module _ (g h : Ghost) (l : Later g h) where
   between_later to (X2Request conn source attempt cell caps) (Some star) x = search known
   between_later to (X2Ack conn attempt cell algs air) key x = x2_ack_later to attempt algs air x
   between_later to (ContextModification conn next) (Some key) x =
-      let n = l.next in (omega arith, x.1 ∙ sym (chain_later next 0 x.0), x.2, x.3, x.4)
+      let n = l.next in let low = x.below in
+      record { below = omega arith; chain = x.chain ∙ sym (chain_later next 0 x.below); root = x.root; kenb = x.kenb; number = x.number }
   between_later to other key x = tt
 
   pub sent_later : (x : Outgoing Term ℕ) → SentOk g x → SentOk h x

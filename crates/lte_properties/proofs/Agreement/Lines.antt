@@ -176,7 +176,7 @@ had_active : (cells : List Site) (g : Ghost) (s : Station Term ℕ) (id : ℕ) (
     → HasContext o (λ c. (c.key.kenb ≡ key) × HadTaken g.took id c.air key)
 had_active cells g s id key is None ok h = h
 had_active cells g s id key is (Some c) ok h =
-    let had : HadTaken g.took s.id c.air c.key.kenb = subst (λ b. StartedOk g s.id c.air c.key.kenb b c.attempt) h.1 ok.5 in
+    let had : HadTaken g.took s.id c.air c.key.kenb = subst (λ b. StartedOk g s.id c.air c.key.kenb b c.attempt) h.1 ok.started in
     (h.0, subst (λ n. HadTaken g.took n c.air key) is (subst (HadTaken g.took s.id c.air) h.0 had))
 
 way_told : (cells : List Site) (c : Conns) (u : TheWorld)

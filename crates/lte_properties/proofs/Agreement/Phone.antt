@@ -1,6 +1,6 @@
 -- What each row of the phone leaves of the invariant of agreement.
-use Rattle.std.proofs.Common.{◌≡◌, ℕ, zero, suc, ◌+◌, ◌-◌, ◌<◌, ◌≤◌, refl, sym, ◌∙◌, ap, subst, arith, Bool, true, false, cond, List, [], ◌∷◌, ◌++◌, Option, Some, None, inl, inr}
-use Rattle.std.specs.Prelude.{if◌then◌else◌, find, ⊤}
+use Rattle.std.proofs.Common.{◌≡◌, ℕ, zero, suc, ◌+◌, ◌-◌, ◌<◌, ◌≤◌, refl, sym, ◌∙◌, ap, subst, arith, Bool, true, false, List, [], ◌∷◌, ◌++◌, Option, Some, None, inl, inr}
+use Rattle.std.specs.Prelude.{if◌then◌else◌, ⊤}
 use Rattle.alg_choice.specs.declared.algs.Algs.{Algs}
 use Rattle.annex_a_keys.specs.Cell.{Place}
 use Rattle.key_model.specs.Term.{Term, Kenb, Star, same_term}
@@ -26,8 +26,8 @@ use Rattle.lte_machine.proofs.PhoneCases.{NasCases, nas_case, AirCases, air_case
 use Rattle.lte_machine.proofs.Tests.{Anything}
 use Rattle.rec_base.specs.declared.uses.Dir.TheVariants.{Up}
 use Rattle.lte_properties.proofs.Agreement.Ghost.{Ghost, keys_of, is_took_at, took_at, taken, FromIs, HereIs, Leads, FromOk, MadeOk, HadMade, TookOk, OrderIs, ChangeIs, LinkIs, RadioOk, UpOk, OutOk}
-use Rattle.lte_properties.proofs.Agreement.ToldIsFound.{found_new, both_same, made_there}
-use Rattle.lte_properties.proofs.Agreement.Later.{Later, found_later, in_front, in_last, same_found}
+use Rattle.lte_properties.proofs.Agreement.ToldIsFound.{found_new, all_found, both_same, made_there}
+use Rattle.lte_properties.proofs.Agreement.Later.{Later, had_later, found_later, in_front, in_last, same_found}
 
 -- what is told after the phone took a key, or none
 abbrev pub with_took : Ghost → Option (Took Term ℕ) → Ghost
@@ -44,8 +44,13 @@ PhoneGoes g d =
 
 -- what the rows on a PDU need of the text that came
 abbrev pub StartNeeds : Ghost → ℕ → ℕ → Algs → Radio Term ℕ → Type 0
-StartNeeds g station air algs (Connecting w) =
-    (m : Made Term ℕ) × (made_at g.made station air ≡ Some m) × (m.from ≡ BySetup) × (w.kenb ≡ m.key) × (algs ≡ m.algs)
+StartNeeds g station air algs (Connecting w) = record {
+  made : Made Term ℕ;
+  found : made_at g.made station air ≡ Some made;
+  from : made.from ≡ BySetup;
+  key : w.kenb ≡ made.key;
+  algs : algs ≡ made.algs;
+}
 StartNeeds g station air algs other = ⊤
 
 -- the phone has the key that the station made for its air address
@@ -53,9 +58,12 @@ abbrev pub OwnMade : Ghost → Link Term ℕ → Type 0
 OwnMade g l = (m : Made Term ℕ) × (made_at g.made l.station l.air ≡ Some m) × (l.kenb ≡ m.key)
 
 abbrev pub CommandNeeds : Ghost → Place → ℕ → Algs → ℕ → ℕ → Radio Term ℕ → Type 0
-CommandNeeds g cell steps algs station air (Connected l) =
-    (ncc : ℕ) × (steps ≡ steps_to (ncc_of l.chain.number) ncc) × OrderIs g l.station l.kenb cell ncc algs station air
-    × OwnMade g l
+CommandNeeds g cell steps algs station air (Connected l) = record {
+  ncc : ℕ;
+  steps : steps ≡ steps_to (ncc_of l.chain.number) ncc;
+  order : OrderIs g l.station l.kenb cell ncc algs station air;
+  own : OwnMade g l;
+}
 CommandNeeds g cell steps algs station air other = ⊤
 
 -- an order to change the present key, at whose air address the phone took nothing yet
@@ -73,15 +81,6 @@ AirNeeds g radio other = ⊤
 abbrev pub PhoneNeeds : Ghost → Radio Term ℕ → PhoneRow → Type 0
 PhoneNeeds g radio (OfAir row) = AirNeeds g radio row
 PhoneNeeds g radio other = ⊤
-
--- an item found in a list is as all of them are
-found_step : {A : Type 0} (P : A → Type 0) (b : Bool) (z x : A) (o : Option A) → P z → (o ≡ Some x → P x) → cond b (Some z) o ≡ Some x → P x
-found_step P true z x o h f e = subst P (same_found (Some z) z x refl e) h
-found_step P false z x o h f e = f e
-
-pub all_found : {A : Type 0} (P : A → Type 0) (p : A → Bool) (xs : List A) (x : A) → AllOf P xs → find p xs ≡ Some x → P x
-all_found P p [] x h e = absurd cc
-all_found P p (z ∷ zs) x h e = found_step P (p z) z x (find p zs) h.0 (all_found P p zs x h.1) e
 
 -- THE OBEYED COMMAND
 
@@ -124,7 +123,7 @@ grows same l zero cell chain x key number = inr (number, cell.pci, cell.earfcn, 
 grows same l (suc steps) cell chain x key number =
     let reached = number ∙ reached_number same l.kenb l.chain (suc steps) cell chain in
     let up : climb (root_of l.kenb) (chain_key l.kenb) (suc steps) ≡ nh (root_of l.kenb) (nas_count_of l.kenb) x.number =
-    (λ j. climb (root_of l.kenb) (chain.3 j) (suc steps)) ∙ climb-nh (root_of l.kenb) (nas_count_of l.kenb) (chain_number l.kenb) (suc steps)
+    (λ j. climb (root_of l.kenb) (chain.kenb j) (suc steps)) ∙ climb-nh (root_of l.kenb) (nas_count_of l.kenb) (chain_number l.kenb) (suc steps)
     ∙ ap (nh (root_of l.kenb) (nas_count_of l.kenb)) (sym reached) in
     inl (omega arith, cell.pci, cell.earfcn, key ∙ reached_key same l.kenb l.chain (suc steps) cell chain ∙ ap (λ t. Star t cell.pci cell.earfcn) up)
 
@@ -154,7 +153,16 @@ took_more g (Some y) = record {
 -- the next COUNT on SRB1 falls in no row but a handover
 heard_after : (g : Ghost) (l : Link Term ℕ) (bearers : Bearers) → LinkIs g l → (1 ≤ l.bearers.srb1.receive → 1 ≤ bearers.srb1.receive)
     → RadioOk g (Connected (record l { bearers = bearers }))
-heard_after g l bearers h f = (h.0, h.1, h.2, h.3, h.4, h.5, h.6, λ none. f (h.7 none))
+heard_after g l bearers h f = record {
+  chain = h.chain;
+  keys = h.keys;
+  made = h.made;
+  found = h.found;
+  algs = h.algs;
+  from = h.from;
+  had = h.had;
+  heard = λ none. f (h.heard none);
+}
 
 pub heard_taken : (srb : Srb) (count : ℕ) (b : Bearers) → 1 ≤ b.srb1.receive → 1 ≤ (srb_taken srb count b).srb1.receive
 heard_taken Signalling1 count b h = omega arith
@@ -186,7 +194,17 @@ heard_left (OnDrb User4) n b h = h
 
 -- an order is obeyed under the key that the station made for the phone's air address
 own_before : (g : Ghost) (x : Took Term ℕ) (l : Link Term ℕ) → LinkIs g l → OwnMade g l → HadMade (with_took g (Some x)) l.station l.kenb
-own_before g x l h own = (l.air, own.0, own.1, own.2, (h.6.0, in_front h.6.0 g.took (x ∷ []) h.6.1, h.6.2, h.6.3, h.6.4))
+own_before g x l h own = record {
+  air = l.air;
+  made = own.0;
+  found = own.1;
+  key = own.2;
+  had = had_later g (with_took g (Some x)) (took_more g (Some x)) l.station l.air l.kenb h.had;
+}
+
+-- what the phone takes first, it has then
+had_last : (took : List (Took Term ℕ)) (x : Took Term ℕ) → HadTaken (took ++ x ∷ []) x.station x.air x.key
+had_last took x = (x, in_last x took, refl, refl, refl)
 
 -- THE ROWS ON A PDU
 
@@ -195,20 +213,41 @@ link_secured_goes : (same : Term → Term → Bool) (g : Ghost) → AllOf (MadeO
     → RadioOk g (Connecting w) → StartNeeds g station air algs (Connecting w)
     → PhoneGoes g (link_secured (term_reading_by same) station air algs count s (Connecting w))
 link_secured_goes same g made station air algs count s w h needs =
-    let m = needs.0 in
+    let m = needs.made in
     let x : Took Term ℕ = record { station = station; air = air; key = w.kenb; number = 0; algs = algs; came = Secured } in
     let k = with_took g (Some x) in
-    let from : FromIs k m w.kenb m.from = subst (FromIs k m w.kenb) (sym needs.2) needs.3 in
-    let heard : 1 ≤ count + 1 = omega arith in
-    let had : HadTaken (g.took ++ x ∷ []) station air w.kenb = (x, in_last x g.took, refl, refl, refl) in
-    let here : HereIs k station air w.kenb = (m, needs.1, from) in
-    let setup : FromOk g m BySetup = subst (FromOk g m) needs.2 (all_found (MadeOk g) _ g.made m made needs.1).3 in
+    let from : FromIs k m w.kenb m.from = subst (FromIs k m w.kenb) (sym needs.from) needs.key in
+    let first : 1 ≤ count + 1 = omega arith in
+    let had = had_last g.took x in
+    let here : HereIs k station air w.kenb = (m, needs.found, from) in
+    let setup : FromOk g m BySetup = subst (FromOk g m) needs.from (all_found (MadeOk g) _ g.made m made needs.found).from in
     let number : m.number ≡ 0 = setup.0 in
     let on : IsKenb w.kenb = ap chain_key h.1 ∙ sym (λ j. nh (root_of (h.1 j)) (nas_count_of (h.1 j)) (chain_number (h.1 j))) in
     let zero_on = on ∙ ap (nh (root_of w.kenb) (nas_count_of w.kenb)) (ap chain_number h.1) in (
-      ((sym (ap root_of h.1), h.1 ∙ sym (ap chain_key h.1), sym (ap chain_number h.1), on), refl, m, needs.1, needs.4, from, had, (λ none. heard)),
-      (here, (m, needs.1, ((needs.3, sym number, needs.4), needs.2)), tt, zero_on, tt),
-      (w.kenb, refl, here, had, (m, needs.1, refl, (needs.2, refl, refl))),
+      record {
+        chain = record { root = sym (ap root_of h.1); sync = h.1 ∙ sym (ap chain_key h.1); number = sym (ap chain_number h.1); kenb = on };
+        keys = refl;
+        made = m;
+        found = needs.found;
+        algs = needs.algs;
+        from = from;
+        had = had;
+        heard = λ none. first;
+      },
+      record {
+        here = here;
+        obeys = (m, needs.found, ((needs.key, sym number, needs.algs), needs.from));
+        grows = tt;
+        on_chain = zero_on;
+        under = tt;
+      },
+      record {
+        kenb = w.kenb;
+        key = refl;
+        here = here;
+        had = had;
+        sealed = record { made = m; found = needs.found; integrity = refl; ciphered = (needs.from, refl, refl) };
+      },
     )
 
 no_setup : {from : From Term} {o : Origin} → from ≡ ByAttempt o → from ≡ BySetup → ⊥
@@ -220,10 +259,10 @@ handed_over_goes : (same : Term → Term → Bool) (g : Ghost) → AllOf (MadeOk
     → PhoneGoes g (handed_over (term_reading_by same) cell steps algs station air s (Connected l))
 handed_over_goes same g made cell steps algs station air s l h needs =
     let r = reached_after (term_reading_by same) l.chain l.kenb steps cell in
-    let order = needs.2 in
-    let m = order.0 in
-    let o = order.1 in
-    let e = order.2 in
+    let order = needs.order in
+    let m = order.made in
+    let o = order.origin in
+    let e = order.tried in
     let x : Took Term ℕ = record {
       station = station;
       air = air;
@@ -233,38 +272,55 @@ handed_over_goes same g made cell steps algs station air s l h needs =
       came = Commanded (before_of l);
     } in
     let k = with_took g (Some x) in
-    let lands_so : r.star.key ≡ lands l.kenb steps cell = reached_key same l.kenb l.chain steps cell h.0 in
+    let lands_so : r.star.key ≡ lands l.kenb steps cell = reached_key same l.kenb l.chain steps cell h.chain in
     let steps_are : steps ≡ steps_to (ncc_of (chain_number e.key)) (ncc_of m.number) =
-    needs.1 ∙ (λ j. steps_to (ncc_of ((h.0.2 ∙ sym (ap chain_number order.6)) j)) (sym order.8 j)) in
-    let takes : r.star.key ≡ taken e m = lands_so ∙ (λ j. lands (sym order.6 j) (steps_are j) (sym order.7 j)) in
-    let from : FromIs k m r.star.key m.from = subst (FromIs k m r.star.key) (sym order.4) (e, order.5, takes) in
-    let had : HadTaken (g.took ++ x ∷ []) station air r.star.key = (x, in_last x g.took, refl, refl, refl) in
-    let here : HereIs k station air r.star.key = (m, order.3, from) in
-    let ok : FromOk g m (ByAttempt o) = subst (FromOk g m) order.4 (all_found (MadeOk g) _ g.made m made order.3).3 in
-    let one : ok.0 ≡ e = same_found _ ok.0 e ok.1 order.5 in
-    let number : chain_number e.key ≡ e.number = subst (λ u. chain_number u.key ≡ u.number) one ok.2 in
-    let leads : Leads e m.key m.number = subst (λ u. Leads u m.key m.number) one ok.4 in
-    let own : l.chain.number ≡ e.number = h.0.2 ∙ sym (ap chain_number order.6) ∙ number in
+    needs.steps ∙ (λ j. steps_to (ncc_of ((h.chain.number ∙ sym (ap chain_number order.key)) j)) (sym order.ncc j)) in
+    let takes : r.star.key ≡ taken e m = lands_so ∙ (λ j. lands (sym order.key j) (steps_are j) (sym order.cell j)) in
+    let from : FromIs k m r.star.key m.from = subst (FromIs k m r.star.key) (sym order.from) (e, order.tried_is, takes) in
+    let had = had_last g.took x in
+    let here : HereIs k station air r.star.key = (m, order.made_is, from) in
+    let ok : FromOk g m (ByAttempt o) = subst (FromOk g m) order.from (all_found (MadeOk g) _ g.made m made order.made_is).from in
+    let one : ok.tried ≡ e = same_found _ ok.tried e ok.found order.tried_is in
+    let number : chain_number e.key ≡ e.number = subst (λ u. chain_number u.key ≡ u.number) one ok.number in
+    let leads : Leads e m.key m.number = subst (λ u. Leads u m.key m.number) one ok.leads in
+    let own : l.chain.number ≡ e.number = h.chain.number ∙ sym (ap chain_number order.key) ∙ number in
     let reached : r.star.number ≡ chain_number e.key + steps_to (ncc_of (chain_number e.key)) (ncc_of m.number) =
-    reached_number same l.kenb l.chain steps cell h.0 ∙ (λ j. chain_number (sym order.6 j) + steps_are j) in
-    let chain : ChainOf r.star.key r.chain = subst (λ t. ChainOf t r.chain) (sym lands_so) (reached_chain same l.kenb l.chain steps cell h.0) in
+    reached_number same l.kenb l.chain steps cell h.chain ∙ (λ j. chain_number (sym order.key j) + steps_are j) in
+    let chain : ChainOf r.star.key r.chain = subst (λ t. ChainOf t r.chain) (sym lands_so) (reached_chain same l.kenb l.chain steps cell h.chain) in
     let number_is : r.star.number ≡ chain_number r.star.key =
-    reached_number same l.kenb l.chain steps cell h.0 ∙ sym (number_lands l.kenb steps cell) ∙ ap chain_number (sym lands_so) in
-    let on = chain.3 ∙ ap (nh (root_of r.star.key) (nas_count_of r.star.key)) (sym number_is) in
+    reached_number same l.kenb l.chain steps cell h.chain ∙ sym (number_lands l.kenb steps cell) ∙ ap chain_number (sym lands_so) in
+    let on = chain.kenb ∙ ap (nh (root_of r.star.key) (nas_count_of r.star.key)) (sym number_is) in
     let obeys : Obeys g.made x =
-    (m, order.3, obeys_command e m x (before_of l) o order.4 order.10 own number leads takes reached (sym order.9)) in (
-      (
-        chain,
-        refl,
-        m,
-        order.3,
-        sym order.9,
-        from,
-        had,
-        (λ none. absurd (no_setup order.4 none)),
-      ),
-      (here, obeys, grows same l steps cell h.0 x refl refl, on, own_before g x l h needs.3),
-      (r.star.key, refl, here, had, (m, order.3, refl, (λ j. srb_ciphering Up (keys_of r.star.key (sym order.9 j)) Signalling1 0))),
+    (m, order.made_is, obeys_command e m x (before_of l) o order.from order.source own number leads takes reached (sym order.algs)) in (
+      record {
+        chain = chain;
+        keys = refl;
+        made = m;
+        found = order.made_is;
+        algs = sym order.algs;
+        from = from;
+        had = had;
+        heard = λ none. absurd (no_setup order.from none);
+      },
+      record {
+        here = here;
+        obeys = obeys;
+        grows = grows same l steps cell h.chain x refl refl;
+        on_chain = on;
+        under = own_before g x l h needs.own;
+      },
+      record {
+        kenb = r.star.key;
+        key = refl;
+        here = here;
+        had = had;
+        sealed = record {
+          made = m;
+          found = order.made_is;
+          integrity = refl;
+          ciphered = λ j. srb_ciphering Up (keys_of r.star.key (sym order.algs j)) Signalling1 0;
+        };
+      },
     )
 
 -- THE OBEYED KEY CHANGE
@@ -310,28 +366,48 @@ changed_goes : (same : Term → Term → Bool) (g : Ghost) → AllOf (MadeOk g) 
     → PhoneGoes g (changed_unless (term_reading_by same) cell algs station air s (before_of l) root false)
 changed_goes same g made cell algs station air s l root own needs =
     let order = needs.0 in
-    let m = order.0 in
+    let m = order.made in
     let t = Star (Kenb root 0) cell.pci cell.earfcn in
     let x : Took Term ℕ = record { station = station; air = air; key = t; number = 0; algs = algs; came = Changed (before_of l) root } in
     let k = with_took g (Some x) in
-    let at = made_there g.made station air m order.1 in
+    let at = made_there g.made station air m order.found in
     let none : took_at g.took m.station m.air ≡ None = (λ j. took_at g.took (at.0 j) (at.1 j)) ∙ needs.1 in
     let first : took_at (g.took ++ x ∷ []) m.station m.air ≡ Some x =
     found_new (is_took_at m.station m.air) g.took x none (both_same station m.station air m.air (sym at.0) (sym at.1)) in
-    let from : FromIs k m t m.from = subst (FromIs k m t) (sym order.2) (x, first, refl) in
-    let had : HadTaken (g.took ++ x ∷ []) station air t = (x, in_last x g.took, refl, refl, refl) in
-    let here : HereIs k station air t = (m, order.1, from) in
-    let ok : FromOk g m (ByChange l.kenb) = subst (FromOk g m) order.2 (all_found (MadeOk g) _ g.made m made order.1).3 in
-    let of_cell : t ≡ Star (Kenb root 0) m.cell.pci m.cell.earfcn = λ j. Star (Kenb root 0) (sym order.3 j).pci (sym order.3 j).earfcn in (
-      ((refl, refl, refl, refl), refl, m, order.1, sym order.4, from, had, (λ e. absurd (no_setup_change order.2 e))),
-      (
-        here,
-        (m, order.1, obeys_change m x (before_of l) root order.2 ok.0 ok.2 ok.3 of_cell refl (sym order.4)),
-        (refl, cell.pci, cell.earfcn, refl),
-        refl,
-        own_before g x l own needs.2,
-      ),
-      (t, refl, here, had, (m, order.1, refl, (λ j. srb_ciphering Up (keys_of t (sym order.4 j)) Signalling1 0))),
+    let from : FromIs k m t m.from = subst (FromIs k m t) (sym order.from) (x, first, refl) in
+    let had = had_last g.took x in
+    let here : HereIs k station air t = (m, order.found, from) in
+    let ok : FromOk g m (ByChange l.kenb) = subst (FromOk g m) order.from (all_found (MadeOk g) _ g.made m made order.found).from in
+    let of_cell : t ≡ Star (Kenb root 0) m.cell.pci m.cell.earfcn = λ j. Star (Kenb root 0) (sym order.cell j).pci (sym order.cell j).earfcn in (
+      record {
+        chain = record { root = refl; sync = refl; number = refl; kenb = refl };
+        keys = refl;
+        made = m;
+        found = order.found;
+        algs = sym order.algs;
+        from = from;
+        had = had;
+        heard = λ e. absurd (no_setup_change order.from e);
+      },
+      record {
+        here = here;
+        obeys = (m, order.found, obeys_change m x (before_of l) root order.from ok.number ok.root ok.key of_cell refl (sym order.algs));
+        grows = (refl, cell.pci, cell.earfcn, refl);
+        on_chain = refl;
+        under = own_before g x l own needs.2;
+      },
+      record {
+        kenb = t;
+        key = refl;
+        here = here;
+        had = had;
+        sealed = record {
+          made = m;
+          found = order.found;
+          integrity = refl;
+          ciphered = λ j. srb_ciphering Up (keys_of t (sym order.algs j)) Signalling1 0;
+        };
+      },
     )
 
 -- of a phone whose connection is as told
@@ -370,13 +446,20 @@ nas_goes same g s = record {
 sends_up : (g : Ghost) (l : Link Term ℕ) → LinkIs g l → (srb : Srb) (count : ℕ)
     → UpOk g l.station l.air srb (srb_use Up l.keys.rrc_int srb count) (Some (srb_ciphering Up l.keys srb count))
 sends_up g l h srb count =
-    let keys : l.keys ≡ keys_of l.kenb h.2.algs = h.1 ∙ ap (keys_of l.kenb) h.4 in (
-      l.kenb,
-      ap (λ k. k.rrc_int) h.1,
-      (h.2, h.3, h.5),
-      h.6,
-      (h.2, h.3, (λ j. srb_use Up (keys j).rrc_int srb count), (λ j. srb_ciphering Up (keys j) srb count)),
-    )
+    let m = h.made in
+    let keys : l.keys ≡ keys_of l.kenb m.algs = h.keys ∙ ap (keys_of l.kenb) h.algs in
+    record {
+      kenb = l.kenb;
+      key = ap (λ k. k.rrc_int) h.keys;
+      here = (m, h.found, h.from);
+      had = h.had;
+      sealed = record {
+        made = m;
+        found = h.found;
+        integrity = λ j. srb_use Up (keys j).rrc_int srb count;
+        ciphered = λ j. srb_ciphering Up (keys j) srb count;
+      };
+    }
 
 act_goes : (same : Term → Term → Bool) (g : Ghost) (s : Phone Term ℕ) → ActCases (term_reading_by same) Anything (Keeps g) s
 act_goes same g s = record {

@@ -10,12 +10,12 @@ use Rattle.rrc_rec.specs.declared.records.RrcRecord.{RrcRecord}
 use Rattle.rrc_rec.specs.declared.records.RrcRecord.TheVariants.{SecurityModeCommand, Reconfiguration, KeyChange}
 use Rattle.rrc_rec.specs.Reading.{read_rrc}
 use Rattle.lte_machine.specs.Bearers.{Srb, Signalling1, Which, OnSrb}
-use Rattle.lte_machine.specs.Wire.{KeyUse, Ciphering, Outgoing, SealedNas, PlainNas, SealedRrc, UserPacket, Between, srb_use, srb_ciphering}
+use Rattle.lte_machine.specs.Wire.{KeyUse, Ciphering, Outgoing, SealedNas, SealedRrc, srb_use, srb_ciphering}
 use Rattle.lte_machine.specs.Opening.{Opening, Outcome, Opened}
 use Rattle.lte_machine.specs.Reply.{BySetup, ByChange, Made}
 use Rattle.lte_machine.specs.PhoneState.{Waiting, Link, Radio, Connecting, Connected, Phone}
 use Rattle.lte_machine.specs.PhoneChoice.{unciphered_text, AirFront, AtStart, AtSignalling, air_row}
-use Rattle.lte_machine.specs.PhoneRows.{AirRow, AirRefused, LinkSecured, HandedOver, KeyChanged, RrcOpened, PacketOpened}
+use Rattle.lte_machine.specs.PhoneRows.{AirRow, LinkSecured, HandedOver, KeyChanged}
 use Rattle.lte_machine.specs.PhoneKeys.{air_expects, start_expects, signalling_expects}
 pub use Rattle.lte_machine.proofs.PhoneAirFacts.{both_named}
 pub use Rattle.lte_machine.proofs.Tests.{by_test}
@@ -31,7 +31,13 @@ use Rattle.lte_properties.proofs.Agreement.Phone.{StartNeeds, OwnMade, CommandNe
 abbrev pub CameDown : Ghost → ℕ → ℕ → Which → List ℕ → Option (Outgoing Term ℕ) → Type 0
 CameDown g station air on pdu None = ⊤
 CameDown g station air on pdu (Some (SealedRrc Down st a srb i f text)) =
-    (st ≡ station) × (a ≡ air) × (on ≡ OnSrb srb) × DownOk g station air srb i f text × (f ≡ None → unciphered_text pdu ≡ text)
+    record {
+      is_station : st ≡ station;
+      is_air : a ≡ air;
+      is_on : on ≡ OnSrb srb;
+      down : DownOk g station air srb i f text;
+      plain : f ≡ None → unciphered_text pdu ≡ text;
+    }
 CameDown g station air on pdu (Some (SealedRrc Up st a srb i f text)) = ⊥
 CameDown g station air on pdu (Some (SealedNas dir header i f text)) = ⊥
 CameDown g station air on pdu (Some other) = ⊤
@@ -63,14 +69,14 @@ start_named g w station air pdu on algs ns na reads is_s is_a u key down text (S
 start_named g w station air pdu on algs ns na reads is_s is_a u key down text (Some (SealedRrc Up st a srb i f sent)) h sealed calm = absurd h
 start_named g w station air pdu on algs ns na reads is_s is_a u key down text (Some (SealedRrc Down st a srb i f sent)) h sealed calm =
     let plain : f ≡ None = no_cipher f (subst (λ d. CipheredAs d None (Some (SealedRrc Down st a srb i f sent))) down calm) in
-    let d = h.3 in
-    let m = d.0 in
-    let from : m.from ≡ BySetup = (subst (CipheredSo g station air m srb i) plain d.3).0 in
-    let says = d.4 (SecurityModeCommand algs ns na) (ap read_rrc (sym (h.4 plain)) ∙ reads) in
-    let there : made_at g.made station air ≡ Some says.0 = (λ j. made_at g.made (sym is_s j) (sym is_a j)) ∙ says.1 in
-    let one : says.0 ≡ m = same_found _ says.0 m there d.1 in
-    let kenb : w.kenb ≡ m.key = one_key w.kenb m.key _ _ _ _ (sym key ∙ ap (λ v. v.key) sealed.0 ∙ ap (λ v. v.key) d.2) in
-    (m, d.1, from, kenb, sym (subst (λ x. x.algs ≡ algs) one says.3))
+    let d = h.down in
+    let m = d.made in
+    let from : m.from ≡ BySetup = (subst (CipheredSo g station air m srb i) plain d.ciphered).0 in
+    let says = d.says (SecurityModeCommand algs ns na) (ap read_rrc (sym (h.plain plain)) ∙ reads) in
+    let there : made_at g.made station air ≡ Some says.made = (λ j. made_at g.made (sym is_s j) (sym is_a j)) ∙ says.found in
+    let one : says.made ≡ m = same_found _ says.made m there d.found in
+    let kenb : w.kenb ≡ m.key = one_key w.kenb m.key _ _ _ _ (sym key ∙ ap (λ v. v.key) sealed.0 ∙ ap (λ v. v.key) d.integrity) in
+    record { made = m; found = d.found; from = from; key = kenb; algs = sym (subst (λ x. x.algs ≡ algs) one says.algs) }
 start_named g w station air pdu on algs ns na reads is_s is_a u key down text other h sealed calm = absurd sealed
 
 module _ (same : Term → Term → Bool) (g : Ghost) (s : Phone Term ℕ) (station air : ℕ) (pdu : List ℕ) (on : Which)
@@ -85,22 +91,22 @@ module _ (same : Term → Term → Bool) (g : Ghost) (s : Phone Term ℕ) (stati
   text_is l h is_s is_a srb count is_on text (Some (SealedRrc Up st a sr i f sent)) k sealed calm = absurd k
   text_is l h is_s is_a srb count is_on text (Some (SealedRrc Down st a sr i None sent)) k sealed calm = absurd cc
   text_is l h is_s is_a srb count is_on text (Some (SealedRrc Down st a sr i (Some f) sent)) k sealed calm =
-      let d = k.3 in
-      let m = d.0 in
+      let d = k.down in
+      let m = d.made in
       let kenb : l.kenb ≡ m.key =
-      one_key l.kenb m.key _ _ _ _ (sym (ap (λ keys. keys.rrc_int) h.1) ∙ ap (λ v. v.key) sealed.0 ∙ ap (λ v. v.key) d.2) in
-      let there : made_at g.made station air ≡ Some h.2 = (λ j. made_at g.made (sym is_s j) (sym is_a j)) ∙ h.3 in
-      let one : h.2 ≡ m = same_found _ h.2 m there d.1 in
-      let algs : l.keys.algs ≡ m.algs = h.4 ∙ ap (λ x. x.algs) one in
-      let keys : l.keys ≡ keys_of m.key m.algs = h.1 ∙ (λ j. keys_of (kenb j) (algs j)) in
+      one_key l.kenb m.key _ _ _ _ (sym (ap (λ keys. keys.rrc_int) h.keys) ∙ ap (λ v. v.key) sealed.0 ∙ ap (λ v. v.key) d.integrity) in
+      let there : made_at g.made station air ≡ Some h.made = (λ j. made_at g.made (sym is_s j) (sym is_a j)) ∙ h.found in
+      let one : h.made ≡ m = same_found _ h.made m there d.found in
+      let algs : l.keys.algs ≡ m.algs = h.algs ∙ ap (λ x. x.algs) one in
+      let keys : l.keys ≡ keys_of m.key m.algs = h.keys ∙ (λ j. keys_of (kenb j) (algs j)) in
       let counts : count ≡ i.count = ap (λ v. v.count) sealed.0 in
-      let srbs : srb ≡ sr = one_srb srb sr (sym is_on ∙ k.2) in
+      let srbs : srb ≡ sr = one_srb srb sr (sym is_on ∙ k.is_on) in
       let cipher : Some (srb_ciphering Down l.keys srb count) ≡ Some f =
-      (λ j. Some (srb_ciphering Down (keys j) (srbs j) (counts j))) ∙ ap Some (sym d.3.0) in (
+      (λ j. Some (srb_ciphering Down (keys j) (srbs j) (counts j))) ∙ ap Some (sym d.ciphered.0) in (
         subst (λ n. TextOk g n l.kenb text) (sym is_s)
             (subst (λ t. TextOk g station t text) (sym kenb)
-            (subst (TextOk g station m.key) (sym (sealed.1 cipher)) d.4)),
-        (h.2, h.3, kenb ∙ ap (λ x. x.key) (sym one)),
+            (subst (TextOk g station m.key) (sym (sealed.1 cipher)) d.says)),
+        (h.made, h.found, kenb ∙ ap (λ x. x.key) (sym one)),
       )
     where
       one_srb : (a b : Srb) → OnSrb a ≡ OnSrb b → a ≡ b
@@ -161,13 +167,18 @@ module _ (same : Term → Term → Bool) (g : Ghost) (s : Phone Term ℕ) (stati
         let x = f.read in
         let says = heard Signalling1 f.count (Reconfiguration cell f.ncc algs st a) x in
         subst (CommandNeeds g cell steps algs st a) (sym x.by.here.connected)
-        (f.ncc, f.steps_is ∙ ap (λ n. steps_to n f.ncc) x.by.own_is, says.0 (Reconfiguration cell f.ncc algs st a) x.reads, says.1)
+        (record {
+          ncc = f.ncc;
+          steps = f.steps_is ∙ ap (λ n. steps_to n f.ncc) x.by.own_is;
+          order = says.0 (Reconfiguration cell f.ncc algs st a) x.reads;
+          own = says.1;
+        })
     row_walks (KeyChanged cell algs st a) f =
         let x = f.1 in
         let says = heard Signalling1 f.0 (KeyChange cell algs st a) x in
         let change = says.0 (KeyChange cell algs st a) x.reads in
         subst (ChangeNeeds g cell algs st a) (sym x.by.here.connected)
-        (change, subst (NothingYet g) x.by.here.connected yet st a change.0 change.1 change.2, says.1)
+        (change, subst (NothingYet g) x.by.here.connected yet st a change.made change.found change.from, says.1)
     row_walks other f = tt
 
     -- a PDU at an air address

@@ -46,7 +46,7 @@ apart_always m never made = all_each (NotBoth m) (λ n o e f. never o e) made
 -- and so is what came by an attempt that is new
 new_apart : (g : Ghost) (o : Origin) (n : Made Term ℕ) → tried_at g.tried o.source o.attempt ≡ None → MadeOk g n → n.from ≡ ByAttempt o → ⊥
 new_apart g o n none ok is =
-    let made : FromOk g n (ByAttempt o) = subst (FromOk g n) is ok.3 in nothing none made.1
+    let made : FromOk g n (ByAttempt o) = subst (FromOk g n) is ok.from in nothing none made.found
   where
     nothing : {e : Tried Term ℕ} {x : Option (Tried Term ℕ)} → x ≡ None → x ≡ Some e → ⊥
     nothing a b = cc
@@ -67,9 +67,9 @@ unseen_apart : (g : Ghost) (id : ℕ) (seen : List ℕ) (o : Origin) (e : Tried 
     → (o.source ≡ id → ⊥)
     → slice_index seen o.source < o.attempt → (n : Made Term ℕ) → MadeOk g n → SeenBy id seen n → n.from ≡ ByAttempt o → ⊥
 unseen_apart g id seen o e found target other low n ok was is =
-    let made : FromOk g n (ByAttempt o) = subst (FromOk g n) is ok.3 in
-    let one : made.0 ≡ e = same_found _ made.0 e made.1 found in
-    let there : n.station ≡ id = sym made.3 ∙ ap (λ x. x.target) one ∙ target in
+    let made : FromOk g n (ByAttempt o) = subst (FromOk g n) is ok.from in
+    let one : made.tried ≡ e = same_found _ made.tried e made.found found in
+    let there : n.station ≡ id = sym made.target ∙ ap (λ x. x.target) one ∙ target in
     let high : o.attempt ≤ slice_index seen o.source = was there o is other in omega arith
 
 pub apart_unseen : (g : Ghost) (id : ℕ) (seen : List ℕ) (m : Made Term ℕ) (o : Origin)

@@ -1,6 +1,5 @@
 -- What the rows of a station on records leave of the invariant of agreement.
-use Rattle.std.proofs.Common.{◌≡◌, ℕ, ◌<◌, ◌≤◌, ◌+◌, refl, sym, ◌∙◌, ap, subst, le_trans, arith, Bool, true, false, List, [], ◌∷◌, ◌++◌, Option, Some, None, Ok, option_map}
-use Rattle.ho_prep.specs.Prep.{Prep}
+use Rattle.std.proofs.Common.{◌≡◌, ℕ, ◌<◌, ◌≤◌, ◌+◌, refl, sym, ◌∙◌, ap, subst, arith, Bool, false, List, [], ◌∷◌, ◌++◌, Option, Some, None, Ok, option_map}
 use Rattle.std.specs.Prelude.{⊤, length, slice_index, slice_set}
 use Rattle.std.proofs.lemmas.List.{length-set}
 use Rattle.alg_choice.specs.declared.algs.Algs.{Algs}
@@ -35,14 +34,14 @@ use Rattle.lte_properties.specs.ChainAbove.{AnswerOk, InFlight}
 use Rattle.lte_properties.specs.Agreement.{made_at, HadTaken}
 use Rattle.lte_properties.specs.Chains.{chain_key}
 use Rattle.lte_properties.proofs.Agreement.Terms.{base_nh}
-use Rattle.lte_properties.proofs.Agreement.Ghost.{Ghost, is_tried_at, tried_at, chain_at, TermOk, PairOk, Leads, GivenFits, FromOk, MadeOk, TriedOk, GivenOk, AttemptOk, StartedOk, CtxOk, PrepOk, FreshFrom, SeenBy, StationOk, SaysOk, IsOther, StartIs, OrderIs, UnderKey, ChangeIs, AckIs, HasNcc, AnyMade, BetweenOk, OutOk}
+use Rattle.lte_properties.proofs.Agreement.Ghost.{Ghost, is_tried_at, tried_at, chain_at, TermOk, PairOk, Leads, GivenFits, FromOk, MadeOk, TriedOk, GivenOk, AttemptOk, CtxOk, PrepOk, FreshFrom, SeenBy, StationOk, SaysOk, IsOther, StartIs, OrderIs, UnderKey, ChangeIs, AckIs, HasNcc, AnyMade, BetweenOk, OutOk}
 use Rattle.lte_properties.proofs.Agreement.Later.{same_found, made_later, ctx_later, preps_later}
 use Rattle.lte_properties.proofs.ChainNumbers.Lists.{all_map}
-use Rattle.lte_properties.proofs.Agreement.Phone.{all_found}
 use Rattle.lte_properties.proofs.Agreement.PhoneWalk.{both_named}
 use Rattle.lte_properties.proofs.Agreement.Seen.{NotBoth, setup_no_attempt, change_no_attempt, change_no_setup, apart_always, apart_unseen, seen_more, seen_there}
+use Rattle.lte_properties.proofs.Agreement.StationContext.{CellFits, started_map, started_any, had_by, with_attempt_ok, with_both, mapped_at, with_ctx, ctx_at}
 use Rattle.lte_properties.proofs.Agreement.StationSends.{sends_down, change_says}
-use Rattle.lte_properties.proofs.Agreement.ToldIsFound.{found_holds, told, told_more, made_new, made_none, MadeBy, TriedBy, all_append, all_filter, reads_as, term_number, leads_up, star_term}
+use Rattle.lte_properties.proofs.Agreement.ToldIsFound.{all_found, found_holds, told, told_more, made_new, made_none, MadeBy, TriedBy, all_append, all_filter, reads_as, term_number, leads_up, star_term}
 
 -- what is told anew
 abbrev pub NewMade : Ghost → Ghost → Option (Made Term ℕ) → Type 0
@@ -60,85 +59,9 @@ StationGoes cells g s d =
     StationOk cells h d.0 × NewMade g h d.1.made × NewTried cells h s.id d.1.tried × OutOk h d.1.sent
     × (d.0.id ≡ s.id) × MadeBy s.id d.1.made × TriedBy s.id d.1.tried
 
--- the cell of a context is a cell
-abbrev pub CellFits : Option (Context Term ℕ) → Type 0
-CellFits None = ⊤
-CellFits (Some c) = IsCell c.cell
-
 -- a number that is drawn is in range
 drawn : (next air : ℕ) → air ≡ next → next < 4294967296 → air < 4294967296
 drawn next air e lt = omega arith
-
-pub started_map : (g : Ghost) (id air : ℕ) (t : Term) (starting : Bool) (f : Attempt Term ℕ → Attempt Term ℕ) (o : Option (Attempt Term ℕ))
-    → StartedOk g id air t starting o → StartedOk g id air t starting (option_map f o)
-started_map g id air t true f o h = ap (option_map f) h
-started_map g id air t false f o h = h
-
--- an active context's key was taken, so that it may have any attempt
-pub started_any : (g : Ghost) (id air : ℕ) (t : Term) (starting : Bool) (o : Option (Attempt Term ℕ)) → starting ≡ false → HadTaken g.took id air t
-    → StartedOk g id air t starting o
-started_any g id air t true o e h = absurd cc
-started_any g id air t false o e h = h
-
-pub had_by : (g : Ghost) (id air : ℕ) (t : Term) (starting : Bool) (o : Option (Attempt Term ℕ)) → starting ≡ false → StartedOk g id air t starting o
-    → HadTaken g.took id air t
-had_by g id air t true o e h = absurd cc
-had_by g id air t false o e h = h
-
--- the context of a station
-module _ (cells : List Site) (g : Ghost) (s : Station Term ℕ) (ok : StationOk cells g s) where
-  -- where context and preparations alone change
-  pub with_both : (o : Option (Context Term ℕ)) → CtxOk g s.id o → (ps : List (Prep Term ℕ)) → AllOf (PrepOk g s.id) ps
-      → StationOk cells g (record s { context = o; preps = ps })
-  with_both o k ps b = record {
-    context = k;
-    preps = b;
-    fresh = ok.fresh;
-    cells = ok.cells;
-    id = ok.id;
-    next = ok.next;
-    ring = ok.ring;
-    seen = ok.seen;
-  }
-
-  -- and the next number, where one was drawn
-  pub next_drawn : (next : ℕ) → s.next ≤ next → (o : Option (Context Term ℕ)) → CtxOk g s.id o → (ps : List (Prep Term ℕ)) → AllOf (PrepOk g s.id) ps
-      → StationOk cells g (record s { next = next; context = o; preps = ps })
-  next_drawn next up o k ps b = let first = ok.next in record {
-    context = k;
-    preps = b;
-    fresh = λ n above. ok.fresh n (le_trans up above);
-    cells = ok.cells;
-    id = ok.id;
-    next = le_trans first up;
-    ring = ok.ring;
-    seen = ok.seen;
-  }
-
-  pub with_ctx : (o : Option (Context Term ℕ)) → CtxOk g s.id o → StationOk cells g (record s { context = o })
-  with_ctx o k = with_both o k s.preps ok.preps
-
-  map_ctx : (f : Context Term ℕ → Context Term ℕ) → ((c : Context Term ℕ) → CtxOk g s.id (Some c) → CtxOk g s.id (Some (f c)))
-      → (o : Option (Context Term ℕ)) → CtxOk g s.id o → CtxOk g s.id (option_map f o)
-  map_ctx f keeps None h = tt
-  map_ctx f keeps (Some c) h = keeps c h
-
-  pub mapped : (f : Context Term ℕ → Context Term ℕ) → ((c : Context Term ℕ) → CtxOk g s.id (Some c) → CtxOk g s.id (Some (f c)))
-      → StationOk cells g (record s { context = option_map f s.context })
-  mapped f keeps = with_ctx (option_map f s.context) (map_ctx f keeps s.context ok.context)
-
-  -- where it is this one
-  pub ctx_at : (c : Context Term ℕ) → s.context ≡ Some c → CtxOk g s.id (Some c)
-  ctx_at c e = subst (CtxOk g s.id) e ok.context
-
-  pub mapped_at : (f : Context Term ℕ → Context Term ℕ) (c : Context Term ℕ) → s.context ≡ Some c → CtxOk g s.id (Some (f c))
-      → StationOk cells g (record s { context = option_map f s.context })
-  mapped_at f c e k = with_ctx (option_map f s.context) (subst (λ o. CtxOk g s.id (option_map f o)) (sym e) k)
-
-  -- an active one is the one that a choice found, and the phone had taken its key
-  pub had : (b c : Context Term ℕ) → s.context ≡ Some b → s.context ≡ Some c → b.starting ≡ false → HadTaken g.took s.id c.air c.key.kenb
-  had b c e f active =
-      let h = ctx_at c f in had_by g s.id c.air c.key.kenb c.starting c.attempt (subst (λ x. x.starting ≡ false) (by_some (sym e ∙ f)) active) h.5
 
 module _ (same : Term → Term → Bool) (cells : List Site) (g : Ghost) (made_ok : AllOf (MadeOk g) g.made) (tried_ok : AllOf (TriedOk cells g) g.tried)
     (s : Station Term ℕ) (ok : StationOk cells g s) where
@@ -175,9 +98,18 @@ module _ (same : Term → Term → Bool) (cells : List Site) (g : Ghost) (made_o
       let first = ok.next in
       let low : 1 ≤ air = omega arith in
       let term : TermOk (told g (Some m) None) conn kenb.key 0 = (of_conn, omega arith, ap chain_key key_is) in
-      let text = reads_as (SaysOk (told g (Some m) None) s.id kenb.key) (SecurityModeCommand algs s.id air) (ok.id, (low, small)) (m, here, refl, refl) in (
+      let start : SaysOk (told g (Some m) None) s.id kenb.key (SecurityModeCommand algs s.id air) =
+      record { made = m; found = here; from = refl; algs = refl } in
+      let text = reads_as (SaysOk (told g (Some m) None) s.id kenb.key) (SecurityModeCommand algs s.id air) (ok.id, (low, small)) start in (
         record {
-          context = (term, tt, refl, (m, here, (refl, refl, refl), refl, tt), tt, refl);
+          context = record {
+            term = term;
+            pair = tt;
+            keys = refl;
+            entry = record { made = m; found = here; is = (refl, refl, refl); from = refl; had = tt };
+            attempt = tt;
+            started = refl;
+          };
           preps = tt;
           fresh = fresh_above m (omega arith);
           cells = ok.cells;
@@ -186,9 +118,12 @@ module _ (same : Term → Term → Bool) (cells : List Site) (g : Ghost) (made_o
           ring = ok.ring;
           seen = all_append (SeenBy s.id s.seen) g.made m ok.seen (λ at o e other. absurd (setup_no_attempt m refl o e));
         },
-        ((low, small, ok.id, (refl, of_conn, key_is), here, term), apart_always m (setup_no_attempt m refl) g.made),
+        (
+          record { low = low; high = small; station = ok.id; from = (refl, of_conn, key_is); found = here; term = term },
+          apart_always m (setup_no_attempt m refl) g.made,
+        ),
         tt,
-        (m, here, refl, (refl, refl, refl), text),
+        record { made = m; found = here; integrity = refl; ciphered = (refl, refl, refl); says = text },
         refl,
         refl,
         tt,
@@ -201,8 +136,16 @@ module _ (same : Term → Term → Bool) (cells : List Site) (g : Ghost) (made_o
   taken_goes : (conn : ℕ) (origin : Option Origin) (pair : NumberedKey Term ℕ) (c : Context Term ℕ) → s.context ≡ Some c → PairOk g c.conn pair
       → Goes (pair_taken conn origin (Some pair) s)
   taken_goes conn origin pair c e pair_ok =
-      let h = ctx_at cells g s ok c e in
-      (mapped_at cells g s ok (with_pair pair) c e (h.0, pair_ok, h.2, h.3, h.4, h.5), tt, tt, release_out conn origin, refl, tt, tt)
+      let h = ctx_at cells g s ok c e in (
+        mapped_at cells g s ok (with_pair pair) c e
+            (record { term = h.term; pair = pair_ok; keys = h.keys; entry = h.entry; attempt = h.attempt; started = h.started }),
+        tt,
+        tt,
+        release_out conn origin,
+        refl,
+        tt,
+        tt,
+      )
 
   -- A PREPARATION
 
@@ -214,7 +157,7 @@ module _ (same : Term → Term → Bool) (cells : List Site) (g : Ghost) (made_o
   taken_once w m is news e found target other =
       let at = both_named e.station w.from.source e.attempt w.from.attempt (found_holds (is_tried_at w.from.source w.from.attempt) g.tried e found) in
       let own = own_try w.from.source w.from.attempt e found in
-      let low : w.from.source ≤ 7 = subst (λ n. n ≤ 7) at.0 own.3 in (
+      let low : w.from.source ≤ 7 = subst (λ n. n ≤ 7) at.0 own.station in (
         length-set s.seen w.from.source w.from.attempt ∙ ok.ring,
         all_append (SeenBy s.id (slice_set s.seen w.from.source w.from.attempt)) g.made m
             (seen_more s.id w.from.source w.from.attempt s.seen ok.ring low news g.made ok.seen) (seen_there s.id s.seen m w.from is ok.ring low),
@@ -236,8 +179,25 @@ module _ (same : Term → Term → Bool) (cells : List Site) (g : Ghost) (made_o
       let low : 1 ≤ w.air = omega arith in
       let here : made_at k.made s.id w.air ≡ Some m = made_new g.made m (ok.fresh w.air (omega arith)).0 in
       let own = own_try w.from.source w.from.attempt e found in
-      let from : FromOk k m (ByAttempt w.from) = (e, found, term_number g e.conn e.key e.number own.0, sym target, leads, given, conn, cell) in
-      let prep : PrepOk k s.id (admitted_prep r w by star) = (term, tt, refl, m, here, (refl, refl, refl), λ e. setup_no_attempt m e w.from refl) in
+      let from : FromOk k m (ByAttempt w.from) = record {
+        tried = e;
+        found = found;
+        number = term_number g e.conn e.key e.number own.term;
+        target = sym target;
+        leads = leads;
+        given = given;
+        conn = conn;
+        cell = cell;
+      } in
+      let prep : PrepOk k s.id (admitted_prep r w by star) = record {
+        term = term;
+        pair = tt;
+        keys = refl;
+        made = m;
+        found = here;
+        is = (refl, refl, refl);
+        no_setup = λ e. setup_no_attempt m e w.from refl;
+      } in
       let once = taken_once w m refl a.new e found (sym target) other in (
         record {
           context = ctx_later g k l s.id s.context ok.context;
@@ -249,7 +209,10 @@ module _ (same : Term → Term → Bool) (cells : List Site) (g : Ghost) (made_o
           ring = once.0;
           seen = once.1;
         },
-        ((low, drawn s.next w.air a.air_is a.left, ok.id, from, here, term), once.2),
+        (
+          record { low = low; high = drawn s.next w.air a.air_is a.left; station = ok.id; from = from; found = here; term = term },
+          once.2,
+        ),
         tt,
         out here,
         refl,
@@ -262,59 +225,60 @@ module _ (same : Term → Term → Bool) (cells : List Site) (g : Ghost) (made_o
       → Goes (prepared_by_s1 r w (Some pair) s)
   by_s1_goes w pair a came =
       let asked = came.1 in
-      let e = asked.0 in
-      let own = (own_try w.from.source w.from.attempt e asked.1).0 in
+      let e = asked.tried in
+      let own = (own_try w.from.source w.from.attempt e asked.found).term in
       let star = star_line r pair w.cell.pci w.cell.earfcn in
-      let pair_ok : PairOk g e.conn pair = subst (λ c. PairOk g c pair) (sym asked.2) came.0 in
-      let up = leads_up g e.conn e.key e.number pair e.cell own pair_ok asked.5.0 in
-      let below : e.number < pair.number = asked.5.0 in
+      let pair_ok : PairOk g e.conn pair = subst (λ c. PairOk g c pair) (sym asked.conn) came.0 in
+      let below : e.number < pair.number = asked.so.0 in
+      let up = leads_up g e.conn e.key e.number pair e.cell own pair_ok below in
       let same_star : Star pair.key w.cell.pci w.cell.earfcn ≡ Star pair.key e.cell.pci e.cell.earfcn =
-      ap (λ c. Star pair.key c.pci c.earfcn) (sym asked.3) in
-      let given : GivenFits e.kind star.number = subst (λ o. GivenFits o star.number) (sym asked.4) tt in
-      admitted_goes w By.S1 star (prepared_by_s1 r w (Some pair) s).1.sent a e asked.1 asked.2 asked.3 asked.5.1 asked.5.2
+      ap (λ c. Star pair.key c.pci c.earfcn) (sym asked.cell) in
+      let given : GivenFits e.kind star.number = subst (λ o. GivenFits o star.number) (sym asked.kind) tt in
+      admitted_goes w By.S1 star (prepared_by_s1 r w (Some pair) s).1.sent a e asked.found asked.conn asked.cell asked.so.1 asked.so.2
       (star_term g w.conn pair w.cell.pci w.cell.earfcn came.0) (omega arith, same_star ∙ up) given
-      (λ here. (admitted_made s.id w star, here, refl, refl, refl))
+      (λ here. record { made = admitted_made s.id w star; found = here; from = refl; algs = refl; so = refl })
 
   by_x2_goes : (w : Admitted) (star : NumberedKey Term ℕ) → Admits r s w
       → BetweenOk g (Address.StationX2 s.id) (X2Request w.conn w.from.source w.from.attempt w.cell w.caps) (Some star)
       → Goes (prepared_by_x2 r w (Some star) s)
   by_x2_goes w star a came =
       let asked = came.1 in
-      let e = asked.0 in
-      let own = own_try w.from.source w.from.attempt e asked.1 in
-      let of_given : GivenOk g e (BySource star) = subst (GivenOk g e) asked.4 own.2 in
-      let given : GivenFits e.kind star.number = subst (λ o. GivenFits o star.number) (sym asked.4) refl in
-      admitted_goes w By.X2 star (prepared_by_x2 r w (Some star) s).1.sent a e asked.1 asked.2 asked.3 asked.5.0 asked.5.1 came.0 of_given.1 given
-      (λ here. (admitted_made s.id w star, here, refl, refl, tt))
+      let e = asked.tried in
+      let own = own_try w.from.source w.from.attempt e asked.found in
+      let of_given : GivenOk g e (BySource star) = subst (GivenOk g e) asked.kind own.given in
+      let given : GivenFits e.kind star.number = subst (λ o. GivenFits o star.number) (sym asked.kind) refl in
+      admitted_goes w By.X2 star (prepared_by_x2 r w (Some star) s).1.sent a e asked.found asked.conn asked.cell asked.so.0 asked.so.1
+      came.0 of_given.1 given (λ here. record { made = admitted_made s.id w star; found = here; from = refl; algs = refl; so = tt })
 
   -- AN ANSWER TO AN ATTEMPT
 
   -- it is the order for the phone: of the attempt that was opened, whose target made this
   order_of : (t : Term) (conn number station : ℕ) (cell : Place) (kind : Handover Term ℕ) (ncc : ℕ) (algs : Algs) (air : ℕ) (P : Made Term ℕ → Type 0)
-      → StartIs g s.id conn t number station cell kind → (a : AckIs g s.id number algs air P) → (GivenFits kind a.0.number → P a.0 → ncc_of a.0.number ≡ ncc)
+      → StartIs g s.id conn t number station cell kind → (a : AckIs g s.id number algs air P)
+      → (GivenFits kind a.made.number → P a.made → ncc_of a.made.number ≡ ncc)
       → OrderIs g s.id t cell ncc algs station air × UnderKey g s.id conn t number
   order_of t conn number station cell kind ncc algs air P h a fits =
-      let m = a.0 in
-      let e = h.0 in
+      let m = a.made in
+      let e = h.tried in
       let ok : FromOk g m (ByAttempt (record { source = s.id; attempt = number })) =
-      subst (FromOk g m) a.2 (all_found (MadeOk g) _ g.made m made_ok a.1).3 in
-      let one : ok.0 ≡ e = same_found _ ok.0 e ok.1 h.1 in
-      let there : m.station ≡ station = sym ok.3 ∙ ap (λ x. x.target) one ∙ h.4 in
-      let given : GivenFits kind m.number = subst (λ o. GivenFits o m.number) (ap (λ x. x.kind) one ∙ h.6) ok.5 in (
-        (
-          m,
-          record { source = s.id; attempt = number },
-          e,
-          ap (λ n. made_at g.made n air) (sym there) ∙ a.1,
-          a.2,
-          h.1,
-          h.2,
-          h.3,
-          fits given a.4,
-          a.3,
-          refl,
-        ),
-        (e, h.1, h.2, h.5),
+      subst (FromOk g m) a.from (all_found (MadeOk g) _ g.made m made_ok a.found).from in
+      let one : ok.tried ≡ e = same_found _ ok.tried e ok.found h.found in
+      let there : m.station ≡ station = sym ok.target ∙ ap (λ x. x.target) one ∙ h.target in
+      let given : GivenFits kind m.number = subst (λ o. GivenFits o m.number) (ap (λ x. x.kind) one ∙ h.kind) ok.given in (
+        record {
+          made = m;
+          origin = record { source = s.id; attempt = number };
+          tried = e;
+          made_is = ap (λ n. made_at g.made n air) (sym there) ∙ a.found;
+          from = a.from;
+          tried_is = h.found;
+          key = h.key;
+          cell = h.cell;
+          ncc = fits given a.so;
+          algs = a.algs;
+          source = refl;
+        },
+        record { tried = e; found = h.found; key = h.key; conn = h.conn },
       )
 
   -- so the context has it
@@ -327,9 +291,10 @@ module _ (same : Term → Term → Bool) (cells : List Site) (g : Ghost) (made_o
   acked_goes f c first e trying keeps =
       let h = ctx_at cells g s ok c e in
       let attempt : AttemptOk g s.id c.conn c.key.kenb (option_map f c.attempt) =
-      subst (λ o. AttemptOk g s.id c.conn c.key.kenb (option_map f o)) (sym trying) (keeps (subst (AttemptOk g s.id c.conn c.key.kenb) trying h.4)) in
+      subst (λ o. AttemptOk g s.id c.conn c.key.kenb (option_map f o)) (sym trying)
+      (keeps (subst (AttemptOk g s.id c.conn c.key.kenb) trying h.attempt)) in
       mapped_at cells g s ok (with_attempt f) c e
-      (h.0, h.1, h.2, h.3, attempt, started_map g s.id c.air c.key.kenb c.starting f c.attempt h.5)
+      (with_attempt_ok g s.id c h (option_map f c.attempt) attempt (started_map g s.id c.air c.key.kenb c.starting f c.attempt h.started))
 
   -- A KEY CHANGE
 
@@ -354,16 +319,34 @@ module _ (same : Term → Term → Bool) (cells : List Site) (g : Ghost) (made_o
       let low : 1 ≤ air = omega arith in
       let here : made_at (g.made ++ m ∷ []) s.id air ≡ Some m = made_new g.made m (ok.fresh air (omega arith)).0 in
       let ctx : CtxOk k s.id (Some c) = ctx_later g k l s.id (Some c) (ctx_at cells g s ok c e) in
-      let taken : HadTaken k.took s.id c.air c.key.kenb = had_by k s.id c.air c.key.kenb c.starting c.attempt active ctx.5 in
-      let from : FromOk k m (ByChange c.key.kenb) = (refl, is_cell, came.2, (λ j. Star (came.3 j) c.cell.pci c.cell.earfcn), c.air, taken) in
-      let term : TermOk k conn m.key 0 = (came.0, omega arith, ap chain_key came.1 ∙ base_nh (g.root conn) (g.count conn) 0) in
-      let made_new_ok : MadeOk k m = (low, small, ok.id, from, here, term) in
-      let change : ChangeIs k c.key.kenb c.cell c.algs s.id air = (m, here, refl, refl, refl) in
+      let taken : HadTaken k.took s.id c.air c.key.kenb = had_by k s.id c.air c.key.kenb c.starting c.attempt active ctx.started in
+      let from : FromOk k m (ByChange c.key.kenb) = record {
+        number = refl;
+        is_cell = is_cell;
+        root = came.root;
+        key = λ j. Star (came.kenb j) c.cell.pci c.cell.earfcn;
+        air = c.air;
+        had = taken;
+      } in
+      let term : TermOk k conn m.key 0 = (came.below, omega arith, ap chain_key came.chain ∙ base_nh (g.root conn) (g.count conn) 0) in
+      let made_new_ok : MadeOk k m = record { low = low; high = small; station = ok.id; from = from; found = here; term = term } in
+      let change : ChangeIs k c.key.kenb c.cell c.algs s.id air = record { made = m; found = here; from = refl; cell = refl; algs = refl } in
       let all_made : AllOf (MadeOk k) k.made =
       all_append (MadeOk k) g.made m (all_map (MadeOk g) (MadeOk k) (made_later g k l) g.made made_ok) made_new_ok in (
         record {
-          context = (ctx.0, ctx.1, ctx.2, ctx.3, change, started_any k s.id c.air c.key.kenb c.starting _ active taken);
-          preps = ((term, tt, refl, m, here, (refl, refl, refl), λ e. change_no_setup m c.key.kenb refl e), tt);
+          context = with_attempt_ok k s.id c ctx _ change (started_any k s.id c.air c.key.kenb c.starting _ active taken);
+          preps = (
+            record {
+              term = term;
+              pair = tt;
+              keys = refl;
+              made = m;
+              found = here;
+              is = (refl, refl, refl);
+              no_setup = λ e. change_no_setup m c.key.kenb refl e;
+            },
+            tt,
+          );
           fresh = fresh_above m (omega arith);
           cells = ok.cells;
           id = ok.id;

@@ -19,7 +19,7 @@ use Rattle.lte_machine.specs.Bearers.{Srb, Signalling1}
 use Rattle.lte_events.specs.Ranges.{IsStationAct}
 use Rattle.lte_machine.specs.Reply.{Origin, ByAttempt, Made, Tried, Handover, BySource, ByTarget, Reply, only}
 use Rattle.lte_machine.specs.Wire.{Outgoing}
-use Rattle.lte_machine.specs.StationState.{Station, Context, Attempt, OverX2, OverS1, Within, Renewal, Renewing, X2Open, X2Ready, X2Commanded, S1Open, S1Ready, S1Commanded}
+use Rattle.lte_machine.specs.StationState.{Station, Context, Attempt, OverX2, OverS1, Within, Renewal, Renewing, X2Open, X2Ready, S1Open}
 use Rattle.lte_machine.specs.StationKeys.{started_by_x2, started_by_s1, started_within, commanded, commands, commands_change, spent_in, given_up, sends_rrc, with_skipped, act_does}
 use Rattle.lte_machine.specs.StationChoice.{act_row}
 use Rattle.lte_machine.specs.StationRecords.{order_text, change_text}
@@ -35,7 +35,8 @@ use Rattle.lte_properties.proofs.Agreement.Terms.{lands}
 use Rattle.lte_properties.proofs.Agreement.Ghost.{Ghost, tried_at, TermOk, PairOk, PairsOk, MadeOk, TriedOk, GivenOk, IsOrder, AttemptOk, StartedOk, CtxOk, FreshFrom, SeenBy, StationOk, SaysOk, OutOk}
 use Rattle.lte_properties.proofs.Agreement.Later.{term_later, ctx_later, preps_later}
 use Rattle.lte_properties.proofs.Agreement.ToldIsFound.{told, told_more, made_new, made_none, tried_new, tried_none, all_append, all_filter, SiteOk, reads_as, term_number, leads_up, leads_level, star_term}
-use Rattle.lte_properties.proofs.Agreement.Station.{StationGoes, started_map, started_any, with_both, next_drawn, with_ctx, mapped, ctx_at, had}
+use Rattle.lte_properties.proofs.Agreement.Station.{StationGoes}
+use Rattle.lte_properties.proofs.Agreement.StationContext.{started_map, started_any, with_attempt_ok, with_both, next_drawn, with_ctx, mapped, ctx_at, had}
 use Rattle.lte_properties.proofs.Agreement.Seen.{setup_no_attempt, one_origin, apart_new}
 use Rattle.lte_properties.proofs.Agreement.StationSends.{sends_down, order_says, change_says}
 
@@ -118,7 +119,7 @@ module _ (same : Term → Term → Bool) (cells : List Site) (cells_ok : AllOf S
           seen = ok.seen;
         },
         tt,
-        (ctx.0, there, so.1, ok.id),
+        record { term = ctx.term; target = there; given = so.1; station = ok.id },
         so.2,
         refl,
         tt,
@@ -131,15 +132,22 @@ module _ (same : Term → Term → Bool) (cells : List Site) (cells_ok : AllOf S
   by_x2_goes number target cell c at above taken active draws site other =
       let star = (opened r c.key cell).star in
       let k = ctx_at cells g s ok c at in
-      let ok_star = star_ok c.conn c.key.kenb c.key.number cell c.key.pair k.0 k.1 above.0 in
+      let ok_star = star_ok c.conn c.key.kenb c.key.number cell c.key.pair k.term k.pair above.0 in
       let e = attempts number target cell c (BySource star) in
       let x = told g None (Some e) in
       let term : TermOk x c.conn star.key star.number = term_later g x (told_more g None (Some e)) c.conn star.number star.key ok_star.0 in
       let done = started_by_x2 r number target cell (Some c) s in
       begins number target cell c done.0.context (BySource star) done.1.sent at draws site (λ here k. (
-        (k.0, tt, k.2, k.3, ((e, here, refl, refl, refl, refl, refl), k.1), started_any x s.id c.air c.key.kenb c.starting _ active taken),
+        record {
+          term = k.term;
+          pair = tt;
+          keys = k.keys;
+          entry = k.entry;
+          attempt = (record { tried = e; found = here; key = refl; cell = refl; target = refl; conn = refl; kind = refl }, k.pair);
+          started = started_any x s.id c.air c.key.kenb c.starting _ active taken;
+        },
         (term, (ok_star.1, ok_star.2)),
-        (term, (e, here, refl, refl, refl, (refl, other))),
+        (term, record { tried = e; found = here; conn = refl; cell = refl; kind = refl; so = (refl, other) }),
       ))
 
   by_s1_goes : (number target : ℕ) (cell : Place) (c : Context Term ℕ) → s.context ≡ Some c → HadTaken g.took s.id c.air c.key.kenb
@@ -149,16 +157,11 @@ module _ (same : Term → Term → Bool) (cells : List Site) (cells_ok : AllOf S
       let e = attempts number target cell c ByTarget in
       let done : Station Term ℕ × Reply Term ℕ = started_by_s1 number target cell (Some c) s in
       begins number target cell c done.0.context ByTarget done.1.sent at draws site (λ here k. (
-        (
-          k.0,
-          k.1,
-          k.2,
-          k.3,
-          (e, here, refl, refl, refl, refl, refl),
-          started_any (told g None (Some e)) s.id c.air c.key.kenb c.starting _ active taken,
-        ),
+        with_attempt_ok (told g None (Some e)) s.id c k _
+            (record { tried = e; found = here; key = refl; cell = refl; target = refl; conn = refl; kind = refl })
+            (started_any (told g None (Some e)) s.id c.air c.key.kenb c.starting _ active taken),
         tt,
-        (e, here, refl, refl, refl, other),
+        record { tried = e; found = here; conn = refl; cell = refl; kind = refl; so = other },
       ))
 
   -- within the station the preparation is made at once
@@ -184,7 +187,7 @@ module _ (same : Term → Term → Bool) (cells : List Site) (cells_ok : AllOf S
       let l = told_more g (Some m) (Some e) in
       let tried_here : tried_at (g.tried ++ e ∷ []) s.id number ≡ Some e = tried_new g.tried e (ok.fresh number (omega arith)).1 in
       let made_here : made_at (g.made ++ m ∷ []) s.id air ≡ Some m = made_new g.made m (ok.fresh air (omega arith)).0 in
-      let ok_star = star_ok c.conn c.key.kenb c.key.number cell c.key.pair k.0 k.1 above.0 in
+      let ok_star = star_ok c.conn c.key.kenb c.key.number cell c.key.pair k.term k.pair above.0 in
       let term : TermOk x c.conn star.key star.number = term_later g x l c.conn star.number star.key ok_star.0 in
       let ctx : CtxOk x s.id (Some c) = ctx_later g x l s.id (Some c) k in
       let there : station_of cell cells ≡ Some s.id = subst (λ x. station_of cell x ≡ Some s.id) ok.cells site in
@@ -193,17 +196,42 @@ module _ (same : Term → Term → Bool) (cells : List Site) (cells_ok : AllOf S
         made_none g.made m s.id n (ok.fresh n (omega arith)).0 (omega arith),
         tried_none g.tried e s.id n (ok.fresh n (omega arith)).1 (omega arith),
       ) in
-      let number_is : chain_number c.key.kenb ≡ c.key.number = term_number g c.conn c.key.kenb c.key.number k.0 in (
+      let number_is : chain_number c.key.kenb ≡ c.key.number = term_number g c.conn c.key.kenb c.key.number k.term in (
         record {
-          context = (
-            ctx.0,
-            tt,
-            ctx.2,
-            ctx.3,
-            ((m, origin, e, made_here, refl, tried_here, refl, refl, refl, refl, refl), ctx.1, (e, tried_here, refl, refl)),
-            started_any x s.id c.air c.key.kenb c.starting _ active taken,
-          );
-          preps = all_append _ _ _ (preps_later g x l s.id s.preps ok.preps) (term, tt, refl, m, made_here, (refl, refl, refl), λ e. setup_no_attempt m e origin refl);
+          context = record {
+            term = ctx.term;
+            pair = tt;
+            keys = ctx.keys;
+            entry = ctx.entry;
+            attempt = (
+              record {
+                made = m;
+                origin = origin;
+                tried = e;
+                made_is = made_here;
+                from = refl;
+                tried_is = tried_here;
+                key = refl;
+                cell = refl;
+                ncc = refl;
+                algs = refl;
+                source = refl;
+              },
+              ctx.pair,
+              record { tried = e; found = tried_here; key = refl; conn = refl },
+            );
+            started = started_any x s.id c.air c.key.kenb c.starting _ active taken;
+          };
+          preps = all_append _ _ _ (preps_later g x l s.id s.preps ok.preps)
+              (record {
+                term = term;
+                pair = tt;
+                keys = refl;
+                made = m;
+                found = made_here;
+                is = (refl, refl, refl);
+                no_setup = λ e. setup_no_attempt m e origin refl;
+              });
           fresh = fresh;
           cells = ok.cells;
           id = ok.id;
@@ -212,10 +240,26 @@ module _ (same : Term → Term → Bool) (cells : List Site) (cells_ok : AllOf S
           seen = all_append (SeenBy s.id s.seen) g.made m ok.seen (λ at o e other. absurd (other (sym (ap (λ p. p.source) (one_origin m.from origin o refl e)))));
         },
         (
-          (omega arith, omega arith, ok.id, (e, tried_here, number_is, refl, (ok_star.1, ok_star.2), refl, refl, refl), made_here, ok_star.0),
+          record {
+            low = omega arith;
+            high = omega arith;
+            station = ok.id;
+            from = record {
+              tried = e;
+              found = tried_here;
+              number = number_is;
+              target = refl;
+              leads = (ok_star.1, ok_star.2);
+              given = refl;
+              conn = refl;
+              cell = refl;
+            };
+            found = made_here;
+            term = ok_star.0;
+          },
           apart_new g m origin refl (ok.fresh number (omega arith)).1 g.made made_ok,
         ),
-        (ctx.0, there, (term, (ok_star.1, ok_star.2)), ok.id),
+        record { term = ctx.term; target = there; given = (term, (ok_star.1, ok_star.2)); station = ok.id },
         tt,
         refl,
         refl,
@@ -229,13 +273,14 @@ module _ (same : Term → Term → Bool) (cells : List Site) (cells_ok : AllOf S
   commands_goes order count c attempt at trying orders =
       let k = ctx_at cells g s ok c at in
       let is_order : IsOrder g s.id c.key.kenb order =
-      orders_ok same g s.id c.conn c.key.kenb attempt order orders (subst (AttemptOk g s.id c.conn c.key.kenb) trying k.4) in
+      orders_ok same g s.id c.conn c.key.kenb attempt order orders (subst (AttemptOk g s.id c.conn c.key.kenb) trying k.attempt) in
       let sent =
-      commanded_so (AttemptOk g s.id c.conn c.key.kenb) order (λ a h. (is_order, h.2)) (λ a h. (is_order, h.1)) (λ a h. (is_order, h.2)) c.attempt k.4 in
+      commanded_so (AttemptOk g s.id c.conn c.key.kenb) order (λ a h. (is_order, h.2)) (λ a h. (is_order, h.1)) (λ a h. (is_order, h.2))
+      c.attempt k.attempt in
       let says = order_says cells cells_ok g made_ok tried_ok s.id c.key.kenb order is_order in
-      let taken = had_with g s.id c.air c.key.kenb c.starting c.attempt attempt trying k.5 in (
+      let taken = had_with g s.id c.air c.key.kenb c.starting c.attempt attempt trying k.started in (
         with_ctx cells g s ok (commands order count (Some c) s).0.context
-            (k.0, k.1, k.2, k.3, sent, started_map g s.id c.air c.key.kenb c.starting (commanded order) c.attempt k.5),
+            (with_attempt_ok g s.id c k _ sent (started_map g s.id c.air c.key.kenb c.starting (commanded order) c.attempt k.started)),
         tt,
         tt,
         sends_down g s.id c.air c k refl Signalling1 count (order_text order) says taken,
@@ -248,8 +293,8 @@ module _ (same : Term → Term → Bool) (cells : List Site) (cells_ok : AllOf S
       → Goes (commands_change a count (Some c) s)
   commands_change_goes a count c at trying =
       let k = ctx_at cells g s ok c at in
-      let says = change_says g made_ok c.key.kenb s.id a (subst (AttemptOk g s.id c.conn c.key.kenb) trying k.4) in
-      let taken = had_with g s.id c.air c.key.kenb c.starting c.attempt (Renewing a) trying k.5 in
+      let says = change_says g made_ok c.key.kenb s.id a (subst (AttemptOk g s.id c.conn c.key.kenb) trying k.attempt) in
+      let taken = had_with g s.id c.air c.key.kenb c.starting c.attempt (Renewing a) trying k.started in
       (with_ctx cells g s ok (Some c) k, tt, tt, sends_down g s.id c.air c k refl Signalling1 count (change_text s.id a) says taken, refl, tt, tt)
 
   -- GIVING UP
@@ -268,12 +313,18 @@ module _ (same : Term → Term → Bool) (cells : List Site) (cells_ok : AllOf S
 
   restored_ctx : (id : ℕ) (c : Context Term ℕ) (spent : Option (NumberedKey Term ℕ)) → CtxOk g id (Some c) → PairsOk g c.conn spent
       → CtxOk g id (Some (record c { key = restored_if c.key spent; attempt = None }))
-  restored_ctx id c None h k = (h.0, h.1, h.2, h.3, tt, started_none g id c.air c.key.kenb c.starting c.attempt h.5)
-  restored_ctx id c (Some back) h k =
-      (h.0, restored_pair c.conn c.key.pair back h.1 k, h.2, h.3, tt, started_none g id c.air c.key.kenb c.starting c.attempt h.5)
+  restored_ctx id c None h k = with_attempt_ok g id c h None tt (started_none g id c.air c.key.kenb c.starting c.attempt h.started)
+  restored_ctx id c (Some back) h k = record {
+    term = h.term;
+    pair = restored_pair c.conn c.key.pair back h.pair k;
+    keys = h.keys;
+    entry = h.entry;
+    attempt = tt;
+    started = started_none g id c.air c.key.kenb c.starting c.attempt h.started;
+  }
 
   given_up_ok : (id : ℕ) (c : Context Term ℕ) → CtxOk g id (Some c) → CtxOk g id (Some (given_up c))
-  given_up_ok id c h = restored_ctx id c (spent_in c.attempt) h (spent_ok id c.conn c.key.kenb c.attempt h.4)
+  given_up_ok id c h = restored_ctx id c (spent_in c.attempt) h (spent_ok id c.conn c.key.kenb c.attempt h.attempt)
 
   gives_up : StationOk cells g (record s { context = option_map given_up s.context })
   gives_up = mapped cells g s ok given_up (given_up_ok s.id)

@@ -9,7 +9,7 @@ use Rattle.key_model.specs.Reading.{Reading, term_reading_by}
 use Rattle.ho_prep.specs.declared.origins.By.{By}
 use Rattle.ho_prep.specs.Prep.{Prep, is_at, at_air}
 use Rattle.lte_machine.specs.Bearers.{Signalling1, Which}
-use Rattle.lte_machine.specs.Wire.{KeyUse, Ciphering, Outgoing, SealedNas, PlainNas, SealedRrc, UserPacket, Between, srb_use}
+use Rattle.lte_machine.specs.Wire.{KeyUse, Ciphering, Outgoing, SealedNas, SealedRrc, srb_use}
 use Rattle.lte_machine.specs.Opening.{Outcome, Opened}
 use Rattle.lte_machine.specs.Reply.{Origin, Made, Reply}
 use Rattle.lte_machine.specs.StationState.{Station}
@@ -23,10 +23,10 @@ use Rattle.lte_properties.specs.Agreement.{HadTaken}
 use Rattle.lte_properties.proofs.Agreement.Openings.{WasSealed, IsHonest}
 use Rattle.lte_properties.proofs.Agreement.Ghost.{Ghost, FromIs, HereIs, CtxOk, PrepOk, StationOk, UpOk}
 use Rattle.lte_properties.proofs.Agreement.Later.{same_found}
-use Rattle.lte_properties.proofs.Agreement.Phone.{all_found}
 use Rattle.lte_properties.proofs.Agreement.PhoneWalk.{one_key}
-use Rattle.lte_properties.proofs.Agreement.Station.{StationGoes, with_both, next_drawn, mapped, mapped_at, ctx_at}
-use Rattle.lte_properties.proofs.Agreement.ToldIsFound.{found_holds, if_tried}
+use Rattle.lte_properties.proofs.Agreement.Station.{StationGoes}
+use Rattle.lte_properties.proofs.Agreement.StationContext.{with_both, next_drawn, mapped, mapped_at, ctx_at}
+use Rattle.lte_properties.proofs.Agreement.ToldIsFound.{all_found, found_holds, if_tried}
 
 -- what came to a station's air address: nothing that was sent, or what the phone sent there
 abbrev pub CameUp : Ghost → ℕ → ℕ → Option (Outgoing Term ℕ) → Type 0
@@ -44,8 +44,8 @@ up_taken g station air t u key e text (Some (SealedNas dir header i f sent)) h s
 up_taken g station air t u key e text (Some (SealedRrc Down st a srb i f sent)) h sealed = absurd h
 up_taken g station air t u key e text (Some (SealedRrc Up st a srb i f sent)) h sealed =
     let up = h.2 in
-    let one : up.0 ≡ t = one_key up.0 t _ _ _ _ (sym up.1 ∙ sym (ap (λ v. v.key) sealed.0) ∙ key) in
-    (subst (HereIs g station air) one up.2, subst (HadTaken g.took station air) one up.3)
+    let one : up.kenb ≡ t = one_key up.kenb t _ _ _ _ (sym up.key ∙ sym (ap (λ v. v.key) sealed.0) ∙ key) in
+    (subst (HereIs g station air) one up.here, subst (HadTaken g.took station air) one up.had)
 up_taken g station air t u key e text other h sealed = absurd sealed
 
 module _ (same : Term → Term → Bool) (cells : List Site) (g : Ghost) (s : Station Term ℕ) (ok : StationOk cells g s) where
@@ -67,11 +67,12 @@ module _ (same : Term → Term → Bool) (cells : List Site) (g : Ghost) (s : St
     secures count f =
         let c = f.0.context in
         let h = ctx_at cells g s ok c f.0.serving in
-        let key : c.keys.rrc_int ≡ Alg c.key.kenb 4 2 = ap (λ x. x.rrc_int) h.2 in
+        let key : c.keys.rrc_int ≡ Alg c.key.kenb 4 2 = ap (λ x. x.rrc_int) h.keys in
         let sealed = subst (λ o. IsHonest (starting_expects {C = ℕ} count o) came (Opened f.1.0.text)) f.0.serving (opened_so (OnStarting count) f.1.0) in
         let taken = up_taken g s.id air c.key.kenb (srb_use Up c.keys.rrc_int Signalling1 count) key _ f.1.0.text came came_ok sealed in
         let had = subst (λ a. HadTaken g.took s.id a c.key.kenb) (sym f.0.there) taken.1 in
-        mapped_at cells g s ok (with_security count) c f.0.serving (h.0, h.1, h.2, h.3, h.4, had)
+        mapped_at cells g s ok (with_security count) c f.0.serving
+        (record { term = h.term; pair = h.pair; keys = h.keys; entry = h.entry; attempt = h.attempt; started = had })
 
     -- a completed preparation is a context of what was made, and the phone had taken its key
     arrives : (at count : ℕ) (by : By) (outstanding : Option ℕ) (origin : Option Origin) → Completes r s air on pdu outcome at count by
@@ -79,14 +80,21 @@ module _ (same : Term → Term → Bool) (cells : List Site) (g : Ghost) (s : St
     arrives at count by outstanding origin f p e =
         let good : PrepOk g s.id p = all_found (PrepOk g s.id) (is_at at) s.preps p ok.preps e in
         let there : p.air ≡ air = eqb-true p.air at (found_holds (is_at at) s.preps p e) ∙ f.0.at_is in
-        let key : p.keys.rrc_int ≡ Alg p.key.kenb 4 2 = ap (λ x. x.rrc_int) good.2 in
+        let key : p.keys.rrc_int ≡ Alg p.key.kenb 4 2 = ap (λ x. x.rrc_int) good.keys in
         let sealed = subst (λ o. IsHonest (prepared_expects {C = ℕ} count o) came (Opened f.1.0.text)) e (opened_so (OnPrepared at by count) f.1.0) in
         let taken = up_taken g s.id air p.key.kenb (srb_use Up p.keys.rrc_int Signalling1 count) key _ f.1.0.text came came_ok sealed in
         let here : HereIs g s.id p.air p.key.kenb = subst (λ a. HereIs g s.id a p.key.kenb) (sym there) taken.0 in
         let had : HadTaken g.took s.id p.air p.key.kenb = subst (λ a. HadTaken g.took s.id a p.key.kenb) (sym there) taken.1 in
-        let m : Made Term ℕ = good.3 in
-        let from : FromIs g m p.key.kenb m.from = subst (λ x. FromIs g x p.key.kenb x.from) (same_found _ here.0 m here.1 good.4) here.2 in
-        (good.0, good.1, good.2, (m, good.4, good.5, from, if_tried g.took s.id p.air p.key.kenb m.from had), tt, had)
+        let m : Made Term ℕ = good.made in
+        let from : FromIs g m p.key.kenb m.from = subst (λ x. FromIs g x p.key.kenb x.from) (same_found _ here.0 m here.1 good.found) here.2 in
+        record {
+          term = good.term;
+          pair = good.pair;
+          keys = good.keys;
+          entry = record { made = m; found = good.found; is = good.is; from = from; had = if_tried g.took s.id p.air p.key.kenb m.from had };
+          attempt = tt;
+          started = had;
+        }
 
     air_cases : AirCases r s (AirHas r s air on pdu outcome) Goes
     air_cases = record {

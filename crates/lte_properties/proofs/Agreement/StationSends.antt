@@ -14,8 +14,7 @@ use Rattle.lte_machine.specs.Wire.{srb_use, srb_ciphering}
 use Rattle.lte_properties.specs.ChainBelow.{AllOf}
 use Rattle.lte_properties.specs.Agreement.{HadTaken}
 use Rattle.lte_properties.proofs.Agreement.Ghost.{Ghost, keys_of, FromOk, MadeOk, TriedOk, IsOrder, ChangeIs, CtxOk, SaysOk, TextOk, OutOk}
-use Rattle.lte_properties.proofs.Agreement.Phone.{all_found}
-use Rattle.lte_properties.proofs.Agreement.ToldIsFound.{made_there, SiteOk, cell_found, reads_as}
+use Rattle.lte_properties.proofs.Agreement.ToldIsFound.{all_found, made_there, SiteOk, cell_found, reads_as}
 
 module _ (g : Ghost) where
   -- what a station sends on an SRB is under the key made for the air address
@@ -27,28 +26,30 @@ module _ (g : Ghost) where
       → HadTaken g.took id c.air c.key.kenb
       → OutOk g (Some (signalling_sent id c.air c.keys srb count text))
   sends_down id air c h at_air srb count text says had =
-      let m = h.3.0 in
-      let keys : c.keys ≡ keys_of m.key m.algs = h.2 ∙ (λ j. keys_of (h.3.2.0 j) (h.3.2.2 j)) in (
-        m,
-        h.3.1,
-        (λ j. srb_use Down (keys j).rrc_int srb count),
-        ((λ j. srb_ciphering Down (keys j) srb count), subst (HadTaken g.took id c.air) h.3.2.0 had),
-        subst (λ t. TextOk g id t text) h.3.2.0 says,
-      )
+      let m = h.entry.made in
+      let is = h.entry.is in
+      let keys : c.keys ≡ keys_of m.key m.algs = h.keys ∙ (λ j. keys_of (is.0 j) (is.2 j)) in
+      record {
+        made = m;
+        found = h.entry.found;
+        integrity = λ j. srb_use Down (keys j).rrc_int srb count;
+        ciphered = ((λ j. srb_ciphering Down (keys j) srb count), subst (HadTaken g.took id c.air) is.0 had);
+        says = subst (λ t. TextOk g id t text) is.0 says;
+      }
 
   -- the text of a key change reads as it
   pub change_says : (made_ok : AllOf (MadeOk g) g.made) (t : Term) (id : ℕ) (a : Renewal)
       → ChangeIs g t a.cell a.algs id a.air
       → TextOk g id t (change_text id a)
   change_says made_ok t id a h =
-      let m = h.0 in
-      let ok = all_found (MadeOk g) _ g.made m made_ok h.1 in
-      let there = made_there g.made id a.air m h.1 in
-      let of_change : FromOk g m (ByChange t) = subst (FromOk g m) h.2 ok.3 in
-      let is_cell = subst IsCell h.3 of_change.1 in
-      let low_air = ok.0 in
-      let high_air = ok.1 in
-      let low_id = ok.2 in
+      let m = h.made in
+      let ok = all_found (MadeOk g) _ g.made m made_ok h.found in
+      let there = made_there g.made id a.air m h.found in
+      let of_change : FromOk g m (ByChange t) = subst (FromOk g m) h.from ok.from in
+      let is_cell = subst IsCell h.cell of_change.is_cell in
+      let low_air = ok.low in
+      let high_air = ok.high in
+      let low_id = ok.station in
       let is_station = there.0 in
       let is_air = there.1 in
       reads_as (SaysOk g id t) (KeyChange a.cell a.algs id a.air) (is_cell, omega arith, (omega arith, omega arith)) h
@@ -57,16 +58,16 @@ module _ (cells : List Site) (cells_ok : AllOf SiteOk cells) (g : Ghost) (made_o
   -- the text of an order reads as it
   pub order_says : (id : ℕ) (t : Term) (order : Order) → IsOrder g id t order → TextOk g id t (order_text order)
   order_says id t order h =
-      let m = h.0 in
-      let e = h.2 in
-      let ok = all_found (MadeOk g) _ g.made m made_ok h.3 in
-      let there = made_there g.made order.station order.air m h.3 in
-      let cell = cell_found cells cells_ok e.cell e.target (all_found (TriedOk cells g) _ g.tried e tried_ok h.5).1 in
-      let is_cell = subst IsCell h.7 cell.1 in
-      let ncc : m.number % 8 ≡ order.ncc = h.8 in
-      let low_air = ok.0 in
-      let high_air = ok.1 in
-      let low_id = ok.2 in
+      let m = h.made in
+      let e = h.tried in
+      let ok = all_found (MadeOk g) _ g.made m made_ok h.made_is in
+      let there = made_there g.made order.station order.air m h.made_is in
+      let cell = cell_found cells cells_ok e.cell e.target (all_found (TriedOk cells g) _ g.tried e tried_ok h.tried_is).target in
+      let is_cell = subst IsCell h.cell cell.1 in
+      let ncc : m.number % 8 ≡ order.ncc = h.ncc in
+      let low_air = ok.low in
+      let high_air = ok.high in
+      let low_id = ok.station in
       let is_station = there.0 in
       let is_air = there.1 in
       reads_as (SaysOk g id t) (Reconfiguration order.cell order.ncc order.algs order.station order.air)

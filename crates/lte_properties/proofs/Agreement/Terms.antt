@@ -2,7 +2,7 @@
 use Rattle.std.proofs.Common.{◌≡◌, ℕ, zero, suc, ◌+◌, ◌-◌, ◌<◌, ◌≤◌, ◌≢◌, nat_lt, Bool, true, false, refl, sym, ◌∙◌, ap, arith, add-zero, add-suc}
 use Rattle.std.proofs.lemmas.Bool.Decides.{nat_tests}
 use Rattle.annex_a_keys.specs.Cell.{Place}
-use Rattle.key_model.specs.Term.{Term, Root, Kenb, Nh, Star, Alg}
+use Rattle.key_model.specs.Term.{Term, Nh, Star}
 use Rattle.key_model.specs.Chain.{nh, ncc_of}
 use Rattle.key_model.specs.Number.{chain_number}
 use Rattle.key_model.specs.Least.{least}
@@ -95,8 +95,12 @@ nh_after-climb same r t (suc steps) = ap (Nh r) (nh_after-climb same r t steps)
 
 -- a phone's chain is that of its KeNB
 abbrev pub ChainOf : Term → ChainState Term ℕ → Type 0
-ChainOf t chain =
-    (chain.root ≡ root_of t) × (chain.sync ≡ chain_key t) × (chain.number ≡ chain_number t) × IsKenb t
+ChainOf t chain = record {
+  root : chain.root ≡ root_of t;
+  sync : chain.sync ≡ chain_key t;
+  number : chain.number ≡ chain_number t;
+  kenb : IsKenb t;
+}
 
 -- what such a phone reaches is where its KeNB lands
 pub reached_key : (same : Term → Term → _) (t : Term) (chain : ChainState Term ℕ) (steps : ℕ) (cell : Place) → ChainOf t chain
@@ -104,12 +108,12 @@ pub reached_key : (same : Term → Term → _) (t : Term) (chain : ChainState Te
 reached_key same t chain zero cell h = refl
 reached_key same t chain (suc steps) cell h =
     ap (λ u. Star u cell.pci cell.earfcn)
-    (nh_after-climb same chain.root chain.sync (suc steps) ∙ (λ j. climb (h.0 j) (h.1 j) (suc steps)))
+    (nh_after-climb same chain.root chain.sync (suc steps) ∙ (λ j. climb (h.root j) (h.sync j) (suc steps)))
 
 pub reached_number : (same : Term → Term → _) (t : Term) (chain : ChainState Term ℕ) (steps : ℕ) (cell : Place) → ChainOf t chain
     → (reached_after (term_reading_by same) chain t steps cell).star.number ≡ chain_number t + steps
-reached_number same t chain zero cell h = h.2 ∙ sym (add-zero (chain_number t))
-reached_number same t chain (suc steps) cell h = ap (λ n. n + suc steps) h.2
+reached_number same t chain zero cell h = h.number ∙ sym (add-zero (chain_number t))
+reached_number same t chain (suc steps) cell h = ap (λ n. n + suc steps) h.number
 
 number_climbed : (same : Term → Term → _) (n steps : ℕ) → number_after (term_reading_by same) n steps ≡ n + steps
 number_climbed same n zero = sym (add-zero n)
@@ -117,12 +121,12 @@ number_climbed same n (suc steps) = refl
 
 pub reached_chain : (same : Term → Term → _) (t : Term) (chain : ChainState Term ℕ) (steps : ℕ) (cell : Place) → ChainOf t chain
     → ChainOf (lands t steps cell) (reached_after (term_reading_by same) chain t steps cell).chain
-reached_chain same t chain steps cell h = (
-  h.0 ∙ sym (root_lands t steps cell),
-  nh_after-climb same chain.root chain.sync steps ∙ (λ j. climb (h.0 j) (h.1 j) steps) ∙ sym (base_lands t steps cell),
-  number_climbed same chain.number steps ∙ ap (λ n. n + steps) h.2 ∙ sym (number_lands t steps cell),
-  kenb_lands t steps cell h.3,
-)
+reached_chain same t chain steps cell h = record {
+  root = h.root ∙ sym (root_lands t steps cell);
+  sync = nh_after-climb same chain.root chain.sync steps ∙ (λ j. climb (h.root j) (h.sync j) steps) ∙ sym (base_lands t steps cell);
+  number = number_climbed same chain.number steps ∙ ap (λ n. n + steps) h.number ∙ sym (number_lands t steps cell);
+  kenb = kenb_lands t steps cell h.kenb;
+}
 
 -- the steps of a phone with number p for the NCC of number i lead to i exactly where i is fewer than eight ahead
 pub steps_near : (p i : ℕ) → p ≤ i → i - p < 8 → steps_to (ncc_of p) (ncc_of i) ≡ i - p

@@ -125,6 +125,15 @@ found_holds p (z ∷ zs) x e = by_step (find_step (p z) z x (find p zs) e) (foun
     by_step (inl h) f = ap p (sym h.1) ∙ h.0
     by_step (inr h) f = f h.1
 
+-- an item found in a list is as all of them are
+found_step : {A : Type 0} (P : A → Type 0) (b : Bool) (z x : A) (o : Option A) → P z → (o ≡ Some x → P x) → cond b (Some z) o ≡ Some x → P x
+found_step P true z x o h f e = subst P (same_found (Some z) z x refl e) h
+found_step P false z x o h f e = f e
+
+pub all_found : {A : Type 0} (P : A → Type 0) (p : A → Bool) (xs : List A) (x : A) → AllOf P xs → find p xs ≡ Some x → P x
+all_found P p [] x h e = absurd cc
+all_found P p (z ∷ zs) x h e = found_step P (p z) z x (find p zs) h.0 (all_found P p zs x h.1) e
+
 pub made_there : (made : List (Made Term ℕ)) (id air : ℕ) (m : Made Term ℕ) → made_at made id air ≡ Some m → (m.station ≡ id) × (m.air ≡ air)
 made_there made id air m e = let t = found_holds (is_made_at id air) made m e in grind (arith, nat_tests)
 

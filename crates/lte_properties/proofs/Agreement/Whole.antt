@@ -28,7 +28,7 @@ use Rattle.lte_properties.proofs.Agreement.World.{Conns, ghost, WorldOk, OctetsT
 use Rattle.lte_properties.proofs.Agreement.Events.{fits_after, RunGoes, happens_goes, run_goes}
 use Rattle.lte_properties.proofs.Agreement.Holds.{cells_of, no_conns, first_ok, first_fits, agrees, none_before, of_each}
 use Rattle.lte_properties.proofs.Agreement.Follows.{InTurn, happens_in_turn, in_turn}
-use Rattle.lte_properties.proofs.Agreement.Station.{CellFits}
+use Rattle.lte_properties.proofs.Agreement.StationContext.{CellFits}
 use Rattle.lte_properties.proofs.ChainNumbers.Lists.{all_map}
 use Rattle.lte_machine.proofs.RangeHolds.{ContextRanged, StationRanged, Ranged}
 use Rattle.lte_machine.proofs.RangeWorld.{ranged_keeps, first_ranged}

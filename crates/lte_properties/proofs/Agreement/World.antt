@@ -13,7 +13,7 @@ use Rattle.key_model.specs.HandoverTable.{NumberedKey}
 use Rattle.key_model.specs.Reading.{term_reading_by}
 use Rattle.s1x2_rec.specs.Fields.{Fields}
 use Rattle.lte_machine.specs.Bearers.{Srb, which}
-use Rattle.lte_machine.specs.Wire.{KeyUse, Ciphering, Outgoing, SealedNas, PlainNas, SealedRrc, UserPacket, Between, address_of}
+use Rattle.lte_machine.specs.Wire.{KeyUse, Ciphering, Outgoing, SealedNas, SealedRrc, Between, address_of}
 use Rattle.lte_machine.specs.Opening.{Opening, Outcome}
 use Rattle.lte_machine.specs.Reply.{Made, Tried, Took, Reply}
 use Rattle.lte_machine.specs.PhoneState.{PhoneInput, PhoneAirPdu, Radio, Idle, Connecting, Connected}
@@ -46,7 +46,8 @@ use Rattle.lte_properties.proofs.Agreement.Later.{Later, later_itself, ctx_later
 use Rattle.lte_properties.proofs.Agreement.Phone.{PhoneGoes, NewTook, PhoneNeeds, took_more, phone_goes}
 use Rattle.lte_properties.proofs.Agreement.PhoneWalk.{CameDown, NothingYet, air_walks}
 use Rattle.lte_properties.proofs.Agreement.ToldIsFound.{told_more, fresh_beside, SiteOk}
-use Rattle.lte_properties.proofs.Agreement.Station.{StationGoes, NewMade, NewTried, CellFits, record_goes}
+use Rattle.lte_properties.proofs.Agreement.Station.{StationGoes, NewMade, NewTried, record_goes}
+use Rattle.lte_properties.proofs.Agreement.StationContext.{CellFits}
 use Rattle.lte_properties.proofs.Agreement.StationAct.{act_goes}
 use Rattle.lte_properties.proofs.Agreement.StationOpens.{CameUp, air_goes}
 use Rattle.lte_properties.proofs.Agreement.Core.{StaysOff, as_before, CoreGoes}
@@ -241,7 +242,7 @@ module _ (same : Term → Term → Bool) (root : ℕ → List ℕ → Term) (oct
       phone_turn_goes c w (PhoneAirPdu station air bearer pdu) came h
       (air_walks same (ghost c w) w.phone station air pdu (which bearer) came k
       (not_yet (ghost c w) w.phone.radio settled.turn.0 settled.order.0 settled.order.1
-      (all_map (TookOk (ghost c w)) (Obeys w.made) (λ x t. t.1) w.took h.took))
+      (all_map (TookOk (ghost c w)) (Obeys w.made) (λ x t. t.obeys) w.took h.took))
       h.radio (outcome_of m (phone_attempts m w (PhoneAirPdu station air bearer pdu) came)) honest calm)
 
   -- THE CORE
@@ -249,21 +250,22 @@ module _ (same : Term → Term → Bool) (root : ℕ → List ℕ → Term) (oct
   core_after_goes : (c : Conns) (w : TheWorld) (d : CoreDone Term ℕ) → WorldOk cells c w → CoreGoes cells (ghost c w) d → Goes cells c w (core_after m w d).0
   core_after_goes c w d h k =
       let u = (core_after m w d).0 in
-      let e : Conns = record { root = k.0; count = k.1; top = k.2; next = k.3 } in
-      let l : Later (ghost c w) (ghost e u) = k.4 in (
+      let (root, count, top, next, later, ok, sent, off) = k in
+      let e : Conns = record { root = root; count = count; top = top; next = next } in
+      let l : Later (ghost c w) (ghost e u) = later in (
         e,
         l,
         record {
-          core = k.5;
+          core = ok;
           radio = radio_later (ghost c w) (ghost e u) l w.phone.radio h.radio;
           stations = stations_stay cells c e w u l w.stations refl refl h.stations;
-          sent = all_one (SentOk (ghost e u)) d.1.sent w.sent (sent_stays cells c e w u l w.sent h.sent) (out_ok d.1.sent (ghost e u) k.6);
+          sent = all_one (SentOk (ghost e u)) d.1.sent w.sent (sent_stays cells c e w u l w.sent h.sent) (out_ok d.1.sent (ghost e u) sent);
           made = made_stays cells c e w u l w.made h.made;
           tried = tried_stays cells c e w u l w.tried h.tried;
           took = took_stays cells c e w u l w.took h.took;
           once = h.once;
         },
-        k.7,
+        off,
       )
 
   pub core_turn_goes : (c : Conns) (w : TheWorld) (input : CoreInput Term ℕ) (came : Option (Outgoing Term ℕ)) → WorldOk cells c w

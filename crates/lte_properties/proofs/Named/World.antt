@@ -25,8 +25,7 @@ use Rattle.lte_properties.specs.Reach.{IsAmong}
 use Rattle.lte_properties.specs.ChainHolds.{machine_by}
 use Rattle.lte_properties.proofs.ChainNumbers.Lists.{OfSome, all_one, all_put}
 use Rattle.lte_properties.proofs.Agreement.Ghost.{SentOk}
-use Rattle.lte_properties.proofs.Agreement.Phone.{all_found}
-use Rattle.lte_properties.proofs.Agreement.ToldIsFound.{made_there}
+use Rattle.lte_properties.proofs.Agreement.ToldIsFound.{all_found, made_there}
 use Rattle.lte_properties.proofs.Agreement.World.{Conns, ghost}
 use Rattle.lte_properties.proofs.Opening.Air.{AirOk}
 use Rattle.lte_properties.proofs.Named.Facts.{StationNamed, CoreNamed, RecordNamed, SentNamed, ReadNamed, InputNamed, CoreInputNamed}
@@ -144,9 +143,9 @@ module _ (P : ℕ → Type 0) (cells : List Site) (sites : (cell : Place) (id : 
     address_named (SealedNas Up header u e text) r a b = tt
     address_named (SealedNas Down header u e text) r a b = tt
     address_named (PlainNas octets) r a b = tt
-    address_named (SealedRrc Up station air srb u e text) r a b = made_named station air a.4.0 a.4.1
+    address_named (SealedRrc Up station air srb u e text) r a b = made_named station air a.sealed.made a.sealed.found
     address_named (SealedRrc Down station air srb u e text) r a b = tt
-    address_named (UserPacket Up station air drb e text) r a b = made_named station air b.4.0 b.4.2
+    address_named (UserPacket Up station air drb e text) r a b = made_named station air b.are.made b.are.found
     address_named (UserPacket Down station air drb e text) r a b = tt
     address_named (Between to fields key) r a b = r.0
 

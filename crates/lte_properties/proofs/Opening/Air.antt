@@ -15,7 +15,7 @@ use Rattle.rrc_rec.specs.Spelling.{spelling_of}
 use Rattle.lte_machine.proofs.PhoneCases as at_phone
 use Rattle.lte_machine.proofs.StationCases.{Any, record_case, air_case, act_case}
 use Rattle.lte_machine.specs.Bearers.{Srb, Drb, srb_counts, drb_counts}
-use Rattle.lte_machine.specs.Wire.{KeyUse, Ciphering, Outgoing, SealedNas, PlainNas, SealedRrc, UserPacket, Between}
+use Rattle.lte_machine.specs.Wire.{KeyUse, Ciphering, Outgoing, SealedNas, SealedRrc, UserPacket}
 use Rattle.lte_machine.specs.Reply.{Origin, Made, Reply}
 use Rattle.lte_machine.specs.PhoneState.{Radio, Idle, Connecting, Connected, Phone}
 use Rattle.lte_machine.specs.PhoneRows as phone
@@ -37,28 +37,46 @@ use Rattle.lte_properties.proofs.Opening.Delivered.{RrcUnder, PacketUnder}
 
 -- these are the AS keys of what the phone takes at a station and air address, for the algorithms of what was made there
 abbrev pub KeysAre : Ghost → ℕ → ℕ → AsKeys Term → Type 0
-KeysAre g id air keys =
-    (m : Made Term ℕ) × (t : Term) × (made_at g.made id air ≡ Some m) × FromIs g m t m.from × (keys ≡ keys_of t m.algs)
+KeysAre g id air keys = record {
+  made : Made Term ℕ;
+  kenb : Term;
+  found : made_at g.made id air ≡ Some made;
+  from : FromIs g made kenb made.from;
+  keys : keys ≡ keys_of kenb made.algs;
+}
 
 -- at one address they are the same
 pub one_keys : (g : Ghost) (id air : ℕ) (a b : AsKeys Term) → KeysAre g id air a → KeysAre g id air b → a ≡ b
 one_keys g id air a b h k =
-    let made : h.0 ≡ k.0 = same_found _ h.0 k.0 h.2 k.2 in
-    let term : h.1 ≡ k.1 = one_here g id air h.1 k.1 (h.0, h.2, h.3) (k.0, k.2, k.3) in
-    h.4 ∙ (λ j. keys_of (term j) (made j).algs) ∙ sym k.4
+    let made : h.made ≡ k.made = same_found _ h.made k.made h.found k.found in
+    let kenb : h.kenb ≡ k.kenb = one_here g id air h.kenb k.kenb (h.made, h.found, h.from) (k.made, k.found, k.from) in
+    h.keys ∙ (λ j. keys_of (kenb j) (made j).algs) ∙ sym k.keys
 
 pub keys_later : (g h : Ghost) → Later g h → (id air : ℕ) (keys : AsKeys Term) → KeysAre g id air keys → KeysAre h id air keys
-keys_later g h l id air keys k = (k.0, k.1, l.made id air k.0 k.2, from_later g h l k.0 k.1 k.0.from k.3, k.4)
+keys_later g h l id air keys k = search (l.made, from_later)
 
 -- an RRC text of data, and a user packet
 abbrev pub RrcSealed : Ghost → Dir → ℕ → ℕ → Srb → KeyUse Term → Option (Ciphering Term) → List ℕ → Type 0
 RrcSealed g dir id air srb u e text =
     (sent : List ℕ) → text ≡ spelling_of (RrcData sent)
-    → (length sent ≤ 200) × (u.count < count_limit) × (u.dir ≡ dir) × (keys : AsKeys Term) × KeysAre g id air keys × RrcUnder keys srb u e
+    → record {
+      short : length sent ≤ 200;
+      count : u.count < count_limit;
+      dir : u.dir ≡ dir;
+      keys : AsKeys Term;
+      are : KeysAre g id air keys;
+      under : RrcUnder keys srb u e;
+    }
 
 abbrev pub PacketSealed : Ghost → Dir → ℕ → ℕ → Drb → Ciphering Term → List ℕ → Type 0
-PacketSealed g dir id air drb e text =
-    (length text ≤ 1500) × (e.under.count < count_limit) × (e.under.dir ≡ dir) × (keys : AsKeys Term) × KeysAre g id air keys × PacketUnder keys drb e
+PacketSealed g dir id air drb e text = record {
+  short : length text ≤ 1500;
+  count : e.under.count < count_limit;
+  dir : e.under.dir ≡ dir;
+  keys : AsKeys Term;
+  are : KeysAre g id air keys;
+  under : PacketUnder keys drb e;
+}
 
 abbrev pub AirOk : Ghost → Outgoing Term ℕ → Type 0
 AirOk g (SealedRrc dir id air srb u e text) = RrcSealed g dir id air srb u e text
@@ -66,9 +84,8 @@ AirOk g (UserPacket dir id air drb e text) = PacketSealed g dir id air drb e tex
 AirOk g other = ⊤
 
 pub air_later : (g h : Ghost) → Later g h → (x : Outgoing Term ℕ) → AirOk g x → AirOk h x
-air_later g h l (SealedRrc dir id air srb u e text) k = λ sent is.
-    let f = k sent is in (f.0, f.1, f.2, f.3, keys_later g h l id air f.3 f.4, f.5)
-air_later g h l (UserPacket dir id air drb e text) k = (k.0, k.1, k.2, k.3, keys_later g h l id air k.3 k.4, k.5)
+air_later g h l (SealedRrc dir id air srb u e text) k = λ sent is. let f = k sent is in search (keys_later)
+air_later g h l (UserPacket dir id air drb e text) k = search (keys_later)
 air_later g h l other k = tt
 
 -- the keys of a connected phone, and of a context
@@ -84,11 +101,18 @@ ContextKeys g id (Some c) = KeysAre g id c.air c.keys
 pub radio_keys : (g : Ghost) (radio : Radio Term ℕ) → RadioOk g radio → RadioKeys g radio
 radio_keys g Idle h = tt
 radio_keys g (Connecting w) h = tt
-radio_keys g (Connected l) h = (h.2, l.kenb, h.3, h.5, h.1 ∙ ap (keys_of l.kenb) h.4)
+radio_keys g (Connected l) h = record {
+  made = h.made;
+  kenb = l.kenb;
+  found = h.found;
+  from = h.from;
+  keys = h.keys ∙ ap (keys_of l.kenb) h.algs;
+}
 
 pub context_keys : (g : Ghost) (id : ℕ) (o : Option (Context Term ℕ)) → CtxOk g id o → ContextKeys g id o
 context_keys g id None h = tt
-context_keys g id (Some c) h = let e = h.3 in (e.0, c.key.kenb, e.1, e.3, h.2 ∙ ap (keys_of c.key.kenb) e.2.2)
+context_keys g id (Some c) h = let e = h.entry in
+    record { made = e.made; kenb = c.key.kenb; found = e.found; from = e.from; keys = h.keys ∙ ap (keys_of c.key.kenb) e.is.2 }
 
 -- TEXTS
 
@@ -186,9 +210,16 @@ module _ (same : Term → Term → Bool) (g : Ghost) where
           cancelled_s1 = λ conn number cell k. tt;
           cancelled_within = λ number k. tt;
           asked = λ number k c e. tt;
-          packet = λ drb count text k c e. (k.1, k.0, refl, c.keys, subst (ContextKeys g s.id) e keys, refl);
-          text = λ srb count text k c e. λ sent x.
-              (subst (λ t. length t ≤ 200) (data_in text sent x) k.1, k.0, refl, c.keys, subst (ContextKeys g s.id) e keys, (refl, refl));
+          packet = λ drb count text k c e.
+              record { short = k.1; count = k.0; dir = refl; keys = c.keys; are = subst (ContextKeys g s.id) e keys; under = refl };
+          text = λ srb count text k c e. λ sent x. record {
+            short = subst (λ t. length t ≤ 200) (data_in text sent x) k.1;
+            count = k.0;
+            dir = refl;
+            keys = c.keys;
+            are = subst (ContextKeys g s.id) e keys;
+            under = (refl, refl);
+          };
           skipped = λ on n k. tt;
         })
         row needs
@@ -256,10 +287,18 @@ module _ (same : Term → Term → Bool) (g : Ghost) where
     resent = λ l k keys. λ sent e. absurd (no_data ReconfigurationComplete tt sent e);
     idle = λ k keys. tt;
     packet = λ drb text l k keys.
-        let needs = packet_needs (at_phone.with_radio s (Connected l)) k.0 drb text k.1 k.2 in (needs.1, needs.0, refl, l.keys, keys, refl);
+        let needs = packet_needs (at_phone.with_radio s (Connected l)) k.0 drb text k.1 k.2 in
+        record { short = needs.1; count = needs.0; dir = refl; keys = l.keys; are = keys; under = refl };
     rrc = λ srb text l k keys. λ sent e.
         let needs = rrc_needs (at_phone.with_radio s (Connected l)) k.0 srb text k.1 k.2 in
-        (subst (λ t. length t ≤ 200) (data_in text sent e) needs.1, needs.0, refl, l.keys, keys, (refl, refl));
+        record {
+          short = subst (λ t. length t ≤ 200) (data_in text sent e) needs.1;
+          count = needs.0;
+          dir = refl;
+          keys = l.keys;
+          are = keys;
+          under = (refl, refl);
+        };
     nas = λ text c k keys. tt;
     nas_skipped = λ n c k keys. tt;
     bearer_skipped = λ on n l k keys. tt;

@@ -68,22 +68,39 @@ differ kind low e = absurd (omega arith)
 -- of a sealed message that carries data: how it is sealed
 abbrev DataSealed : Choices → ℕ → Dir → ℕ → KeyUse Term → Option (Ciphering Term) → List ℕ → Type 0
 DataSealed g next dir header u e sent =
-    (root : Term) × (algs : Algs) × RootHas g next root algs × (u ≡ nas_use dir (Alg root 2 eia2_identity) u.count)
-    × (header ≡ 2) × (e ≡ Some (ciphering_by algs.eea (nas_use dir (nas_keys root algs).enc u.count))) × (u.count < nas_count_limit) × (length sent ≤ 200)
+    record {
+      root : Term;
+      algs : Algs;
+      has : RootHas g next root algs;
+      integrity : u ≡ nas_use dir (Alg root 2 eia2_identity) u.count;
+      header : header ≡ 2;
+      ciphering : e ≡ Some (ciphering_by algs.eea (nas_use dir (nas_keys root algs).enc u.count));
+      count : u.count < nas_count_limit;
+      short : length sent ≤ 200;
+    }
 
 data_sealed : (g : Choices) (next : ℕ) (dir : Dir) (header : ℕ) (u : KeyUse Term) (e : Option (Ciphering Term))
     (text sent : List ℕ)
     → SealedOk g next dir header u e text
     → text ≡ spelling_of (NasData sent) → DataSealed g next dir header u e sent
 unfolding spelling_of
-data_sealed g next dir header u e text sent k is = by_record k.2 (sym k.5 ∙ is) k.6
+data_sealed g next dir header u e text sent k is = by_record k.says (sym k.spelled ∙ is) k.so
   where
-    by_record : (x : NasRecord) → spelling_of x ≡ spelling_of (NasData sent) → SealedSo dir header u e k.0 k.1 x → DataSealed g next dir header u e sent
+    by_record : (x : NasRecord) → spelling_of x ≡ spelling_of (NasData sent) → SealedSo dir header u e k.root k.algs x → DataSealed g next dir header u e sent
     by_record (SecurityModeCommand ksi algs caps) same so = absurd (differ 1 (omega arith) (ap first same))
     by_record SecurityModeComplete same so = absurd (differ 2 (omega arith) (ap first same))
     by_record (SecurityModeReject cause) same so = absurd (differ 3 (omega arith) (ap first same))
     by_record ServiceRequest same so = absurd (differ 4 (omega arith) (ap first same))
-    by_record (NasData t) same so = (k.0, k.1, k.3, k.4, so.0, so.1, so.2, subst (λ x. length x ≤ 200) (ap (drop 1) same) so.3)
+    by_record (NasData t) same so = record {
+      root = k.root;
+      algs = k.algs;
+      has = k.has;
+      integrity = k.integrity;
+      header = so.type;
+      ciphering = so.ciphering;
+      count = so.count;
+      short = subst (λ x. length x ≤ 200) (ap (drop 1) same) so.short;
+    }
 
 -- the context in use of that KASME has the keys that the message was sealed under
 under_context : (g : Choices) (next : ℕ) (dir : Dir) (header : ℕ) (u : KeyUse Term)
@@ -91,50 +108,51 @@ under_context : (g : Choices) (next : ℕ) (dir : Dir) (header : ℕ) (u : KeyUs
     → DataSealed g next dir header u e sent
     → (c : NasContext Term) → ContextOk g next c → UsesRootOf c u → NasUnder c.keys u e
 under_context g next dir header u e sent k c own uses =
-    let root : k.0 ≡ c.root = root_of k.0 c.root (sym (ap (λ v. v.key) k.3) ∙ uses) in
-    let algs : k.1 ≡ c.keys.algs = one_choice g next c.root k.1 c.keys.algs (subst (λ t. RootHas g next t k.1) root k.2) own.0 in
-    let keys : c.keys ≡ nas_keys k.0 k.1 = own.1 ∙ (λ j. nas_keys (sym root j) (sym algs j)) in
-    let way : u.dir ≡ dir = ap (λ v. v.dir) k.3 in (
-      k.3 ∙ (λ j. nas_use (sym way j) (sym keys j).int u.count),
-      k.5 ∙ (λ j. Some (ciphering_by (sym keys j).algs.eea (nas_use (sym way j) (sym keys j).enc u.count))),
+    let root : k.root ≡ c.root = root_of k.root c.root (sym (ap (λ v. v.key) k.integrity) ∙ uses) in
+    let algs : k.algs ≡ c.keys.algs = one_choice g next c.root k.algs c.keys.algs (subst (λ t. RootHas g next t k.algs) root k.has) own.0 in
+    let keys : c.keys ≡ nas_keys k.root k.algs = own.1 ∙ (λ j. nas_keys (sym root j) (sym algs j)) in
+    let way : u.dir ≡ dir = ap (λ v. v.dir) k.integrity in (
+      k.integrity ∙ (λ j. nas_use (sym way j) (sym keys j).int u.count),
+      k.ciphering ∙ (λ j. Some (ciphering_by (sym keys j).algs.eea (nas_use (sym way j) (sym keys j).enc u.count))),
     )
   where
     root_of : (a b : Term) → Alg a 2 eia2_identity ≡ Alg b 2 eia2_identity → a ≡ b
     root_of a b e = cc
 
 module _ (cells : List Site) (k : Conns) (g : Choices) (w : TheWorld) (ok : WorldOk cells k w) (h : PacketsOk g k w) where
+  -- the keys of an address are its receiver's
+  down : (id air : ℕ) (keys : AsKeys Term) → KeysAre (ghost k w) id air keys → (P : AsKeys Term → Type 0) → P keys → AtPhone w.phone.radio id air P
+  down = at_phone (ghost k w) w.phone.radio (radio_keys (ghost k w) w.phone.radio ok.radio)
+
+  up : (id air : ℕ) (keys : AsKeys Term) → KeysAre (ghost k w) id air keys → (P : AsKeys Term → Type 0) → P keys
+      → AtContext (station_of_id id w.stations) air P
+  up = at_context cells (ghost k w) w.stations ok.stations
+
   packet_fits : (x : Outgoing Term ℕ) → SentOk g (next_root w) x → AirOk (ghost k w) x → (sent : List ℕ) → IsPacket x sent → Fits w x sent
-  packet_fits (UserPacket Down id air drb e text) nas sealed sent is = (
-    sealed.0,
-    sealed.1,
-    sealed.2,
-    at_phone (ghost k w) w.phone.radio (radio_keys (ghost k w) w.phone.radio ok.radio) id air sealed.3 sealed.4
-        (λ keys. PacketUnder keys drb e) sealed.5,
-  )
-  packet_fits (UserPacket Up id air drb e text) nas sealed sent is =
-      (sealed.0, sealed.1, sealed.2, at_context cells (ghost k w) w.stations ok.stations id air sealed.3 sealed.4 (λ keys. PacketUnder keys drb e) sealed.5)
+  packet_fits (UserPacket Down id air drb e text) nas s sent is =
+      (s.short, s.count, s.dir, down id air s.keys s.are (λ keys. PacketUnder keys drb e) s.under)
+  packet_fits (UserPacket Up id air drb e text) nas s sent is =
+      (s.short, s.count, s.dir, up id air s.keys s.are (λ keys. PacketUnder keys drb e) s.under)
   packet_fits (SealedRrc Down id air srb u e text) nas sealed sent is =
-      let s = sealed sent is in
-      (s.0, s.1, s.2, at_phone (ghost k w) w.phone.radio (radio_keys (ghost k w) w.phone.radio ok.radio) id air s.3 s.4 (λ keys. RrcUnder keys srb u e) s.5)
+      let s = sealed sent is in (s.short, s.count, s.dir, down id air s.keys s.are (λ keys. RrcUnder keys srb u e) s.under)
   packet_fits (SealedRrc Up id air srb u e text) nas sealed sent is =
-      let s = sealed sent is in
-      (s.0, s.1, s.2, at_context cells (ghost k w) w.stations ok.stations id air s.3 s.4 (λ keys. RrcUnder keys srb u e) s.5)
+      let s = sealed sent is in (s.short, s.count, s.dir, up id air s.keys s.are (λ keys. RrcUnder keys srb u e) s.under)
   packet_fits (SealedNas Down header u e text) nas sealed sent is =
       let s = data_sealed g (next_root w) Down header u e text sent nas is in (
-        s.7,
-        s.6,
-        ap (λ v. v.dir) s.3,
-        s.4,
+        s.short,
+        s.count,
+        ap (λ v. v.dir) s.integrity,
+        s.header,
         λ c found uses.
             under_context g (next_root w) Down header u e sent s c
             (subst (PhoneContextOk g (next_root w)) found h.phone.1) uses,
       )
   packet_fits (SealedNas Up header u e text) nas sealed sent is =
       let s = data_sealed g (next_root w) Up header u e text sent nas is in (
-        s.7,
-        s.6,
-        ap (λ v. v.dir) s.3,
-        s.4,
+        s.short,
+        s.count,
+        ap (λ v. v.dir) s.integrity,
+        s.header,
         λ c found uses.
             under_context g (next_root w) Up header u e sent s c.nas
             (subst (CoreContextOk g (next_root w)) found h.core.2) uses,

@@ -15,7 +15,7 @@ use Rattle.nas_rec.specs.declared.records.NasRecord.{NasRecord}
 use Rattle.nas_rec.specs.declared.records.NasRecord.TheVariants.{SecurityModeCommand, SecurityModeComplete, SecurityModeReject, ServiceRequest, NasData}
 use Rattle.nas_rec.specs.Spelling.{spelling_of}
 use Rattle.nas_guard.specs.Seal.{is_ciphered}
-use Rattle.lte_machine.specs.Wire.{KeyUse, Ciphering, ciphering_if, ciphering_by, nas_use, Outgoing, SealedNas, PlainNas, SealedRrc, UserPacket, Between}
+use Rattle.lte_machine.specs.Wire.{KeyUse, Ciphering, ciphering_if, ciphering_by, nas_use, Outgoing, SealedNas}
 use Rattle.lte_machine.specs.PhoneState.{nas_keys_of, Partial, NasContext, Phone}
 use Rattle.lte_machine.specs.CoreState.{Core, CorePartial, CoreContext}
 
@@ -29,7 +29,13 @@ nas_keys root algs = nas_keys_of term_reading root algs
 
 -- the KASME of one of the authentications so far, whose number is so
 abbrev pub IsRootOf : (ℕ → Type 0) → ℕ → Term → Type 0
-IsRootOf P next root = (n : ℕ) × (octets : List ℕ) × (root ≡ Root n octets) × (n < next) × P n
+IsRootOf P next root = record {
+  number : ℕ;
+  octets : List ℕ;
+  is : root ≡ Root number octets;
+  low : number < next;
+  so : P number;
+}
 
 abbrev pub AnyNumber : ℕ → Type 0
 AnyNumber n = ⊤
@@ -74,13 +80,21 @@ CoreOk g next s = CorePartialOk g next s.priority s.partial × ProcedureOk g nex
 -- a message by what it says: a command has the algorithms chosen, and is not ciphered; data are ciphered; the header type
 -- of each (TS 24.301 9.3.1)
 abbrev pub SealedSo : Dir → ℕ → KeyUse Term → Option (Ciphering Term) → Term → Algs → NasRecord → Type 0
-SealedSo dir header u e root algs (SecurityModeCommand ksi named caps) = (header ≡ 3) × (e ≡ None) × (named ≡ algs) × (ksi ≤ 6)
+SealedSo dir header u e root algs (SecurityModeCommand ksi named caps) = record {
+  type : header ≡ 3;
+  plain : e ≡ None;
+  chosen : named ≡ algs;
+  low : ksi ≤ 6;
+}
 SealedSo dir header u e root algs SecurityModeComplete = header ≡ 4
 SealedSo dir header u e root algs (SecurityModeReject cause) = header ≡ 2
 SealedSo dir header u e root algs ServiceRequest = header ≡ 1
-SealedSo dir header u e root algs (NasData text) =
-    (header ≡ 2) × (e ≡ Some (ciphering_by algs.eea (nas_use dir (nas_keys root algs).enc u.count)))
-    × (u.count < nas_count_limit) × (length text ≤ 200)
+SealedSo dir header u e root algs (NasData text) = record {
+  type : header ≡ 2;
+  ciphering : e ≡ Some (ciphering_by algs.eea (nas_use dir (nas_keys root algs).enc u.count));
+  count : u.count < nas_count_limit;
+  short : length text ≤ 200;
+}
 
 -- the ciphering of a message by its header type (TS 24.301 9.3.1)
 abbrev pub ciphered_for : Dir → ℕ → KeyUse Term → Term → Algs → Option (Ciphering Term)
@@ -88,10 +102,16 @@ ciphered_for dir header u root algs =
     ciphering_if (is_ciphered header) (ciphering_by algs.eea (nas_use dir (nas_keys root algs).enc u.count))
 
 abbrev pub SealedOk : Choices → ℕ → Dir → ℕ → KeyUse Term → Option (Ciphering Term) → List ℕ → Type 0
-SealedOk g next dir header u e text =
-    (root : Term) × (algs : Algs) × (x : NasRecord)
-    × RootHas g next root algs × (u ≡ nas_use dir (Alg root 2 eia2_identity) u.count) × (text ≡ spelling_of x)
-    × SealedSo dir header u e root algs x × (e ≡ ciphered_for dir header u root algs)
+SealedOk g next dir header u e text = record {
+  root : Term;
+  algs : Algs;
+  says : NasRecord;
+  has : RootHas g next root algs;
+  integrity : u ≡ nas_use dir (Alg root 2 eia2_identity) u.count;
+  spelled : text ≡ spelling_of says;
+  so : SealedSo dir header u e root algs says;
+  ciphered : e ≡ ciphered_for dir header u root algs;
+}
 
 abbrev pub SentOk : Choices → ℕ → Outgoing Term ℕ → Type 0
 SentOk g next (SealedNas dir header u e text) = SealedOk g next dir header u e text
@@ -109,7 +129,8 @@ More g next h later = (next ≤ later) × ((n : ℕ) → n < next → g n ≡ h 
 
 module _ (g h : Choices) (next later : ℕ) (more : More g next h later) where
   root_more : (P Q : ℕ → Type 0) → ((n : ℕ) → n < next → P n → Q n) → (root : Term) → IsRootOf P next root → IsRootOf Q later root
-  root_more P Q f root k = (k.0, k.1, k.2, le_trans k.3 more.0, f k.0 k.3 k.4)
+  root_more P Q f root k =
+      record { number = k.number; octets = k.octets; is = k.is; low = le_trans k.low more.0; so = f k.number k.low k.so }
 
   pub chosen_more : (algs : Result Algs NoneChosen) (root : Term) → IsRootOf (ChosenIs g algs) next root → IsRootOf (ChosenIs h algs) later root
   chosen_more algs root k = root_more (ChosenIs g algs) (ChosenIs h algs) (λ n low e. e ∙ more.1 n low) root k
@@ -145,14 +166,23 @@ module _ (g h : Choices) (next later : ℕ) (more : More g next h later) where
       context (Some c) k = context_more c.nas k
 
   pub sent_more : (x : Outgoing Term ℕ) → SentOk g next x → SentOk h later x
-  sent_more (SealedNas dir header u e text) k = (k.0, k.1, k.2, chosen_more (Ok k.1) k.0 k.3, k.4, k.5, k.6, k.7)
+  sent_more (SealedNas dir header u e text) k = record {
+    root = k.root;
+    algs = k.algs;
+    says = k.says;
+    has = chosen_more (Ok k.algs) k.root k.has;
+    integrity = k.integrity;
+    spelled = k.spelled;
+    so = k.so;
+    ciphered = k.ciphered;
+  }
   sent_more other k = tt
 
 -- one KASME has one choice
 pub one_choice : (g : Choices) (next : ℕ) (root : Term) (a b : Algs) → RootHas g next root a → RootHas g next root b → a ≡ b
 one_choice g next root a b h k =
-    let number : h.0 ≡ k.0 = same_number h.0 k.0 h.1 k.1 (sym h.2 ∙ k.2) in
-    same_ok a b (h.4 ∙ ap g number ∙ sym k.4)
+    let number : h.number ≡ k.number = same_number h.number k.number h.octets k.octets (sym h.is ∙ k.is) in
+    same_ok a b (h.so ∙ ap g number ∙ sym k.so)
   where
     same_number : (n m : ℕ) (s t : List ℕ) → Root n s ≡ Root m t → n ≡ m
     same_number n m s t e = cc

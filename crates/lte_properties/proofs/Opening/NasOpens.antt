@@ -2,7 +2,7 @@
 use Rattle.std.proofs.Common.{◌≡◌, ℕ, ◌+◌, ◌*◌, ◌≤◌, Bool, List, [], ◌∷◌, ◌++◌, length, map, inl, inr, Option, Some, None, Result, Ok, refl, ap, sym, subst, ◌∙◌, arith}
 use Rattle.std.specs.Prelude.{⊤}
 use Rattle.rec_base.specs.declared.faults.RecFault.{RecFault}
-use Rattle.rec_base.specs.declared.uses.Dir.TheVariants.{Up, Down}
+use Rattle.rec_base.specs.declared.uses.Dir.TheVariants.{Down}
 use Rattle.alg_choice.specs.Algs.{eia2_identity}
 use Rattle.alg_choice.specs.declared.algs.Algs.{Algs}
 use Rattle.alg_choice.specs.declared.caps.Caps.{Caps}
@@ -17,7 +17,7 @@ use Rattle.nas_rec.specs.declared.records.NasRecord.TheVariants.{SecurityModeCom
 use Rattle.nas_rec.specs.Spelling.{spelling_of}
 use Rattle.nas_rec.specs.Reading.{read_nas}
 use Rattle.nas_rec.proofs.Laws.{spelled_is_read}
-use Rattle.lte_machine.specs.Wire.{KeyUse, Ciphering, Outgoing, SealedNas, PlainNas, SealedRrc, UserPacket, Between}
+use Rattle.lte_machine.specs.Wire.{KeyUse, Ciphering, Outgoing, SealedNas, Between}
 use Rattle.lte_machine.specs.Ciphers.{Ciphers, ciphered_by, nas_octets}
 use Rattle.lte_machine.specs.Opening.{Outcome, Opened}
 use Rattle.lte_machine.specs.PhoneState.{Partial, Phone}
@@ -85,14 +85,14 @@ module _ (same : Term → Term → Bool) (g : Choices) (next : ℕ) (c : Ciphers
       by_record : (x : NasRecord) → text ≡ spelling_of x → SealedSo Down header u e root algs x → algs ≡ read
       by_record (SecurityModeCommand k a d) spelled so =
           let plain : sent_in pdu ≡ spelling_of (SecurityModeCommand k a d) =
-          ap sent_in (sym octets) ∙ (nas_parts c good header u e text).2 ∙ ap (λ f. ciphered_by c f text) so.1 ∙ spelled in
+          ap sent_in (sym octets) ∙ (nas_parts c good header u e text).2 ∙ ap (λ f. ciphered_by c f text) so.plain ∙ spelled in
           let reads_so : read_nas (sent_in pdu) ≡ Ok (SecurityModeCommand k a d) =
-          ap read_nas plain ∙ spelled_is_read (SecurityModeCommand k a d) so.3 in
-          sym so.2 ∙ same_algs k ksi a read d caps (sym reads_so ∙ reads)
+          ap read_nas plain ∙ spelled_is_read (SecurityModeCommand k a d) so.low in
+          sym so.chosen ∙ same_algs k ksi a read d caps (sym reads_so ∙ reads)
       by_record SecurityModeComplete spelled so = absurd (header_other pdu 71 3 long (first_is 4 so) refl type)
       by_record (SecurityModeReject cause) spelled so = not_three 2 (header_down pdu 39 long (first_is 2 so) refl) (λ e. absurd (omega arith))
       by_record ServiceRequest spelled so = not_three 1 (header_down pdu 23 long (first_is 1 so) refl) (λ e. absurd (omega arith))
-      by_record (NasData data') spelled so = not_three 2 (header_down pdu 39 long (first_is 2 so.0) refl) (λ e. absurd (omega arith))
+      by_record (NasData data') spelled so = not_three 2 (header_down pdu 39 long (first_is 2 so.type) refl) (λ e. absurd (omega arith))
 
   module _ (s : Phone Term ℕ) (pdu : List ℕ) (came : Option (Outgoing Term ℕ)) (is : CameDown pdu came) (history : List (RowOrigin Term)) where
     -- the keys that are known after a step
@@ -107,9 +107,9 @@ module _ (same : Term → Term → Bool) (g : Choices) (next : ℕ) (c : Ciphers
     taken_of p ksi algs caps None h under type reads = absurd under
     taken_of p ksi algs caps (Some (SealedNas Down header u e text)) h under type reads =
         let k = h.1 in
-        let same_root : k.0 ≡ p.root = root_of k.0 p.root (sym (ap (λ v. v.key) k.4) ∙ under) in
-        let same_algs : k.1 ≡ algs = named header u e text pdu k.0 k.1 k.2 ksi algs caps h.0 k.5 k.6 type reads in
-        subst (λ t. RootHas g next t algs) same_root (subst (RootHas g next k.0) same_algs k.3)
+        let same_root : k.root ≡ p.root = root_of k.root p.root (sym (ap (λ v. v.key) k.integrity) ∙ under) in
+        let same_algs : k.algs ≡ algs = named header u e text pdu k.root k.algs k.says ksi algs caps h.0 k.spelled k.so type reads in
+        subst (λ t. RootHas g next t algs) same_root (subst (RootHas g next k.root) same_algs k.has)
       where
         root_of : (a b : Term) → Alg a 2 eia2_identity ≡ Alg b 2 eia2_identity → a ≡ b
         root_of a b e = cc

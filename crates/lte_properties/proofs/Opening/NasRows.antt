@@ -67,7 +67,16 @@ module _ (same : Term → Term → Bool) (g : Choices) (next : ℕ) where
       → SealedSo dir header (nas_use dir c.keys.int count) e c.root c.keys.algs x
       → e ≡ ciphered_for dir header (nas_use dir c.keys.int count) c.root c.keys.algs
       → SealedOk g next dir header (nas_use dir c.keys.int count) e (spelling_of x)
-  sealed_by c k dir header count e x so type = (c.root, c.keys.algs, x, k.0, ap (λ keys. nas_use dir keys.int count) k.1, refl, so, type)
+  sealed_by c k dir header count e x so type = record {
+    root = c.root;
+    algs = c.keys.algs;
+    says = x;
+    has = k.0;
+    integrity = ap (λ keys. nas_use dir keys.int count) k.1;
+    spelled = refl;
+    so = so;
+    ciphered = type;
+  }
 
   ciphered_by_own : (c : NasContext Term) → ContextOk g next c → (dir : Dir) (count : ℕ)
       → Some (ciphering_by c.keys.algs.eea (nas_use dir c.keys.enc count))
@@ -110,18 +119,31 @@ module _ (same : Term → Term → Bool) (g : Choices) (next : ℕ) where
   core_act_goes act is s = record {
     nothing = λ t answer h. (h, tt);
     started = λ ksi algs caps count p f h.
-        let k = h.0 in
+        let (low, k) = h.0 in
         let needs = started_needs (at_core.with_partial s (Some p)) act ksi algs caps count f in
-        let root : RootHas g next p.root algs = (k.1.0, k.1.1, k.1.2, k.1.3, sym needs.1 ∙ k.1.4) in (
-          (k, (root, refl), h.2),
-          (p.root, algs, SecurityModeCommand ksi algs caps, root, refl, refl, (refl, refl, refl, subst (λ n. n ≤ 6) (sym needs.0) k.0), refl),
+        let root : RootHas g next p.root algs =
+        record { number = k.number; octets = k.octets; is = k.is; low = k.low; so = sym needs.1 ∙ k.so } in (
+          ((low, k), (root, refl), h.2),
+          record {
+            root = p.root;
+            algs = algs;
+            says = SecurityModeCommand ksi algs caps;
+            has = root;
+            integrity = refl;
+            spelled = refl;
+            so = record { type = refl; plain = refl; chosen = refl; low = subst (λ n. n ≤ 6) (sym needs.0) low };
+            ciphered = refl;
+          },
         );
     set_up = λ conn cell target caps count c f h. (h, tt);
     released = λ conn station f h. (h, tt);
     sent = λ count text c f h.
         let needs = sent_needs (at_core.with_context s (Some c)) act count text f is in
-        let own = ciphered_by_own c.nas h.2 Down count in
-        (h, sealed_by c.nas h.2 Down 2 count _ (NasData text) (refl, own, needs.0, needs.1) own);
+        let own = ciphered_by_own c.nas h.2 Down count in (
+          h,
+          sealed_by c.nas h.2 Down 2 count _ (NasData text)
+              (record { type = refl; ciphering = own; count = needs.0; short = needs.1 }) own,
+        );
     skipped = λ n c f h. (h, tt);
   }
 
@@ -190,8 +212,14 @@ module _ (same : Term → Term → Bool) (g : Choices) (next : ℕ) where
     rejected = λ answer cause needs h. (h, tt);
     rejected_under = λ answer cause c needs h.
         (h, sealed_by c h.1 Up 2 c.send _ (SecurityModeReject cause) refl (ciphered_by_own c h.1 Up c.send));
-    taken = λ algs count p needs h. ((tt, (needs, refl)), (p.root, algs, SecurityModeComplete, needs, refl, refl, refl, refl));
-    taken_connected = λ algs count p needs h. ((tt, (needs, refl)), (p.root, algs, SecurityModeComplete, needs, refl, refl, refl, refl));
+    taken = λ algs count p needs h. (
+      (tt, (needs, refl)),
+      record { root = p.root; algs = algs; says = SecurityModeComplete; has = needs; integrity = refl; spelled = refl; so = refl; ciphered = refl },
+    );
+    taken_connected = λ algs count p needs h. (
+      (tt, (needs, refl)),
+      record { root = p.root; algs = algs; says = SecurityModeComplete; has = needs; integrity = refl; spelled = refl; so = refl; ciphered = refl },
+    );
     opened = λ count text c needs h. (h, tt);
   }
 
@@ -217,7 +245,8 @@ module _ (same : Term → Term → Bool) (g : Choices) (next : ℕ) where
     nas = λ text c needs h.
         let left = count_left (at_phone.with_context s (Some c)) needs.1.0 in
         let short = (subst IsPhoneAct needs.1.1 needs.2).1 in
-        (h, sealed_by c h.1 Up 2 c.send _ (NasData text) (refl, ciphered_by_own c h.1 Up c.send, left, short) (ciphered_by_own c h.1 Up c.send));
+        let own = ciphered_by_own c h.1 Up c.send in
+        (h, sealed_by c h.1 Up 2 c.send _ (NasData text) (record { type = refl; ciphering = own; count = left; short = short }) own);
     nas_skipped = λ n c needs h. (h, tt);
     bearer_skipped = λ on n l needs h. (h, tt);
   }

@@ -135,14 +135,14 @@ module _ (same : Term → Term → Bool) (sender : Option (Outgoing Term ℕ) �
   sent_came (SealedNas Down header i e text) a n = (refl, n)
   sent_came (SealedNas Up header i e text) a n = (refl, n)
   sent_came (PlainNas octets) a n = tt
-  sent_came (SealedRrc Down station air srb i e text) a n = (
-    refl,
-    refl,
-    which_srb srb,
-    a,
-    (λ none. ap (λ f. unciphered_text (octets_of c between (SealedRrc Down station air srb i f text))) none
-        ∙ (octets_tell c good between).text Down station air srb i text),
-  )
+  sent_came (SealedRrc Down station air srb i e text) a n = record {
+    is_station = refl;
+    is_air = refl;
+    is_on = which_srb srb;
+    down = a;
+    plain = λ none. ap (λ f. unciphered_text (octets_of c between (SealedRrc Down station air srb i f text))) none
+        ∙ (octets_tell c good between).text Down station air srb i text;
+  }
   sent_came (SealedRrc Up station air srb i e text) a n = (refl, refl, a)
   sent_came (UserPacket Down station air drb e text) a n = tt
   sent_came (UserPacket Up station air drb e text) a n = tt

@@ -31,10 +31,9 @@ use Rattle.lte_properties.specs.SecondCase.{sender_at}
 use Rattle.lte_properties.proofs.Agreement.Calm.{NewKenb, count_low, plain_here, ciphered_here}
 use Rattle.lte_properties.proofs.Agreement.Ghost.{Ghost, keys_of, CtxOk, PrepOk, StationOk, LinkIs, RadioOk, UpOk}
 use Rattle.lte_properties.proofs.Agreement.Later.{same_found}
-use Rattle.lte_properties.proofs.Agreement.Phone.{all_found}
 use Rattle.lte_properties.proofs.Agreement.PhoneWalk.{CameDown, by_test, one_key, no_cipher}
 use Rattle.lte_properties.proofs.Agreement.StationOpens.{CameUp}
-use Rattle.lte_properties.proofs.Agreement.ToldIsFound.{found_holds}
+use Rattle.lte_properties.proofs.Agreement.ToldIsFound.{all_found, found_holds}
 use Rattle.lte_properties.proofs.Opening.Heard.{Heard}
 use Rattle.lte_properties.proofs.Opening.SecondNas.{Never, never_srb}
 
@@ -86,15 +85,16 @@ module _ (same : Term → Term → Bool) (g : Ghost) (s : Phone Term ℕ) (stati
       no_first : false ≡ true → ⊥
       no_first e = cc
   ciphers l h is_s is_a srb count is_on low (Some (SealedRrc Down st a sr i (Some f) text)) k =
-      let d = k.3 in
-      let m = d.0 in
-      let there : made_at g.made station air ≡ Some h.2 = (λ j. made_at g.made (sym is_s j) (sym is_a j)) ∙ h.3 in
-      let one : h.2 ≡ m = same_found _ h.2 m there d.1 in
-      let srbs : srb ≡ sr = one_srb srb sr (sym is_on ∙ k.2) in
+      let d = k.down in
+      let m = d.made in
+      let there : made_at g.made station air ≡ Some h.made = (λ j. made_at g.made (sym is_s j) (sym is_a j)) ∙ h.found in
+      let one : h.made ≡ m = same_found _ h.made m there d.found in
+      let srbs : srb ≡ sr = one_srb srb sr (sym is_on ∙ k.is_on) in
       never_srb (srb_use Down l.keys.rrc_int srb count) i (Some (srb_ciphering Down l.keys srb count)) (Some f) Down st a sr text
-      (λ e. let kenb : l.kenb ≡ m.key = one_key l.kenb m.key _ _ _ _ (sym (ap (λ keys. keys.rrc_int) h.1) ∙ ap (λ v. v.key) e ∙ ap (λ v. v.key) d.2) in
-      let keys : l.keys ≡ keys_of m.key m.algs = h.1 ∙ (λ j. keys_of (kenb j) ((h.4 ∙ ap (λ x. x.algs) one) j)) in
-      (λ j. Some (srb_ciphering Down (keys j) (srbs j) ((ap (λ v. v.count) e) j))) ∙ ap Some (sym d.3.0))
+      (λ e. let kenb : l.kenb ≡ m.key =
+      one_key l.kenb m.key _ _ _ _ (sym (ap (λ keys. keys.rrc_int) h.keys) ∙ ap (λ v. v.key) e ∙ ap (λ v. v.key) d.integrity) in
+      let keys : l.keys ≡ keys_of m.key m.algs = h.keys ∙ (λ j. keys_of (kenb j) ((h.algs ∙ ap (λ x. x.algs) one) j)) in
+      (λ j. Some (srb_ciphering Down (keys j) (srbs j) ((ap (λ v. v.count) e) j))) ∙ ap Some (sym d.ciphered.0))
     where
       one_srb : (a b : Srb) → OnSrb a ≡ OnSrb b → a ≡ b
       one_srb a b e = cc
@@ -136,18 +136,18 @@ module _ (g : Ghost) (id air : ℕ) (keys : AsKeys Term) (kenb : Term) (m : Made
     (i : KeyUse Term)
     (is : srb_use Up keys.rrc_int srb count ≡ i) where
   srbs : (f : Option (Ciphering Term)) → UpOk g id air sr i f → srb ≡ sr
-  srbs f up = one_bearer srb sr (ap (λ v. v.bearer) is ∙ ap (λ v. v.bearer) up.4.2)
+  srbs f up = one_bearer srb sr (ap (λ v. v.bearer) is ∙ ap (λ v. v.bearer) up.sealed.integrity)
 
-  same_made : (f : Option (Ciphering Term)) (up : UpOk g id air sr i f) → m ≡ up.4.0
-  same_made f up = same_found _ m up.4.0 there up.4.1
+  same_made : (f : Option (Ciphering Term)) (up : UpOk g id air sr i f) → m ≡ up.sealed.made
+  same_made f up = same_found _ m up.sealed.made there up.sealed.found
 
-  same_kenb : (f : Option (Ciphering Term)) (up : UpOk g id air sr i f) → kenb ≡ up.0
-  same_kenb f up = one_key kenb up.0 _ _ _ _ (sym (ap (λ x. x.rrc_int) are) ∙ ap (λ v. v.key) is ∙ up.1)
+  same_kenb : (f : Option (Ciphering Term)) (up : UpOk g id air sr i f) → kenb ≡ up.kenb
+  same_kenb f up = one_key kenb up.kenb _ _ _ _ (sym (ap (λ x. x.rrc_int) are) ∙ ap (λ v. v.key) is ∙ up.key)
 
   ciphered_same : (f : Ciphering Term) (up : UpOk g id air sr i (Some f)) → Some (srb_ciphering Up keys srb count) ≡ Some f
   ciphered_same f up =
-      let all : keys ≡ keys_of up.0 up.4.0.algs = are ∙ (λ j. keys_of (same_kenb (Some f) up j) (same_made (Some f) up j).algs) in
-      (λ j. Some (srb_ciphering Up (all j) (srbs (Some f) up j) (ap (λ v. v.count) is j))) ∙ ap Some (sym up.4.3)
+      let all : keys ≡ keys_of up.kenb up.sealed.made.algs = are ∙ (λ j. keys_of (same_kenb (Some f) up j) (same_made (Some f) up j).algs) in
+      (λ j. Some (srb_ciphering Up (all j) (srbs (Some f) up j) (ap (λ v. v.count) is j))) ∙ ap Some (sym up.sealed.ciphered)
 
 module _ (same : Term → Term → Bool) (cells : List Site) (g : Ghost) (s : Station Term ℕ) (ok : StationOk cells g s)
     (heard : Heard s.context) (air : ℕ) (came : Option (Outgoing Term ℕ)) (came_ok : CameUp g s.id air came) where
@@ -167,18 +167,18 @@ module _ (same : Term → Term → Bool) (cells : List Site) (g : Ghost) (s : St
   active_never c k listened active there srb count low (Some (SealedNas dir header i f text)) h = absurd h
   active_never c k listened active there srb count low (Some (SealedRrc Down st a sr i f text)) h = absurd h
   active_never c k listened active there srb count low (Some (SealedRrc Up st a sr i (Some f) text)) h =
-      let m = k.3.0 in
-      let at : made_at g.made s.id air ≡ Some m = ap (made_at g.made s.id) (sym there) ∙ k.3.1 in
-      let are : c.keys ≡ keys_of c.key.kenb m.algs = k.2 ∙ ap (keys_of c.key.kenb) k.3.2.2 in
+      let m = k.entry.made in
+      let at : made_at g.made s.id air ≡ Some m = ap (made_at g.made s.id) (sym there) ∙ k.entry.found in
+      let are : c.keys ≡ keys_of c.key.kenb m.algs = k.keys ∙ ap (keys_of c.key.kenb) k.entry.is.2 in
       never_srb (srb_use Up c.keys.rrc_int srb count) i (Some (srb_ciphering Up c.keys srb count)) (Some f) Up st a sr text
       (λ e. ciphered_same g s.id air c.keys c.key.kenb m are at srb sr count i e f h.2)
   active_never c k listened active there srb count low (Some (SealedRrc Up st a sr i None text)) h =
-      let m = k.3.0 in
-      let at : made_at g.made s.id air ≡ Some m = ap (made_at g.made s.id) (sym there) ∙ k.3.1 in
-      let are : c.keys ≡ keys_of c.key.kenb m.algs = k.2 ∙ ap (keys_of c.key.kenb) k.3.2.2 in
+      let m = k.entry.made in
+      let at : made_at g.made s.id air ≡ Some m = ap (made_at g.made s.id) (sym there) ∙ k.entry.found in
+      let are : c.keys ≡ keys_of c.key.kenb m.algs = k.keys ∙ ap (keys_of c.key.kenb) k.entry.is.2 in
       never_srb (srb_use Up c.keys.rrc_int srb count) i (Some (srb_ciphering Up c.keys srb count)) None Up st a sr text
-      (λ e. let first : srb ≡ Signalling1 = srbs g s.id air c.keys c.key.kenb m are at srb sr count i e None h.2 ∙ h.2.4.3.2 in
-      let none : count ≡ 0 = ap (λ v. v.count) e ∙ h.2.4.3.1 in
+      (λ e. let first : srb ≡ Signalling1 = srbs g s.id air c.keys c.key.kenb m are at srb sr count i e None h.2 ∙ h.2.sealed.ciphered.2 in
+      let none : count ≡ 0 = ap (λ v. v.count) e ∙ h.2.sealed.ciphered.1 in
       absurd (too_low (listened active) (subst (λ x. (srb_counts x c.bearers).receive ≤ count) first low) none))
     where
       too_low : {a b : ℕ} → 1 ≤ a → a ≤ b → b ≡ 0 → ⊥
@@ -198,17 +198,18 @@ module _ (same : Term → Term → Bool) (cells : List Site) (g : Ghost) (s : St
   prepared_never p k there count (Some (SealedNas dir header i f text)) h = absurd h
   prepared_never p k there count (Some (SealedRrc Down st a sr i f text)) h = absurd h
   prepared_never p k there count (Some (SealedRrc Up st a sr i (Some f) text)) h =
-      let m = k.3 in
-      let at : made_at g.made s.id air ≡ Some m = ap (made_at g.made s.id) (sym there) ∙ k.4 in
-      let are : p.keys ≡ keys_of p.key.kenb m.algs = k.2 ∙ ap (keys_of p.key.kenb) k.5.2 in
+      let m = k.made in
+      let at : made_at g.made s.id air ≡ Some m = ap (made_at g.made s.id) (sym there) ∙ k.found in
+      let are : p.keys ≡ keys_of p.key.kenb m.algs = k.keys ∙ ap (keys_of p.key.kenb) k.is.2 in
       never_srb (srb_use Up p.keys.rrc_int Signalling1 count) i (Some (srb_ciphering Up p.keys Signalling1 count)) (Some f) Up st a sr text
       (λ e. ciphered_same g s.id air p.keys p.key.kenb m are at Signalling1 sr count i e f h.2)
   prepared_never p k there count (Some (SealedRrc Up st a sr i None text)) h =
-      let m = k.3 in
-      let at : made_at g.made s.id air ≡ Some m = ap (made_at g.made s.id) (sym there) ∙ k.4 in
-      let one : m ≡ h.2.4.0 = same_found _ m h.2.4.0 at h.2.4.1 in
+      let m = k.made in
+      let at : made_at g.made s.id air ≡ Some m = ap (made_at g.made s.id) (sym there) ∙ k.found in
+      let sealed = h.2.sealed in
+      let one : m ≡ sealed.made = same_found _ m sealed.made at sealed.found in
       never_srb (srb_use Up p.keys.rrc_int Signalling1 count) i (Some (srb_ciphering Up p.keys Signalling1 count)) None Up st a sr text
-      (λ e. absurd (k.6 (ap (λ x. x.from) one ∙ h.2.4.3.0)))
+      (λ e. absurd (k.no_setup (ap (λ x. x.from) one ∙ sealed.ciphered.0)))
   prepared_never p k there count (Some (PlainNas octets)) h = λ e. absurd cc
   prepared_never p k there count (Some (UserPacket dir st a drb e text)) h = λ e. absurd cc
   prepared_never p k there count (Some (Between to fields key)) h = λ e. absurd cc

@@ -24,7 +24,7 @@ use Rattle.lte_machine.specs.PhoneChoice.{is_for_phone, header_for_phone}
 use Rattle.lte_machine.specs.PhoneKeys as keys
 use Rattle.lte_machine.specs.PhoneState.{Partial, NasContext, Phone}
 use Rattle.lte_machine.specs.Bearers.{Srb}
-use Rattle.lte_machine.specs.Wire.{KeyUse, Ciphering, ciphering_if, ciphering_by, nas_use, nas_ciphering, Outgoing, SealedNas, PlainNas, SealedRrc, UserPacket, Between}
+use Rattle.lte_machine.specs.Wire.{KeyUse, Ciphering, ciphering_if, ciphering_by, nas_use, nas_ciphering, Outgoing, SealedNas, SealedRrc, Between}
 use Rattle.lte_machine.proofs.NasFacts.{FrontHas as CoreFrontHas, nas_front, front_has as core_front_has}
 use Rattle.lte_machine.proofs.PhoneNasFacts.{FrontHas, phone_nas, front_has}
 use Rattle.lte_properties.specs.SecondCase.{sender_at}
@@ -79,9 +79,9 @@ module _ (g : Choices) (next : ℕ) where
       → (root : Term) (algs : Algs) → RootHas g next root algs → (u : KeyUse Term) → u.key ≡ Alg root 2 eia2_identity → u ≡ i
       → f ≡ ciphered_for dir header u root algs
   under_one dir header i f text k root algs has u key is =
-      let same_root : k.0 ≡ root = root_of k.0 root (sym (ap (λ v. v.key) k.4) ∙ ap (λ v. v.key) (sym is) ∙ key) in
-      let same_algs : k.1 ≡ algs = one_choice g next root k.1 algs (subst (λ t. RootHas g next t k.1) same_root k.3) has in
-      k.7 ∙ (λ j. ciphered_for dir header (sym is j) (same_root j) (same_algs j))
+      let same_root : k.root ≡ root = root_of k.root root (sym (ap (λ v. v.key) k.integrity) ∙ ap (λ v. v.key) (sym is) ∙ key) in
+      let same_algs : k.algs ≡ algs = one_choice g next root k.algs algs (subst (λ t. RootHas g next t k.algs) same_root k.has) has in
+      k.ciphered ∙ (λ j. ciphered_for dir header (sym is j) (same_root j) (same_algs j))
 
   module _ (same : Term → Term → Bool) (c : Ciphers Term) (good : AreCiphers c) where
     abbrev q : Reading Term ℕ
@@ -119,7 +119,7 @@ module _ (g : Choices) (next : ℕ) where
       command_never count algs type (Some p) (Some (SealedNas Down sent i f text)) h =
           let one : 3 ≡ sent = header_is sent 3 i f text h.0 type in
           never_nas (nas_use Down (Alg p.root 2 eia2_identity) count) i None f Down sent text
-          (λ e. sym (h.1.7 ∙ (λ j. ciphered_for Down (sym one j) i h.1.0 h.1.1)))
+          (λ e. sym (h.1.ciphered ∙ (λ j. ciphered_for Down (sym one j) i h.1.root h.1.algs)))
       command_never count algs type (Some p) (Some (Between to fields key)) h = λ e. absurd cc
       command_never count algs type other rest h = absurd h
 

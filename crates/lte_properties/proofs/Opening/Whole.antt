@@ -109,10 +109,11 @@ module _ (same : Term → Term → Bool) (sender : Option (Outgoing Term ℕ) �
           core =
               (core_auth_goes same g' (next_root u) ksi caps (Some root) w.core
               (core_more g g' n (next_root u) more w.core h.core)
-              (fits, (n, octets, refl, low, chosen_there g n algs))).0;
+              (fits, record { number = n; octets = octets; is = refl; low = low; so = chosen_there g n algs })).0;
           phone =
               (phone_goes same g' (next_root u) (phone.OfAuth (phone.Authenticated ksi)) (Some root) w.phone
-              (phone_more g g' n (next_root u) more w.phone h.phone) (n, octets, refl, low, tt)).0;
+              (phone_more g g' n (next_root u) more w.phone h.phone)
+              (record { number = n; octets = octets; is = refl; low = low; so = tt })).0;
           nas = nas_after g g' n (next_root u) more w.sent h.nas;
           air = air_after (ghost k w) (ghost d u) later w.sent h.air;
         },
