@@ -180,7 +180,7 @@ module _ (same : Term → Term → Bool) (root : ℕ → List ℕ → Term) (oct
   run_goes top c w [] holds h fits is settled honest calm = (c, later_itself (ghost c w), h, fits)
   run_goes top c w (e ∷ es) holds h fits is settled honest calm =
       let u = (happens m w e).0 in
-      let step = happens_goes c w e is.0 h settled.0 holds.above holds.flight honest.0 calm.0 in
+      let (d, later, ok, off) = happens_goes c w e is.0 h settled.0 holds.above holds.flight honest.0 calm.0 in
       let next = happens_holds same root octets sender opener top w e holds in
-      let rest = run_goes (noted u.core.link top) step.0 u es next step.2 (fits_after top c step.0 u step.2 step.3 fits) is.1 settled.1 honest.1 calm.1 in
-      (rest.0, later_after (ghost c w) (ghost step.0 u) (ghost rest.0 (run m u es)) step.1 rest.1, rest.2, rest.3)
+      let (last, rest, ends, fit) = run_goes (noted u.core.link top) d u es next ok (fits_after top c d u ok off fits) is.1 settled.1 honest.1 calm.1 in
+      (last, later_after (ghost c w) (ghost d u) (ghost last (run m u es)) later rest, ends, fit)

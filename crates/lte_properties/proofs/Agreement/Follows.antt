@@ -43,7 +43,9 @@ last_more o (y ∷ ys) x = last_more (Some (taken_before y)) ys x
 -- a connection is what was taken last
 last_is : (took : List (Took Term ℕ)) (l : Link Term ℕ) → TookLast took (Connected l) → last_of None took ≡ Some (before_of l)
 last_is took l k =
-    ap (last_of None) k.2 ∙ last_more None k.0 k.1 ∙ (λ j. Some (record { station = k.3.0 j; key = k.3.2 j; number = k.3.3 j }))
+    let (xs, x, split, last) = k in
+    let (station, _, key, number, _) = last in
+    ap (last_of None) split ∙ last_more None xs x ∙ (λ j. Some (record { station = station j; key = key j; number = number j }))
 
 -- after a step of the phone
 abbrev Follows : List (Took Term ℕ) → PhoneDone Term ℕ → Type 0

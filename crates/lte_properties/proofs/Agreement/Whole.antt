@@ -132,10 +132,10 @@ module _ (same : Term → Term → Bool) (root : ℕ → List ℕ → Term) (oct
   none_ever top c w [] holds h fits is settled honest calm (suc n) = none_before cells c c w w (later_itself (ghost c w)) h h
   none_ever top c w (e ∷ es) holds h fits is settled honest calm (suc n) =
       let u = (happens m w e).0 in
-      let step = happens_goes same root octets sender opener tell cells cells_ok c w e is.0 h settled.0 holds.above holds.flight honest.0 calm.0 in
+      let (d, _, ok, off) = happens_goes same root octets sender opener tell cells cells_ok c w e is.0 h settled.0 holds.above holds.flight honest.0 calm.0 in
       let next = happens_holds same root octets sender opener top w e holds in
-      none_ever (noted u.core.link top) step.0 u es next step.2
-      (fits_after same root octets sender opener tell cells cells_ok top c step.0 u step.2 step.3 fits) is.1
+      none_ever (noted u.core.link top) d u es next ok
+      (fits_after same root octets sender opener tell cells cells_ok top c d u ok off fits) is.1
       settled.1 honest.1 calm.1 n
 
   -- at each line of a completed handover the phone had taken the new context's key

@@ -309,24 +309,25 @@ module _ (same : Term → Term → Bool) (root : ℕ → List ℕ → Term) (oct
       → StationGoes cells (ghost c w) s d → Goes cells c w (station_after m w id d).0
   station_after_goes c w id s d is h k =
       let u = (station_after m w id d).0 in
+      let (own, made, tried, sent, _, by_made, by_tried) = k in
       let l : Later (ghost c w) (ghost c u) = told_more (ghost c w) d.1.made d.1.tried in (
         c,
         l,
         record {
           core = h.core;
           radio = radio_later (ghost c w) (ghost c u) l w.phone.radio h.radio;
-          stations = all_put (StationOk cells (ghost c w)) (StationOk cells (ghost c u)) id d.0 w.stations k.0
+          stations = all_put (StationOk cells (ghost c w)) (StationOk cells (ghost c u)) id d.0 w.stations own
               (λ t other ok. beside c w u l t ok
-              (fresh_beside (ghost c w) d.1.made d.1.tried s.id t.id t.next k.5 k.6 (λ e. eqb-false t.id id other (sym e ∙ is)) ok.fresh)
-              (seen_beside w.made d.1.made s.id t.id t.seen k.5 (λ e. eqb-false t.id id other (sym e ∙ is)) ok.seen))
+              (fresh_beside (ghost c w) d.1.made d.1.tried s.id t.id t.next by_made by_tried (λ e. eqb-false t.id id other (sym e ∙ is)) ok.fresh)
+              (seen_beside w.made d.1.made s.id t.id t.seen by_made (λ e. eqb-false t.id id other (sym e ∙ is)) ok.seen))
               h.stations;
-          sent = all_one (SentOk (ghost c u)) d.1.sent w.sent (sent_stays cells c c w u l w.sent h.sent) (out_ok d.1.sent (ghost c u) k.3);
-          made = all_one (MadeOk (ghost c u)) d.1.made w.made (made_stays cells c c w u l w.made h.made) (new_made d.1.made (ghost c w) (ghost c u) k.1);
+          sent = all_one (SentOk (ghost c u)) d.1.sent w.sent (sent_stays cells c c w u l w.sent h.sent) (out_ok d.1.sent (ghost c u) sent);
+          made = all_one (MadeOk (ghost c u)) d.1.made w.made (made_stays cells c c w u l w.made h.made) (new_made d.1.made (ghost c w) (ghost c u) made);
           tried =
               all_one (TriedOk cells (ghost c u)) d.1.tried w.tried (tried_stays cells c c w u l w.tried h.tried)
-              (new_tried d.1.tried (ghost c u) s.id k.2);
+              (new_tried d.1.tried (ghost c u) s.id tried);
           took = took_stays cells c c w u l w.took h.took;
-          once = once_after d.1.made w.made (ghost c u) (ghost c w) refl k.1 h.once;
+          once = once_after d.1.made w.made (ghost c u) (ghost c w) refl made h.once;
         },
         as_before w.core.link c.top,
       )

@@ -22,7 +22,8 @@ if_le false m n m' n' h k = k
 -- the next COUNT of a bearer does not fall
 send_rises : (on : Bool) (bearer : ℕ) (a b : Bearers) → Rise a b → send_on on bearer a ≤ send_on on bearer b
 send_rises true bearer a b h =
-    if_le (bearer == 0) _ _ _ _ h.2 (if_le (bearer == 1) _ _ _ _ h.3 (if_le (bearer == 2) _ _ _ _ h.4 h.5))
+    let (_, _, drb1, drb2, drb3, drb4) = h in
+    if_le (bearer == 0) _ _ _ _ drb1 (if_le (bearer == 1) _ _ _ _ drb2 (if_le (bearer == 2) _ _ _ _ drb3 drb4))
 send_rises false bearer a b h = if_le (bearer == 0) _ _ _ _ h.0 h.1
 
 -- what is below the next COUNT stays below it

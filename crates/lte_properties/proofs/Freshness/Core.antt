@@ -33,7 +33,12 @@ use Rattle.lte_properties.proofs.Freshness.PhoneNas.{types_apart}
 
 -- a use that the core had not made before, and has made now, of a NAS key
 abbrev pub NewDown : ℕ → Core Term ℕ → Core Term ℕ → KeyUse Term → Type 0
-NewDown roots s t u = (u.dir ≡ Down) × OnKey (λ k type. IsNas type) u.key × CoreUse roots t u × (CoreUse roots s u → ⊥)
+NewDown roots s t u = record {
+  down : u.dir ≡ Down;
+  of_nas : OnKey (λ k type. IsNas type) u.key;
+  now : CoreUse roots t u;
+  news : CoreUse roots s u → ⊥;
+}
 
 -- what a step of the core keeps, with the homes of keys afterwards
 pub record CoreKeeps (roots : ℕ) (given : Homes) (s t : Core Term ℕ) (sent : Option (Outgoing Term ℕ)) : Type 0 where
@@ -85,26 +90,26 @@ module _ (roots : ℕ) (given : Homes) where
     taken_stands : (count : ℕ) (procedure : Option (Keys Term)) → c.nas.receive ≤ count → CoreStands roots given (record s { context = Some c }) →
         IfSome procedure (λ keys. IfSome s.partial (λ p. NasKeysOf p.root keys)) →
         CoreStands roots given (record s { context = Some (nas_taken count c); procedure = procedure })
-    taken_stands count procedure le h p = (
-      h.0,
-      h.1,
-      p,
-      trigger_below s.trigger count le h.3,
-      λ t k e. later_mark roots (core_partial_root s.partial) (authentication_of c.nas.root) (due s.trigger c.nas.receive) (due s.trigger (count + 1)) t
-          (due_rises s.trigger count le) (h.4 t k e),
-    )
+    taken_stands count procedure le h p = record {
+      kasmes = h.kasmes;
+      keys = h.keys;
+      procedure = p;
+      trigger = trigger_below s.trigger count le h.trigger;
+      past = λ t k e. later_mark roots (core_partial_root s.partial) (authentication_of c.nas.root) (due s.trigger c.nas.receive) (due s.trigger (count + 1)) t
+          (due_rises s.trigger count le) (h.past t k e);
+    }
 
     -- and asks for a connection
     asked_stands : (count : ℕ) → c.nas.receive ≤ count → CoreStands roots given (record s { context = Some c }) →
         CoreStands roots given (record s { context = Some (nas_taken count c); trigger = Some count })
-    asked_stands count le h = (
-      h.0,
-      h.1,
-      h.2,
-      omega arith,
-      λ t k e. later_mark roots (core_partial_root s.partial) (authentication_of c.nas.root) (due s.trigger c.nas.receive) count t
-          (let x = due_below s.trigger h.3 in omega arith) (h.4 t k e),
-    )
+    asked_stands count le h = record {
+      kasmes = h.kasmes;
+      keys = h.keys;
+      procedure = h.procedure;
+      trigger = omega arith;
+      past = λ t k e. later_mark roots (core_partial_root s.partial) (authentication_of c.nas.root) (due s.trigger c.nas.receive) count t
+          (let x = due_below s.trigger h.trigger in omega arith) (h.past t k e);
+    }
 
     -- another KASME is that of a newer partial context
     other_root : (root : Term) (P : CorePartial Term → Type 0) (o : Option (CorePartial Term))
@@ -117,12 +122,12 @@ module _ (roots : ℕ) (given : Homes) where
     new_nas : (type id bearer : ℕ) → IsNas type → CoreStands roots given (record s { context = Some c }) →
         NewDown roots (record s { context = Some c }) (record s { context = Some (nas_sent_to (c.nas.send + 1) c) })
         (record { key = Alg c.nas.root type id; count = c.nas.send; bearer = bearer; dir = Down })
-    new_nas type id bearer lt h = (
-      refl,
-      lt,
-      λ n. (h.0.1.0, other_root c.nas.root (λ p. c.nas.send < p.send) s.partial h.0.1.1, λ e. omega arith),
-      λ old. let x = (old lt).2 refl in absurd (omega arith),
-    )
+    new_nas type id bearer lt h = let (low, newer) = h.kasmes.1 in record {
+      down = refl;
+      of_nas = lt;
+      now = λ n. (low, other_root c.nas.root (λ p. c.nas.send < p.send) s.partial newer, λ e. omega arith);
+      news = λ old. let x = (old lt).2 refl in absurd (omega arith);
+    }
 
     -- both uses of a NAS sending are new, and apart
     abbrev BothNas : Keys Term → Type 0
@@ -136,7 +141,7 @@ module _ (roots : ℕ) (given : Homes) where
         CoreKeeps roots given (record s { context = Some c }) (record s { context = Some (nas_sent_to (c.nas.send + 1) c) })
         (Some (nas_text c.nas.keys c.nas.send text))
     text_sent text h =
-        let b = subst BothNas (sym h.1) (
+        let b = subst BothNas (sym h.keys) (
           new_nas 1 (identity_of c.nas.keys.algs.eea) nas_bearer (omega arith) h,
           new_nas 2 eia2_identity nas_bearer (omega arith) h,
           types_apart _ _ 1 2 refl refl (λ e. absurd (omega arith)),
@@ -158,25 +163,28 @@ module _ (roots : ℕ) (given : Homes) where
       → NasCases (term_reading_by same) (λ t row. NasHas (term_reading_by same) t pdu outcome row) Keeps s
   nas_keeps same pdu outcome s = record {
     nothing = λ t answer h. still t h;
-    closed = λ f h. keeps s _ None (h.0, h.1, tt, h.3, h.4) (λ k count u. u) tt tt (λ taken. tt);
-    completed = λ count p keys f h. keeps _ _ None (
-      (tt, (h.0.0, tt)),
-      h.2,
-      tt,
-      omega arith,
-      λ t k e. let x = h.4 t k e in (x.0, tt, (let y = x.1 in omega arith, λ f. let y = x.1 in absurd (omega arith))),
-    )
+    closed = λ f h. keeps s _ None (record { kasmes = h.kasmes; keys = h.keys; procedure = tt; trigger = h.trigger; past = h.past })
+        (λ k count u. u) tt tt (λ taken. tt);
+    completed = λ count p keys f h. keeps _ _ None
+        (record {
+          kasmes = (tt, (h.kasmes.0, tt));
+          keys = h.procedure;
+          procedure = tt;
+          trigger = omega arith;
+          past = λ t k e. let (low, older, _) = h.past t k e in (low, tt, (omega arith, λ f. absurd (omega arith)));
+        })
         (λ k n u. (u.0, tt, u.1)) tt tt (λ taken. tt);
-    changed = λ count conn next station p keys f h. keeps _ _ _ (
-      (tt, (h.0.0, tt)),
-      h.2,
-      tt,
-      tt,
-      λ t k e. let x = h.4 t k e in (x.0, tt, (let y = x.1 in omega arith, λ f. let y = x.1 in absurd (omega arith))),
-    )
+    changed = λ count conn next station p keys f h. keeps _ _ _
+        (record {
+          kasmes = (tt, (h.kasmes.0, tt));
+          keys = h.procedure;
+          procedure = tt;
+          trigger = tt;
+          past = λ t k e. let (low, older, _) = h.past t k e in (low, tt, (omega arith, λ f. absurd (omega arith)));
+        })
         (λ k n u. (u.0, tt, u.1)) tt tt (λ taken. tt);
     asked = λ count c f h. keeps _ _ None (asked_stands s c count (opens_above f) h) (λ k n u. u) tt tt (λ taken. tt);
-    opened = λ count text c f h. keeps _ _ None (taken_stands s c count s.procedure (opens_above f) h h.2) (λ k n u. u) tt tt (λ taken. tt);
+    opened = λ count text c f h. keeps _ _ None (taken_stands s c count s.procedure (opens_above f) h h.procedure) (λ k n u. u) tt tt (λ taken. tt);
     rejected = λ count c f h. keeps _ _ None (taken_stands s c count None (opens_above f.3) h tt) (λ k n u. u) tt tt (λ taken. tt);
   }
 
@@ -206,8 +214,16 @@ module _ (roots : ℕ) (given : Homes) where
   started_keeps : (same : Term → Term → Bool) (ksi : ℕ) (algs : Algs) (caps : Caps) (count : ℕ) (s : Core Term ℕ) (p : CorePartial Term)
       → count ≡ p.send → Keeps (with_partial s (Some p)) (smc_started (term_reading_by same) ksi algs caps count (Some p) (with_partial s (Some p)))
   started_keeps same ksi algs caps count s p e h =
-      keeps _ _ _ (h.0, h.1, refl, h.3, h.4) (λ k n u. (u.0, (λ g. let x = u.1 g in omega arith), u.2))
-      ((refl, omega arith, λ n. (h.0.0, λ g. omega arith, older s.context h.0.1), λ old. let x = (old (omega arith)).1 refl in absurd (omega arith)), tt)
+      keeps _ _ _ (record { kasmes = h.kasmes; keys = h.keys; procedure = refl; trigger = h.trigger; past = h.past })
+      (λ k n u. (u.0, (λ g. let x = u.1 g in omega arith), u.2)) (
+        record {
+          down = refl;
+          of_nas = omega arith;
+          now = λ n. (h.kasmes.0, λ g. omega arith, older s.context h.kasmes.1);
+          news = λ old. let x = (old (omega arith)).1 refl in absurd (omega arith);
+        },
+        tt,
+      )
       (tt, tt) (λ taken. tt)
     where
       older : (o : Option (CoreContext Term)) → IfSome (core_context_root o) (λ c. (c < roots) × (c < authentication_of p.root))
@@ -231,27 +247,27 @@ module _ (roots : ℕ) (given : Homes) where
   set_up_keeps same conn cell target caps count s c (Some n) e h = record {
     new = homed given kenb (home_at target conn);
     grows = homed_grows given kenb (home_at target conn) not_given;
-    stands = (h.0, h.1, h.2, tt, all);
+    stands = record { kasmes = h.kasmes; keys = h.keys; procedure = h.procedure; trigger = tt; past = all };
     nas = λ k m u. u;
     uses = tt;
     apart = tt;
-    sends = λ taken. (target, refl, homed_here given kenb (home_at target conn), refl);
+    sends = λ taken. record { station = target; is_to = refl; here = homed_here given kenb (home_at target conn); no_star = refl };
   }
     where
       kenb : Term
       kenb = Kenb c.nas.root count
 
       not_given : (k : Home) → given kenb ≡ Some k → ⊥
-      not_given k f = let x = (h.4 kenb k f).2.1 refl in let y = by_some e in absurd (omega arith)
+      not_given k f = let x = (h.past kenb k f).2.1 refl in let y = by_some e in absurd (omega arith)
 
       all : (t : Term) (k : Home) → homed given kenb (home_at target conn) t ≡ Some k → IsPast roots (core_partial_root s.partial) (core_mark None (Some c)) t
       all t k f = by_side (homed_is given kenb (home_at target conn) t k f) where
         by_side : ((given t ≡ Some k) ⊎ ((t ≡ kenb) × (home_at target conn ≡ k))) → IsPast roots (core_partial_root s.partial) (core_mark None (Some c)) t
         by_side (inl g) =
-            later_mark roots (core_partial_root s.partial) (authentication_of c.nas.root) n c.nas.receive t (let x = h.3 in omega arith) (h.4 t k g)
+            later_mark roots (core_partial_root s.partial) (authentication_of c.nas.root) n c.nas.receive t (let x = h.trigger in omega arith) (h.past t k g)
         by_side (inr g) =
             subst (IsPast roots (core_partial_root s.partial) (core_mark None (Some c))) (sym g.0)
-            (h.0.1.0, h.0.1.1, (omega arith, λ i. let x = h.3 in let y = by_some e in omega arith))
+            (h.kasmes.1.0, h.kasmes.1.1, (omega arith, λ i. let x = h.trigger in let y = by_some e in omega arith))
 
   act_keeps : (same : Term → Term → Bool) (act : CoreAct) (s : Core Term ℕ) → ActCases (term_reading_by same) (λ t row. ActHas t act row) Keeps s
   act_keeps same act s = record {

@@ -45,7 +45,7 @@ module _ (roots : ℕ) (taken : Homes) where
         let used = subst (λ on. (srb_counts srb l.bearers).send < send_on on (bearer5_of (of_srb srb)) b) (sym f)
         (subst (λ x. (srb_counts srb l.bearers).send < send_on false (bearer5_of (of_srb srb)) x) (sym e) (srb_is_used srb l.bearers)) in (
           refl,
-          (λ n. absurd (omega arith), λ a. (home_at l.station l.air, h.3.0, λ g. used)),
+          (λ n. absurd (omega arith), λ a. (home_at l.station l.air, h.radio.here, λ g. used)),
           λ old. srb_is_next srb l.bearers
               (subst (λ on. (srb_counts srb l.bearers).send < send_on on (bearer5_of (of_srb srb)) l.bearers) f ((old.1 ge).2 refl)),
         )
@@ -57,7 +57,7 @@ module _ (roots : ℕ) (taken : Homes) where
     new_drb drb e id h =
         let used = subst (λ x. (drb_counts drb l.bearers).send < send_on true (bearer5_of (of_drb drb)) x) (sym e) (drb_is_used drb l.bearers) in (
           refl,
-          (λ n. absurd (omega arith), λ a. (home_at l.station l.air, h.3.0, λ g. used)),
+          (λ n. absurd (omega arith), λ a. (home_at l.station l.air, h.radio.here, λ g. used)),
           λ old. drb_is_next drb l.bearers ((old.1 (omega arith)).2 refl),
         )
 
@@ -95,9 +95,9 @@ module _ (roots : ℕ) (taken : Homes) where
         let a : OfRrc srb x (as_keys_of term_reading l.kenb l.keys.algs) = (
           (new_srb srb e 3 (identity_of l.keys.algs.eea) (omega arith) refl h, (new_srb srb e 4 eia2_identity (omega arith) refl h, tt)),
           both_apart _ _ (types_apart _ _ 3 4 refl refl (λ g. absurd (omega arith))),
-          h.3.0,
+          h.radio.here,
         ) in
-        let k = subst (OfRrc srb x) (sym h.3.2) a in
+        let k = subst (OfRrc srb x) (sym h.radio.keys) a in
         bearers_keep _ (subst (Rise l.bearers) (sym e) (srb_sent_rises srb l.bearers)) h k.0 k.1 (λ given. k.2)
 
     -- a user packet
@@ -107,7 +107,7 @@ module _ (roots : ℕ) (taken : Homes) where
     packet_keeps drb text e h =
         let k = subst (λ keys. NewUp roots taken taken (record s { radio = Connected l }) (record s { radio = with_bearers l b })
         (drb_use Up keys.up_enc drb (drb_counts drb l.bearers).send))
-        (sym h.3.2) (new_drb drb e (identity_of l.keys.algs.eea) h) in
+        (sym h.radio.keys) (new_drb drb e (identity_of l.keys.algs.eea) h) in
         bearers_keep _ (subst (Rise l.bearers) (sym e) (drb_sent_rises drb l.bearers)) h (k, tt) (tt, tt) (λ given. tt)
 
   -- a KeNB that is taken now was not before
@@ -135,21 +135,21 @@ module _ (roots : ℕ) (taken : Homes) where
     joins sent took h same past before level keys older uses apart sends takes rises = record {
       new = homed taken kenb (home_at l.station l.air);
       grows = homed_grows taken kenb (home_at l.station l.air) (not_taken kenb before);
-      stands = (
-        h.0,
-        h.1,
-        taken_all (IsPast roots (partial_root s.partial) (phone_mark s.context)) (home_at l.station l.air) past h.2,
-        (
-          subst (λ k. homed taken kenb (home_at l.station l.air) k ≡ Some (home_at l.station l.air)) (sym same)
-              (homed_here taken kenb (home_at l.station l.air)),
-          level,
-          keys,
-          taken_all (λ t. IsNotAfter t l.kenb) (home_at l.station l.air) (subst (IsNotAfter kenb) (sym same) (not_after_itself kenb))
-              (λ t k e. subst (IsNotAfter t) (sym same) (before_is_not_after t kenb (before t k e))),
-        ),
-        older,
-        h.5,
-      );
+      stands = record {
+        kasmes = h.kasmes;
+        keys = h.keys;
+        past = taken_all (IsPast roots (partial_root s.partial) (phone_mark s.context)) (home_at l.station l.air) past h.past;
+        radio = record {
+          here = subst (λ k. homed taken kenb (home_at l.station l.air) k ≡ Some (home_at l.station l.air)) (sym same)
+              (homed_here taken kenb (home_at l.station l.air));
+          level = level;
+          keys = keys;
+          latest = taken_all (λ t. IsNotAfter t l.kenb) (home_at l.station l.air) (subst (IsNotAfter kenb) (sym same) (not_after_itself kenb))
+              (λ t k e. subst (IsNotAfter t) (sym same) (before_is_not_after t kenb (before t k e)));
+        };
+        older = older;
+        sent = h.sent;
+      };
       nas = λ k count u. u;
       link = λ k type count bearer u. (
         u.0,
@@ -188,9 +188,10 @@ module _ (roots : ℕ) (taken : Homes) where
           bearers = srb_sent Signalling1 (srb_taken Signalling1 count new_bearers);
           by_handover = false;
         } in
-        joins s (Connecting w) w.kenb l _ _ h refl h.3.0 h.3.1 (refl, refl, refl) refl h.4
-        (new_zero s (Connecting w) w.kenb l h h.3.1 4 eia2_identity 0 (omega arith) (omega arith), tt) (tt, tt)
-        (λ given. homed_here taken w.kenb (home_at station air)) (homed_here taken w.kenb (home_at station air)) h.3.1
+        let (past, before) = h.radio in
+        joins s (Connecting w) w.kenb l _ _ h refl past before (refl, refl, refl) refl h.older
+        (new_zero s (Connecting w) w.kenb l h before 4 eia2_identity 0 (omega arith) (omega arith), tt) (tt, tt)
+        (λ given. homed_here taken w.kenb (home_at station air)) (homed_here taken w.kenb (home_at station air)) before
 
     -- a handover command
     arrived_keeps : (l : Link Term ℕ) (steps : ℕ) (cell : Place) → PhoneStands roots taken (record s { radio = Connected l }) →
@@ -199,7 +200,7 @@ module _ (roots : ℕ) (taken : Homes) where
         PhoneKeeps roots taken (record s { radio = Connected l }) d.0 d.1.sent d.1.took
     arrived_keeps l steps cell h =
         let star = (reached_after (term_reading_by same) l.chain l.kenb steps cell).star.key in
-        let k = star_is_later same l.chain l.kenb steps cell h.3.1 in
+        let (later, one_root, one_count, level) = star_is_later same l.chain l.kenb steps cell h.radio.level in
         let t : Link Term ℕ = record {
           station = station;
           air = air;
@@ -209,10 +210,11 @@ module _ (roots : ℕ) (taken : Homes) where
           bearers = srb_sent Signalling1 new_bearers;
           by_handover = true;
         } in
-        let before : (t : Term) (h : Home) → taken t ≡ Some h → IsBefore t star = λ t g e. not_after_before t l.kenb star (h.3.3 t g e) k.0 in
+        let before : (t : Term) (h : Home) → taken t ≡ Some h → IsBefore t star = λ t g e. not_after_before t l.kenb star (h.radio.latest t g e) later in
         joins s (Connected l) star t _ _ h refl
-        (past_alike roots (partial_root s.partial) (phone_mark s.context) l.kenb star k.1 k.2 (h.2 l.kenb (home_at l.station l.air) h.3.0))
-        before k.3 refl (h.4.0 ∙ k.1, h.4.1) (
+        (past_alike roots (partial_root s.partial) (phone_mark s.context) l.kenb star one_root one_count
+        (h.past l.kenb (home_at l.station l.air) h.radio.here))
+        before level refl (h.older.0 ∙ one_root, h.older.1) (
           new_zero s (Connected l) star t h before 3 (identity_of algs.eea) 0 (omega arith) (omega arith),
           (new_zero s (Connected l) star t h before 4 eia2_identity 0 (omega arith) (omega arith), tt),
         )
@@ -231,7 +233,7 @@ module _ (roots : ℕ) (taken : Homes) where
           Keeps roots taken t (changed_unless (term_reading_by same) cell algs station air t (before_of l) c.root false)
       changed_keeps l c e h =
           let star = Star (Kenb c.root 0) cell.pci cell.earfcn in
-          let newer = another l c e h.4 in
+          let newer = another l c e h.older in
           let t : Link Term ℕ = record {
             station = station;
             air = air;
@@ -242,9 +244,9 @@ module _ (roots : ℕ) (taken : Homes) where
             by_handover = true;
           } in
           let before : (t : Term) (h : Home) → taken t ≡ Some h → IsBefore t star =
-          λ t g f. let x = (h.3.3 t g f).0 in (omega arith, λ i. absurd (omega arith)) in
+          λ t g f. let x = (h.radio.latest t g f).0 in (omega arith, λ i. absurd (omega arith)) in
           joins (record s { context = Some c }) (Connected l) star t _ _ h refl
-          (h.0.1.0, h.0.1.1, (omega arith, λ i. let x = h.5 in omega arith))
+          (h.kasmes.1.0, h.kasmes.1.1, (omega arith, λ i. let x = h.sent in omega arith))
           before (refl, refl, refl) refl (refl, inl refl) (
             new_zero (record s { context = Some c }) (Connected l) star t h before 3 (identity_of algs.eea) 0 (omega arith) (omega arith),
             (new_zero (record s { context = Some c }) (Connected l) star t h before 4 eia2_identity 0 (omega arith) (omega arith), tt),
@@ -258,7 +260,7 @@ module _ (roots : ℕ) (taken : Homes) where
     idle_keeps h = record {
       new = taken;
       grows = λ t k e. e;
-      stands = (h.0, h.1, h.2, tt, tt, h.5);
+      stands = record { kasmes = h.kasmes; keys = h.keys; past = h.past; radio = tt; older = tt; sent = h.sent };
       nas = λ k count u. u;
       link = λ k type count bearer u. (u.0, u.1, tt);
       uses = tt;

@@ -4,7 +4,7 @@ use Rattle.std.specs.Prelude.{IfSome}
 use Rattle.alg_choice.specs.declared.algs.Algs.{Algs}
 use Rattle.alg_choice.specs.Algs.{identity_of, eia2_identity}
 use Rattle.rec_base.specs.declared.uses.Dir.TheVariants.{Up}
-use Rattle.key_model.specs.Term.{Term, Root, Kenb, Nh, Star, Alg}
+use Rattle.key_model.specs.Term.{Term, Kenb, Alg}
 use Rattle.key_model.specs.Reading.{term_reading_by}
 use Rattle.nas_guard.specs.Keys.{Keys}
 use Rattle.lte_machine.specs.Wire.{KeyUse, Outgoing, SealedNas, PlainNas, nas_use, nas_ciphering}
@@ -101,14 +101,14 @@ module _ (roots : ℕ) (taken : Homes) where
     -- the context's next COUNT rises
     counts_on : (n : ℕ) → c.send ≤ n → PhoneStands roots taken (record s { context = Some c })
         → PhoneStands roots taken (record s { context = Some (record c { send = n }) })
-    counts_on n le h = (
-      h.0,
-      h.1,
-      λ t k e. later_mark roots (partial_root s.partial) (authentication_of c.root) c.send n t le (h.2 t k e),
-      later_radio (partial_root s.partial) (authentication_of c.root) c.send n s.radio le h.3,
-      h.4,
-      let x = h.5 in omega arith,
-    )
+    counts_on n le h = record {
+      kasmes = h.kasmes;
+      keys = h.keys;
+      past = λ t k e. later_mark roots (partial_root s.partial) (authentication_of c.root) c.send n t le (h.past t k e);
+      radio = later_radio (partial_root s.partial) (authentication_of c.root) c.send n s.radio le h.radio;
+      older = h.older;
+      sent = let x = h.sent in omega arith;
+    }
 
     -- uses stay below the next COUNT
     counts_nas : (n : ℕ) → c.send ≤ n → (k : Term) (count : ℕ) → NasUp roots s.partial (Some c) k count
@@ -121,7 +121,7 @@ module _ (roots : ℕ) (taken : Homes) where
         (record { key = Alg c.root type id; count = c.send; bearer = bearer; dir = Up })
     new_nas radio type id bearer lt h = (
       refl,
-      (λ n. (h.0.1.0, other_root c.root s.partial h.0.1.1, λ e. omega arith), λ a. absurd (omega arith)),
+      (λ n. (h.kasmes.1.0, other_root c.root s.partial h.kasmes.1.1, λ e. omega arith), λ a. absurd (omega arith)),
       λ old. let x = (old.0 lt).2 refl in absurd (omega arith),
     )
 
@@ -134,7 +134,7 @@ module _ (roots : ℕ) (taken : Homes) where
 
     -- both are new, under the keys of the context
     both_nas : (radio : Radio Term ℕ) → PhoneStands roots taken (record s { context = Some c }) → BothNas radio c.keys
-    both_nas radio h = subst (BothNas radio) (sym h.1) (
+    both_nas radio h = subst (BothNas radio) (sym h.keys) (
       new_nas radio 1 (identity_of c.keys.algs.eea) _ (omega arith) h,
       new_nas radio 2 eia2_identity _ (omega arith) h,
       types_apart _ _ 1 2 refl refl (λ e. absurd (omega arith)),
@@ -183,14 +183,17 @@ module _ (roots : ℕ) (taken : Homes) where
         let b = both_nas radio h in record {
           new = taken;
           grows = λ t k e. e;
-          stands = (
-            h.0,
-            h.1,
-            λ t k e. later_mark roots (partial_root s.partial) (authentication_of c.root) c.send (c.send + 1) t (omega arith) (h.2 t k e),
-            ((h.0.1.0, h.0.1.1, (omega arith, λ e. omega arith)), λ t k e. past_is_before roots (partial_root s.partial) c.root c.send t (h.2 t k e)),
-            (refl, inl refl),
-            omega arith,
-          );
+          stands = record {
+            kasmes = h.kasmes;
+            keys = h.keys;
+            past = λ t k e. later_mark roots (partial_root s.partial) (authentication_of c.root) c.send (c.send + 1) t (omega arith) (h.past t k e);
+            radio = (
+              (h.kasmes.1.0, h.kasmes.1.1, (omega arith, λ e. omega arith)),
+              λ t k e. past_is_before roots (partial_root s.partial) c.root c.send t (h.past t k e),
+            );
+            older = (refl, inl refl);
+            sent = omega arith;
+          };
           nas = counts_nas (c.send + 1) (omega arith);
           link = λ k type count bearer u. (u.0, u.1, tt);
           uses = (b.1, tt);
@@ -221,7 +224,7 @@ module _ (roots : ℕ) (taken : Homes) where
     taken_older mark Idle now past h o = tt
     taken_older mark (Connecting w) now past h o = (o.0, inr (let x = h.0.1 in let y = o.0 in omega arith))
     taken_older mark (Connected l) now past h o =
-        (o.0, inr (let x = (past l.kenb (home_at l.station l.air) h.0).1 in let y = o.0 in omega arith))
+        (o.0, inr (let x = (past l.kenb (home_at l.station l.air) h.here).1 in let y = o.0 in omega arith))
 
     -- its first COUNT under a NAS key is new
     new_first : (radio : Radio Term ℕ) (type id bearer : ℕ) → IsNas type → PhoneStands roots taken (record s { partial = Some p }) →
@@ -229,7 +232,7 @@ module _ (roots : ℕ) (taken : Homes) where
         (record s { partial = None; context = Some (context_of (term_reading_by same) algs count p.root); radio = radio })
         (record { key = Alg p.root type id; count = 0; bearer = bearer; dir = Up })
     new_first radio type id bearer lt h =
-        (refl, (λ n. (h.0.0, tt, λ e. omega arith), λ a. absurd (omega arith)), λ old. (old.0 lt).1 refl)
+        (refl, (λ n. (h.kasmes.0, tt, λ e. omega arith), λ a. absurd (omega arith)), λ old. (old.0 lt).1 refl)
 
     -- the radio afterwards stands, and so does all
     first_sent : (radio : Radio Term ℕ) (header : ℕ) (text : List ℕ) → PhoneStands roots taken (record s { partial = Some p }) →
@@ -242,7 +245,14 @@ module _ (roots : ℕ) (taken : Homes) where
     first_sent radio header text h r older link = record {
       new = taken;
       grows = λ t k e. e;
-      stands = ((tt, (h.0.0, tt)), refl, λ t k e. past_all (phone_mark s.context) t (h.2 t k e), r, older, omega arith);
+      stands = record {
+        kasmes = (tt, (h.kasmes.0, tt));
+        keys = refl;
+        past = λ t k e. past_all (phone_mark s.context) t (h.past t k e);
+        radio = r;
+        older = older;
+        sent = omega arith;
+      };
       nas = λ k count u. (u.0, tt, λ e. absurd (u.1 e));
       link = link;
       uses = (new_first radio 1 (identity_of algs.eea) _ (omega arith) h, (new_first radio 2 eia2_identity _ (omega arith) h, tt));
@@ -257,7 +267,7 @@ module _ (roots : ℕ) (taken : Homes) where
         RadioStands roots None (Some (record { root = authentication_of p.root; count = 1 })) taken
         (Connecting (record { root = p.root; kenb = Kenb p.root 0 }))
     waits h =
-        ((h.0.0, tt, (omega arith, λ e. omega arith)), λ t k e. let x = (h.2 t k e).1 in (omega arith, λ f. absurd (omega arith)))
+        ((h.kasmes.0, tt, (omega arith, λ e. omega arith)), λ t k e. let x = (h.past t k e).1 in (omega arith, λ f. absurd (omega arith)))
 
   -- of a phone that stands so
   abbrev pub Keeps : Phone Term ℕ → PhoneDone Term ℕ → Type 0
@@ -273,8 +283,8 @@ module _ (roots : ℕ) (taken : Homes) where
         first_sent same algs count s p (Connecting (record { root = p.root; kenb = Kenb p.root 0 })) 4 _ h (waits same algs count s p h) (refl, inl refl)
         (λ k type count bearer u. (u.0, u.1, tt));
     taken_connected = λ algs count p k h.
-        first_sent same algs count s p s.radio 4 _ h (taken_radio same algs count s p (phone_mark s.context) s.radio h.3)
-        (taken_older same algs count s p (phone_mark s.context) s.radio (kasme_in_use s.context) h.2 h.3 h.4) (λ k type count bearer u. u);
+        first_sent same algs count s p s.radio 4 _ h (taken_radio same algs count s p (phone_mark s.context) s.radio h.radio)
+        (taken_older same algs count s p (phone_mark s.context) s.radio (kasme_in_use s.context) h.past h.radio h.older) (λ k type count bearer u. u);
     opened = λ count text c k h. record {
       new = taken;
       grows = λ t k e. e;

@@ -67,11 +67,11 @@ radio_in_order : (w : World Term ℕ (Outgoing Term ℕ)) (h : PhoneFresh w) (ra
 radio_in_order w h Idle k = tt
 radio_in_order w h (Connecting x) k =
     let before = all_taken h.taken (λ t. IsBefore t x.kenb) w.took h.took k.1 in (before, never_took x.kenb w.took before)
-radio_in_order w h (Connected l) k = all_taken h.taken (λ t. IsNotAfter t l.kenb) w.took h.took k.3
+radio_in_order w h (Connected l) k = all_taken h.taken (λ t. IsNotAfter t l.kenb) w.took h.took k.latest
 
 -- what keeps the order gives it
 pub in_order : (w : World Term ℕ (Outgoing Term ℕ)) → PhoneFresh w → PhoneInOrder w
-in_order w h = (h.order, radio_in_order w h w.phone.radio h.phone.3)
+in_order w h = (h.order, radio_in_order w h w.phone.radio h.phone.radio)
 
 module _ (same : Term → Term → Bool) (itself : IsReflexive same) (octets : Outgoing Term ℕ → List ℕ) (sender : Option (Outgoing Term ℕ) → Option (KeyUse Term))
     (opener : Opening Term → List ℕ → Option (Outgoing Term ℕ) → Outcome) where
@@ -141,7 +141,7 @@ module _ (same : Term → Term → Bool) (itself : IsReflexive same) (octets : O
     roots = 0;
     taken = λ t. None;
     counted = refl;
-    phone = ((tt, tt), tt, (λ t k e. absurd (none_some e)), tt, tt, tt);
+    phone = record { kasmes = (tt, tt); keys = tt; past = λ t k e. absurd (none_some e); radio = tt; older = tt; sent = tt };
     took = tt;
     order = tt;
   }

@@ -81,25 +81,25 @@ module _ (roots : ℕ) (root : Term) (new : authentication_of root ≡ roots) wh
   pub phone_more : (taken : Homes) (ksi : ℕ) (s : Phone Term ℕ)
       → PhoneStands roots taken s
       → PhoneStands (roots + 1) taken (record s { partial = Some (record { ksi = ksi; root = root }) })
-  phone_more taken ksi s h = (
-    (omega arith, context_older (partial_root s.partial) (context_root s.context) h.0.1),
-    h.1,
-    λ t k e. past_more (partial_root s.partial) (phone_mark s.context) t (h.2 t k e),
-    radio_more taken (partial_root s.partial) (phone_mark s.context) s.radio h.3,
-    h.4,
-    h.5,
-  )
+  phone_more taken ksi s h = record {
+    kasmes = (omega arith, context_older (partial_root s.partial) (context_root s.context) h.kasmes.1);
+    keys = h.keys;
+    past = λ t k e. past_more (partial_root s.partial) (phone_mark s.context) t (h.past t k e);
+    radio = radio_more taken (partial_root s.partial) (phone_mark s.context) s.radio h.radio;
+    older = h.older;
+    sent = h.sent;
+  }
 
   -- and the core
   core_more : (given : Homes) (ksi : ℕ) (caps : Caps) (s : Core Term ℕ) → CoreStands roots given s →
       CoreStands (roots + 1) given (record s { latest = caps; partial = Some (record { ksi = ksi; root = root; caps = caps; send = 0 }); procedure = None })
-  core_more given ksi caps s h = (
-    (omega arith, context_older (core_partial_root s.partial) (core_context_root s.context) h.0.1),
-    h.1,
-    tt,
-    h.3,
-    λ t k e. past_more (core_partial_root s.partial) (core_mark s.trigger s.context) t (h.4 t k e),
-  )
+  core_more given ksi caps s h = record {
+    kasmes = (omega arith, context_older (core_partial_root s.partial) (core_context_root s.context) h.kasmes.1);
+    keys = h.keys;
+    procedure = tt;
+    trigger = h.trigger;
+    past = λ t k e. past_more (core_partial_root s.partial) (core_mark s.trigger s.context) t (h.past t k e);
+  }
 
   -- uplink uses stand
   up_more : (taken : Homes) (ksi : ℕ) (s : Phone Term ℕ) (u : KeyUse Term)

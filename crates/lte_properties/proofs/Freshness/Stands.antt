@@ -11,7 +11,7 @@ use Rattle.nas_guard.specs.Keys.{Keys}
 use Rattle.pdcp_guard.specs.AsKeys.{AsKeys, as_keys_of}
 use Rattle.s1x2_rec.specs.Fields.{Fields, InitialContext, X2Request}
 use Rattle.ho_prep.specs.Prep.{Prep}
-use Rattle.lte_machine.specs.Wire.{Outgoing, SealedNas, PlainNas, SealedRrc, UserPacket, Between}
+use Rattle.lte_machine.specs.Wire.{Outgoing, SealedRrc, Between}
 use Rattle.lte_machine.specs.PhoneState.{nas_keys_of, Partial, NasContext, Radio, Idle, Connecting, Connected, Phone}
 use Rattle.lte_machine.specs.StationState.{Station, Context}
 use Rattle.lte_machine.specs.CoreState.{Core, CorePartial, CoreContext}
@@ -67,9 +67,12 @@ abbrev pub RadioStands : ℕ → Option ℕ → Option Mark → Homes → Radio 
 RadioStands roots partial mark taken Idle = ⊤
 RadioStands roots partial mark taken (Connecting w) =
     IsPast roots partial mark w.kenb × ((t : Term) (h : Home) → taken t ≡ Some h → IsBefore t w.kenb)
-RadioStands roots partial mark taken (Connected l) =
-    (taken l.kenb ≡ Some (home_at l.station l.air)) × IsLevel l.kenb l.chain.sync × AsKeysOf l.kenb l.keys
-    × ((t : Term) (h : Home) → taken t ≡ Some h → IsNotAfter t l.kenb)
+RadioStands roots partial mark taken (Connected l) = record {
+  here : taken l.kenb ≡ Some (home_at l.station l.air);
+  level : IsLevel l.kenb l.chain.sync;
+  keys : AsKeysOf l.kenb l.keys;
+  latest : (t : Term) (h : Home) → taken t ≡ Some h → IsNotAfter t l.kenb;
+}
 
 -- the KASME of a connection is that of its KeNB; beside a NAS context in use it is that of the context, or of an older
 -- authentication
@@ -89,13 +92,14 @@ kasme_in_use context = option_map (λ c. c.root) context
 
 -- the phone
 abbrev pub PhoneStands : ℕ → Homes → Phone Term ℕ → Type 0
-PhoneStands roots taken s =
-    RootsStand roots (partial_root s.partial) (context_root s.context)
-    × IfSome s.context (λ c. NasKeysOf c.root c.keys)
-    × ((t : Term) (h : Home) → taken t ≡ Some h → IsPast roots (partial_root s.partial) (phone_mark s.context) t)
-    × RadioStands roots (partial_root s.partial) (phone_mark s.context) taken s.radio
-    × RadioOlder s.radio (kasme_in_use s.context)
-    × IfSome s.context (λ c. 1 ≤ c.send)
+PhoneStands roots taken s = record {
+  kasmes : RootsStand roots (partial_root s.partial) (context_root s.context);
+  keys : IfSome s.context (λ c. NasKeysOf c.root c.keys);
+  past : (t : Term) (h : Home) → taken t ≡ Some h → IsPast roots (partial_root s.partial) (phone_mark s.context) t;
+  radio : RadioStands roots (partial_root s.partial) (phone_mark s.context) taken s.radio;
+  older : RadioOlder s.radio (kasme_in_use s.context);
+  sent : IfSome s.context (λ c. 1 ≤ c.send);
+}
 
 -- THE CORE
 
@@ -118,20 +122,28 @@ core_mark trigger context = option_map (λ c. record { root = authentication_of 
 
 -- the core
 abbrev pub CoreStands : ℕ → Homes → Core Term ℕ → Type 0
-CoreStands roots given s =
-    RootsStand roots (core_partial_root s.partial) (core_context_root s.context)
-    × IfSome s.context (λ c. NasKeysOf c.nas.root c.nas.keys)
-    × IfSome s.procedure (λ keys. IfSome s.partial (λ p. NasKeysOf p.root keys))
-    × IfSome s.trigger (λ count. IfSome s.context (λ c. count < c.nas.receive))
-    × ((t : Term) (h : Home) → given t ≡ Some h → IsPast roots (core_partial_root s.partial) (core_mark s.trigger s.context) t)
+CoreStands roots given s = record {
+  kasmes : RootsStand roots (core_partial_root s.partial) (core_context_root s.context);
+  keys : IfSome s.context (λ c. NasKeysOf c.nas.root c.nas.keys);
+  procedure : IfSome s.procedure (λ keys. IfSome s.partial (λ p. NasKeysOf p.root keys));
+  trigger : IfSome s.trigger (λ count. IfSome s.context (λ c. count < c.nas.receive));
+  past : (t : Term) (h : Home) → given t ≡ Some h → IsPast roots (core_partial_root s.partial) (core_mark s.trigger s.context) t;
+}
 
 -- A STATION
 
 -- a context's KeNB has its home here, at a place that is spent
+abbrev pub Sits : Homes → Homes → Station Term ℕ → Term → AsKeys Term → Type 0
+Sits taken given s kenb keys = record {
+  at : Home;
+  is : home taken given kenb ≡ Some at;
+  here : at.station ≡ s.id;
+  spent : IsSpent (is_star kenb) at.place s.next s.last s.preps;
+  keys : AsKeysOf kenb keys;
+}
+
 abbrev pub ContextStands : Homes → Homes → Station Term ℕ → Context Term ℕ → Type 0
-ContextStands taken given s c =
-    ((h : Home) × (home taken given c.key.kenb ≡ Some h) × (h.station ≡ s.id) × IsSpent (is_star c.key.kenb) h.place s.next s.last s.preps)
-    × AsKeysOf c.key.kenb c.keys
+ContextStands taken given s c = Sits taken given s c.key.kenb c.keys
 
 -- a preparation has a KeNB*, its keys, and an air address that was drawn
 abbrev pub PrepStands : ℕ → Prep Term ℕ → Type 0
@@ -146,19 +158,20 @@ StationStands taken given s = IfSome s.context (ContextStands taken given s) × 
 -- the phone sends to the station and air address where it took the key; the core gives a KeNB to its home on S1; a request on
 -- X2 has a KeNB*
 abbrev pub BetweenStands : Homes → Address → Fields → Option (NumberedKey Term ℕ) → Type 0
-BetweenStands given to (InitialContext conn cell caps) (Some key) =
-    (station : ℕ) × (to ≡ StationS1 station) × (given key.key ≡ Some (home_at station conn)) × (is_star key.key ≡ false)
+BetweenStands given to (InitialContext conn cell caps) (Some key) = record {
+  station : ℕ;
+  is_to : to ≡ StationS1 station;
+  here : given key.key ≡ Some (home_at station conn);
+  no_star : is_star key.key ≡ false;
+}
 BetweenStands given to (X2Request conn source attempt cell caps) (Some key) = is_star key.key ≡ true
 BetweenStands given to other key = ⊤
 
 -- by the kind of the record
 abbrev pub RecordStands : Homes → Homes → Outgoing Term ℕ → Type 0
 RecordStands taken given (SealedRrc Up station air srb u e text) = OnKey (λ t type. taken t ≡ Some (home_at station air)) u.key
-RecordStands taken given (SealedRrc Down station air srb u e text) = ⊤
 RecordStands taken given (Between to fields key) = BetweenStands given to fields key
-RecordStands taken given (SealedNas dir header u e text) = ⊤
-RecordStands taken given (PlainNas octets) = ⊤
-RecordStands taken given (UserPacket dir station air drb e text) = ⊤
+RecordStands taken given other = ⊤
 
 -- A WORLD
 

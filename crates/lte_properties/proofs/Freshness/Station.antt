@@ -32,51 +32,32 @@ use Rattle.lte_properties.specs.ChainBelow.{AllOf}
 use Rattle.lte_machine.proofs.AirFacts.{AirHas}
 use Rattle.lte_machine.proofs.StationCases.{AirCases, ActCases, air_case, act_case}
 use Rattle.lte_machine.proofs.StationActFacts.{StationActHas}
-use Rattle.lte_properties.proofs.Freshness.Uses.{Home, home_at, Homes, IsAs, is_star, home_of, home, NoneWaits, IsSpent, next_on, send_on, ContextAhead, AsDown, StationUse, AllApart}
-use Rattle.lte_properties.proofs.Freshness.Stands.{AsKeysOf, ContextStands, PrepStands, StationStands, RecordStands}
+use Rattle.lte_properties.proofs.Freshness.Uses.{Home, home_at, Homes, IsAs, is_star, home_of, home, NoneWaits, IsSpent, next_on, send_on, AsDown, StationUse, AllApart}
+use Rattle.lte_properties.proofs.Freshness.Stands.{AsKeysOf, PrepStands, StationStands, RecordStands}
 use Rattle.lte_machine.proofs.Tests.{by_some}
 use Rattle.lte_properties.proofs.ChainNumbers.Lists.{OfSome, all_append, all_filter, all_find, all_map}
 use Rattle.lte_properties.proofs.Freshness.Lists.{both_apart}
-use Rattle.lte_properties.proofs.Freshness.Bearers.{Rise, rise_same, below_stays, srb_taken_rises, drb_taken_rises, srb_sent_rises, drb_sent_rises, left_out_rises, srb_is_next, srb_is_used, drb_is_next, drb_is_used}
+use Rattle.lte_properties.proofs.Freshness.Bearers.{Rise, rise_same, srb_taken_rises, drb_taken_rises, srb_sent_rises, drb_sent_rises, left_out_rises, srb_is_next, srb_is_used, drb_is_next, drb_is_used}
 use Rattle.lte_properties.proofs.Freshness.PhoneNas.{types_apart}
 use Rattle.lte_properties.proofs.Freshness.Order.{on_key}
-use Rattle.lte_properties.proofs.Freshness.StationKeeps.{Later, later_spent, Stays, ContextStays, stays_same, stays_map, restored_kenb, NewAt, StationKeeps, RecordNeeds, TakenHere, AirNeeds}
+use Rattle.lte_properties.proofs.Freshness.StationKeeps.{Later, later_spent, context_later, ahead_later, Stays, ContextStays, stays_same, stays_map, restored_kenb, NewAt, StationKeeps, RecordNeeds, TakenHere, AirNeeds}
 
 module _ (taken given : Homes) where
   -- CONTEXTS THAT STAY
 
-  -- a KeNB and its keys sit at a station
-  abbrev Sits : Station Term ℕ → Term → AsKeys Term → Type 0
-  Sits s kenb keys =
-      ((h : Home) × (home taken given kenb ≡ Some h) × (h.station ≡ s.id) × IsSpent (is_star kenb) h.place s.next s.last s.preps) × AsKeysOf kenb keys
-
-  -- they sit there later
-  sits_later : (s t : Station Term ℕ) → Later s t → (kenb : Term) (keys : AsKeys Term) → Sits s kenb keys → Sits t kenb keys
-  sits_later s t l kenb keys h = ((h.0.0, h.0.1, h.0.2 ∙ sym l.same, later_spent s t l (is_star kenb) h.0.0.place h.0.3), h.1)
-
-  -- so the context stands later
-  context_later : (s t : Station Term ℕ) → Later s t → (o n : Option (Context Term ℕ)) → ContextStays o n →
-      IfSome o (ContextStands taken given s) → IfSome n (ContextStands taken given t)
-  context_later s t l o None h k = tt
-  context_later s t l None (Some d) h k = absurd h
-  context_later s t l (Some c) (Some d) h k = subst₂ (Sits t) (sym h.0) (sym h.1) (sits_later s t l c.key.kenb c.keys k)
-
-  -- and its next COUNTs are above
-  ahead_later : (o n : Option (Context Term ℕ)) → ContextStays o n → (k : Term) (type count bearer : ℕ)
-      → ContextAhead o k type count bearer → ContextAhead n k type count bearer
-  ahead_later o None h k type count bearer u = tt
-  ahead_later None (Some d) h k type count bearer u = absurd h
-  ahead_later (Some c) (Some d) h k type count bearer u = λ e. below_stays type bearer c.bearers d.bearers count h.2 (u (e ∙ h.0))
-
-  -- what such a step keeps, with the uses of what it sends
+  -- what a step keeps, with the uses of what it sends
   keeps : (s t : Station Term ℕ) (sent : Option (Outgoing Term ℕ)) → Later s t → ContextStays s.context t.context → AllOf (PrepStands t.next) t.preps →
       StationStands taken given s → AllOf (NewAt taken given s t) (uses_in sent) → AllApart (uses_in sent) → IfSome sent (RecordStands taken given) →
       StationKeeps taken given s t sent
   keeps s t sent l c p h uses apart sends = record {
     same = l.same;
-    stands = (context_later s t l s.context t.context c h.0, p);
-    old = λ k type count bearer u.
-        (u.0, u.1, λ e. later_spent s t l (is_star k) u.0.place (u.2 (e ∙ l.same)), ahead_later s.context t.context c k type count bearer u.3);
+    stands = (context_later taken given s t l s.context t.context c h.0, p);
+    old = λ k type count bearer u. record {
+      at = u.at;
+      is = u.is;
+      spent = λ e. later_spent s t l (is_star k) u.at.place (u.spent (e ∙ l.same));
+      ahead = ahead_later s.context t.context c k type count bearer u.ahead;
+    };
     uses = uses;
     apart = apart;
     sends = sends;
@@ -115,7 +96,13 @@ module _ (taken given : Homes) where
         NewAt taken given (record s { context = Some c }) (record s { context = Some (record c { bearers = b; attempt = attempt }) })
         (record { key = Alg c.key.kenb type id; count = count; bearer = bearer; dir = Down })
     new_use type id count bearer ge h used next =
-        (refl, (ge, (h.0.0.0, h.0.0.1, h.0.0.2)), λ a. (h.0.0.0, h.0.0.1, λ e. h.0.0.3, λ g. used), λ old. next ((old ge).3 refl))
+        let sits = h.0 in
+        record {
+          down = refl;
+          own = (ge, (sits.at, sits.is, sits.here));
+          now = λ a. record { at = sits.at; is = sits.is; spent = λ e. sits.spent; ahead = λ g. used };
+          news = λ old. next ((old ge).ahead refl);
+        }
 
     -- the uses of an RRC text, by its keys
     abbrev OfRrc : Srb → List ℕ → AsKeys Term → Type 0
@@ -138,7 +125,7 @@ module _ (taken given : Homes) where
           ),
           both_apart _ _ (types_apart _ _ 3 4 refl refl (λ g. absurd (omega arith))),
         ) in
-        let k = subst (OfRrc srb text) (sym h.0.1) a in
+        let k = subst (OfRrc srb text) (sym h.0.keys) a in
         changes (record s { context = Some c }) s.next _ _ (omega arith)
         (refl, refl, subst (Rise c.bearers) (sym e) (srb_sent_rises srb c.bearers)) h k.0 k.1 tt
 
@@ -152,7 +139,7 @@ module _ (taken given : Homes) where
         let k = subst (λ (keys : AsKeys Term). NewAt taken given (record s { context = Some c })
         (record s { context = Some (record c { bearers = b; attempt = attempt }) })
         (drb_use Down keys.up_enc drb (drb_counts drb c.bearers).send))
-        (sym h.0.1) (new_use 5 (identity_of c.keys.algs.eea) _ (bearer5_of (of_drb drb)) (omega arith) h used (drb_is_next drb c.bearers)) in
+        (sym h.0.keys) (new_use 5 (identity_of c.keys.algs.eea) _ (bearer5_of (of_drb drb)) (omega arith) h used (drb_is_next drb c.bearers)) in
         changes (record s { context = Some c }) s.next _ _ (omega arith)
         (refl, refl, subst (Rise c.bearers) (sym e) (drb_sent_rises drb c.bearers)) h (k, tt) (tt, tt) tt
 
@@ -165,11 +152,12 @@ module _ (taken given : Homes) where
       let l : Later t u = record { same = refl; next = le; last = up; free = free } in
       record {
         same = k.same;
-        stands = (context_later t u l t.context t.context (stays_same t.context) k.stands.0, ps);
+        stands = (context_later taken given t u l t.context t.context (stays_same t.context) k.stands.0, ps);
         old = λ key type count bearer x.
             let y = k.old key type count bearer x in
-            (y.0, y.1, λ e. later_spent t u l (is_star key) y.0.place (y.2 e), y.3);
-        uses = all_map (NewAt taken given s t) (NewAt taken given s u) (λ x y. (y.0, y.1, later_use l x y.2, y.3)) (uses_in sent) k.uses;
+            record { at = y.at; is = y.is; spent = λ e. later_spent t u l (is_star key) y.at.place (y.spent e); ahead = y.ahead };
+        uses = all_map (NewAt taken given s t) (NewAt taken given s u)
+            (λ x y. record { down = y.down; own = y.own; now = later_use l x y.now; news = y.news }) (uses_in sent) k.uses;
         apart = k.apart;
         sends = k.sends;
       }
@@ -180,7 +168,10 @@ module _ (taken given : Homes) where
       later_use : Later t u → (x : KeyUse Term) → StationUse taken given t x → StationUse taken given u x
       later_use l x y =
           on_key (λ k type. IsAs type → AsDown taken given t k type x.count x.bearer) (λ k type. IsAs type → AsDown taken given u k type x.count x.bearer)
-          (λ k type f a. let z = f a in (z.0, z.1, λ e. later_spent t u l (is_star k) z.0.place (z.2 (e ∙ l.same)), z.3)) x.key y
+          (λ k type f a.
+          let z = f a in
+          record { at = z.at; is = z.is; spent = λ e. later_spent t u l (is_star k) z.at.place (z.spent (e ∙ l.same)); ahead = z.ahead })
+          x.key y
 
   -- A NEW CONTEXT
 
@@ -192,21 +183,21 @@ module _ (taken given : Homes) where
       StationKeeps taken given s (record t { context = Some c }) sent
   renewed s t c place sent l here unspent spent keys preps uses apart sends = record {
     same = l.same;
-    stands = (((home_at s.id place, here, sym l.same, spent), keys), preps);
-    old = λ k type count bearer u. (
-      u.0,
-      u.1,
-      λ e. later_spent s (record t { context = Some c }) l (is_star k) u.0.place (u.2 (e ∙ l.same)),
-      λ e. absurd (unspent (used_here k type count bearer u e)),
-    );
+    stands = (record { at = home_at s.id place; is = here; here = sym l.same; spent = spent; keys = keys }, preps);
+    old = λ k type count bearer u. record {
+      at = u.at;
+      is = u.is;
+      spent = λ e. later_spent s (record t { context = Some c }) l (is_star k) u.at.place (u.spent (e ∙ l.same));
+      ahead = λ e. absurd (unspent (used_here k type count bearer u e));
+    };
     uses = uses;
     apart = apart;
     sends = sends;
   } where
     used_here : (k : Term) (type count bearer : ℕ) → AsDown taken given s k type count bearer → k ≡ c.key.kenb → IsSpent (is_star c.key.kenb) place s.next s.last s.preps
     used_here k type count bearer u e =
-        let same : u.0 ≡ home_at s.id place = by_some (sym u.1 ∙ ap (home taken given) e ∙ here) in
-        subst₂ (λ b n. IsSpent b n s.next s.last s.preps) (ap is_star e) (ap (λ (h : Home). h.place) same) (u.2 (ap (λ (h : Home). h.station) same))
+        let same : u.at ≡ home_at s.id place = by_some (sym u.is ∙ ap (home taken given) e ∙ here) in
+        subst₂ (λ b n. IsSpent b n s.next s.last s.preps) (ap is_star e) (ap (λ (h : Home). h.place) same) (u.spent (ap (λ (h : Home). h.station) same))
 
   -- rows by a record
 
@@ -217,17 +208,23 @@ module _ (taken given : Homes) where
   given_keeps same conn cell caps algs air None s n h = still s h
   given_keeps same conn cell caps algs air (Some k) s n h =
       let c = initial_context (term_reading_by same) conn cell caps algs air k.key in
-      let here : home taken given k.key ≡ Some (home_at s.id conn) = ap (λ b. home_of b (taken k.key) (given k.key)) n.3 ∙ n.2 in
+      let (above, at, is, no_star) = n in
+      let here : home taken given k.key ≡ Some (home_at s.id conn) = ap (λ b. home_of b (taken k.key) (given k.key)) no_star ∙ is in
       renewed s (record s { next = air + 1; last = conn; preps = [] }) c conn _
-      (record { same = refl; next = let x = n.1 in omega arith; last = let x = n.0 in omega arith; free = λ a lt f. tt })
-      here (λ spent. unspent (subst (λ b. IsSpent b conn s.next s.last s.preps) n.3 spent))
-      (subst (λ b. IsSpent b conn (air + 1) conn []) (sym n.3) (omega arith)) refl tt (
-        (
-          refl,
-          (omega arith, (home_at s.id conn, here, refl)),
-          λ a. (home_at s.id conn, here, λ e. subst (λ b. IsSpent b conn (air + 1) conn []) (sym n.3) (omega arith), λ e. omega arith),
-          λ old. unspent (old_spent here (old (omega arith))),
-        ),
+      (record { same = refl; next = omega arith; last = omega arith; free = λ a lt f. tt })
+      here (λ spent. unspent (subst (λ b. IsSpent b conn s.next s.last s.preps) no_star spent))
+      (subst (λ b. IsSpent b conn (air + 1) conn []) (sym no_star) (omega arith)) refl tt (
+        record {
+          down = refl;
+          own = (omega arith, (home_at s.id conn, here, refl));
+          now = λ a. record {
+            at = home_at s.id conn;
+            is = here;
+            spent = λ e. subst (λ b. IsSpent b conn (air + 1) conn []) (sym no_star) (omega arith);
+            ahead = λ e. omega arith;
+          };
+          news = λ old. unspent (old_spent here (old (omega arith)));
+        },
         tt,
       )
       (tt, tt) tt
@@ -237,8 +234,9 @@ module _ (taken given : Homes) where
 
       old_spent : home taken given k.key ≡ Some (home_at s.id conn) → AsDown taken given s k.key 4 0 0 → conn ≤ s.last
       old_spent here u =
-          let same : u.0 ≡ home_at s.id conn = by_some (sym u.1 ∙ here) in
-          subst₂ (λ b n. IsSpent b n s.next s.last s.preps) n.3 (ap (λ (h : Home). h.place) same) (u.2 (ap (λ (h : Home). h.station) same))
+          let same : u.at ≡ home_at s.id conn = by_some (sym u.is ∙ here) in
+          let (_, _, _, no_star) = n in
+          subst₂ (λ b n. IsSpent b n s.next s.last s.preps) no_star (ap (λ (h : Home). h.place) same) (u.spent (ap (λ (h : Home). h.station) same))
 
   -- a pair that is taken
   pair_keeps : (conn : ℕ) (origin : Option Origin) (key : Option (NumberedKey Term ℕ)) (s : Station Term ℕ) → StationStands taken given s →
@@ -308,10 +306,11 @@ module _ (taken given : Homes) where
   renewed_keeps same conn number air count s None key n h = still (record s { context = None }) h
   renewed_keeps same conn number air count s (Some c) None n h = still (record s { context = Some c }) h
   renewed_keeps same conn number air count s (Some c) (Some kenb) n h =
+      let (low, _, drawn, count_is) = n in
       subst (λ x. let d = key_renewed (term_reading_by same) conn number air x (Some c) (Some kenb) (record s { context = Some c }) in
-      StationKeeps taken given (record s { context = Some c }) d.0 d.1.sent) (sym n.3)
+      StationKeeps taken given (record s { context = Some c }) d.0 d.1.sent) (sym count_is)
       (further (record s { context = Some c }) _ (air + 1) conn _ _
-      (let x = n.2 in omega arith) n.0 (λ a lt f. ((λ e. let x = n.2 in absurd (omega arith)), tt))
+      (omega arith) low (λ a lt f. ((λ e. absurd (omega arith)), tt))
       ((refl, refl, omega arith), tt)
       (rrc_keeps s c (srb_sent Signalling1 c.bearers) _ Signalling1 _ refl h))
 

@@ -17,7 +17,7 @@ use Rattle.lte_machine.specs.Wire.{KeyUse}
 use Rattle.lte_machine.specs.Opening.{Opening, Outcome, Opened}
 use Rattle.lte_machine.specs.Reply.{unseen}
 use Rattle.lte_machine.specs.StationState.{Station, Interface}
-use Rattle.lte_machine.specs.StationRows.{RecordRow, RecordRefused, ContextGiven, ContextReleased, PairTaken, PreparedByS1, PreparedByX2, AckedByS1, AckedByX2, PreparationCancelled, SourceReleased, KeyRenewed, AirRow, AirRefused, SecurityStarted, RrcOpened, PacketOpened, CompletedByS1, CompletedWithin, CompletedByX2}
+use Rattle.lte_machine.specs.StationRows.{RecordRow, ContextGiven, PreparedByS1, PreparedByX2, KeyRenewed, AirRow, CompletedByS1, CompletedWithin, CompletedByX2}
 use Rattle.lte_machine.specs.StationKeys.{air_expects, prepared_expects}
 use Rattle.lte_machine.specs.StationChoice.{air_front, air_row, record_row}
 use Rattle.lte_machine.specs.StationStep.{plain_station}
@@ -98,7 +98,7 @@ module _ (given : Homes) (s : Station Term ℕ) (to : Address) (here : GoesHere 
       BetweenStands given to (InitialContext conn cell caps) (Some k) → s.last < conn → air ≡ s.next →
       RecordNeeds given s (ContextGiven conn cell caps algs air) (Some k)
   context_needs conn cell caps algs air k b newer drawn =
-      (newer, drawn, b.2 ∙ ap (λ x. Some (home_at x conn)) (sym (here b.0 b.1)), b.3)
+      (newer, drawn, b.here ∙ ap (λ x. Some (home_at x conn)) (sym (here b.station b.is_to)), b.no_star)
 
   -- each row
   fits_needs : (r : Reading Term ℕ) (on : Interface) (fields : Fields) (key : Option (NumberedKey Term ℕ))

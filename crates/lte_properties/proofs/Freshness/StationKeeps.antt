@@ -1,19 +1,20 @@
 -- What a step of a station keeps of the keys that it has and uses, and what a row needs for it.
-use Rattle.std.proofs.Common.{◌≡◌, refl, ℕ, ◌+◌, ◌<◌, ◌≤◌, Bool, true, false, Option, Some, None, option_map, arith}
+use Rattle.std.proofs.Common.{◌≡◌, refl, sym, ◌∙◌, subst₂, ℕ, ◌+◌, ◌<◌, ◌≤◌, Bool, true, false, Option, Some, None, option_map, arith}
 use Rattle.std.specs.Prelude.{IfSome, ⊤}
 use Rattle.rec_base.specs.declared.uses.Dir.TheVariants.{Down}
 use Rattle.key_model.specs.Term.{Term}
 use Rattle.key_model.specs.HandoverTable.{NumberedKey}
 use Rattle.nh_chain.specs.Station.{StationKey, restored_if}
 use Rattle.ho_prep.specs.Prep.{Prep, at_air}
+use Rattle.pdcp_guard.specs.AsKeys.{AsKeys}
 use Rattle.lte_machine.specs.Wire.{KeyUse, Outgoing}
 use Rattle.lte_machine.specs.StationState.{Station, Context}
 use Rattle.lte_machine.specs.StationRows.{RecordRow, ContextGiven, PreparedByS1, PreparedByX2, AirRow, CompletedByS1, CompletedWithin, CompletedByX2, KeyRenewed}
 use Rattle.lte_machine.specs.World.{uses_in}
 use Rattle.lte_properties.specs.ChainBelow.{AllOf}
-use Rattle.lte_properties.proofs.Freshness.Uses.{Home, home_at, Homes, OnKey, IsAs, is_star, home, NoneWaits, IsSpent, AsDown, StationUse, AllApart}
-use Rattle.lte_properties.proofs.Freshness.Stands.{StationStands, RecordStands}
-use Rattle.lte_properties.proofs.Freshness.Bearers.{Rise, rise_same}
+use Rattle.lte_properties.proofs.Freshness.Uses.{Home, home_at, Homes, OnKey, IsAs, is_star, home, NoneWaits, IsSpent, ContextAhead, AsDown, StationUse, AllApart}
+use Rattle.lte_properties.proofs.Freshness.Stands.{ContextStands, Sits, StationStands, RecordStands}
+use Rattle.lte_properties.proofs.Freshness.Bearers.{Rise, rise_same, below_stays}
 
 -- STEPS
 
@@ -54,13 +55,38 @@ pub restored_kenb : (key : StationKey Term ℕ) (o : Option (NumberedKey Term �
 restored_kenb key None = refl
 restored_kenb key (Some back) = refl
 
+module _ (taken given : Homes) where
+  -- a KeNB and its keys that sit at a station sit there later
+  sits_later : (s t : Station Term ℕ) → Later s t → (kenb : Term) (keys : AsKeys Term) → Sits taken given s kenb keys → Sits taken given t kenb keys
+  sits_later s t l kenb keys h =
+      record { at = h.at; is = h.is; here = h.here ∙ sym l.same; spent = later_spent s t l (is_star kenb) h.at.place h.spent; keys = h.keys }
+
+  -- so the context stands later
+  pub context_later : (s t : Station Term ℕ) → Later s t → (o n : Option (Context Term ℕ)) → ContextStays o n →
+      IfSome o (ContextStands taken given s) → IfSome n (ContextStands taken given t)
+  context_later s t l o None h k = tt
+  context_later s t l None (Some d) h k = absurd h
+  context_later s t l (Some c) (Some d) h k = subst₂ (Sits taken given t) (sym h.0) (sym h.1) (sits_later s t l c.key.kenb c.keys k)
+
+-- and the next COUNTs of a context that stays are above
+pub ahead_later : (o n : Option (Context Term ℕ)) → ContextStays o n → (k : Term) (type count bearer : ℕ)
+    → ContextAhead o k type count bearer → ContextAhead n k type count bearer
+ahead_later o None h k type count bearer u = tt
+ahead_later None (Some d) h k type count bearer u = absurd h
+ahead_later (Some c) (Some d) h k type count bearer u = λ e. below_stays type bearer c.bearers d.bearers count h.2 (u (e ∙ h.0))
+
 -- a use that the station had not made before, and has made now, of a key whose home it is
 abbrev pub IsOwn : Homes → Homes → ℕ → KeyUse Term → Type 0
 IsOwn taken given id u = OnKey (λ k type. IsAs type × ((h : Home) × (home taken given k ≡ Some h) × (h.station ≡ id))) u.key
 
 -- a use that is new at a station
 abbrev pub NewAt : Homes → Homes → Station Term ℕ → Station Term ℕ → KeyUse Term → Type 0
-NewAt taken given s t u = (u.dir ≡ Down) × IsOwn taken given s.id u × StationUse taken given t u × (StationUse taken given s u → ⊥)
+NewAt taken given s t u = record {
+  down : u.dir ≡ Down;
+  own : IsOwn taken given s.id u;
+  now : StationUse taken given t u;
+  news : StationUse taken given s u → ⊥;
+}
 
 -- what a step of a station keeps
 pub record StationKeeps (taken given : Homes) (s t : Station Term ℕ) (sent : Option (Outgoing Term ℕ)) : Type 0 where

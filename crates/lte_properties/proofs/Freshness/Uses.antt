@@ -127,9 +127,12 @@ ContextAhead context t type count bearer = IfSome context (λ c. t ≡ c.key.ken
 
 -- it has a home, and where that is this station the place is spent
 abbrev pub AsDown : Homes → Homes → Station Term ℕ → Term → ℕ → ℕ → ℕ → Type 0
-AsDown taken given s t type count bearer =
-    (h : Home) × (home taken given t ≡ Some h) × (h.station ≡ s.id → IsSpent (is_star t) h.place s.next s.last s.preps)
-    × ContextAhead s.context t type count bearer
+AsDown taken given s t type count bearer = record {
+  at : Home;
+  is : home taken given t ≡ Some at;
+  spent : at.station ≡ s.id → IsSpent (is_star t) at.place s.next s.last s.preps;
+  ahead : ContextAhead s.context t type count bearer;
+}
 
 -- a use beside a station
 abbrev pub StationUse : Homes → Homes → Station Term ℕ → KeyUse Term → Type 0

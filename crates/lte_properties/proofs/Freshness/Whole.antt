@@ -10,9 +10,9 @@ use Rattle.key_model.specs.Term.{Term, Root, same_term}
 use Rattle.key_model.specs.Value.{value_of}
 use Rattle.key_model.specs.Use.{map_use}
 use Rattle.key_model.proofs.TermFacts.{same_term-Decides}
-use Rattle.lte_machine.specs.Wire.{KeyUse, Ciphering, Outgoing, SealedNas, PlainNas, SealedRrc, UserPacket, Between}
+use Rattle.lte_machine.specs.Wire.{KeyUse, Ciphering, Outgoing, SealedNas, SealedRrc}
 use Rattle.lte_machine.specs.Ciphers.{Ciphers}
-use Rattle.lte_machine.specs.Opening.{Opening, OpensNothing, OpensNas, OpensSrb, OpensDrb, Outcome, Opened, Differs, open_by_uses, open_octets, open_foreign, open_case, judged, same_uses, same_ciphering, same_dir}
+use Rattle.lte_machine.specs.Opening.{Opening, OpensSrb, Outcome, Opened, Differs, open_by_uses, open_octets, open_foreign, open_case, judged, same_uses, same_ciphering, same_dir}
 use Rattle.lte_machine.specs.Machines.{sender_of}
 use Rattle.lte_machine.specs.World.{Machine, World, happens}
 use Rattle.lte_machine.specs.Step.{attempted}
@@ -48,8 +48,8 @@ first_fresh setup = record {
   taken = λ t. None;
   given = λ t. None;
   counted = refl;
-  phone = ((tt, tt), tt, (λ t k e. absurd (none_some e)), tt, tt, tt);
-  core = ((tt, tt), tt, tt, tt, (λ t k e. absurd (none_some e)));
+  phone = record { kasmes = (tt, tt); keys = tt; past = λ t k e. absurd (none_some e); radio = tt; older = tt; sent = tt };
+  core = record { kasmes = (tt, tt); keys = tt; procedure = tt; trigger = tt; past = λ t k e. absurd (none_some e) };
   stations = stations_stand setup.cells setup.stations;
   up = tt;
   nas = tt;

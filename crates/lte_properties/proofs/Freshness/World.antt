@@ -8,7 +8,7 @@ use Rattle.lte_events.specs.declared.addresses.Address.{Address}
 use Rattle.key_model.specs.Term.{Term}
 use Rattle.key_model.specs.HandoverTable.{NumberedKey}
 use Rattle.s1x2_rec.specs.Fields.{Fields, InitialContext}
-use Rattle.lte_machine.specs.Wire.{KeyUse, Outgoing, SealedNas, PlainNas, SealedRrc, UserPacket, Between}
+use Rattle.lte_machine.specs.Wire.{KeyUse, Outgoing, SealedRrc, Between}
 use Rattle.lte_machine.specs.Reply.{Reply, Took}
 use Rattle.lte_machine.specs.PhoneState.{Phone}
 use Rattle.lte_machine.specs.StationState.{Station, Context}
@@ -47,8 +47,13 @@ module _ (taken taken' given given' : Homes) (f : HomesStay taken taken') (g : H
   -- a context stands
   context_grows : (s : Station Term ℕ) (o : Option (Context Term ℕ)) → IfSome o (ContextStands taken given s) → IfSome o (ContextStands taken' given' s)
   context_grows s None h = h
-  context_grows s (Some c) h =
-      ((h.0.0, home_grows (is_star c.key.kenb) taken taken' given given' c.key.kenb h.0.0 f g h.0.1, h.0.2, h.0.3), h.1)
+  context_grows s (Some c) h = record {
+    at = h.at;
+    is = home_grows (is_star c.key.kenb) taken taken' given given' c.key.kenb h.at f g h.is;
+    here = h.here;
+    spent = h.spent;
+    keys = h.keys;
+  }
 
   -- a station stands
   pub station_grows : (s : Station Term ℕ) → StationStands taken given s → StationStands taken' given' s
@@ -58,11 +63,14 @@ module _ (taken taken' given given' : Homes) (f : HomesStay taken taken') (g : H
   pub use_grows : (s : Station Term ℕ) (u : KeyUse Term) → StationUse taken given s u → StationUse taken' given' s u
   use_grows s u h =
       on_key (λ t type. IsAs type → AsDown taken given s t type u.count u.bearer) (λ t type. IsAs type → AsDown taken' given' s t type u.count u.bearer)
-      (λ t type k a. let x = k a in (x.0, home_grows (is_star t) taken taken' given given' t x.0 f g x.1, x.2, x.3)) u.key h
+      (λ t type k a.
+      let x = k a in
+      record { at = x.at; is = home_grows (is_star t) taken taken' given given' t x.at f g x.is; spent = x.spent; ahead = x.ahead }) u.key h
 
   -- a record on S1 or X2 stands
   between_grows : (to : Address) (fields : Fields) (key : Option (NumberedKey Term ℕ)) → BetweenStands given to fields key → BetweenStands given' to fields key
-  between_grows to (InitialContext conn cell caps) (Some key) h = (h.0, h.1, g key.key (home_at h.0 conn) h.2, h.3)
+  between_grows to (InitialContext conn cell caps) (Some key) h =
+      record { station = h.station; is_to = h.is_to; here = g key.key (home_at h.station conn) h.here; no_star = h.no_star }
   between_grows to fields key h = h
 
   -- each record stands
@@ -153,17 +161,17 @@ module _ (m : Machine Term ℕ (Outgoing Term ℕ)) (w : World Term ℕ (Outgoin
           (station_grows h.taken h.taken h.given k.new (λ t x e. e) k.grows) w.stations h.stations;
       up = all_append (λ u. u.dir ≡ Up → UpUse h.roots h.taken w.phone u) w.uses (uses_in d.1.sent) h.up
           (all_map (NewDown h.roots w.core d.0) (λ u. u.dir ≡ Up → UpUse h.roots h.taken w.phone u)
-          (λ u x e. absurd (up_is_not_down e x.0)) (uses_in d.1.sent) k.uses);
+          (λ u x e. absurd (up_is_not_down e x.down)) (uses_in d.1.sent) k.uses);
       nas = all_append (λ u. u.dir ≡ Down → CoreUse h.roots d.0 u) w.uses (uses_in d.1.sent)
           (all_map (λ u. u.dir ≡ Down → CoreUse h.roots w.core u) (λ u. u.dir ≡ Down → CoreUse h.roots d.0 u) (λ u x e. nas_stays u (x e)) w.uses h.nas)
-          (all_map (NewDown h.roots w.core d.0) (λ u. u.dir ≡ Down → CoreUse h.roots d.0 u) (λ u x e. x.2) (uses_in d.1.sent) k.uses);
+          (all_map (NewDown h.roots w.core d.0) (λ u. u.dir ≡ Down → CoreUse h.roots d.0 u) (λ u x e. x.now) (uses_in d.1.sent) k.uses);
       down = all_map (λ s. AllOf (λ u. u.dir ≡ Down → StationUse h.taken h.given s u) w.uses)
           (λ s. AllOf (λ u. u.dir ≡ Down → StationUse h.taken k.new s u) (w.uses ++ uses_in d.1.sent))
           (λ s x. all_append (λ u. u.dir ≡ Down → StationUse h.taken k.new s u) w.uses (uses_in d.1.sent)
           (all_map (λ u. u.dir ≡ Down → StationUse h.taken h.given s u) (λ u. u.dir ≡ Down → StationUse h.taken k.new s u)
           (λ u y e. use_grows h.taken h.taken h.given k.new (λ t z i. i) k.grows s u (y e)) w.uses x)
           (all_map (NewDown h.roots w.core d.0) (λ u. u.dir ≡ Down → StationUse h.taken k.new s u)
-          (λ u y e. nas_is_elsewhere s u y.1) (uses_in d.1.sent) k.uses))
+          (λ u y e. nas_is_elsewhere s u y.of_nas) (uses_in d.1.sent) k.uses))
           w.stations h.down;
       sent = subst (λ o. AllOf (RecordStands h.taken k.new) (with_one o w.sent)) (sym (keep d.1.sent))
           (all_one (RecordStands h.taken k.new) d.1.sent w.sent
@@ -172,7 +180,7 @@ module _ (m : Machine Term ℕ (Outgoing Term ℕ)) (w : World Term ℕ (Outgoin
       took = h.took;
       apart = apart_append w.uses (uses_in d.1.sent) h.apart k.apart
           (all_map (NewDown h.roots w.core d.0) (λ u. AllOf (λ v. v ≡ u → ⊥) w.uses)
-          (λ u x. apart_by (λ v. v.dir ≡ Down → CoreUse h.roots w.core v) w.uses u h.nas (λ y. x.3 (y x.0))) (uses_in d.1.sent) k.uses);
+          (λ u x. apart_by (λ v. v.dir ≡ Down → CoreUse h.roots w.core v) w.uses u h.nas (λ y. x.news (y x.down))) (uses_in d.1.sent) k.uses);
     }
 
   -- A STATION
@@ -202,8 +210,8 @@ module _ (m : Machine Term ℕ (Outgoing Term ℕ)) (w : World Term ℕ (Outgoin
         (r : Term) (type count bearer : ℕ) (p : Home) → home h.taken h.given r ≡ Some p → p.station ≡ s.id → ContextAhead o r type count bearer
     other_ahead t e None x r type count bearer p f g = tt
     other_ahead t e (Some c) x r type count bearer p f g = λ i.
-        let same : x.0.0 ≡ p = by_some (sym x.0.1 ∙ (ap (home h.taken h.given) (sym i) ∙ f)) in
-        absurd (other t e (sym g ∙ (sym (ap (λ (q : Home). q.station) same) ∙ x.0.2)))
+        let same : x.at ≡ p = by_some (sym x.is ∙ (ap (home h.taken h.given) (sym i) ∙ f)) in
+        absurd (other t e (sym g ∙ (sym (ap (λ (q : Home). q.station) same) ∙ x.here)))
 
     -- so a new use stands beside another station
     other_use : (t : Station Term ℕ)
@@ -215,7 +223,10 @@ module _ (m : Machine Term ℕ (Outgoing Term ℕ)) (w : World Term ℕ (Outgoin
     other_use t e x u y =
         on_key (λ r type. IsAs type × ((p : Home) × (home h.taken h.given r ≡ Some p) × (p.station ≡ s.id)))
         (λ r type. IsAs type → AsDown h.taken h.given t r type u.count u.bearer)
-        (λ r type z a. (z.1.0, z.1.1, λ i. absurd (other t e (sym z.1.2 ∙ i)), other_ahead t e t.context x.0 r type u.count u.bearer z.1.0 z.1.1 z.1.2)) u.key y
+        (λ r type z a.
+        let (p, is, here) = z.1 in
+        record { at = p; is = is; spent = λ i. absurd (other t e (sym here ∙ i)); ahead = other_ahead t e t.context x.0 r type u.count u.bearer p is here })
+        u.key y
 
     -- what holds of each station
     abbrev Both : Station Term ℕ → Type 0
@@ -233,17 +244,17 @@ module _ (m : Machine Term ℕ (Outgoing Term ℕ)) (w : World Term ℕ (Outgoin
       stations = all_put (StationStands h.taken h.given) (StationStands h.taken h.given) id d.0 w.stations k.stands (λ t e x. x) h.stations;
       up = all_append (λ u. u.dir ≡ Up → UpUse h.roots h.taken w.phone u) w.uses (uses_in d.1.sent) h.up
           (all_map (NewAt h.taken h.given s d.0) (λ u. u.dir ≡ Up → UpUse h.roots h.taken w.phone u)
-          (λ u x e. absurd (up_is_not_down e x.0)) (uses_in d.1.sent) k.uses);
+          (λ u x e. absurd (up_is_not_down e x.down)) (uses_in d.1.sent) k.uses);
       nas = all_append (λ u. u.dir ≡ Down → CoreUse h.roots w.core u) w.uses (uses_in d.1.sent) h.nas
-          (all_map (NewAt h.taken h.given s d.0) (λ u. u.dir ≡ Down → CoreUse h.roots w.core u) (λ u x e. own_is_not_nas u x.1) (uses_in d.1.sent) k.uses);
+          (all_map (NewAt h.taken h.given s d.0) (λ u. u.dir ≡ Down → CoreUse h.roots w.core u) (λ u x e. own_is_not_nas u x.own) (uses_in d.1.sent) k.uses);
       down = all_put Both (λ t. AllOf (λ u. u.dir ≡ Down → StationUse h.taken h.given t u) (w.uses ++ uses_in d.1.sent)) id d.0 w.stations
           (all_append (λ u. u.dir ≡ Down → StationUse h.taken h.given d.0 u) w.uses (uses_in d.1.sent)
           (all_map (λ u. u.dir ≡ Down → StationUse h.taken h.given s u)
           (λ u. u.dir ≡ Down → StationUse h.taken h.given d.0 u) (λ u x e. down_stays u (x e)) w.uses own)
-          (all_map (NewAt h.taken h.given s d.0) (λ u. u.dir ≡ Down → StationUse h.taken h.given d.0 u) (λ u x e. x.2) (uses_in d.1.sent) k.uses))
+          (all_map (NewAt h.taken h.given s d.0) (λ u. u.dir ≡ Down → StationUse h.taken h.given d.0 u) (λ u x e. x.now) (uses_in d.1.sent) k.uses))
           (λ t e x. all_append (λ u. u.dir ≡ Down → StationUse h.taken h.given t u) w.uses (uses_in d.1.sent) x.1
           (all_map (NewAt h.taken h.given s d.0) (λ u. u.dir ≡ Down → StationUse h.taken h.given t u)
-          (λ u y i. other_use t e x.0 u y.1) (uses_in d.1.sent) k.uses))
+          (λ u y i. other_use t e x.0 u y.own) (uses_in d.1.sent) k.uses))
           (all_both (StationStands h.taken h.given)
           (λ t. AllOf (λ u. u.dir ≡ Down → StationUse h.taken h.given t u) w.uses) Both (λ t x y. (x, y)) w.stations
           h.stations h.down);
@@ -252,5 +263,5 @@ module _ (m : Machine Term ℕ (Outgoing Term ℕ)) (w : World Term ℕ (Outgoin
       took = h.took;
       apart = apart_append w.uses (uses_in d.1.sent) h.apart k.apart
           (all_map (NewAt h.taken h.given s d.0) (λ u. AllOf (λ v. v ≡ u → ⊥) w.uses)
-          (λ u x. apart_by (λ v. v.dir ≡ Down → StationUse h.taken h.given s v) w.uses u own (λ y. x.3 (y x.0))) (uses_in d.1.sent) k.uses);
+          (λ u x. apart_by (λ v. v.dir ≡ Down → StationUse h.taken h.given s v) w.uses u own (λ y. x.news (y x.down))) (uses_in d.1.sent) k.uses);
     }

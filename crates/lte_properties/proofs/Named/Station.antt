@@ -70,21 +70,32 @@ module _ (P : ℕ → Type 0) (cells : List Site) (sites : (cell : Place) (id : 
     released conn None h = tt
     released conn (Some o) h = (h, tt)
 
-    gave_up : (o : Option (Context Term ℕ)) → ContextNamed P o → ContextNamed P (option_map given_up o)
-    gave_up o h = with_named given_up (λ c k. (tt, k.1)) o h
-
     module _ (s : Station Term ℕ) (h : StationNamed P cells s) where
+      -- its preparations, and where its context alone changes
+      preps : AllOf (λ p. PrepNamed P p) s.preps
+      preps = h.3
+
+      with_context : (o : Option (Context Term ℕ)) → ContextNamed P o → StationNamed P cells (record s { context = o })
+      with_context o k = (h.0, h.1, k, preps)
+
+      mapped : (f : Context Term ℕ → Context Term ℕ) → ((c : Context Term ℕ) → ContextNamed P (Some c) → ContextNamed P (Some (f c)))
+          → StationNamed P cells (record s { context = option_map f s.context })
+      mapped f k = with_context (option_map f s.context) (with_named f k s.context h.2)
+
+      gives_up : StationNamed P cells (record s { context = option_map given_up s.context })
+      gives_up = mapped given_up (λ c k. (tt, k.1))
+
       -- the context, and a preparation
       here : (c : Context Term ℕ) → s.context ≡ Some c → ContextNamed P (Some c)
       here c e = subst (λ o. ContextNamed P o) e h.2
 
       found : (at : ℕ) (p : Prep Term ℕ) → at_air at s.preps ≡ Some p → PrepNamed P p
-      found at p e = (subst (OfSome (λ q. PrepNamed P q × (is_at at q ≡ true))) e (all_find (λ p. PrepNamed P p) (is_at at) s.preps h.3)).0
+      found at p e = (subst (OfSome (λ q. PrepNamed P q × (is_at at q ≡ true))) e (all_find (λ p. PrepNamed P p) (is_at at) s.preps preps)).0
 
       admitted_preps : (w : Admitted) (p : Prep Term ℕ) → PrepNamed P p → AllOf (λ p. PrepNamed P p) (filter (λ q. nat_le w.conn q.conn) s.preps ++ p ∷ [])
       admitted_preps w p f =
           all_append (λ p. PrepNamed P p) (filter (λ q. nat_le w.conn q.conn) s.preps) (p ∷ [])
-          (all_filter (λ p. PrepNamed P p) (λ q. nat_le w.conn q.conn) s.preps h.3) (f, tt)
+          (all_filter (λ p. PrepNamed P p) (λ q. nat_le w.conn q.conn) s.preps preps) (f, tt)
 
       record_named : (on : Interface) (fields : Fields) → FieldsNamed P fields → RecordCases r s (λ row key. RecordHas r s on fields row) (Done s)
       record_named on fields i =
@@ -93,7 +104,7 @@ module _ (P : ℕ → Type 0) (cells : List Site) (sites : (cell : Place) (id : 
             given = λ conn cell caps algs air kenb k. ((h.0, h.1, (tt, tt), tt), tt, h.0, refl);
             released = λ key k. ((h.0, h.1, tt, tt), tt, tt, refl);
             taken = λ conn origin pair k. (
-              (h.0, h.1, with_named (with_pair pair) (λ c k. k) s.context h.2, h.3),
+              mapped (with_pair pair) (λ c k. k),
               released conn origin (subst (OriginNamed P) (sym k.origin_is) (here k.context k.serving).1),
               tt,
               refl,
@@ -105,44 +116,24 @@ module _ (P : ℕ → Type 0) (cells : List Site) (sites : (cell : Place) (id : 
                 let f : P w.from.source = subst (FieldsNamed P) k.fields_is i in
                 ((h.0, h.1, h.2, admitted_preps w _ (f, tt)), (f, tt), h.0, refl);
             acked_s1 = λ ncc algs air key k. (
-              (
-                h.0,
-                h.1,
-                with_named (with_s1_ack ncc algs air)
-                    (λ c k.
-                    (s1_acked_so (λ o. AttemptNamed P o) ncc algs air (λ start m. tt) c.attempt k.0, k.1))
-                    s.context h.2,
-                h.3,
-              ),
+              mapped (with_s1_ack ncc algs air) (λ c k. (s1_acked_so (λ o. AttemptNamed P o) ncc algs air (λ start m. tt) c.attempt k.0, k.1)),
               tt,
               tt,
               refl,
             );
             acked_x2 = λ algs air key k. (
-              (
-                h.0,
-                h.1,
-                with_named (with_x2_ack algs air)
-                    (λ c k. (x2_acked_so (λ o. AttemptNamed P o) algs air (λ start m. m) c.attempt k.0, k.1))
-                    s.context h.2,
-                h.3,
-              ),
+              mapped (with_x2_ack algs air) (λ c k. (x2_acked_so (λ o. AttemptNamed P o) algs air (λ start m. m) c.attempt k.0, k.1)),
               tt,
               tt,
               refl,
             );
             cancelled = λ from key k. (
-              (
-                h.0,
-                h.1,
-                h.2,
-                all_filter (λ p. PrepNamed P p) (λ p. not (is_of from.source from.attempt p)) s.preps h.3,
-              ),
+              (h.0, h.1, h.2, all_filter (λ p. PrepNamed P p) (λ p. not (is_of from.source from.attempt p)) s.preps preps),
               tt,
               tt,
               refl,
             );
-            left = λ key k. ((h.0, h.1, tt, h.3), tt, tt, refl);
+            left = λ key k. (with_context None tt, tt, tt, refl);
             renewed = λ conn number air count c e kenb k. let d = here c e in ((h.0, h.1, (tt, d.1), ((h.0, origin_within c.origin d.1), tt)), tt, h.0, refl);
           }
 
@@ -154,9 +145,9 @@ module _ (P : ℕ → Type 0) (cells : List Site) (sites : (cell : Place) (id : 
       air_named air on pdu outcome =
           record {
             nothing = λ answer. (h, tt, tt, refl);
-            secured = λ count k. ((h.0, h.1, with_named (with_security count) (λ c k. k) s.context h.2, h.3), tt, tt, refl);
-            opened = λ srb count text k. ((h.0, h.1, with_named (with_rrc_taken srb count) (λ c k. k) s.context h.2, h.3), tt, tt, refl);
-            packet = λ drb count text k. ((h.0, h.1, with_named (with_packet_taken drb count) (λ c k. k) s.context h.2, h.3), tt, tt, refl);
+            secured = λ count k. (mapped (with_security count) (λ c k. k), tt, tt, refl);
+            opened = λ srb count text k. (mapped (with_rrc_taken srb count) (λ c k. k), tt, tt, refl);
+            packet = λ drb count text k. (mapped (with_packet_taken drb count) (λ c k. k), tt, tt, refl);
             by_s1 = λ at count k p e. ((h.0, h.1, (tt, tt), tt), (tt, h.0), tt, refl);
             within = λ at count origin k p e. (
               (
@@ -184,16 +175,11 @@ module _ (P : ℕ → Type 0) (cells : List Site) (sites : (cell : Place) (id : 
             by_x2 = λ number target cell k c e.
                 let d = here c e in
                 let f = sites cell target (subst (λ x. station_of cell x ≡ Some target) h.1 k.site) in
-                ((h.0, h.1, (f, d.1), h.3), (f, h.0), tt, refl);
-            by_s1 = λ number target cell k c e. let d = here c e in ((h.0, h.1, (tt, d.1), h.3), (tt, h.0), tt, refl);
+                ((h.0, h.1, (f, d.1), preps), (f, h.0), tt, refl);
+            by_s1 = λ number target cell k c e. let d = here c e in ((h.0, h.1, (tt, d.1), preps), (tt, h.0), tt, refl);
             within = λ number air cell k c e.
                 let d = here c e in (
-                  (
-                    h.0,
-                    h.1,
-                    (tt, d.1),
-                    all_append (λ p. PrepNamed P p) s.preps _ h.3 ((h.0, origin_within c.origin d.1), tt),
-                  ),
+                  (h.0, h.1, (tt, d.1), all_append (λ p. PrepNamed P p) s.preps _ preps ((h.0, origin_within c.origin d.1), tt)),
                   tt,
                   h.0,
                   refl,
@@ -203,35 +189,26 @@ module _ (P : ℕ → Type 0) (cells : List Site) (sites : (cell : Place) (id : 
                   (
                     h.0,
                     h.1,
-                    (
-                      commanded_so (λ o. AttemptNamed P o) order (λ a m. tt) (λ a m. tt)
-                          (λ a m. tt) c.attempt d.0,
-                      d.1,
-                    ),
-                    h.3,
+                    (commanded_so (λ o. AttemptNamed P o) order (λ a m. tt) (λ a m. tt) (λ a m. tt) c.attempt d.0, d.1),
+                    preps,
                   ),
                   tt,
                   tt,
                   refl,
                 );
-            changed = λ renewal count k c e. ((h.0, h.1, here c e, h.3), tt, tt, refl);
-            cancelled_x2 = λ conn number target k. ((h.0, h.1, gave_up s.context h.2, h.3), (cancels_named act conn number target k, tt), tt, refl);
-            cancelled_s1 = λ conn number cell k. ((h.0, h.1, gave_up s.context h.2, h.3), (tt, tt), tt, refl);
+            changed = λ renewal count k c e. (with_context (Some c) (here c e), tt, tt, refl);
+            cancelled_x2 = λ conn number target k. (gives_up, (cancels_named act conn number target k, tt), tt, refl);
+            cancelled_s1 = λ conn number cell k. (gives_up, (tt, tt), tt, refl);
             cancelled_within = λ number k. (
-              (
-                h.0,
-                h.1,
-                gave_up s.context h.2,
-                all_filter (λ p. PrepNamed P p) (λ p. not (is_of s.id number p)) s.preps h.3,
-              ),
+              (h.0, h.1, gives_up.2, all_filter (λ p. PrepNamed P p) (λ p. not (is_of s.id number p)) s.preps preps),
               tt,
               tt,
               refl,
             );
-            asked = λ number k c e. ((h.0, h.1, here c e, h.3), (tt, h.0), tt, refl);
-            packet = λ drb count text k c e. ((h.0, h.1, here c e, h.3), tt, tt, refl);
-            text = λ srb count text k c e. ((h.0, h.1, here c e, h.3), tt, tt, refl);
-            skipped = λ on n k. ((h.0, h.1, with_named (with_skipped on n) (λ c k. k) s.context h.2, h.3), tt, tt, refl);
+            asked = λ number k c e. (with_context (Some c) (here c e), (tt, h.0), tt, refl);
+            packet = λ drb count text k c e. (with_context (Some c) (here c e), tt, tt, refl);
+            text = λ srb count text k c e. (with_context (Some c) (here c e), tt, tt, refl);
+            skipped = λ on n k. (mapped (with_skipped on n) (λ c k. k), tt, tt, refl);
           }
 
     -- one step

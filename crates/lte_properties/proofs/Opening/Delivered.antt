@@ -125,13 +125,14 @@ module _ (same : Term → Term → Bool) (root : ℕ → List ℕ → Term)
   rrc_to_phone w station air srb u e text sent (Connected l) is packet fits ready =
       let x = SealedRrc Down station air srb u e text in
       let pdu = srb_octets c u e text in
+      let (short, low, way, at) = fits in
       phone_rrc_opens same opener pdu (Some x) text sent w.phone l station air srb u.count is ready.0 ready.1
-      (srb_counted c good _ u e text ready.2 fits.1)
-      ((λ j. opener (OpensSrb (srb_use (sym fits.2 j) l.keys.rrc_int srb u.count)
-      (Some (ciphering_by l.keys.algs.eea (srb_use (sym fits.2 j) l.keys.rrc_enc srb u.count))))
+      (srb_counted c good _ u e text ready.2 low)
+      ((λ j. opener (OpensSrb (srb_use (sym way j) l.keys.rrc_int srb u.count)
+      (Some (ciphering_by l.keys.algs.eea (srb_use (sym way j) l.keys.rrc_enc srb u.count))))
       pdu (Some x))
-      ∙ rrc_back l.keys srb u e text x pdu (back.srb u e pdu Down station air srb text) (fits.3 l is ready.0 ready.1))
-      (ap read_rrc packet ∙ rrc_is_read (RrcData sent) fits.0)
+      ∙ rrc_back l.keys srb u e text x pdu (back.srb u e pdu Down station air srb text) (at l is ready.0 ready.1))
+      (ap read_rrc packet ∙ rrc_is_read (RrcData sent) short)
 
   packet_to_phone : (w : W) (station air : ℕ) (drb : Drb) (e : Ciphering Term) (text sent : List ℕ) (radio : Radio Term ℕ) → w.phone.radio ≡ radio
       → text ≡ sent → Fits w (UserPacket Down station air drb e text) sent → ConnectedAt radio station air (InDrb drb e.under.count)
@@ -141,11 +142,12 @@ module _ (same : Term → Term → Bool) (root : ℕ → List ℕ → Term)
   packet_to_phone w station air drb e text sent (Connected l) is packet fits ready =
       let x = UserPacket Down station air drb e text in
       let pdu = drb_octets c e text in
+      let (short, low, way, at) = fits in
       phone_packet_opens same opener pdu (Some x) text sent w.phone l station air drb e.under.count is ready.0 ready.1
-      (drb_counted c _ e text ready.2 fits.1)
-      ((λ j. opener (OpensDrb (ciphering_by l.keys.algs.eea (drb_use (sym fits.2 j) l.keys.up_enc drb e.under.count))) pdu (Some x))
-      ∙ packet_back l.keys drb e text x pdu (back.drb e Down station air drb text) (fits.3 l is ready.0 ready.1))
-      packet fits.0
+      (drb_counted c _ e text ready.2 low)
+      ((λ j. opener (OpensDrb (ciphering_by l.keys.algs.eea (drb_use (sym way j) l.keys.up_enc drb e.under.count))) pdu (Some x))
+      ∙ packet_back l.keys drb e text x pdu (back.drb e Down station air drb text) (at l is ready.0 ready.1))
+      packet short
 
   nas_to_phone : (w : W) (header : ℕ) (u : KeyUse Term) (e : Option (Ciphering Term)) (text sent : List ℕ) (o : Option (NasContext Term)) → w.phone.context ≡ o
       → text ≡ nas_spelling (NasData sent) → Fits w (SealedNas Down header u e text) sent → PhoneUses o u (InNas u.count)
@@ -154,15 +156,16 @@ module _ (same : Term → Term → Bool) (root : ℕ → List ℕ → Term)
   nas_to_phone w header u e text sent (Some k) is packet fits ready =
       let x = SealedNas Down header u e text in
       let pdu = nas_octets c header u e text in
-      let parts = nas_parts c good header u e text in
+      let (first, sn, _, long) = nas_parts c good header u e text in
+      let (short, low, way, type, at) = fits in
       phone_nas_opens same opener pdu (Some x) text sent w.phone k u.count is
-      (header_down pdu 39 parts.3 (parts.0 ∙ ap (λ h. 16 * h + 7) fits.3) refl)
-      (estimated k.receive _ u.count ready.1 parts.1 fits.1)
-      ((λ j. opener (OpensNas (nas_use (sym fits.2 j) k.keys.int u.count)
-      (Some (ciphering_by k.keys.algs.eea (nas_use (sym fits.2 j) k.keys.enc u.count))))
+      (header_down pdu 39 long (first ∙ ap (λ h. 16 * h + 7) type) refl)
+      (estimated k.receive _ u.count ready.1 sn low)
+      ((λ j. opener (OpensNas (nas_use (sym way j) k.keys.int u.count)
+      (Some (ciphering_by k.keys.algs.eea (nas_use (sym way j) k.keys.enc u.count))))
       pdu (Some x))
-      ∙ nas_back k.keys u e text x pdu (back.nas u e pdu Down header text) (fits.4 k is ready.0))
-      (ap read_nas packet ∙ nas_is_read (NasData sent) fits.0)
+      ∙ nas_back k.keys u e text x pdu (back.nas u e pdu Down header text) (at k is ready.0))
+      (ap read_nas packet ∙ nas_is_read (NasData sent) short)
 
   -- AT A STATION
 
@@ -175,13 +178,14 @@ module _ (same : Term → Term → Bool) (root : ℕ → List ℕ → Term)
   rrc_to_context w station air srb u e text sent s (Some k) here is packet fits ready =
       let x = SealedRrc Up station air srb u e text in
       let pdu = srb_octets c u e text in
+      let (short, low, way, at) = fits in
       station_rrc_opens same opener pdu (Some x) text sent s k air srb u.count is ready.0 ready.1
-      (srb_counted c good _ u e text ready.2 fits.1)
-      ((λ j. opener (OpensSrb (srb_use (sym fits.2 j) k.keys.rrc_int srb u.count)
-      (Some (ciphering_by k.keys.algs.eea (srb_use (sym fits.2 j) k.keys.rrc_enc srb u.count))))
+      (srb_counted c good _ u e text ready.2 low)
+      ((λ j. opener (OpensSrb (srb_use (sym way j) k.keys.rrc_int srb u.count)
+      (Some (ciphering_by k.keys.algs.eea (srb_use (sym way j) k.keys.rrc_enc srb u.count))))
       pdu (Some x))
-      ∙ rrc_back k.keys srb u e text x pdu (back.srb u e pdu Up station air srb text) (fits.3 s k here is ready.0))
-      (ap read_rrc packet ∙ rrc_is_read (RrcData sent) fits.0)
+      ∙ rrc_back k.keys srb u e text x pdu (back.srb u e pdu Up station air srb text) (at s k here is ready.0))
+      (ap read_rrc packet ∙ rrc_is_read (RrcData sent) short)
 
   packet_to_context : (w : W) (station air : ℕ) (drb : Drb) (e : Ciphering Term) (text sent : List ℕ) (s : Station Term ℕ) (o : Option (Context Term ℕ))
       → station_of_id station w.stations ≡ Some s → s.context ≡ o
@@ -191,11 +195,12 @@ module _ (same : Term → Term → Bool) (root : ℕ → List ℕ → Term)
   packet_to_context w station air drb e text sent s (Some k) here is packet fits ready =
       let x = UserPacket Up station air drb e text in
       let pdu = drb_octets c e text in
+      let (short, low, way, at) = fits in
       station_packet_opens same opener pdu (Some x) text sent s k air drb e.under.count is ready.0 ready.1
-      (drb_counted c _ e text ready.2 fits.1)
-      ((λ j. opener (OpensDrb (ciphering_by k.keys.algs.eea (drb_use (sym fits.2 j) k.keys.up_enc drb e.under.count))) pdu (Some x))
-      ∙ packet_back k.keys drb e text x pdu (back.drb e Up station air drb text) (fits.3 s k here is ready.0))
-      packet fits.0
+      (drb_counted c _ e text ready.2 low)
+      ((λ j. opener (OpensDrb (ciphering_by k.keys.algs.eea (drb_use (sym way j) k.keys.up_enc drb e.under.count))) pdu (Some x))
+      ∙ packet_back k.keys drb e text x pdu (back.drb e Up station air drb text) (at s k here is ready.0))
+      packet short
 
   rrc_to_station : (w : W) (station air : ℕ) (srb : Srb) (u : KeyUse Term) (e : Option (Ciphering Term)) (text sent : List ℕ) (o : Option (Station Term ℕ))
       → station_of_id station w.stations ≡ o
@@ -222,15 +227,16 @@ module _ (same : Term → Term → Bool) (root : ℕ → List ℕ → Term)
   nas_to_core w header u e text sent (Some k) is packet fits ready =
       let x = SealedNas Up header u e text in
       let pdu = nas_octets c header u e text in
-      let parts = nas_parts c good header u e text in
+      let (first, sn, _, long) = nas_parts c good header u e text in
+      let (short, low, way, type, at) = fits in
       core_nas_opens same opener pdu (Some x) text sent w.core k u.count is
-      (header_up pdu 39 parts.3 (parts.0 ∙ ap (λ h. 16 * h + 7) fits.3) refl) parts.3
-      (estimated k.nas.receive _ u.count ready.1 parts.1 fits.1)
-      ((λ j. opener (OpensNas (nas_use (sym fits.2 j) k.nas.keys.int u.count)
-      (Some (ciphering_by k.nas.keys.algs.eea (nas_use (sym fits.2 j) k.nas.keys.enc u.count))))
+      (header_up pdu 39 long (first ∙ ap (λ h. 16 * h + 7) type) refl) long
+      (estimated k.nas.receive _ u.count ready.1 sn low)
+      ((λ j. opener (OpensNas (nas_use (sym way j) k.nas.keys.int u.count)
+      (Some (ciphering_by k.nas.keys.algs.eea (nas_use (sym way j) k.nas.keys.enc u.count))))
       pdu (Some x))
-      ∙ nas_back k.nas.keys u e text x pdu (back.nas u e pdu Up header text) (fits.4 k is ready.0))
-      (ap read_nas packet ∙ nas_is_read (NasData sent) fits.0)
+      ∙ nas_back k.nas.keys u e text x pdu (back.nas u e pdu Up header text) (at k is ready.0))
+      (ap read_nas packet ∙ nas_is_read (NasData sent) short)
 
   -- ANY PACKET
 
