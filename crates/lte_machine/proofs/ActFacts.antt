@@ -93,12 +93,10 @@ module _ {K C : Type 0} (r : Reading K C) (s : Core K C) where
       → s.context ≡ o
       → s.trigger ≡ trigger
       → ActHas s (Connect cell) (connect_row s.next cell t (option_map (map_core_context unseen) o) trigger)
-  connect_has cell None o trigger e f g = tt
-  connect_has cell (Some target) None trigger e f g = tt
-  connect_has cell (Some target) (Some c) None e f g = tt
   connect_has cell (Some target) (Some c) (Some count) e f g =
       by_test (ActHas s (Connect cell)) (nat_le NUMBERS s.next) _ _ (λ b. tt)
       (λ b. record { act_is = refl; site = e; context = c; in_use = f; caps_is = refl; triggered = g; conn_is = refl; left = b })
+  connect_has cell other rest more e f g = tt
 
   release_has : (o : Option (CoreLink K C)) → s.link ≡ o → ActHas s Release (release_row (option_map (map_core_link unseen r.ncc) o))
   release_has None e = tt

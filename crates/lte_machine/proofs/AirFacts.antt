@@ -8,13 +8,13 @@ use Rattle.pdcp_guard.specs.declared.pdus.PdcpFault.{PdcpFault}
 use Rattle.pdcp_guard.specs.Srb.{srb_count}
 use Rattle.pdcp_guard.specs.Drb.{drb_count}
 use Rattle.rrc_rec.specs.declared.records.RrcRecord.{RrcRecord}
-use Rattle.rrc_rec.specs.declared.records.RrcRecord.TheVariants.{SecurityModeCommand, SecurityModeComplete, Reconfiguration, ReconfigurationComplete, RrcData, KeyChange}
+use Rattle.rrc_rec.specs.declared.records.RrcRecord.TheVariants.{SecurityModeComplete, ReconfigurationComplete, RrcData}
 use Rattle.rrc_rec.specs.Reading.{read_rrc}
 use Rattle.ho_prep.specs.declared.origins.By.{By}
 use Rattle.ho_prep.specs.Prep.{Prep, map_prep, at_air}
 use Rattle.ho_prep.proofs.CarryFacts.{at_air-map}
 use Rattle.lte_machine.specs.Bearers.{Srb, Signalling1, Signalling2, Drb, Which, OnSrb, OnDrb, srb_counts, drb_counts}
-use Rattle.lte_machine.specs.Opening.{Outcome, Opened, Differs}
+use Rattle.lte_machine.specs.Opening.{Outcome, Opened}
 use Rattle.lte_machine.specs.Reply.{unseen}
 use Rattle.lte_machine.specs.StationState.{Station, Context, map_context}
 use Rattle.lte_machine.specs.StationRows.{AirRow, AirRefused, SecurityStarted, RrcOpened, PacketOpened, CompletedByS1, CompletedWithin, CompletedByX2}
@@ -123,11 +123,9 @@ module _ {K C : Type 0} (r : Reading K C) (s : Station K C) (air : ℕ) (on : Wh
       → (w : Which)
       → on ≡ w
       → FrontHas (prepared_front (option_map (map_prep unseen r.ncc) o) air w pdu)
-  prepared_has None e w g = λ o. tt
   prepared_has (Some p) e (OnSrb Signalling1) g =
       counted_has (OnPrepared air p.by) (srb_count 0 pdu) (λ n h. record { at_is = refl; prep = p; found = e; by_is = refl; on_is = g; counts = h })
-  prepared_has (Some p) e (OnSrb Signalling2) g = λ o. tt
-  prepared_has (Some p) e (OnDrb drb) g = λ o. tt
+  prepared_has other e rest g = λ o. tt
 
   front_by : (o : Option (Context K C))
       → s.context ≡ o
@@ -146,23 +144,14 @@ module _ {K C : Type 0} (r : Reading K C) (s : Station K C) (air : ℕ) (on : Wh
   module _ (text : List ℕ) where
     started_has : (count : ℕ) → AtStarting s air on pdu count → (read : Result RrcRecord RecFault)
         → ((x : RrcRecord) → read ≡ Ok x → Reads (Opened text) (OnStarting count) x) → AirHas (Opened text) (starting_row count read)
-    started_has count h (Err fault) f = tt
-    started_has count h (Ok (SecurityModeCommand algs station a)) f = tt
     started_has count h (Ok SecurityModeComplete) f = (h, f SecurityModeComplete refl)
-    started_has count h (Ok (Reconfiguration cell ncc algs station a)) f = tt
-    started_has count h (Ok ReconfigurationComplete) f = tt
-    started_has count h (Ok (RrcData data')) f = tt
-    started_has count h (Ok (KeyChange cell algs station a)) f = tt
+    started_has count h other f = tt
 
     rrc_has : (srb : Srb) (count : ℕ) → AtSignalling s air on pdu srb count → (read : Result RrcRecord RecFault)
         → ((x : RrcRecord) → read ≡ Ok x → Reads (Opened text) (OnSignalling srb count) x) → AirHas (Opened text) (rrc_row srb count read)
-    rrc_has srb count h (Err fault) f = tt
-    rrc_has srb count h (Ok (SecurityModeCommand algs station a)) f = tt
-    rrc_has srb count h (Ok SecurityModeComplete) f = tt
-    rrc_has srb count h (Ok (Reconfiguration cell ncc algs station a)) f = tt
     rrc_has srb count h (Ok ReconfigurationComplete) f = (h, f ReconfigurationComplete refl)
     rrc_has srb count h (Ok (RrcData data')) f = (h, f (RrcData data') refl)
-    rrc_has srb count h (Ok (KeyChange cell algs station a)) f = tt
+    rrc_has srb count h other f = tt
 
     completed_has : (at count : ℕ) (by : By) → Completes (Opened text) at count by → AirHas (Opened text) (completed_row s.next at count by)
     completed_has at count By.X2 h = by_test (AirHas (Opened text)) (runs_out 1 s.next) _ _ (λ e. tt) (λ e. (refl, one_left s.next e, h))
@@ -171,13 +160,8 @@ module _ {K C : Type 0} (r : Reading K C) (s : Station K C) (air : ℕ) (on : Wh
 
     arrived_has : (at count : ℕ) (by : By) → AtPrepared s air on pdu at by count → (read : Result RrcRecord RecFault)
         → ((x : RrcRecord) → read ≡ Ok x → Reads (Opened text) (OnPrepared at by count) x) → AirHas (Opened text) (prepared_row s.next at count by read)
-    arrived_has at count by h (Err fault) f = tt
-    arrived_has at count by h (Ok (SecurityModeCommand algs station a)) f = tt
-    arrived_has at count by h (Ok SecurityModeComplete) f = tt
-    arrived_has at count by h (Ok (Reconfiguration cell ncc algs station a)) f = tt
     arrived_has at count by h (Ok ReconfigurationComplete) f = completed_has at count by (h, f ReconfigurationComplete refl)
-    arrived_has at count by h (Ok (RrcData data')) f = tt
-    arrived_has at count by h (Ok (KeyChange cell algs station a)) f = tt
+    arrived_has at count by h other f = tt
 
   row_has : (front : AirFront)
       → air_front (plain_station r s) air on pdu ≡ front
@@ -185,17 +169,14 @@ module _ {K C : Type 0} (r : Reading K C) (s : Station K C) (air : ℕ) (on : Wh
       → (outcome : Outcome)
       → AirHas outcome (air_row (plain_station r s) front outcome)
   row_has (AirSettled row) e h outcome = h outcome
-  row_has (OnStarting count) e h (Differs wanted got) = tt
   row_has (OnStarting count) e h (Opened text) =
       started_has text count h (read_rrc text) (λ x f. (record { front_is = e; text = text; opened = refl }, f))
-  row_has (OnSignalling srb count) e h (Differs wanted got) = tt
   row_has (OnSignalling srb count) e h (Opened text) =
       rrc_has text srb count h (read_rrc text) (λ x f. (record { front_is = e; text = text; opened = refl }, f))
-  row_has (OnUser drb count) e h (Differs wanted got) = tt
   row_has (OnUser drb count) e h (Opened text) = (h, record { front_is = e; text = text; opened = refl }, refl)
-  row_has (OnPrepared at by count) e h (Differs wanted got) = tt
   row_has (OnPrepared at by count) e h (Opened text) =
       arrived_has text at count by h (read_rrc text) (λ x f. (record { front_is = e; text = text; opened = refl }, f))
+  row_has other e h rest = tt
 
   -- the row of a PDU
   pub air_has : (outcome : Outcome) → AirHas outcome (air_row (plain_station r s) (air_front (plain_station r s) air on pdu) outcome)

@@ -19,7 +19,7 @@ use Rattle.rec_base.specs.declared.faults.RecFault.{RecFault}
 use Rattle.rec_base.specs.declared.uses.Dir.TheVariants.{Up}
 use Rattle.lte_machine.specs.CoreChoice.{CoreFront, Settled, FromNas, NasSettled, OpensComplete, OpensProtected, core_front, core_row}
 use Rattle.lte_machine.specs.CoreKeys.{sync_from, number_from, nh_kept, opens_by_procedure, opens_by_context, core_expects, authenticated, smc_started, smc_complete, key_changed, service_asked, nas_opened, sealed_reject, nas_sent, nas_skipped, context_set_up, path_switched, handover_asked, handover_notified, core_does_nas, core_does_record, core_does_act, core_does}
-use Rattle.lte_machine.specs.CoreRows.{CoreNasRow, NasRefused, PlainReject, SmcComplete, SmcChange, ServiceAsked, NasOpened, SealedReject, CoreRecordRow, RecordRefused, PathSwitched, HandoverAsked, HandoverOrdered, HandoverNotified, HandoverCancelled, CoreActRow, ActRefused, SmcStarted, ContextSetUp, ContextReleased, NasSent, NasSkipped, CoreRow, OfNas, OfRecord, OfAct, OfAuth}
+use Rattle.lte_machine.specs.CoreRows.{CoreNasRow, NasRefused, PlainReject, SmcComplete, SmcChange, ServiceAsked, NasOpened, SealedReject, CoreRecordRow, PathSwitched, HandoverAsked, HandoverNotified, CoreActRow, ActRefused, SmcStarted, ContextSetUp, ContextReleased, NasSent, NasSkipped, CoreRow, OfNas, OfRecord, OfAct, OfAuth}
 use Rattle.lte_machine.specs.CoreState.{Core, CorePartial, CoreContext, CoreLink, CoreInput, CoreAuth, CoreActs, CoreNasPdu, CoreRecord, map_core_partial, map_core_context, map_core_link, map_core, map_core_input}
 use Rattle.lte_machine.specs.CoreStep.{plain_core, plain_core_input, core_front_of, core_root, core_received, core_opens, core_ends, core_step}
 use Rattle.lte_machine.specs.Opening.{Opening, OpensNothing, OpensNas, OpensSrb, OpensDrb, Outcome, Opened, Differs, accepted_of}
@@ -82,10 +82,8 @@ plain_core_input-map : {K C L D : Type 0} (r : Reading K C) (q : Reading L D) (f
     → Carries r q f g
     → (i : CoreInput K C)
     → plain_core_input q (map_core_input f g i) ≡ plain_core_input r i
-plain_core_input-map r q f g c (CoreAuth ksi root caps) = refl
-plain_core_input-map r q f g c (CoreActs act) = refl
-plain_core_input-map r q f g c (CoreNasPdu pdu) = refl
 plain_core_input-map r q f g c (CoreRecord read) = ap CoreRecord (read_plain r q f g c read)
+plain_core_input-map r q f g c other = refl
 
 core_front-map : {K C L D : Type 0} (r : Reading K C) (q : Reading L D) (f : K → L) (g : C → D)
     → Carries r q f g
@@ -300,13 +298,11 @@ core_does_record-map : {K C L D : Type 0} (r : Reading K C) (q : Reading L D) (f
     → Carries r q f g
     → (row : CoreRecordRow) (s : Core K C)
     → map_core_done f g (core_does_record r row s) ≡ core_does_record q row (map_core f g s)
-core_does_record-map r q f g c (RecordRefused answer) s = refl
 core_does_record-map r q f g c (PathSwitched conn station number alarm) s = path_switched-map r q f g c conn station number alarm s.link s
 core_does_record-map r q f g c (HandoverAsked conn source attempt cell target caps) s =
     handover_asked-map r q f g c conn source attempt cell target caps s.link s
-core_does_record-map r q f g c (HandoverOrdered conn source attempt cell ncc algs air) s = refl
 core_does_record-map r q f g c (HandoverNotified station) s = handover_notified-map f g station s.link s
-core_does_record-map r q f g c (HandoverCancelled conn source attempt cell target) s = refl
+core_does_record-map r q f g c other s = refl
 
 core_does_act-map : {K C L D : Type 0} (r : Reading K C) (q : Reading L D) (f : K → L) (g : C → D)
     → Carries r q f g
@@ -343,11 +339,8 @@ key-map f g None = refl
 key-map f g (Some key) = refl
 
 core_received-map : {K C L D : Type 0} (f : K → L) (g : C → D) (i : CoreInput K C) → option_map f (core_received i) ≡ core_received (map_core_input f g i)
-core_received-map f g (CoreAuth ksi root caps) = refl
-core_received-map f g (CoreActs act) = refl
-core_received-map f g (CoreNasPdu pdu) = refl
-core_received-map f g (CoreRecord (Err fault)) = refl
 core_received-map f g (CoreRecord (Ok content)) = key-map f g content.key
+core_received-map f g other = refl
 
 -- a step is carried, state and reply
 pub core_step_map : {K C L D : Type 0} (r : Reading K C) (q : Reading L D) (f : K → L) (g : C → D)

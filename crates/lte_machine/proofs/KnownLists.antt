@@ -12,7 +12,7 @@ use Rattle.pdcp_guard.specs.AsKeys.{AsKeys, as_derivations}
 use Rattle.ho_prep.specs.Prep.{Prep}
 use Rattle.lte_machine.specs.Wire.{Ciphering, Outgoing, SealedNas, PlainNas, SealedRrc, UserPacket, Between, ciphering_use, uses_of}
 use Rattle.lte_machine.specs.PhoneState.{Partial, NasContext, Radio, Idle, Connecting, Connected, Phone}
-use Rattle.lte_machine.specs.StationState.{Station, Context, Attempt, OverX2, OverS1, Within, X2State, X2Open, X2Ready, X2Commanded, Renewing}
+use Rattle.lte_machine.specs.StationState.{Station, Context, Attempt, OverX2, Within, X2State, X2Open, X2Ready, X2Commanded}
 use Rattle.lte_machine.specs.CoreState.{Core, CorePartial, CoreContext, CoreLink}
 use Rattle.lte_machine.specs.World.{with_one, put_if, put_station, newest_if, record_at, uses_in}
 use Rattle.lte_machine.specs.Known.{AsKnown, NasKnown, PairKnown, PartialKnown, NasContextKnown, RadioKnown, PhoneKnown, X2Known, AttemptKnown, ContextKnown, PrepKnown, StationKnown, CorePartialKnown, ProcedureKnown, CoreContextKnown, LinkKnown, CoreKnown, CipheringKnown, SentKnown}
@@ -191,11 +191,9 @@ module _ (P Q : Term → Type 0) (f : (t : Term) → P t → Q t) where
   x2_more (X2Commanded sent) h = tt
 
   attempt_more : (o : Option (Attempt Term ℕ)) → AttemptKnown P o → AttemptKnown Q o
-  attempt_more None h = tt
   attempt_more (Some (OverX2 state)) h = x2_more state h
-  attempt_more (Some (OverS1 state)) h = tt
   attempt_more (Some (Within state)) h = x2_more state h
-  attempt_more (Some (Renewing renewal)) h = tt
+  attempt_more other h = tt
 
   context_more : (o : Option (Context Term ℕ)) → ContextKnown P o → ContextKnown Q o
   context_more None h = tt

@@ -8,7 +8,7 @@ use Rattle.key_model.specs.Reading.{term_reading_by}
 use Rattle.nh_chain.specs.Station.{StationKey, pair_after, restored_if, base_of}
 use Rattle.ho_prep.specs.Prep.{Prep, at_air, drop_below, is_of, is_at}
 use Rattle.lte_machine.specs.Reply.{Origin, Reply}
-use Rattle.lte_machine.specs.StationState.{Station, Context, Attempt, OverX2, OverS1, Within, X2State, X2Open, X2Ready, X2Commanded, Renewing}
+use Rattle.lte_machine.specs.StationState.{Station, Context, Attempt, OverX2, Within, X2State, X2Open, X2Ready, X2Commanded}
 use Rattle.lte_machine.specs.StationRows.{StationRow, OfRecord, OfAir, OfAct}
 use Rattle.lte_machine.specs.StationKeys.{x2_spent, spent_in, given_up, with_security, with_rrc_taken, with_packet_taken, with_skipped, station_does}
 use Rattle.lte_machine.specs.StationRecords.{with_pair, with_s1_ack, with_x2_ack, source_release}
@@ -31,11 +31,9 @@ module _ (Q : Term → Type 0) where
   x2_spent_known (X2Commanded sent) h = tt
 
   spent_known : (o : Option (Attempt Term ℕ)) → AttemptKnown Q o → PairKnown Q (spent_in o)
-  spent_known None h = tt
   spent_known (Some (OverX2 state)) h = x2_spent_known state h
-  spent_known (Some (OverS1 state)) h = tt
   spent_known (Some (Within state)) h = x2_spent_known state h
-  spent_known (Some (Renewing renewal)) h = tt
+  spent_known other h = tt
 
   pair_after_known : (o : Option (NumberedKey Term ℕ)) (back : NumberedKey Term ℕ) → PairKnown Q o → Q back.key → PairKnown Q (pair_after o back)
   pair_after_known None back h b = b

@@ -12,7 +12,7 @@ use Rattle.key_model.specs.HandoverTable.{NumberedKey}
 use Rattle.key_model.specs.Reading.{Reading, term_reading_by}
 use Rattle.key_model.specs.Term.{Term}
 use Rattle.key_model.specs.Value.{same_value}
-use Rattle.lte_machine.specs.Wire.{KeyUse, Outgoing, SealedNas, PlainNas, SealedRrc, UserPacket, Between}
+use Rattle.lte_machine.specs.Wire.{KeyUse, Outgoing, Between}
 use Rattle.lte_machine.specs.Opening.{Opening, Outcome}
 use Rattle.lte_machine.specs.Reply.{Reply}
 use Rattle.lte_machine.specs.Ladder.{RowOrigin, OfRoot, Of}
@@ -60,22 +60,16 @@ holds_known Q holder (Some key) ds k o = (k, derived_known Q holder ds o)
 
 -- the key in a record that was sent
 content_known : (P : Term → Type 0) (x : Outgoing Term ℕ) → SentKnown P x → PairKnown P (key_read (content_of x))
-content_known P (SealedNas dir header u e text) h = tt
-content_known P (PlainNas octets) h = tt
-content_known P (SealedRrc dir station air srb u e text) h = tt
-content_known P (UserPacket dir station air drb e text) h = tt
 content_known P (Between to fields key) h = h
+content_known P other h = tt
 
 pair_key_known : (P : Term → Type 0) (o : Option (NumberedKey Term ℕ)) → PairKnown P o → OfSome P (option_map (λ x. x.key) o)
 pair_key_known P None h = tt
 pair_key_known P (Some pair) h = h
 
 core_key_known : (P : Term → Type 0) (x : Outgoing Term ℕ) → SentKnown P x → OfSome P (core_received (CoreRecord (content_of x)))
-core_key_known P (SealedNas dir header u e text) h = tt
-core_key_known P (PlainNas octets) h = tt
-core_key_known P (SealedRrc dir station air srb u e text) h = tt
-core_key_known P (UserPacket dir station air drb e text) h = tt
 core_key_known P (Between to fields key) h = pair_key_known P key h
+core_key_known P other h = tt
 
 some_more : (P Q : Term → Type 0) → ((t : Term) → P t → Q t) → (o : Option Term) → OfSome P o → OfSome Q o
 some_more P Q f None h = tt

@@ -19,13 +19,13 @@ use Rattle.key_model.proofs.TermFacts.{same_term-Decides, same_value-Decides}
 use Rattle.pdcp_guard.specs.AsKeys.{as_keys_of, as_derivations}
 use Rattle.s1x2_rec.specs.Fields.{Fields}
 use Rattle.lte_machine.specs.Bearers.{Signalling1, Drb}
-use Rattle.lte_machine.specs.Wire.{KeyUse, Ciphering, Outgoing, SealedNas, PlainNas, SealedRrc, UserPacket, Between, srb_use, address_of}
+use Rattle.lte_machine.specs.Wire.{KeyUse, Ciphering, Outgoing, SealedNas, SealedRrc, srb_use, address_of}
 use Rattle.lte_machine.specs.Ciphers.{Ciphers, octets_of}
-use Rattle.lte_machine.specs.Opening.{Opening, OpensNothing, OpensNas, OpensSrb, OpensDrb, Outcome, Opened, Differs, same_dir, same_uses, same_ciphering, judged, srb_sender, open_case, open_foreign, open_by_uses, srb_wanted, srb_got}
+use Rattle.lte_machine.specs.Opening.{Opening, OpensSrb, Outcome, Opened, Differs, same_dir, same_uses, same_ciphering, judged, srb_sender, open_case, open_foreign, open_by_uses, srb_wanted, srb_got}
 use Rattle.lte_machine.specs.Reply.{Reply, only, finished}
 use Rattle.lte_machine.specs.Ladder.{RowOrigin, Of, ladder_of}
 use Rattle.lte_machine.specs.PhoneState.{Partial, NasContext, Waiting, Radio, Idle, Connecting, Connected, Phone, PhoneInput, PhoneActs, PhoneNasPdu, PhoneAirPdu}
-use Rattle.lte_machine.specs.PhoneChoice.{PlainPhone, NasSettled, AtCommand, AtMessage, AirSettled, AtStart, AtSignalling, AtPacket, PhoneFront, Settled, FromNas, FromAir, start_row, phone_row}
+use Rattle.lte_machine.specs.PhoneChoice.{PlainPhone, AtCommand, AtMessage, AtStart, AtSignalling, AtPacket, PhoneFront, FromNas, FromAir, start_row, phone_row}
 use Rattle.lte_machine.specs.PhoneKeys.{link_secured, command_expects, message_expects, start_expects, signalling_expects, packet_expects, phone_expects, air_does, phone_does}
 use Rattle.lte_machine.specs.PhoneStep.{plain_phone, front_of, phone_root, phone_pdu_in}
 use Rattle.lte_machine.specs.StationState.{Station, StationInput, StationActs, AirPdu, StationRecord, OnS1, OnX2}
@@ -94,10 +94,8 @@ CipheringAgrees (Some e) (Some f) = Agree e.under.key f.under.key
 CipheringAgrees e f = Unit {0}
 
 ciphering_agrees : (e f : Option (Ciphering Term)) → CipheringAgrees e f → same_ciphering same_value e f ≡ same_ciphering same_term e f
-ciphering_agrees None None h = refl
-ciphering_agrees None (Some f) h = refl
-ciphering_agrees (Some e) None h = refl
 ciphering_agrees (Some e) (Some f) h = ap (λ b. b && (identity_of e.eea == identity_of f.eea)) (use_agrees e.under f.under h)
+ciphering_agrees other rest h = refl
 
 -- of a record that came under protection
 abbrev SenderAgrees : KeyUse Term → Option (Ciphering Term) → Option (Outgoing Term ℕ) → Type 0
@@ -108,42 +106,32 @@ SenderAgrees u e other = Unit {0}
 sender_agrees : (u : KeyUse Term) (e : Option (Ciphering Term)) (came : Option (Outgoing Term ℕ))
     → SenderAgrees u e came
     → srb_sender same_value u e came ≡ srb_sender same_term u e came
-sender_agrees u e None h = refl
 sender_agrees u e (Some (SealedNas dir header i f text)) h = λ j. judged (use_agrees u i h j) false text
-sender_agrees u e (Some (PlainNas octets)) h = refl
 sender_agrees u e (Some (SealedRrc dir station air srb i f text)) h = λ j. judged (use_agrees u i h.0 j) (ciphering_agrees e f h.1 j) text
-sender_agrees u e (Some (UserPacket dir station air drb f text)) h = refl
-sender_agrees u e (Some (Between to fields key)) h = refl
+sender_agrees u e other h = refl
 
 module _ (ts : List Term) (own : OneValueOneTerm ts) where
   abbrev InTs : Term → Type 0
   InTs t = Member t ts
 
   ciphering_in : (e f : Option (Ciphering Term)) → CipheringKnown InTs e → CipheringKnown InTs f → CipheringAgrees e f
-  ciphering_in None None h k = tt
-  ciphering_in None (Some f) h k = tt
-  ciphering_in (Some e) None h k = tt
   ciphering_in (Some e) (Some f) h k = agree_here ts own e.under.key f.under.key h k
+  ciphering_in other rest h k = tt
 
   sender_in : (u : KeyUse Term) (e : Option (Ciphering Term)) (came : Option (Outgoing Term ℕ))
       → InTs u.key
       → CipheringKnown InTs e
       → OfSome (SentKnown InTs) came
       → SenderAgrees u e came
-  sender_in u e None h k c = tt
   sender_in u e (Some (SealedNas dir header i f text)) h k c = agree_here ts own u.key i.key h c.0
-  sender_in u e (Some (PlainNas octets)) h k c = tt
   sender_in u e (Some (SealedRrc dir station air srb i f text)) h k c = (agree_here ts own u.key i.key h c.0, ciphering_in e f k c.1)
-  sender_in u e (Some (UserPacket dir station air drb f text)) h k c = tt
-  sender_in u e (Some (Between to fields key)) h k c = tt
+  sender_in u e other h k c = tt
 
   -- an opening by such keys of what came under such keys
   opens_same : (c : Ciphers Term) (o : Opening Term) (pdu : List ℕ) (came : Option (Outgoing Term ℕ)) → OpeningKnown InTs o → OfSome (SentKnown InTs) came →
       open_by_uses same_value c o pdu came ≡ by_terms c o pdu came
-  opens_same c OpensNothing pdu came h k = refl
-  opens_same c (OpensNas u e) pdu came h k = refl
   opens_same c (OpensSrb u e) pdu came h k = ap (open_case c (OpensSrb u e) pdu) (sender_agrees u e came (sender_in u e came h.0 h.1 k))
-  opens_same c (OpensDrb e) pdu came h k = refl
+  opens_same c other pdu came h k = refl
 
 -- NAS MESSAGES OPEN BY VALUES IN BOTH
 
@@ -266,10 +254,6 @@ module _ (c : Ciphers Term) (between : Fields → Option (NumberedKey Term ℕ) 
         StartSame (Connecting x) named count algs station air
         (by_value (start_expects r count algs (Connecting x)) pdu came)
         (by_terms c (start_expects r count algs (Connecting x)) pdu came)
-    start_came x named count algs station air pdu None h k later = refl
-    start_came x named count algs station air pdu (Some (PlainNas octets)) h k later = refl
-    start_came x named count algs station air pdu (Some (UserPacket dir st a drb f text)) h k later = refl
-    start_came x named count algs station air pdu (Some (Between to fields key)) h k later = refl
     start_came x named count algs station air pdu (Some (SealedNas dir header i f text)) h k later =
         let u : KeyUse Term = srb_use Down (as_keys_of r x.kenb algs).rrc_int Signalling1 count in
         start_by x named count algs station air i.key h k.0 _ _ (srb_wanted c u None pdu) (srb_got c None pdu)
@@ -286,6 +270,7 @@ module _ (c : Ciphers Term) (between : Fields → Option (NumberedKey Term ℕ) 
         none_agrees : (f : Option (Ciphering Term)) → CipheringAgrees None f
         none_agrees None = tt
         none_agrees (Some f) = tt
+    start_came x named count algs station air pdu other h k later = refl
 
     start_same : (radio : Radio Term ℕ) (named : Bool) (count : ℕ) (algs : Algs) (station air : ℕ) (pdu : List ℕ) (came : Option (Outgoing Term ℕ)) →
         RadioKnown (IsReported w) radio → CameKnown came →
@@ -315,13 +300,10 @@ module _ (c : Ciphers Term) (between : Fields → Option (NumberedKey Term ℕ) 
         (came : Option (Outgoing Term ℕ))
         → CameKnown came
         → PhoneSame plain root front pdu came
-    phone_same plain root (Settled row) pdu came k later = refl
-    phone_same plain root (FromNas (NasSettled row)) pdu came k later = refl
     phone_same plain root (FromNas (AtCommand count algs caps)) pdu came k later =
         phone_by plain root (FromNas (AtCommand count algs caps)) _ _ (command_same c count algs w.phone.partial pdu came)
     phone_same plain root (FromNas (AtMessage count header)) pdu came k later =
         phone_by plain root (FromNas (AtMessage count header)) _ _ (message_same c count header w.phone.context pdu came)
-    phone_same plain root (FromAir (AirSettled row)) pdu came k later = refl
     phone_same plain root (FromAir (AtPacket drb count)) pdu came k later =
         phone_by plain root (FromAir (AtPacket drb count)) _ _ (packet_same c drb count w.phone.radio pdu came)
     phone_same plain root (FromAir (AtSignalling srb count ncc)) pdu came k later =
@@ -336,6 +318,7 @@ module _ (c : Ciphers Term) (between : Fields → Option (NumberedKey Term ℕ) 
         ∙ start_same w.phone.radio named count algs station air pdu came g.keys.phone.2 k
         (ap (λ d. (ladder_of same_value (phone_world d).history).clash) (is o) ∙ later)
         ∙ ap phone_world (is p)
+    phone_same plain root other pdu came k later = refl
 
     phone_turn_same : (input : PhoneInput Term) (came : Option (Outgoing Term ℕ)) → CameKnown came → Calm (phone_turn m w input came).0 →
         (phone_turn m w input came).0 ≡ (phone_turn (mixed c between) w input came).0

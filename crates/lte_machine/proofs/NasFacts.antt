@@ -13,7 +13,7 @@ use Rattle.nas_guard.specs.Keys.{Keys, map_keys}
 use Rattle.nas_guard.specs.Open.{first_in, sn_in}
 use Rattle.nas_rec.specs.Reading.{read_nas}
 use Rattle.nas_rec.specs.declared.records.NasRecord.{NasRecord}
-use Rattle.nas_rec.specs.declared.records.NasRecord.TheVariants.{SecurityModeCommand, SecurityModeComplete, SecurityModeReject, ServiceRequest, NasData}
+use Rattle.nas_rec.specs.declared.records.NasRecord.TheVariants.{SecurityModeComplete, SecurityModeReject, ServiceRequest, NasData}
 use Rattle.lte_machine.specs.CoreState.{Core, CoreContext, CoreLink, map_core_context, map_core_link}
 use Rattle.lte_machine.specs.CoreRows.{CoreNasRow, NasRefused, PlainReject, SmcComplete, SmcChange, ServiceAsked, NasOpened, SealedReject}
 use Rattle.lte_machine.specs.CoreChoice.{CoreNasFront, NasSettled, OpensComplete, OpensProtected, core_takes, core_header, plain_text_row, plain_row, opens_complete, complete_front, opens_protected, protected_front, core_nas_front, NUMBERS, completed_row, complete_row, reject_row, protected_row, core_nas_row}
@@ -135,12 +135,8 @@ module _ {K C : Type 0} (r : Reading K C) (s : Core K C) (pdu : List ℕ) where
       → (read : Result NasRecord RecFault)
       → read_nas (drop 1 pdu) ≡ read
       → Has (NasSettled (plain_text_row read))
-  plain_text_has keys e f h (Err fault) g = λ o. tt
-  plain_text_has keys e f h (Ok (SecurityModeCommand ksi algs caps)) g = λ o. tt
-  plain_text_has keys e f h (Ok SecurityModeComplete) g = λ o. tt
   plain_text_has keys e f h (Ok (SecurityModeReject cause)) g = λ o. record { keys = keys; running = e; unprotected = f; header = h; cause = cause; reads = g }
-  plain_text_has keys e f h (Ok ServiceRequest) g = λ o. tt
-  plain_text_has keys e f h (Ok (NasData text)) g = λ o. tt
+  plain_text_has keys e f h other g = λ o. tt
 
   plain_has : (p : Option (Keys K)) (c : Option (CoreContext K)) → s.procedure ≡ p → s.context ≡ c → core_header pdu ≡ Ok 0
       → Has (NasSettled (plain_row (option_map (map_keys unseen) p) (option_map (map_core_context unseen) c) pdu))
@@ -209,13 +205,9 @@ module _ {K C : Type 0} (r : Reading K C) (s : Core K C) (pdu : List ℕ) where
       → (read : Result NasRecord RecFault)
       → read_nas text ≡ read
       → NasHas r s pdu (Opened text) (complete_row count s.next (plain_core r s).link read)
-  complete_has count text e b (Err fault) f = tt
-  complete_has count text e b (Ok (SecurityModeCommand ksi algs caps)) f = tt
   complete_has count text e b (Ok SecurityModeComplete) f =
       completed_has (Opened text) count (record { front = e; by = b; text = text; opened = refl; reads = f }) s.link refl
-  complete_has count text e b (Ok (SecurityModeReject cause)) f = tt
-  complete_has count text e b (Ok ServiceRequest) f = tt
-  complete_has count text e b (Ok (NasData data')) f = tt
+  complete_has count text e b other f = tt
 
   reject_has : (outcome : Outcome) (count cause : ℕ) → Opens r s pdu outcome count (SecurityModeReject cause) → (p : Option (Keys K)) → s.procedure ≡ p
       → NasHas r s pdu outcome (reject_row (option_map (map_keys unseen) p) count)
@@ -228,13 +220,11 @@ module _ {K C : Type 0} (r : Reading K C) (s : Core K C) (pdu : List ℕ) where
       → (read : Result NasRecord RecFault)
       → read_nas text ≡ read
       → NasHas r s pdu (Opened text) (protected_row (plain_core r s).procedure count read)
-  protected_has header count text e b (Err fault) f = tt
-  protected_has header count text e b (Ok (SecurityModeCommand ksi algs caps)) f = tt
-  protected_has header count text e b (Ok SecurityModeComplete) f = tt
   protected_has header count text e b (Ok (SecurityModeReject cause)) f =
       reject_has (Opened text) count cause (record { header = header; front = e; by = b; text = text; opened = refl; reads = f }) s.procedure refl
   protected_has header count text e b (Ok ServiceRequest) f = record { header = header; front = e; by = b; text = text; opened = refl; reads = f }
   protected_has header count text e b (Ok (NasData data')) f = record { header = header; front = e; by = b; text = text; opened = refl; reads = f }
+  protected_has header count text e b other f = tt
 
   row_has : (front : CoreNasFront) → nas_front r s pdu ≡ front → Has front → (outcome : Outcome)
       → NasHas r s pdu outcome (core_nas_row (plain_core r s).procedure s.next (plain_core r s).link front outcome)

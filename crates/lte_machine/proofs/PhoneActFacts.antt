@@ -95,21 +95,17 @@ module _ {K C : Type 0} (r : Reading K C) (s : Phone K C) where
 
   packet_has : (bearer : Bearer) (text : List ℕ) (on : Which) (radio : Radio K C) → s.radio ≡ radio
       → Has (acts.TheVariants.SendUser bearer text) (packet_sent_row text on (map_radio unseen r.ncc radio))
-  packet_has bearer text (OnSrb srb) radio e = tt
-  packet_has bearer text (OnDrb drb) Idle e = tt
-  packet_has bearer text (OnDrb drb) (Connecting w) e = tt
   packet_has bearer text (OnDrb drb) (Connected l) e =
       left_has (acts.TheVariants.SendUser bearer text) (is_spent (drb_counts drb l.bearers)) (PacketSent drb text)
       (λ b. record { bearer = bearer; act_is = refl; link = l; connected = e; left = b })
+  packet_has bearer text other rest e = tt
 
   rrc_has : (bearer : Bearer) (text : List ℕ) (on : Which) (radio : Radio K C) → s.radio ≡ radio
       → Has (acts.TheVariants.SendRrc bearer text) (rrc_sent_row text on (map_radio unseen r.ncc radio))
-  rrc_has bearer text (OnDrb drb) radio e = tt
-  rrc_has bearer text (OnSrb srb) Idle e = tt
-  rrc_has bearer text (OnSrb srb) (Connecting w) e = tt
   rrc_has bearer text (OnSrb srb) (Connected l) e =
       left_has (acts.TheVariants.SendRrc bearer text) (is_spent (srb_counts srb l.bearers)) (RrcSent srb text)
       (λ b. record { bearer = bearer; act_is = refl; link = l; connected = e; left = b })
+  rrc_has bearer text other rest e = tt
 
   nas_skipped_has : (n : ℕ) (o : Option (NasContext K))
       → s.context ≡ o

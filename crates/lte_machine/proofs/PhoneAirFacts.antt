@@ -15,7 +15,7 @@ use Rattle.rec_base.specs.Lengths.{longest_packet}
 use Rattle.rec_base.specs.declared.faults.RecFault.{RecFault}
 use Rattle.rrc_rec.specs.Reading.{read_rrc}
 use Rattle.rrc_rec.specs.declared.records.RrcRecord.{RrcRecord}
-use Rattle.rrc_rec.specs.declared.records.RrcRecord.TheVariants.{SecurityModeCommand, SecurityModeComplete, Reconfiguration, ReconfigurationComplete, RrcData, KeyChange}
+use Rattle.rrc_rec.specs.declared.records.RrcRecord.TheVariants.{SecurityModeCommand, Reconfiguration, RrcData, KeyChange}
 use Rattle.lte_machine.specs.Bearers.{Srb, Signalling1, Signalling2, Drb, Which, OnSrb, OnDrb, srb_counts, drb_counts}
 use Rattle.lte_machine.specs.Opening.{Outcome, Opened, Differs}
 use Rattle.lte_machine.specs.PhoneChoice.{unciphered_text, AirFront, AirSettled, AtStart, AtSignalling, AtPacket, start_read, start_at, waiting_front, signalling_at, packet_at, linked_front, air_front, command_taken, change_taken, signalling_read, air_row}
@@ -117,7 +117,6 @@ module _ {K C : Type 0} (r : Reading K C) (s : Phone K C) (station air : ℕ) (o
   -- a phone that waits for the security of its connection
   start_read_has : (w : Waiting K) → s.radio ≡ Connecting w → on ≡ OnSrb Signalling1 → (count : ℕ) → srb_count 0 pdu ≡ Ok count
       → (read : Result RrcRecord RecFault) → read_rrc (unciphered_text pdu) ≡ read → FrontHas (start_read s.caps station air count read)
-  start_read_has w e b count c (Err fault) f = λ o. tt
   start_read_has w e b count c (Ok (SecurityModeCommand algs ns na)) f =
       by_test FrontHas (are_supported s.caps algs) _ _
       (λ k. record {
@@ -134,11 +133,7 @@ module _ {K C : Type 0} (r : Reading K C) (s : Phone K C) (station air : ℕ) (o
         air_is = refl;
       })
       (λ k o. tt)
-  start_read_has w e b count c (Ok SecurityModeComplete) f = λ o. tt
-  start_read_has w e b count c (Ok (Reconfiguration cell ncc algs st a)) f = λ o. tt
-  start_read_has w e b count c (Ok ReconfigurationComplete) f = λ o. tt
-  start_read_has w e b count c (Ok (RrcData text)) f = λ o. tt
-  start_read_has w e b count c (Ok (KeyChange cell algs st a)) f = λ o. tt
+  start_read_has w e b count c other f = λ o. tt
 
   start_at_has : (w : Waiting K)
       → s.radio ≡ Connecting w
@@ -213,15 +208,12 @@ module _ {K C : Type 0} (r : Reading K C) (s : Phone K C) (station air : ℕ) (o
       → phone_air r s station air on pdu ≡ AtSignalling srb count own
       → Hears r s station air on pdu srb count own
       → (read : Result RrcRecord RecFault) → read_rrc text ≡ read → AirHas (Opened text) (signalling_read s.caps srb count own read)
-  text_has srb count own text e h (Err fault) f = tt
-  text_has srb count own text e h (Ok (SecurityModeCommand algs st a)) f = tt
-  text_has srb count own text e h (Ok SecurityModeComplete) f = tt
   text_has srb count own text e h (Ok (Reconfiguration cell ncc algs st a)) f =
       command_has (Opened text) srb count own ncc cell algs st a (record { own = own; front = e; by = h; text = text; opened = refl; reads = f }) refl
-  text_has srb count own text e h (Ok ReconfigurationComplete) f = tt
   text_has srb count own text e h (Ok (RrcData data_text)) f = record { own = own; front = e; by = h; text = text; opened = refl; reads = f }
   text_has srb count own text e h (Ok (KeyChange cell algs st a)) f =
       change_has (Opened text) srb count cell algs st a (record { own = own; front = e; by = h; text = text; opened = refl; reads = f })
+  text_has srb count own text e h other f = tt
 
   row_has : (front : AirFront) → phone_air r s station air on pdu ≡ front → FrontHas front → (outcome : Outcome) → AirHas outcome (air_row s.caps front outcome)
   row_has (AirSettled row) e h outcome = h outcome

@@ -212,12 +212,10 @@ module _ {K C L D : Type 0} (r : Reading K C) (q : Reading L D) (f : K → L) (g
       (o : Option (NasContext K))
       → map_phone_step f g (key_changed r cell algs station air s radio o)
       ≡ key_changed q cell algs station air (map_phone f g s) (map_radio f g radio) (option_map (map_context f) o)
-  key_changed-map cell algs station air s Idle o = refl
-  key_changed-map cell algs station air s (Connecting w) o = refl
-  key_changed-map cell algs station air s (Connected l) None = refl
   key_changed-map cell algs station air s (Connected l) (Some n) =
       changed_unless-map cell algs station air s (before_of l) n.root (r.same n.root l.chain.root)
       ∙ ap (changed_unless q cell algs station air (map_phone f g s) (before_of (map_link f g l)) (f n.root)) (sym (c.same n.root l.chain.root))
+  key_changed-map cell algs station air s other rest = refl
 
   rrc_opened-map : (srb : Srb) (count : ℕ) (text : List ℕ) (s : Phone K C) (radio : Radio K C)
       → map_phone_step f g (rrc_opened srb count text s radio)

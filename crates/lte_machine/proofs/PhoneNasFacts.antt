@@ -13,7 +13,7 @@ use Rattle.nas_count.specs.declared.sending.CountSpent.{CountSpent as NoneLeft}
 use Rattle.nas_guard.specs.Open.{sn_in, sent_in}
 use Rattle.nas_rec.specs.Reading.{read_nas}
 use Rattle.nas_rec.specs.declared.records.NasRecord.{NasRecord}
-use Rattle.nas_rec.specs.declared.records.NasRecord.TheVariants.{SecurityModeCommand, SecurityModeComplete, SecurityModeReject, ServiceRequest, NasData}
+use Rattle.nas_rec.specs.declared.records.NasRecord.TheVariants.{SecurityModeCommand, NasData}
 use Rattle.lte_machine.specs.Opening.{Outcome, Opened, Differs}
 use Rattle.lte_machine.specs.PhoneChoice.{NasFront, NasSettled, AtCommand, AtMessage, header_for_phone, rejected, rejected_unspecified, capabilities_mismatch, command_at, command_read, command_front, message_at, message_front, nas_by_header, context_row, same_caps, command_row, message_read, nas_row}
 use Rattle.lte_machine.specs.PhoneRows.{NasRow, NasRefused, RejectedPlain, RejectedUnder, ContextTaken, ContextTakenConnected, NasOpened}
@@ -96,7 +96,6 @@ module _ {K C : Type 0} (r : Reading K C) (s : Phone K C) (pdu : List ℕ) where
 
   command_read_has : header_for_phone pdu ≡ Ok 3 → (p : Partial K) → s.partial ≡ Some p → (read : Result NasRecord RecFault) → read_nas (sent_in pdu) ≡ read
       → FrontHas (command_read s.caps (plain_phone r s).context p.ksi pdu read)
-  command_read_has t p e (Err fault) f = λ o. tt
   command_read_has t p e (Ok (SecurityModeCommand ksi algs caps)) f =
       by_test FrontHas (ksi == p.ksi) _ _
       (λ b. by_test FrontHas (are_supported s.caps algs) _ _
@@ -105,10 +104,7 @@ module _ {K C : Type 0} (r : Reading K C) (s : Phone K C) (pdu : List ℕ) where
       (estimate_of 0 (sn_in pdu)) refl)
       (λ g o. rejected_has o _ rejected_unspecified s.context refl))
       (λ b o. rejected_has o _ rejected_unspecified s.context refl)
-  command_read_has t p e (Ok SecurityModeComplete) f = λ o. tt
-  command_read_has t p e (Ok (SecurityModeReject cause)) f = λ o. tt
-  command_read_has t p e (Ok ServiceRequest) f = λ o. tt
-  command_read_has t p e (Ok (NasData text)) f = λ o. tt
+  command_read_has t p e other f = λ o. tt
 
   command_front_has : header_for_phone pdu ≡ Ok 3
       → (p : Option (Partial K))
@@ -169,12 +165,8 @@ module _ {K C : Type 0} (r : Reading K C) (s : Phone K C) (pdu : List ℕ) where
       → (read : Result NasRecord RecFault)
       → read_nas text ≡ read
       → NasHas (Opened text) (message_read count read)
-  message_has count header text e h (Err fault) f = tt
-  message_has count header text e h (Ok (SecurityModeCommand ksi algs caps)) f = tt
-  message_has count header text e h (Ok SecurityModeComplete) f = tt
-  message_has count header text e h (Ok (SecurityModeReject cause)) f = tt
-  message_has count header text e h (Ok ServiceRequest) f = tt
   message_has count header text e h (Ok (NasData text')) f = record { header = header; front = e; by = h; text = text; opened = refl; reads = f }
+  message_has count header text e h other f = tt
 
   row_has : (front : NasFront)
       → phone_nas r s pdu ≡ front

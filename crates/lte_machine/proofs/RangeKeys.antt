@@ -6,7 +6,7 @@ use Rattle.sha2.specs.Sha256.{digest_bytes, sha256}
 use Rattle.hmac_kdf.specs.Hmac.{hmac}
 use Rattle.hmac_kdf.specs.Kdf.{kdf}
 use Rattle.rec_base.proofs.Numbers.{AreOctets}
-use Rattle.key_model.specs.Term.{Term, Root, Kenb, Nh, Star, Alg, IsRoot}
+use Rattle.key_model.specs.Term.{Term, Root, IsRoot}
 use Rattle.key_model.specs.Value.{value_of}
 use Rattle.key_model.proofs.TermFacts.{length-value}
 
@@ -43,17 +43,11 @@ IsDerived other = Unit {0}
 pub octets_value : (t : Term) → IsDerived t → AreOctets (value_of t)
 unfolding kdf hmac
 octets_value (Root r octets) h = absurd h
-octets_value (Kenb r n) h = octets_sha256 _
-octets_value (Nh r t) h = octets_sha256 _
-octets_value (Star t pci earfcn) h = octets_sha256 _
-octets_value (Alg t type id) h = octets_sha256 _
+octets_value other h = octets_sha256 _
 
 no_root : (t : Term) → IsDerived t → ¬ IsRoot t
 no_root (Root r octets) h = absurd h
-no_root (Kenb r n) h = λ e. e
-no_root (Nh r t) h = λ e. e
-no_root (Star t pci earfcn) h = λ e. e
-no_root (Alg t type id) h = λ e. e
+no_root other h = λ e. e
 
 -- and their number
 pub length_value : (t : Term) → IsDerived t → length (value_of t) ≡ 32

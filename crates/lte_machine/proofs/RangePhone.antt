@@ -1,21 +1,17 @@
 -- The phone sends nothing on S1 or X2.
-use Rattle.std.proofs.Common.{Bool, ℕ, Option, Some, None}
+use Rattle.std.proofs.Common.{Bool, ℕ, Option, Some}
 use Rattle.key_model.specs.Reading.{term_reading_by}
 use Rattle.key_model.specs.Term.{Term}
 use Rattle.lte_machine.specs.PhoneKeys.{phone_does}
 use Rattle.lte_machine.specs.PhoneRows.{PhoneRow}
 use Rattle.lte_machine.specs.PhoneState.{Phone}
-use Rattle.lte_machine.specs.Wire.{Outgoing, SealedNas, PlainNas, SealedRrc, UserPacket, Between}
+use Rattle.lte_machine.specs.Wire.{Outgoing, Between}
 use Rattle.lte_machine.proofs.PhoneGives.{NotBetween, phone_gives}
 use Rattle.lte_machine.proofs.RangeHolds.{SentRanged}
 
 nothing_ranged : (o : Option (Outgoing Term ℕ)) → NotBetween o → SentRanged o
-nothing_ranged None h = tt
-nothing_ranged (Some (SealedNas dir header u e text)) h = tt
-nothing_ranged (Some (PlainNas octets)) h = tt
-nothing_ranged (Some (SealedRrc dir station air srb u e text)) h = tt
-nothing_ranged (Some (UserPacket dir station air drb e text)) h = tt
 nothing_ranged (Some (Between to fields key)) h = absurd h
+nothing_ranged other h = tt
 
 pub phone_does_sends : (same : Term → Term → Bool) (row : PhoneRow) (root : Option Term) (s : Phone Term ℕ)
     → SentRanged (phone_does (term_reading_by same) row root s).1.sent

@@ -97,26 +97,45 @@ module _ (same : Term → Term → Bool) where
   release_ranged conn None n h = tt
   release_ranged conn (Some o) n h = ((n, h.1), tt)
 
-  given_up_ranged : (o : Option (Context Term ℕ)) → ContextRanged o → ContextRanged (option_map given_up o)
-  given_up_ranged o h = with_ranged given_up (λ c k. (k.0, k.1, k.2, tt, k.4)) o h
+  -- of a context with another attempt, or none
+  attempt_ranged : (c : Context Term ℕ) → ContextRanged (Some c) → {A : Type 0} → A
+      → IsNumber c.conn × IsCell c.cell × IsCaps c.caps × A × OriginRanged c.origin
+  attempt_ranged c k a = let (conn, cell, caps, _, origin) = k in (conn, cell, caps, a, origin)
+
+  attempt_of : (c : Context Term ℕ) → ContextRanged (Some c) → AttemptRanged c.attempt
+  attempt_of c k = k.3
 
   module _ (s : Station Term ℕ) (h : StationRanged s) where
+    -- its preparations, and where its context alone changes
+    preps : AllOf PrepRanged s.preps
+    preps = h.3
+
+    with_context : (o : Option (Context Term ℕ)) → ContextRanged o → StationRanged (record s { context = o })
+    with_context o k = (h.0, h.1, k, preps)
+
+    mapped : (f : Context Term ℕ → Context Term ℕ) → ((c : Context Term ℕ) → ContextRanged (Some c) → ContextRanged (Some (f c)))
+        → StationRanged (record s { context = option_map f s.context })
+    mapped f k = with_context (option_map f s.context) (with_ranged f k s.context h.2)
+
+    gives_up : StationRanged (record s { context = option_map given_up s.context })
+    gives_up = mapped given_up (λ c k. attempt_ranged c k tt)
+
     -- the context, and a preparation
     here : (c : Context Term ℕ) → s.context ≡ Some c → ContextRanged (Some c)
     here c e = subst ContextRanged e h.2
 
     found : (at : ℕ) (p : Prep Term ℕ) → at_air at s.preps ≡ Some p → PrepRanged p
-    found at p e = subst (OfSome PrepRanged) e (all_find PrepRanged (is_at at) s.preps h.3)
+    found at p e = subst (OfSome PrepRanged) e (all_find PrepRanged (is_at at) s.preps preps)
 
     -- a request that is admitted, with the air address drawn for it, and the preparations with one more
     admitted_ranged : (w : Admitted) → Admits r s w → IsNumber w.conn × (w.from.source ≤ 7) × IsNumber w.from.attempt × IsCell w.cell × IsCaps w.caps →
         IsNumber w.conn × (w.from.source ≤ 7) × IsNumber w.from.attempt × IsCell w.cell × IsCaps w.caps × IsNumber w.air
-    admitted_ranged w a i = (i.0, i.1, i.2, i.3, i.4, drawn w.air s.next a.air_is a.left h.1)
+    admitted_ranged w a i = let (conn, source, attempt, cell, caps) = i in (conn, source, attempt, cell, caps, drawn w.air s.next a.air_is a.left h.1)
 
     admitted_preps : (w : Admitted) (p : Prep Term ℕ) → PrepRanged p → AllOf PrepRanged (filter (λ q. nat_le w.conn q.conn) s.preps ++ p ∷ [])
     admitted_preps w p f =
         all_append PrepRanged (filter (λ q. nat_le w.conn q.conn) s.preps) (p ∷ [])
-        (all_filter PrepRanged (λ q. nat_le w.conn q.conn) s.preps h.3) (f, tt)
+        (all_filter PrepRanged (λ q. nat_le w.conn q.conn) s.preps preps) (f, tt)
 
     renewed_ranged : (fields : Fields)
         → FieldsInRange fields
@@ -137,100 +156,61 @@ module _ (same : Term → Term → Bool) where
               ((h.0, next_up air, (f.0, f.1, f.2, tt, tt), tt), tt);
           released = λ key k. ((h.0, h.1, tt, tt), tt);
           taken = λ conn origin pair k.
-              let c = here k.context k.serving in (
-                (h.0, h.1, with_ranged (with_pair pair) (λ c k. k) s.context h.2, h.3),
-                release_ranged conn origin (subst IsNumber (sym k.conn_is) c.0)
-                    (subst OriginRanged (sym k.origin_is) c.4),
+              let (held, _, _, _, from) = here k.context k.serving in (
+                mapped (with_pair pair) (λ c k. k),
+                release_ranged conn origin (subst IsNumber (sym k.conn_is) held) (subst OriginRanged (sym k.origin_is) from),
               );
           by_s1 = λ w pair k.
-              let f = admitted_ranged w k.admits (subst FieldsInRange k.fields_is i) in (
-                (h.0, next_up w.air, h.2, admitted_preps w _ (f.0, f.1, f.2, f.3, f.4, tt)),
-                ((f.0, f.1, f.2, f.3, three_bits pair.number, f.5), tt),
+              let (conn, source, attempt, cell, caps, air) = admitted_ranged w k.admits (subst FieldsInRange k.fields_is i) in (
+                (h.0, next_up w.air, h.2, admitted_preps w _ (conn, source, attempt, cell, caps, tt)),
+                ((conn, source, attempt, cell, three_bits pair.number, air), tt),
               );
           by_x2 = λ w star k.
-              let f = admitted_ranged w k.admits (subst FieldsInRange k.fields_is i) in
-              ((h.0, next_up w.air, h.2, admitted_preps w _ (f.0, f.1, f.2, f.3, f.4, tt)), ((f.0, f.2, f.3, f.5), tt));
+              let (conn, source, attempt, cell, caps, air) = admitted_ranged w k.admits (subst FieldsInRange k.fields_is i) in (
+                (h.0, next_up w.air, h.2, admitted_preps w _ (conn, source, attempt, cell, caps, tt)),
+                ((conn, attempt, cell, air), tt),
+              );
           acked_s1 = λ ncc algs air key k. (
-            (
-              h.0,
-              h.1,
-              with_ranged (with_s1_ack ncc algs air)
-                  (λ c k. (
-                    k.0,
-                    k.1,
-                    k.2,
-                    s1_acked_so (λ o. AttemptRanged o) ncc algs air (λ start m. m) c.attempt k.3,
-                    k.4,
-                  ))
-                  s.context h.2,
-              h.3,
-            ),
+            mapped (with_s1_ack ncc algs air)
+                (λ c k. attempt_ranged c k (s1_acked_so (λ o. AttemptRanged o) ncc algs air (λ start m. m) c.attempt (attempt_of c k))),
             tt,
           );
           acked_x2 = λ algs air key k. (
-            (
-              h.0,
-              h.1,
-              with_ranged (with_x2_ack algs air)
-                  (λ c k. (
-                    k.0,
-                    k.1,
-                    k.2,
-                    x2_acked_so (λ o. AttemptRanged o) algs air (λ start m. m) c.attempt k.3,
-                    k.4,
-                  ))
-                  s.context h.2,
-              h.3,
-            ),
+            mapped (with_x2_ack algs air)
+                (λ c k. attempt_ranged c k (x2_acked_so (λ o. AttemptRanged o) algs air (λ start m. m) c.attempt (attempt_of c k))),
             tt,
           );
-          cancelled = λ from key k. ((h.0, h.1, h.2, all_filter PrepRanged (λ p. not (is_of from.source from.attempt p)) s.preps h.3), tt);
-          left = λ key k. ((h.0, h.1, tt, h.3), tt);
+          cancelled = λ from key k. ((h.0, h.1, h.2, all_filter PrepRanged (λ p. not (is_of from.source from.attempt p)) s.preps preps), tt);
+          left = λ key k. (with_context None tt, tt);
           renewed = λ conn number air count c e kenb k.
-              let d = here c e in
+              let (held, cell, caps, _, origin) = here c e in
               let f = renewed_ranged fields i conn number k.context.conn k.fields_is k.number_is k.left in (
-                (
-                  h.0,
-                  next_up air,
-                  (d.0, d.1, d.2, tt, d.4),
-                  ((f.0, h.0, f.1, d.1, d.2, origin_within c.origin d.4), tt),
-                ),
+                (h.0, next_up air, (held, cell, caps, tt, origin), ((f.0, h.0, f.1, cell, caps, origin_within c.origin origin), tt)),
                 tt,
               );
         }
 
     -- how the preparation came that completes
     by_ranged : (air : ℕ) (on : Which) (pdu : List ℕ) (at : ℕ) (by : By) (count : ℕ) → AtPrepared s air on pdu at by count → ByRanged by
-    by_ranged air on pdu at by count f = let p = found air f.prep f.found in subst ByRanged (sym f.by_is) p.5
+    by_ranged air on pdu at by count f = let (_, _, _, _, _, by) = found air f.prep f.found in subst ByRanged (sym f.by_is) by
 
     air_ranged : (air : ℕ) (on : Which) (pdu : List ℕ) (outcome : Outcome) → AirCases r s (AirHas r s air on pdu outcome) StationDone
     air_ranged air on pdu outcome =
         record {
           nothing = λ answer. (h, tt);
-          secured = λ count k. ((h.0, h.1, with_ranged (with_security count) (λ c k. k) s.context h.2, h.3), tt);
-          opened = λ srb count text k. ((h.0, h.1, with_ranged (with_rrc_taken srb count) (λ c k. k) s.context h.2, h.3), tt);
-          packet = λ drb count text k. ((h.0, h.1, with_ranged (with_packet_taken drb count) (λ c k. k) s.context h.2, h.3), tt);
-          by_s1 = λ at count k p e. let f = found at p e in ((h.0, h.1, (f.0, f.3, f.4, tt, tt), tt), ((f.0, h.0, f.3), tt));
+          secured = λ count k. (mapped (with_security count) (λ c k. k), tt);
+          opened = λ srb count text k. (mapped (with_rrc_taken srb count) (λ c k. k), tt);
+          packet = λ drb count text k. (mapped (with_packet_taken drb count) (λ c k. k), tt);
+          by_s1 = λ at count k p e.
+              let (conn, _, _, cell, caps, _) = found at p e in ((h.0, h.1, (conn, cell, caps, tt, tt), tt), ((conn, h.0, cell), tt));
           within = λ at count origin k p e.
-              let f = found at p e in (
-                (
-                  h.0,
-                  h.1,
-                  (
-                    f.0,
-                    f.3,
-                    f.4,
-                    tt,
-                    subst OriginRanged (sym k.1) (by_ranged air on pdu at (By.Intra k.0) count k.2.0),
-                  ),
-                  tt,
-                ),
-                tt,
-              );
+              let (conn, _, _, cell, caps, _) = found at p e in
+              let from = subst OriginRanged (sym k.1) (by_ranged air on pdu at (By.Intra k.0) count k.2.0) in
+              ((h.0, h.1, (conn, cell, caps, tt, from), tt), tt);
           by_x2 = λ at count number k p e.
-              let f = found at p e in (
-                (h.0, next_up number, (f.0, f.3, f.4, tt, (f.1, f.2)), tt),
-                ((f.0, h.0, drawn number s.next k.0 k.1 h.1, f.3, f.4), tt),
+              let (conn, source, attempt, cell, caps, _) = found at p e in (
+                (h.0, next_up number, (conn, cell, caps, tt, (source, attempt)), tt),
+                ((conn, h.0, drawn number s.next k.0 k.1 h.1, cell, caps), tt),
               );
         }
 
@@ -244,12 +224,12 @@ module _ (same : Term → Term → Bool) where
     cancels_x2_ranged : (act : StationAct) (conn number target : ℕ) → CancelsX2 s act conn number target → IsNumber conn × IsNumber number
     cancels_x2_ranged act conn number target f =
         let c = here f.context f.serving in
-        (subst IsNumber (sym f.conn_is) c.0, subst IsNumber (sym f.number_is) (x2_began_ranged f.state f.start f.began (subst AttemptRanged f.trying c.3)))
+        (subst IsNumber (sym f.conn_is) c.0, subst IsNumber (sym f.number_is) (x2_began_ranged f.state f.start f.began (subst AttemptRanged f.trying (attempt_of f.context c))))
 
     cancels_s1_ranged : (act : StationAct) (conn number : ℕ) (cell : Place) → CancelsS1 s act conn number cell → IsNumber conn × IsNumber number × IsCell cell
     cancels_s1_ranged act conn number cell f =
         let c = here f.context f.serving in
-        let k = s1_began_ranged f.state f.start f.began (subst AttemptRanged f.trying c.3) in
+        let k = s1_began_ranged f.state f.start f.began (subst AttemptRanged f.trying (attempt_of f.context c)) in
         (subst IsNumber (sym f.conn_is) c.0, subst IsNumber (sym f.number_is) k.0, subst IsCell (sym f.cell_is) k.1)
 
     act_ranged : (act : StationAct) → IsStationAct act → ActCases r s (StationActHas r s act) StationDone
@@ -259,50 +239,36 @@ module _ (same : Term → Term → Bool) where
           by_x2 = λ number target cell k c e.
               let d = here c e in
               let f = starts_ranged act HoKind.X2 number target cell k i in
-              ((h.0, next_up number, (d.0, d.1, d.2, f.0, d.4), h.3), ((d.0, h.0, f.0, f.1, d.2), (tt, three_bits _)));
+              ((h.0, next_up number, attempt_ranged c d f.0, preps), ((d.0, h.0, f.0, f.1, d.2), (tt, three_bits _)));
           by_s1 = λ number target cell k c e.
               let d = here c e in
               let f = starts_ranged act HoKind.S1 number target cell k i in
-              ((h.0, next_up number, (d.0, d.1, d.2, f, d.4), h.3), ((d.0, h.0, f.0, f.1), tt));
+              ((h.0, next_up number, attempt_ranged c d f, preps), ((d.0, h.0, f.0, f.1), tt));
           within = λ number air cell k c e.
-              let d = here c e in
+              let (conn, now, caps, _, origin) = here c e in
               let f = starts_ranged act HoKind.Intra number s.id cell k.starts i in (
                 (
                   h.0,
                   next_up air,
-                  (d.0, d.1, d.2, f.0, d.4),
-                  all_append PrepRanged s.preps _ h.3 ((d.0, h.0, f.0, f.1, d.2, origin_within c.origin d.4), tt),
+                  (conn, now, caps, f.0, origin),
+                  all_append PrepRanged s.preps _ preps ((conn, h.0, f.0, f.1, caps, origin_within c.origin origin), tt),
                 ),
                 tt,
               );
           commanded = λ order count k c e.
-              let d = here c e in (
-                (
-                  h.0,
-                  h.1,
-                  (
-                    d.0,
-                    d.1,
-                    d.2,
-                    commanded_so (λ o. AttemptRanged o) order (λ a m. tt) (λ a m. tt) (λ a m. tt) c.attempt d.3,
-                    d.4,
-                  ),
-                  h.3,
-                ),
-                tt,
-              );
-          changed = λ renewal count k c e. ((h.0, h.1, here c e, h.3), tt);
+              let d = here c e in
+              let sent = commanded_so (λ o. AttemptRanged o) order (λ a m. tt) (λ a m. tt) (λ a m. tt) c.attempt (attempt_of c d) in
+              ((h.0, h.1, attempt_ranged c d sent, preps), tt);
+          changed = λ renewal count k c e. (with_context (Some c) (here c e), tt);
           cancelled_x2 = λ conn number target k.
-              let f = cancels_x2_ranged act conn number target k in
-              ((h.0, h.1, given_up_ranged s.context h.2, h.3), ((f.0, h.0, f.1), tt));
+              let f = cancels_x2_ranged act conn number target k in (gives_up, ((f.0, h.0, f.1), tt));
           cancelled_s1 = λ conn number cell k.
-              let f = cancels_s1_ranged act conn number cell k in
-              ((h.0, h.1, given_up_ranged s.context h.2, h.3), ((f.0, h.0, f.1, f.2), tt));
-          cancelled_within = λ number k. ((h.0, h.1, given_up_ranged s.context h.2, all_filter PrepRanged (λ p. not (is_of s.id number p)) s.preps h.3), tt);
-          asked = λ number k c e. let d = here c e in ((h.0, next_up number, d, h.3), ((d.0, h.0, drawn number s.next k.number_is k.left h.1, d.1, d.2), tt));
-          packet = λ drb count text k c e. ((h.0, h.1, here c e, h.3), tt);
-          text = λ srb count text k c e. ((h.0, h.1, here c e, h.3), tt);
-          skipped = λ on n k. ((h.0, h.1, with_ranged (with_skipped on n) (λ c k. k) s.context h.2, h.3), tt);
+              let f = cancels_s1_ranged act conn number cell k in (gives_up, ((f.0, h.0, f.1, f.2), tt));
+          cancelled_within = λ number k. ((h.0, h.1, gives_up.2, all_filter PrepRanged (λ p. not (is_of s.id number p)) s.preps preps), tt);
+          asked = λ number k c e. let d = here c e in ((h.0, next_up number, d, preps), ((d.0, h.0, drawn number s.next k.number_is k.left h.1, d.1, d.2), tt));
+          packet = λ drb count text k c e. (with_context (Some c) (here c e), tt);
+          text = λ srb count text k c e. (with_context (Some c) (here c e), tt);
+          skipped = λ on n k. (mapped (with_skipped on n) (λ c k. k), tt);
         }
 
   -- one step

@@ -12,11 +12,11 @@ use Rattle.key_model.specs.HandoverLines.{map_numbered}
 use Rattle.key_model.specs.HandoverTable.{NumberedKey}
 use Rattle.key_model.specs.Term.{Term}
 use Rattle.key_model.specs.Value.{value_of}
-use Rattle.s1x2_rec.specs.Fields.{Fields, InitialContext, ContextRelease, PathSwitchRequest, PathSwitchAnswer, HandoverRequired, HandoverRequest, HandoverRequestAck, HandoverCommand, HandoverNotify, HandoverCancel, X2Request, X2Ack, X2Cancel, X2Release, ContextModification}
+use Rattle.s1x2_rec.specs.Fields.{Fields, InitialContext, PathSwitchAnswer, HandoverRequest, X2Request, ContextModification}
 use Rattle.s1x2_rec.specs.Reading.{read_core}
 use Rattle.s1x2_rec.specs.Spelling.{FieldsInRange, IsKey, IsNoKey, KeyInRange}
 use Rattle.s1x2_rec.proofs.Contents.{content_again}
-use Rattle.lte_machine.specs.Wire.{KeyUse, Outgoing, SealedNas, PlainNas, SealedRrc, UserPacket, Between}
+use Rattle.lte_machine.specs.Wire.{KeyUse, Outgoing, Between}
 use Rattle.lte_machine.specs.Ciphers.{written}
 use Rattle.lte_machine.specs.Opening.{Opening, Outcome, Opened}
 use Rattle.lte_machine.specs.PhoneState.{PhoneInput}
@@ -40,11 +40,8 @@ use Rattle.lte_machine.proofs.Worlds.{TheWorld}
 
 -- what was sent, as it is read
 read_ranged : (x : Outgoing Term ℕ) → RecordRanged x → ReadRanged (content_of x)
-read_ranged (SealedNas dir header u e text) h = tt
-read_ranged (PlainNas octets) h = tt
-read_ranged (SealedRrc dir station air srb u e text) h = tt
-read_ranged (UserPacket dir station air drb e text) h = tt
 read_ranged (Between to fields key) h = h.0
+read_ranged other h = tt
 
 -- ONE EVENT, of any machine over terms that keeps records as they are sent
 
@@ -118,20 +115,11 @@ no_key_back (Some k) h = absurd h
 
 key_in_range : (fields : Fields) (key : Option (NumberedKey Term ℕ)) → KeyRanged fields key → KeyInRange fields (option_map (map_numbered value_of ncc_of) key)
 key_in_range (InitialContext conn cell caps) key h = key_back 0 key h
-key_in_range (ContextRelease conn) key h = no_key_back key h
-key_in_range (PathSwitchRequest conn station number cell caps) key h = no_key_back key h
 key_in_range (PathSwitchAnswer conn number) key h = key_back 7 key h
-key_in_range (HandoverRequired conn station attempt cell) key h = no_key_back key h
 key_in_range (HandoverRequest conn source attempt cell caps) key h = key_back 7 key h
-key_in_range (HandoverRequestAck conn source attempt cell ncc algs air) key h = no_key_back key h
-key_in_range (HandoverCommand conn attempt cell ncc algs air) key h = no_key_back key h
-key_in_range (HandoverNotify conn station cell) key h = no_key_back key h
-key_in_range (HandoverCancel conn source attempt cell) key h = no_key_back key h
 key_in_range (X2Request conn source attempt cell caps) key h = key_back 7 key h
-key_in_range (X2Ack conn attempt cell algs air) key h = no_key_back key h
-key_in_range (X2Cancel conn source attempt) key h = no_key_back key h
-key_in_range (X2Release conn attempt) key h = no_key_back key h
 key_in_range (ContextModification conn next) key h = key_back 0 key h
+key_in_range other key h = no_key_back key h
 
 -- the octets of a record in range are read as the record
 pub reads_back : (fields : Fields) (key : Option (NumberedKey Term ℕ)) → FieldsInRange fields → KeyRanged fields key →

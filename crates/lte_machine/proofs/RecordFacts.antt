@@ -11,7 +11,7 @@ use Rattle.annex_a_keys.specs.Cell.{Place}
 use Rattle.lte_events.specs.Site.{station_of}
 use Rattle.key_model.specs.Reading.{Reading}
 use Rattle.s1x2_rec.specs.Content.{Content, map_content}
-use Rattle.s1x2_rec.specs.Fields.{Fields, InitialContext, ContextRelease, PathSwitchRequest, PathSwitchAnswer, HandoverRequired, HandoverRequest, HandoverRequestAck, HandoverCommand, HandoverNotify, HandoverCancel, X2Request, X2Ack, X2Cancel, X2Release, ContextModification}
+use Rattle.s1x2_rec.specs.Fields.{Fields, InitialContext, ContextRelease, PathSwitchAnswer, HandoverRequest, HandoverCommand, HandoverCancel, X2Request, X2Ack, X2Cancel, X2Release, ContextModification}
 use Rattle.ho_prep.specs.Prep.{has_attempt}
 use Rattle.x2_handover.specs.Attempt.{X2Start, Commanded}
 use Rattle.s1_handover.specs.Attempt.{S1Start}
@@ -340,40 +340,23 @@ module _ {K C : Type 0} (r : Reading K C) (s : Station K C) where
   s1_has : (fields : Fields) → RecordHas r s OnS1 fields (s1_row (plain_station r s) fields)
   s1_has (InitialContext conn cell caps) = initial_has r s OnS1 _ conn cell caps refl refl
   s1_has (ContextRelease conn) = release_has r s OnS1 _ conn refl refl s.context refl
-  s1_has (PathSwitchRequest conn station number cell caps) = tt
   s1_has (PathSwitchAnswer conn number) = answer_has r s OnS1 _ conn number refl refl s.context refl
-  s1_has (HandoverRequired conn station attempt cell) = tt
   s1_has (HandoverRequest conn source attempt cell caps) =
       admitted_has r s OnS1 _ conn (record { source = source; attempt = attempt }) cell caps PreparedByS1
       (λ algs a. record { on_is = refl; fields_is = refl; admits = a })
-  s1_has (HandoverRequestAck conn source attempt cell ncc algs air) = tt
   s1_has (HandoverCommand conn attempt cell ncc algs air) = s1_ack_has r s OnS1 _ conn attempt cell ncc algs air refl refl s.context refl
-  s1_has (HandoverNotify conn station cell) = tt
   s1_has (HandoverCancel conn source attempt cell) = cancel_has r s OnS1 _ (record { source = source; attempt = attempt })
-  s1_has (X2Request conn source attempt cell caps) = tt
-  s1_has (X2Ack conn attempt cell algs air) = tt
-  s1_has (X2Cancel conn source attempt) = tt
-  s1_has (X2Release conn attempt) = tt
   s1_has (ContextModification conn next) = modification_has r s OnS1 _ conn next refl refl s.context refl
+  s1_has other = tt
 
   x2_has : (fields : Fields) → RecordHas r s OnX2 fields (x2_row (plain_station r s) fields)
-  x2_has (InitialContext conn cell caps) = tt
-  x2_has (ContextRelease conn) = tt
-  x2_has (PathSwitchRequest conn station number cell caps) = tt
-  x2_has (PathSwitchAnswer conn number) = tt
-  x2_has (HandoverRequired conn station attempt cell) = tt
-  x2_has (HandoverRequest conn source attempt cell caps) = tt
-  x2_has (HandoverRequestAck conn source attempt cell ncc algs air) = tt
-  x2_has (HandoverCommand conn attempt cell ncc algs air) = tt
-  x2_has (HandoverNotify conn station cell) = tt
-  x2_has (HandoverCancel conn source attempt cell) = tt
   x2_has (X2Request conn source attempt cell caps) =
       admitted_has r s OnX2 _ conn (record { source = source; attempt = attempt }) cell caps PreparedByX2
       (λ algs a. record { on_is = refl; fields_is = refl; admits = a })
   x2_has (X2Ack conn attempt cell algs air) = x2_ack_has r s OnX2 _ conn attempt cell algs air refl refl s.context refl
   x2_has (X2Cancel conn source attempt) = cancel_has r s OnX2 _ (record { source = source; attempt = attempt })
   x2_has (X2Release conn attempt) = x2_release_has r s OnX2 _ conn attempt refl refl s.context refl
-  x2_has (ContextModification conn next) = tt
+  x2_has other = tt
 
   -- the row of a record that reads
   pub record_has : (on : Interface) (content : Content K C)

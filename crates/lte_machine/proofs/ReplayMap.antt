@@ -141,13 +141,10 @@ module _ {K C S L D T : Type 0} (m : Machine K C S) (q : Machine L D T) (f : K �
       ∙ (λ j. arrival_attempts q (map_world f g z w) (sym (a.address x) j) (sym (a.octets x) j) (Some (z x)))
 
   none_back : (to : Address) → BackAt m q f g z a to None
-  none_back Address.PhoneNas = tt
-  none_back (Address.Phone station air bearer) = tt
-  none_back Address.CoreNas = tt
   none_back Address.CoreS1 = refl
-  none_back (Address.StationAir station air bearer) = tt
   none_back (Address.StationS1 station) = refl
   none_back (Address.StationX2 station) = refl
+  none_back other = tt
 
   injection-map : (w : World K C S) (to : Address) (octets : List ℕ) (o : Option ℕ)
       → map_attempted f z (injection_attempts m w to octets o) ≡ injection_attempts q (map_world f g z w) to octets o

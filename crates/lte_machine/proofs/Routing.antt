@@ -40,9 +40,7 @@ IsTurn (PhoneAirPdu station air bearer pdu) = Unit {0}
 -- so it has no root
 pub no_root : {K : Type 0} (P : K → Type 0) (input : PhoneInput K) → IsTurn input → OfSome P (phone_root input)
 no_root P (PhoneAuth ksi root) turn = absurd turn
-no_root P (PhoneActs act) turn = tt
-no_root P (PhoneNasPdu pdu) turn = tt
-no_root P (PhoneAirPdu station air bearer pdu) turn = tt
+no_root other rest turn = tt
 
 -- what is so of its event, or of what came
 abbrev pub PhoneGets : {K S : Type 0} → (Event → Type 0) → (Address → List ℕ → Option S → Type 0) → PhoneInput K → Option S → Type 0

@@ -148,10 +148,8 @@ all_of_weaken P Q f [] all = tt
 all_of_weaken P Q f (x ∷ xs) all = (f x all.0, all_of_weaken P Q f xs all.1)
 
 pub sync_more : (P Q : Term → Type 0) → ((t : Term) → P t → Q t) → (i : Input Term) → SyncIn P i → SyncIn Q i
-sync_more P Q f (FromCount n) h = tt
 sync_more P Q f (FromSync sync) h = f sync h
-sync_more P Q f (FromCell pci earfcn) h = tt
-sync_more P Q f (FromAlg type id) h = tt
+sync_more other rest f more h = tt
 
 pub from_more : (P Q : Term → Type 0) → ((t : Term) → P t → Q t) → (d : Derivation Term) → From P d → From Q d
 from_more P Q f d h = (f d.key h.0, sync_more P Q f d.input h.1, h.2)
@@ -190,23 +188,12 @@ same_made : (ts : List Term)
     → same_input same_value i j ≡ true
     → made_of k i ≡ made_of l j
 same_made ts own (FromCount m) (FromCount n) k l a b e h = λ x. Kenb (e x) ((Decides-eqb m n).0 h x)
-same_made ts own (FromCount m) (FromSync u) k l a b e h = cc
-same_made ts own (FromCount m) (FromCell p q) k l a b e h = cc
-same_made ts own (FromCount m) (FromAlg p q) k l a b e h = cc
-same_made ts own (FromSync t) (FromCount n) k l a b e h = cc
 same_made ts own (FromSync t) (FromSync u) k l a b e h = λ x. Nh (e x) (own t u a b ((same_value-Decides t u).0 h) x)
-same_made ts own (FromSync t) (FromCell p q) k l a b e h = cc
-same_made ts own (FromSync t) (FromAlg p q) k l a b e h = cc
-same_made ts own (FromCell p q) (FromCount n) k l a b e h = cc
-same_made ts own (FromCell p q) (FromSync u) k l a b e h = cc
 same_made ts own (FromCell p q) (FromCell r s) k l a b e h =
     let both = (Decides-and _ _ (Decides-eqb p r) (Decides-eqb q s)).0 h in λ x. Star (e x) (both.0 x) (both.1 x)
-same_made ts own (FromCell p q) (FromAlg r s) k l a b e h = cc
-same_made ts own (FromAlg p q) (FromCount n) k l a b e h = cc
-same_made ts own (FromAlg p q) (FromSync u) k l a b e h = cc
-same_made ts own (FromAlg p q) (FromCell r s) k l a b e h = cc
 same_made ts own (FromAlg p q) (FromAlg r s) k l a b e h =
     let both = (Decides-and _ _ (Decides-eqb p r) (Decides-eqb q s)).0 h in λ x. Alg (e x) (both.0 x) (both.1 x)
+same_made ts own other rest k l a b e h = cc
 
 -- a row that stands is the same derivation: its key is the key added
 stands_same : (rows : List (RowOrigin Term))

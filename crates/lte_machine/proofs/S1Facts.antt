@@ -8,7 +8,7 @@ use Rattle.lte_events.specs.Site.{station_of}
 use Rattle.lte_events.specs.declared.answers.Answer.{Answer}
 use Rattle.lte_events.specs.declared.answers.Answer.TheVariants.{OldConnection, Repeated}
 use Rattle.key_model.specs.Reading.{Reading}
-use Rattle.s1x2_rec.specs.Fields.{Fields, InitialContext, ContextRelease, PathSwitchRequest, PathSwitchAnswer, HandoverRequired, HandoverRequest, HandoverRequestAck, HandoverCommand, HandoverNotify, HandoverCancel, X2Request, X2Ack, X2Cancel, X2Release, ContextModification}
+use Rattle.s1x2_rec.specs.Fields.{Fields, PathSwitchRequest, HandoverRequired, HandoverRequestAck, HandoverNotify, HandoverCancel}
 use Rattle.lte_machine.specs.CoreState.{Core, CoreLink, map_core_context, map_core_link}
 use Rattle.lte_machine.specs.CoreRows.{CoreRecordRow, RecordRefused, PathSwitched, HandoverAsked, HandoverOrdered, HandoverNotified, HandoverCancelled}
 use Rattle.lte_machine.specs.CoreChoice.{caps_in_use, asked_at, cancelled_at, of_link, core_fields_row}
@@ -120,13 +120,4 @@ module _ {K C : Type 0} (r : Reading K C) (s : Core K C) where
   record_has (HandoverCancel conn source attempt cell) =
       of_link_has (HandoverCancel conn source attempt cell) conn _ (λ held e. (e, refl))
       (λ l. cancelled_has conn source attempt cell l (station_of cell s.cells) refl) s.link refl
-  record_has (InitialContext conn cell caps) = tt
-  record_has (ContextRelease conn) = tt
-  record_has (PathSwitchAnswer conn number) = tt
-  record_has (HandoverRequest conn source attempt cell caps) = tt
-  record_has (HandoverCommand conn attempt cell ncc algs air) = tt
-  record_has (X2Request conn source attempt cell caps) = tt
-  record_has (X2Ack conn attempt cell algs air) = tt
-  record_has (X2Cancel conn source attempt) = tt
-  record_has (X2Release conn attempt) = tt
-  record_has (ContextModification conn next) = tt
+  record_has other = tt

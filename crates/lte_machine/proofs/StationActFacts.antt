@@ -254,16 +254,11 @@ module _ {K C : Type 0} (r : Reading K C) (s : Station K C) (act : StationAct) w
         → Has (attempt_command_row (option_map (map_attempt unseen r.ncc) o) c.bearers.srb1)
     command_has a None f = tt
     command_has a (Some (OverX2 (X2Open start))) f = tt
-    command_has a (Some (OverX2 (X2Ready acked))) f = ordered_has a _ f _ refl
-    command_has a (Some (OverX2 (X2Commanded sent))) f = ordered_has a _ f _ refl
     command_has a (Some (OverS1 (S1Open start))) f = tt
-    command_has a (Some (OverS1 (S1Ready acked))) f = ordered_has a _ f _ refl
-    command_has a (Some (OverS1 (S1Commanded sent))) f = ordered_has a _ f _ refl
     command_has a (Some (Within (X2Open start))) f = tt
-    command_has a (Some (Within (X2Ready acked))) f = ordered_has a _ f _ refl
-    command_has a (Some (Within (X2Commanded sent))) f = ordered_has a _ f _ refl
     command_has a (Some (Renewing renewal)) f =
         unspent_has c.bearers.srb1 _ (λ h. record { act_is = a; context = c; serving = e; trying = f; count_is = refl; unspent = h })
+    command_has a other f = ordered_has a _ f _ refl
 
     x2_cancel_has : act ≡ Cancel → (state : X2State K C) → c.attempt ≡ Some (OverX2 state) → Has (x2_cancel_row c.conn (map_x2_state unseen r.ncc state))
     x2_cancel_has a (X2Open start) f =

@@ -87,14 +87,10 @@ module _ {K C : Type 0} (r : Reading K C) (s : Station K C) (P : Station K C × 
   pub record_case : (Known : RecordRow → Option (NumberedKey K C) → Type 0) → RecordCases r s Known P
       → (row : RecordRow) (key : Option (NumberedKey K C)) → Known row key → P (record_does r row key s)
   record_case Known x (RecordRefused answer) key k = x.nothing answer
-  record_case Known x (ContextGiven conn cell caps algs air) None k = x.nothing Done
   record_case Known x (ContextGiven conn cell caps algs air) (Some kenb) k = x.given conn cell caps algs air kenb k
   record_case Known x ContextReleased key k = x.released key k
-  record_case Known x (PairTaken conn origin) None k = x.nothing Done
   record_case Known x (PairTaken conn origin) (Some pair) k = x.taken conn origin pair k
-  record_case Known x (PreparedByS1 w) None k = x.nothing Done
   record_case Known x (PreparedByS1 w) (Some pair) k = x.by_s1 w pair k
-  record_case Known x (PreparedByX2 w) None k = x.nothing Done
   record_case Known x (PreparedByX2 w) (Some star) k = x.by_x2 w star k
   record_case Known x (AckedByS1 ncc algs air) key k = x.acked_s1 ncc algs air key k
   record_case Known x (AckedByX2 algs air) key k = x.acked_x2 algs air key k
@@ -106,6 +102,7 @@ module _ {K C : Type 0} (r : Reading K C) (s : Station K C) (P : Station K C × 
     renews None e key k = x.nothing Done
     renews (Some c) e None k = x.nothing Done
     renews (Some c) e (Some kenb) k = x.renewed conn number air count c e kenb k
+  record_case other x rest more k = x.nothing Done
 
   -- of a preparation, or of the context, if there is one
   if_one : {A : Type 0} (o : Option A) (Q : Option A → Type 0) → Q None → ((x : A) → o ≡ Some x → Q (Some x)) → Q o

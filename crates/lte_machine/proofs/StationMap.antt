@@ -21,7 +21,7 @@ use Rattle.lte_machine.specs.Opening.{Opening, OpensNothing, OpensNas, OpensSrb,
 use Rattle.key_model.specs.Use.{map_use}
 use Rattle.lte_machine.specs.Reply.{Origin, finished}
 use Rattle.lte_machine.specs.StationState.{Station, Context, Attempt, OverX2, OverS1, Within, X2State, X2Open, X2Ready, X2Commanded, S1Open, S1Ready, S1Commanded, StationInput, StationActs, AirPdu, StationRecord, map_x2_state, map_attempt, map_context, map_station, map_read, map_station_input, Renewal, Renewing}
-use Rattle.lte_machine.specs.StationRows.{Admitted, RecordRow, RecordRefused, ContextGiven, ContextReleased, PairTaken, PreparedByS1, PreparedByX2, AckedByS1, AckedByX2, PreparationCancelled, SourceReleased, AirRow, AirRefused, SecurityStarted, RrcOpened, PacketOpened, CompletedByS1, CompletedWithin, CompletedByX2, ActRow, ActRefused, StartedByX2, StartedByS1, StartedWithin, HandoverCommanded, CancelledByX2, CancelledByS1, CancelledWithin, PathSwitchAsked, PacketSent, RrcSent, BearerSkipped, StationRow, OfRecord, OfAir, OfAct, KeyRenewed, ChangeCommanded}
+use Rattle.lte_machine.specs.StationRows.{Admitted, RecordRow, ContextGiven, PairTaken, PreparedByS1, PreparedByX2, AckedByS1, AckedByX2, PreparationCancelled, AirRow, AirRefused, SecurityStarted, RrcOpened, PacketOpened, CompletedByS1, CompletedWithin, CompletedByX2, ActRow, ActRefused, StartedByX2, StartedByS1, StartedWithin, HandoverCommanded, CancelledByX2, CancelledByS1, CancelledWithin, PathSwitchAsked, PacketSent, RrcSent, BearerSkipped, StationRow, OfRecord, OfAir, OfAct, KeyRenewed, ChangeCommanded}
 use Rattle.lte_machine.specs.StationChoice.{AirFront, AirSettled, OnStarting, OnSignalling, OnUser, OnPrepared, StationFront, Settled, FromAir, station_front, station_row}
 use Rattle.lte_machine.specs.StationKeys as keys
 use Rattle.lte_machine.specs.StationRecords as record_keys
@@ -226,17 +226,15 @@ module _ {K C L D : Type 0} {r : Reading K C} {q : Reading L D} {f : K → L} {g
   record_does_map : (row : RecordRow) (key : Option (NumberedKey K C)) (s : Station K C) →
       map_station_done f g (record_keys.record_does r row key s)
       ≡ record_keys.record_does q row (option_map (map_numbered f g) key) (map_station f g s)
-  record_does_map (RecordRefused answer) key s = refl
   record_does_map (ContextGiven conn cell caps algs air) key s = context_given_map conn cell caps algs air key s
-  record_does_map ContextReleased key s = refl
   record_does_map (PairTaken conn origin) key s = pair_taken_map conn origin key s
   record_does_map (PreparedByS1 w) key s = prepared_by_s1_map w key s
   record_does_map (PreparedByX2 w) key s = prepared_by_x2_map w key s
   record_does_map (AckedByS1 ncc algs air) key s = rw (with_s1_ack_map ncc algs air s.context) refl
   record_does_map (AckedByX2 algs air) key s = rw (with_x2_ack_map algs air s.context) refl
   record_does_map (PreparationCancelled from) key s = rw (← without-map f g from.source from.attempt s.preps) refl
-  record_does_map SourceReleased key s = refl
   record_does_map (KeyRenewed conn number air count) key s = key_renewed_map conn number air count s.context key s
+  record_does_map other key s = refl
 
   -- PDUS OF RADIO BEARERS
 
@@ -349,11 +347,9 @@ module _ {K C L D : Type 0} {r : Reading K C} {q : Reading L D} {f : K → L} {g
   commanded_map : (order : Order) (o : Option (Attempt K C)) →
       option_map (map_attempt f g) (option_map (keys.commanded order) o)
       ≡ option_map (keys.commanded order) (option_map (map_attempt f g) o)
-  commanded_map order None = refl
   commanded_map order (Some (OverX2 state)) = λ j. Some (OverX2 (x2_commanded_map order state j))
-  commanded_map order (Some (OverS1 state)) = refl
   commanded_map order (Some (Within state)) = λ j. Some (Within (x2_commanded_map order state j))
-  commanded_map order (Some (Renewing renewal)) = refl
+  commanded_map order other = refl
 
   commands_map : (order : Order) (count : ℕ) (o : Option (Context K C)) (s : Station K C) →
       map_station_done f g (keys.commands order count o s)
@@ -374,11 +370,9 @@ module _ {K C L D : Type 0} {r : Reading K C} {q : Reading L D} {f : K → L} {g
 
   spent_in_map : (o : Option (Attempt K C)) →
       map_pair f g (keys.spent_in o) ≡ keys.spent_in (option_map (map_attempt f g) o)
-  spent_in_map None = refl
   spent_in_map (Some (OverX2 state)) = x2_spent_map state
-  spent_in_map (Some (OverS1 state)) = refl
   spent_in_map (Some (Within state)) = x2_spent_map state
-  spent_in_map (Some (Renewing renewal)) = refl
+  spent_in_map other = refl
 
   restored_map : (kenb : K) (number : C) (pair back : Option (NumberedKey K C)) →
       map_station_key f g (restored_if (record { kenb = kenb; number = number; pair = pair }) back)

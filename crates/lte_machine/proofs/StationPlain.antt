@@ -10,7 +10,7 @@ use Rattle.s1x2_rec.specs.Content.{Content, map_content}
 use Rattle.ho_prep.specs.Prep.{Prep, map_prep}
 use Rattle.x2_handover.specs.Attempt.{X2Start, map_x2_start}
 use Rattle.lte_machine.specs.Reply.{unseen}
-use Rattle.lte_machine.specs.StationState.{Context, Attempt, OverX2, OverS1, Within, Renewing, X2State, X2Open, X2Ready, X2Commanded, Station, StationInput, StationActs, AirPdu, StationRecord, map_x2_state, map_attempt, map_context, map_preps, map_station, map_read, map_station_input}
+use Rattle.lte_machine.specs.StationState.{Context, Attempt, OverX2, Within, X2State, X2Open, X2Ready, X2Commanded, Station, StationInput, StationActs, AirPdu, StationRecord, map_x2_state, map_attempt, map_context, map_preps, map_station, map_read, map_station_input}
 use Rattle.lte_machine.specs.StationStep.{plain_station}
 
 module _ {K C L D : Type 0} {r : Reading K C} {q : Reading L D} {f : K → L} {g : C → D} (c : Carries r q f g) where
@@ -35,11 +35,9 @@ module _ {K C L D : Type 0} {r : Reading K C} {q : Reading L D} {f : K → L} {g
   attempt_plain : (attempt : Option (Attempt K C)) →
       option_map (map_attempt unseen q.ncc) (option_map (map_attempt f g) attempt)
       ≡ option_map (map_attempt unseen r.ncc) attempt
-  attempt_plain None = refl
   attempt_plain (Some (OverX2 state)) = λ j. Some (OverX2 (x2_plain state j))
-  attempt_plain (Some (OverS1 state)) = refl
   attempt_plain (Some (Within state)) = λ j. Some (Within (x2_plain state j))
-  attempt_plain (Some (Renewing renewal)) = refl
+  attempt_plain other = refl
 
   context_plain : (x : Context K C) → map_context unseen q.ncc (map_context f g x) ≡ map_context unseen r.ncc x
   context_plain x = rw (key_plain x.key, attempt_plain x.attempt) refl

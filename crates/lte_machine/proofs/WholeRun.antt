@@ -67,12 +67,8 @@ module _ (c : Ciphers (List ℕ)) where
   sent_back (Some x) h = record_back x h
 
   pub ranged_back : (w : World Term ℕ (Outgoing Term ℕ)) (e : Event) → Ranged w → BackOf m q value_of ncc_of (kept_in_values c) (agree c) w e
-  ranged_back w (Event.Auth ksi octets caps) h = tt
-  ranged_back w (Event.Phone act) h = tt
-  ranged_back w (Event.Station id act) h = tt
-  ranged_back w (Event.Core act) h = tt
   ranged_back w (Event.Deliver i) h = sent_back (record_at i w.sent) (all_chosen RecordRanged i w.sent h.2)
-  ranged_back w (Event.Inject to octets) h = tt
+  ranged_back w other h = tt
 
   -- so ranges are a property of worlds by which what was sent reads back
   pub ranged_keeps_back : KeepsBack c Ranged

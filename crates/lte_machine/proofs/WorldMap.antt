@@ -14,7 +14,7 @@ use Rattle.lte_events.specs.declared.lines.Who.{Who}
 use Rattle.key_model.specs.Derivation.{Derivation, map_derivation}
 use Rattle.key_model.specs.Reading.{Carries}
 use Rattle.key_model.specs.Use.{map_use}
-use Rattle.lte_machine.specs.Wire.{Ciphering, map_ciphering, Outgoing, SealedNas, PlainNas, SealedRrc, UserPacket, Between, map_outgoing, ciphering_use}
+use Rattle.lte_machine.specs.Wire.{Ciphering, map_ciphering, Outgoing, SealedNas, SealedRrc, map_outgoing, ciphering_use}
 use Rattle.lte_machine.specs.Opening.{Opening, Opened}
 use Rattle.lte_machine.specs.Reply.{map_note, map_made, map_tried, map_took, Reply, only}
 use Rattle.lte_machine.specs.Ladder.{RowOrigin, OfRoot, Of, map_row, ladder_of, root_row}
@@ -57,14 +57,11 @@ ciphering_use-map f None = refl
 ciphering_use-map f (Some e) = refl
 
 uses_in-map : {K C L D : Type 0} (f : K → L) (g : C → D) (o : Option (Outgoing K C)) → map (map_use f) (uses_in o) ≡ uses_in (option_map (map_outgoing f g) o)
-uses_in-map f g None = refl
 uses_in-map f g (Some (SealedNas dir header u e text)) =
     map-append (map_use f) (ciphering_use e) (u ∷ []) ∙ ap (λ xs. xs ++ map_use f u ∷ []) (ciphering_use-map f e)
-uses_in-map f g (Some (PlainNas octets)) = refl
 uses_in-map f g (Some (SealedRrc dir station air srb u e text)) =
     map-append (map_use f) (ciphering_use e) (u ∷ []) ∙ ap (λ xs. xs ++ map_use f u ∷ []) (ciphering_use-map f e)
-uses_in-map f g (Some (UserPacket dir station air drb e text)) = refl
-uses_in-map f g (Some (Between to fields key)) = refl
+uses_in-map f g other = refl
 
 outs-map : {K L : Type 0} (f : K → L) (holder : Holder) (ds : List (Derivation K))
     → map (map_holding f) (map (λ d. record { holder = holder; key = d.out }) ds)
@@ -305,13 +302,10 @@ module _ {K C S L D T : Type 0} (m : Machine K C S) (q : Machine L D T) (f : K �
       is_sent_same = λ j. same_class class (class_of (sym (a.address x) j)) && bytes_eq (told_in class octets) (told_in class (sym (a.octets x) j))
 
   injected_back : (to : Address) → BackAt to None
-  injected_back Address.PhoneNas = tt
-  injected_back (Address.Phone station air bearer) = tt
-  injected_back Address.CoreNas = tt
   injected_back Address.CoreS1 = refl
-  injected_back (Address.StationAir station air bearer) = tt
   injected_back (Address.StationS1 station) = refl
   injected_back (Address.StationX2 station) = refl
+  injected_back other = tt
 
   injected-map : (w : World K C S) (to : Address) (octets : List ℕ) (o : Option ℕ)
       → map_told f g z (injected m w to octets o) ≡ injected q (map_world f g z w) to octets o
