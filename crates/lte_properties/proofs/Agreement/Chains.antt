@@ -94,14 +94,14 @@ module _ (cells : List Site) (c : Conns) (w : TheWorld) (h : WorldOk cells c w) 
   x2_under : (id : ℕ) (x : Context Term ℕ) (state : X2State Term ℕ)
       → X2Ok (ghost c w) id x.conn x.key.kenb state
       → UnderKey (ghost c w) id x.conn x.key.kenb (x2_number state)
-  x2_under id x (X2Open start) k = let o = k.0 in record { tried = o.tried; found = o.found; key = o.key; conn = o.conn }
+  x2_under id x (X2Open start) k = search (k.0)
   x2_under id x (X2Ready acked) k = k.2
   x2_under id x (X2Commanded sent) k = k.1
 
   s1_under : (id : ℕ) (x : Context Term ℕ) (state : S1State)
       → S1Ok (ghost c w) id x.conn x.key.kenb state
       → UnderKey (ghost c w) id x.conn x.key.kenb (s1_number state)
-  s1_under id x (S1Open start) k = record { tried = k.tried; found = k.found; key = k.key; conn = k.conn }
+  s1_under id x (S1Open start) k = search
   s1_under id x (S1Ready acked) k = k.1
   s1_under id x (S1Commanded sent) k = k.1
 

@@ -200,13 +200,7 @@ module _ (g h : Ghost) (l : Later g h) where
   down_later : (station air : ℕ) (srb : Srb) (i : KeyUse Term) (f : Option (Ciphering Term)) (text : List ℕ)
       → DownOk g station air srb i f text
       → DownOk h station air srb i f text
-  down_later station air srb i f text x = record {
-    made = x.made;
-    found = l.made station air x.made x.found;
-    integrity = x.integrity;
-    ciphered = ciphered_later station air x.made srb i f x.ciphered;
-    says = λ r e. says_later station x.made.key r (x.says r e);
-  }
+  down_later station air srb i f text x = search (known, ciphered_later, says_later, x.says)
 
   up_later : (station air : ℕ) (srb : Srb) (i : KeyUse Term) (f : Option (Ciphering Term)) → UpOk g station air srb i f → UpOk h station air srb i f
   up_later station air srb i f x = search (known, here_later)

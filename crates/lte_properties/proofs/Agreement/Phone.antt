@@ -153,16 +153,7 @@ took_more g (Some y) = record {
 -- the next COUNT on SRB1 falls in no row but a handover
 heard_after : (g : Ghost) (l : Link Term ℕ) (bearers : Bearers) → LinkIs g l → (1 ≤ l.bearers.srb1.receive → 1 ≤ bearers.srb1.receive)
     → RadioOk g (Connected (record l { bearers = bearers }))
-heard_after g l bearers h f = record {
-  chain = h.chain;
-  keys = h.keys;
-  made = h.made;
-  found = h.found;
-  algs = h.algs;
-  from = h.from;
-  had = h.had;
-  heard = λ none. f (h.heard none);
-}
+heard_after g l bearers h f = search (f, h.heard)
 
 pub heard_taken : (srb : Srb) (count : ℕ) (b : Bearers) → 1 ≤ b.srb1.receive → 1 ≤ (srb_taken srb count b).srb1.receive
 heard_taken Signalling1 count b h = omega arith
@@ -194,13 +185,7 @@ heard_left (OnDrb User4) n b h = h
 
 -- an order is obeyed under the key that the station made for the phone's air address
 own_before : (g : Ghost) (x : Took Term ℕ) (l : Link Term ℕ) → LinkIs g l → OwnMade g l → HadMade (with_took g (Some x)) l.station l.kenb
-own_before g x l h own = record {
-  air = l.air;
-  made = own.0;
-  found = own.1;
-  key = own.2;
-  had = had_later g (with_took g (Some x)) (took_more g (Some x)) l.station l.air l.kenb h.had;
-}
+own_before g x l h own = search (had_later g (with_took g (Some x)) (took_more g (Some x)) l.station l.air l.kenb h.had)
 
 -- what the phone takes first, it has then
 had_last : (took : List (Took Term ℕ)) (x : Took Term ℕ) → HadTaken (took ++ x ∷ []) x.station x.air x.key

@@ -138,7 +138,7 @@ module _ (same : Term → Term → Bool) (cells : List Site) (g : Ghost) (made_o
   taken_goes conn origin pair c e pair_ok =
       let h = ctx_at cells g s ok c e in (
         mapped_at cells g s ok (with_pair pair) c e
-            (record { term = h.term; pair = pair_ok; keys = h.keys; entry = h.entry; attempt = h.attempt; started = h.started }),
+            (search (pair_ok)),
         tt,
         tt,
         release_out conn origin,

@@ -314,14 +314,8 @@ module _ (same : Term → Term → Bool) (cells : List Site) (cells_ok : AllOf S
   restored_ctx : (id : ℕ) (c : Context Term ℕ) (spent : Option (NumberedKey Term ℕ)) → CtxOk g id (Some c) → PairsOk g c.conn spent
       → CtxOk g id (Some (record c { key = restored_if c.key spent; attempt = None }))
   restored_ctx id c None h k = with_attempt_ok g id c h None tt (started_none g id c.air c.key.kenb c.starting c.attempt h.started)
-  restored_ctx id c (Some back) h k = record {
-    term = h.term;
-    pair = restored_pair c.conn c.key.pair back h.pair k;
-    keys = h.keys;
-    entry = h.entry;
-    attempt = tt;
-    started = started_none g id c.air c.key.kenb c.starting c.attempt h.started;
-  }
+  restored_ctx id c (Some back) h k =
+      search (restored_pair c.conn c.key.pair back h.pair k, started_none g id c.air c.key.kenb c.starting c.attempt h.started)
 
   given_up_ok : (id : ℕ) (c : Context Term ℕ) → CtxOk g id (Some c) → CtxOk g id (Some (given_up c))
   given_up_ok id c h = restored_ctx id c (spent_in c.attempt) h (spent_ok id c.conn c.key.kenb c.attempt h.attempt)

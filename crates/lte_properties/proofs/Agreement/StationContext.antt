@@ -9,7 +9,7 @@ use Rattle.lte_machine.specs.StationState.{Station, Context, Attempt}
 use Rattle.lte_machine.proofs.Tests.{by_some}
 use Rattle.lte_properties.specs.ChainBelow.{AllOf}
 use Rattle.lte_properties.specs.Agreement.{HadTaken}
-use Rattle.lte_properties.proofs.Agreement.Ghost.{Ghost, AttemptOk, StartedOk, CtxOk, PrepOk, StationOk}
+use Rattle.lte_properties.proofs.Agreement.Ghost.{Ghost, FreshFrom, AttemptOk, StartedOk, CtxOk, PrepOk, StationOk}
 
 -- the cell of a context is a cell
 abbrev pub CellFits : Option (Context Term ℕ) → Type 0
@@ -35,38 +35,22 @@ had_by g id air t false o e h = h
 -- a context with this attempt, or none
 pub with_attempt_ok : (g : Ghost) (id : ℕ) (c : Context Term ℕ) → CtxOk g id (Some c) → (o : Option (Attempt Term ℕ)) → AttemptOk g id c.conn c.key.kenb o
     → StartedOk g id c.air c.key.kenb c.starting o → CtxOk g id (Some (record c { attempt = o }))
-with_attempt_ok g id c h o attempt started =
-    record { term = h.term; pair = h.pair; keys = h.keys; entry = h.entry; attempt = attempt; started = started }
+with_attempt_ok g id c h o attempt started = search
 
 -- the context of a station
 module _ (cells : List Site) (g : Ghost) (s : Station Term ℕ) (ok : StationOk cells g s) where
   -- where context and preparations alone change
   pub with_both : (o : Option (Context Term ℕ)) → CtxOk g s.id o → (ps : List (Prep Term ℕ)) → AllOf (PrepOk g s.id) ps
       → StationOk cells g (record s { context = o; preps = ps })
-  with_both o k ps b = record {
-    context = k;
-    preps = b;
-    fresh = ok.fresh;
-    cells = ok.cells;
-    id = ok.id;
-    next = ok.next;
-    ring = ok.ring;
-    seen = ok.seen;
-  }
+  with_both o k ps b = search
 
   -- and the next number, where one was drawn
   pub next_drawn : (next : ℕ) → s.next ≤ next → (o : Option (Context Term ℕ)) → CtxOk g s.id o → (ps : List (Prep Term ℕ)) → AllOf (PrepOk g s.id) ps
       → StationOk cells g (record s { next = next; context = o; preps = ps })
-  next_drawn next up o k ps b = let first = ok.next in record {
-    context = k;
-    preps = b;
-    fresh = λ n above. ok.fresh n (le_trans up above);
-    cells = ok.cells;
-    id = ok.id;
-    next = le_trans first up;
-    ring = ok.ring;
-    seen = ok.seen;
-  }
+  next_drawn next up o k ps b =
+      let first = ok.next in
+      let fresh : FreshFrom g s.id next = λ n above. ok.fresh n (le_trans up above) in
+      search (fresh, le_trans first up)
 
   pub with_ctx : (o : Option (Context Term ℕ)) → CtxOk g s.id o → StationOk cells g (record s { context = o })
   with_ctx o k = with_both o k s.preps ok.preps

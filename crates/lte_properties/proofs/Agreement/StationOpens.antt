@@ -72,7 +72,7 @@ module _ (same : Term → Term → Bool) (cells : List Site) (g : Ghost) (s : St
         let taken = up_taken g s.id air c.key.kenb (srb_use Up c.keys.rrc_int Signalling1 count) key _ f.1.0.text came came_ok sealed in
         let had = subst (λ a. HadTaken g.took s.id a c.key.kenb) (sym f.0.there) taken.1 in
         mapped_at cells g s ok (with_security count) c f.0.serving
-        (record { term = h.term; pair = h.pair; keys = h.keys; entry = h.entry; attempt = h.attempt; started = had })
+        (search (had))
 
     -- a completed preparation is a context of what was made, and the phone had taken its key
     arrives : (at count : ℕ) (by : By) (outstanding : Option ℕ) (origin : Option Origin) → Completes r s air on pdu outcome at count by

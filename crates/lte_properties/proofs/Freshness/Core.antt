@@ -163,7 +163,7 @@ module _ (roots : ℕ) (given : Homes) where
       → NasCases (term_reading_by same) (λ t row. NasHas (term_reading_by same) t pdu outcome row) Keeps s
   nas_keeps same pdu outcome s = record {
     nothing = λ t answer h. still t h;
-    closed = λ f h. keeps s _ None (record { kasmes = h.kasmes; keys = h.keys; procedure = tt; trigger = h.trigger; past = h.past })
+    closed = λ f h. keeps s _ None (search)
         (λ k count u. u) tt tt (λ taken. tt);
     completed = λ count p keys f h. keeps _ _ None
         (record {
@@ -214,7 +214,7 @@ module _ (roots : ℕ) (given : Homes) where
   started_keeps : (same : Term → Term → Bool) (ksi : ℕ) (algs : Algs) (caps : Caps) (count : ℕ) (s : Core Term ℕ) (p : CorePartial Term)
       → count ≡ p.send → Keeps (with_partial s (Some p)) (smc_started (term_reading_by same) ksi algs caps count (Some p) (with_partial s (Some p)))
   started_keeps same ksi algs caps count s p e h =
-      keeps _ _ _ (record { kasmes = h.kasmes; keys = h.keys; procedure = refl; trigger = h.trigger; past = h.past })
+      keeps _ _ _ (search)
       (λ k n u. (u.0, (λ g. let x = u.1 g in omega arith), u.2)) (
         record {
           down = refl;
@@ -247,7 +247,7 @@ module _ (roots : ℕ) (given : Homes) where
   set_up_keeps same conn cell target caps count s c (Some n) e h = record {
     new = homed given kenb (home_at target conn);
     grows = homed_grows given kenb (home_at target conn) not_given;
-    stands = record { kasmes = h.kasmes; keys = h.keys; procedure = h.procedure; trigger = tt; past = all };
+    stands = search (all);
     nas = λ k m u. u;
     uses = tt;
     apart = tt;

@@ -260,7 +260,7 @@ module _ (roots : ℕ) (taken : Homes) where
     idle_keeps h = record {
       new = taken;
       grows = λ t k e. e;
-      stands = record { kasmes = h.kasmes; keys = h.keys; past = h.past; radio = tt; older = tt; sent = h.sent };
+      stands = search;
       nas = λ k count u. u;
       link = λ k type count bearer u. (u.0, u.1, tt);
       uses = tt;

@@ -157,7 +157,7 @@ module _ (taken given : Homes) where
             let y = k.old key type count bearer x in
             record { at = y.at; is = y.is; spent = λ e. later_spent t u l (is_star key) y.at.place (y.spent e); ahead = y.ahead };
         uses = all_map (NewAt taken given s t) (NewAt taken given s u)
-            (λ x y. record { down = y.down; own = y.own; now = later_use l x y.now; news = y.news }) (uses_in sent) k.uses;
+            (λ x y. search (later_use l x y.now)) (uses_in sent) k.uses;
         apart = k.apart;
         sends = k.sends;
       }

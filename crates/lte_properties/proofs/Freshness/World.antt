@@ -69,8 +69,7 @@ module _ (taken taken' given given' : Homes) (f : HomesStay taken taken') (g : H
 
   -- a record on S1 or X2 stands
   between_grows : (to : Address) (fields : Fields) (key : Option (NumberedKey Term ℕ)) → BetweenStands given to fields key → BetweenStands given' to fields key
-  between_grows to (InitialContext conn cell caps) (Some key) h =
-      record { station = h.station; is_to = h.is_to; here = g key.key (home_at h.station conn) h.here; no_star = h.no_star }
+  between_grows to (InitialContext conn cell caps) (Some key) h = search (g)
   between_grows to fields key h = h
 
   -- each record stands

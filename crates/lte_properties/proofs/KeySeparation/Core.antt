@@ -99,7 +99,7 @@ module _ (roots : ℕ) (xs : List (Outgoing Term ℕ)) (G : Gifts) (sites : List
       → ((t : Term) → Past roots p c tr t → Past roots q d ur t) → (o : Option (CoreLink Term ℕ)) →
       LinkOk roots p c tr o → LinkOk roots q d ur o
   chain_past p q c d tr ur f None h = tt
-  chain_past p q c d tr ur f (Some l) h = (h.0, h.1, h.2, f l.chain.sync h.3)
+  chain_past p q c d tr ur f (Some l) h = search (f)
 
   -- a step that gives no key, after which the keys of before are past
   quiet : (old t : Core Term ℕ) (reply : Reply Term ℕ) → Before old → t.link ≡ old.link → PartialOk roots t.partial
@@ -455,4 +455,4 @@ auth_kept roots G s ksi caps root i e h = record {
       OfSome (λ l. IsRoot l.chain.root × IsDerivationKey l.chain.sync × (root_number l.chain.root ≡ root_number l.chain.sync)
       × ((root_number l.chain.sync < roots + 1) × (root_number l.chain.sync < root_number root) × BelowContext s.context s.trigger l.chain.sync)) o
   link None k = tt
-  link (Some l) k = (k.0, k.1, k.2, past l.chain.sync k.3)
+  link (Some l) k = search (past)

@@ -73,10 +73,10 @@ module _ (P : ℕ → Type 0) (cells : List Site) (sites : (cell : Place) (id : 
     module _ (s : Station Term ℕ) (h : StationNamed P cells s) where
       -- its preparations, and where its context alone changes
       preps : AllOf (λ p. PrepNamed P p) s.preps
-      preps = h.3
+      preps = search
 
       with_context : (o : Option (Context Term ℕ)) → ContextNamed P o → StationNamed P cells (record s { context = o })
-      with_context o k = (h.0, h.1, k, preps)
+      with_context o k = search
 
       mapped : (f : Context Term ℕ → Context Term ℕ) → ((c : Context Term ℕ) → ContextNamed P (Some c) → ContextNamed P (Some (f c)))
           → StationNamed P cells (record s { context = option_map f s.context })

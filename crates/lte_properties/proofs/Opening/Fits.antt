@@ -91,16 +91,7 @@ data_sealed g next dir header u e text sent k is = by_record k.says (sym k.spell
     by_record SecurityModeComplete same so = absurd (differ 2 (omega arith) (ap first same))
     by_record (SecurityModeReject cause) same so = absurd (differ 3 (omega arith) (ap first same))
     by_record ServiceRequest same so = absurd (differ 4 (omega arith) (ap first same))
-    by_record (NasData t) same so = record {
-      root = k.root;
-      algs = k.algs;
-      has = k.has;
-      integrity = k.integrity;
-      header = so.type;
-      ciphering = so.ciphering;
-      count = so.count;
-      short = subst (λ x. length x ≤ 200) (ap (drop 1) same) so.short;
-    }
+    by_record (NasData t) same so = search (subst (λ x. length x ≤ 200) (ap (drop 1) same) so.short)
 
 -- the context in use of that KASME has the keys that the message was sealed under
 under_context : (g : Choices) (next : ℕ) (dir : Dir) (header : ℕ) (u : KeyUse Term)

@@ -129,8 +129,7 @@ More g next h later = (next ≤ later) × ((n : ℕ) → n < next → g n ≡ h 
 
 module _ (g h : Choices) (next later : ℕ) (more : More g next h later) where
   root_more : (P Q : ℕ → Type 0) → ((n : ℕ) → n < next → P n → Q n) → (root : Term) → IsRootOf P next root → IsRootOf Q later root
-  root_more P Q f root k =
-      record { number = k.number; octets = k.octets; is = k.is; low = le_trans k.low more.0; so = f k.number k.low k.so }
+  root_more P Q f root k = search (le_trans k.low more.0, f k.number k.low k.so)
 
   pub chosen_more : (algs : Result Algs NoneChosen) (root : Term) → IsRootOf (ChosenIs g algs) next root → IsRootOf (ChosenIs h algs) later root
   chosen_more algs root k = root_more (ChosenIs g algs) (ChosenIs h algs) (λ n low e. e ∙ more.1 n low) root k
@@ -166,16 +165,7 @@ module _ (g h : Choices) (next later : ℕ) (more : More g next h later) where
       context (Some c) k = context_more c.nas k
 
   pub sent_more : (x : Outgoing Term ℕ) → SentOk g next x → SentOk h later x
-  sent_more (SealedNas dir header u e text) k = record {
-    root = k.root;
-    algs = k.algs;
-    says = k.says;
-    has = chosen_more (Ok k.algs) k.root k.has;
-    integrity = k.integrity;
-    spelled = k.spelled;
-    so = k.so;
-    ciphered = k.ciphered;
-  }
+  sent_more (SealedNas dir header u e text) k = search (chosen_more)
   sent_more other k = tt
 
 -- one KASME has one choice

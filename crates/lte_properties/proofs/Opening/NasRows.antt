@@ -122,7 +122,7 @@ module _ (same : Term → Term → Bool) (g : Choices) (next : ℕ) where
         let (low, k) = h.0 in
         let needs = started_needs (at_core.with_partial s (Some p)) act ksi algs caps count f in
         let root : RootHas g next p.root algs =
-        record { number = k.number; octets = k.octets; is = k.is; low = k.low; so = sym needs.1 ∙ k.so } in (
+        search (sym needs.1 ∙ k.so) in (
           ((low, k), (root, refl), h.2),
           record {
             root = p.root;
