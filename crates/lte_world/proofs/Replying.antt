@@ -36,10 +36,6 @@ use Rattle.lte_world.proofs.Getting.{station_at, station_nowhere}
 use Rattle.lte_world.proofs.Refusing.{chosen_in, no_view, found_in}
 use Rattle.lte_world.proofs.Stations.{same_some}
 
--- what is told first is all that is told
-pub only_told : (told before : List (ActorIn × ActorOut)) (x : ActorIn × ActorOut) → before ≡ [] → told ≡ before ++ x ∷ [] → told ≡ x ∷ []
-only_told told before x none is = is ∙ ap (λ xs. xs ++ x ∷ []) none
-
 pub first_is : (told : List (ActorIn × ActorOut)) (x : ActorIn × ActorOut) (out : ActorOut)
     → told ≡ x ∷ []
     → option_map (λ r. r.1) (slice_get told 0) ≡ Some out
@@ -193,13 +189,13 @@ module _ (a now : Actors) (view : a ≡ now) (told : List (ActorIn × ActorOut))
 
 -- phone and core reply one after the other
 pub two_told : (phone : Phone (List ℕ) ℕ) (core : Core (List ℕ) ℕ) (ksi : ℕ) (root made : List ℕ) → made ≡ root → (caps : Caps)
-    → (first second third : List (ActorIn × ActorOut)) → first ≡ []
-    → second ≡ first ++ (ActorIn.Phone (PhoneIn.Auth ksi made), (phone_call phone (PhoneIn.Auth ksi made)).1) ∷ []
-    → third ≡ second ++ (ActorIn.Core (CoreIn.Auth ksi made caps), (core_call core (CoreIn.Auth ksi made caps)).1) ∷ []
-    → third
+    → (first both : List (ActorIn × ActorOut))
+    → first ≡ (ActorIn.Phone (PhoneIn.Auth ksi made), (phone_call phone (PhoneIn.Auth ksi made)).1) ∷ []
+    → both ≡ first ++ (ActorIn.Core (CoreIn.Auth ksi made caps), (core_call core (CoreIn.Auth ksi made caps)).1) ∷ []
+    → both
     ≡ (ActorIn.Phone (PhoneIn.Auth ksi root), (phone_call phone (PhoneIn.Auth ksi root)).1)
     ∷ (ActorIn.Core (CoreIn.Auth ksi root caps), (core_call core (CoreIn.Auth ksi root caps)).1) ∷ []
-two_told phone core ksi root made same caps first second third none one two =
-    two ∙ ap (λ xs. xs ++ (ActorIn.Core (CoreIn.Auth ksi made caps), (core_call core (CoreIn.Auth ksi made caps)).1) ∷ []) (only_told second first _ none one)
+two_told phone core ksi root made same caps first both one two =
+    two ∙ ap (λ xs. xs ++ (ActorIn.Core (CoreIn.Auth ksi made caps), (core_call core (CoreIn.Auth ksi made caps)).1) ∷ []) one
     ∙ (λ j. (ActorIn.Phone (PhoneIn.Auth ksi (same j)), (phone_call phone (PhoneIn.Auth ksi (same j))).1)
     ∷ (ActorIn.Core (CoreIn.Auth ksi (same j) caps), (core_call core (CoreIn.Auth ksi (same j) caps)).1) ∷ [])

@@ -1,6 +1,6 @@
 // The actors, and what is kept beside them.
 ghost use Rattle.growth.specs.Growth.{WasRefused};
-ghost use Rattle.std.specs.Prelude.{◌≡◌, ◌≤◌, ◌<◌, ◌==◌, [], length, position, None, IsOkUnless, OnOk, OnErr, IfSome};
+ghost use Rattle.std.specs.Prelude.{◌≡◌, ◌≤◌, ◌<◌, ◌==◌, length, position, None, IsOkUnless, OnOk, OnErr, IfSome};
 ghost use Rattle.lte_events.specs.Ranges.{CoreTakes, PhoneDoes, PhoneTakes, StationDoes, StationTakes, TakesInjected};
 ghost use Rattle.lte_events.specs.Reply.{reply_of};
 ghost use Rattle.lte_events.specs.declared.events.Event.TheVariants.{Auth, Deliver, Inject};
@@ -69,7 +69,7 @@ impl System {
         requires room { HasRoom self.old.stores }
         requires input { PhoneTakes input }
         requires can { PhoneCan self.old input }
-        requires none { told.old ≡ [] }
+        requires one { length told.old ≡ 1 }
         ensures turns { PhoneTurns self.old self.new input sender step (told_in result line.new) }
         ensures grows { AddsFew self.old.stores self.new.stores }
         ensures told { told.new ≡ replies_by self.old.phone self.old.core self.old.stations (ActorIn.Phone input) }
@@ -90,7 +90,7 @@ impl System {
         requires room { HasRoom self.old.stores }
         requires input { CoreTakes input }
         requires can { CoreCan self.old input }
-        requires none { told.old ≡ [] }
+        requires one { length told.old ≡ 1 }
         ensures turns { CoreTurns self.old self.new input sender step (told_in result line.new) }
         ensures grows { AddsFew self.old.stores self.new.stores }
         ensures told { told.new ≡ replies_by self.old.phone self.old.core self.old.stations (ActorIn.Core input) }
@@ -111,7 +111,7 @@ impl System {
         requires room { HasRoom self.old.stores }
         requires may { MayHappen event.now }
         requires can { EventCan self.old event.now }
-        requires none { told.old ≡ [] }
+        requires one { length told.old ≡ 1 }
         ensures happens { Happens self.old self.new event.now step (told_in result line.new) }
         ensures grows { AddsFew self.old.stores self.new.stores }
         ensures told { OnOk result (Tells self.old event.now told.new) }
@@ -139,7 +139,7 @@ impl System {
         requires room { HasRoom self.old.stores }
         requires may { ksi ≤ 6 }
         requires can { EventCan self.old (Auth ksi root caps) }
-        requires none { told.old ≡ [] }
+        requires one { length told.old ≡ 1 }
         ensures happens { Happens self.old self.new (Auth ksi root caps) step (told_in result line.new) }
         ensures grows { AddsFew self.old.stores self.new.stores }
         ensures told { OnOk result (Tells self.old (Auth ksi root caps) told.new) }
@@ -147,6 +147,7 @@ impl System {
         match self.network.enroll(root) {
             Enrolled::New => {}
             Enrolled::Repeated(row) => {
+                told.clear();
                 refused(Answer::RepeatedRoot(row.0), step, line);
                 return Ok(());
             }
@@ -154,7 +155,7 @@ impl System {
         }
         let root = Kasme::of_octets(root);
         told.phone(&mut self.phone, PhoneIn::Auth(ksi, root));
-        told.core(&mut self.core, CoreIn::Auth(ksi, root, caps));
+        told.core_too(&mut self.core, CoreIn::Auth(ksi, root, caps));
         tell(&ActorOut::of(Answer::Done), None, Who::Both, step, line);
         Ok(())
     }
@@ -170,7 +171,7 @@ impl System {
         requires room { HasRoom self.old.stores }
         requires may { PhoneDoes act.now }
         requires can { EventCan self.old (Event.Phone act.now) }
-        requires none { told.old ≡ [] }
+        requires one { length told.old ≡ 1 }
         ensures happens { Happens self.old self.new (Event.Phone act.now) step (told_in result line.new) }
         ensures grows { AddsFew self.old.stores self.new.stores }
         ensures told { OnOk result (Tells self.old (Event.Phone act.now) told.new) }
@@ -191,7 +192,7 @@ impl System {
         requires room { HasRoom self.old.stores }
         requires may { StationDoes act.now }
         requires can { EventCan self.old (Event.Station id act.now) }
-        requires none { told.old ≡ [] }
+        requires one { length told.old ≡ 1 }
         ensures happens { Happens self.old self.new (Event.Station id act.now) step (told_in result line.new) }
         ensures grows { AddsFew self.old.stores self.new.stores }
         ensures told { OnOk result (Tells self.old (Event.Station id act.now) told.new) }
@@ -210,7 +211,7 @@ impl System {
     ) -> Result<(), Proof>
         requires room { HasRoom self.old.stores }
         requires can { EventCan self.old (Event.Core act.now) }
-        requires none { told.old ≡ [] }
+        requires one { length told.old ≡ 1 }
         ensures happens { Happens self.old self.new (Event.Core act.now) step (told_in result line.new) }
         ensures grows { AddsFew self.old.stores self.new.stores }
         ensures told { OnOk result (Tells self.old (Event.Core act.now) told.new) }
@@ -229,12 +230,13 @@ impl System {
     ) -> Result<(), Proof>
         requires room { HasRoom self.old.stores }
         requires can { EventCan self.old (Deliver i.now) }
-        requires none { told.old ≡ [] }
+        requires one { length told.old ≡ 1 }
         ensures happens { Happens self.old self.new (Deliver i.now) step (told_in result line.new) }
         ensures grows { AddsFew self.old.stores self.new.stores }
         ensures told { OnOk result (Tells self.old (Deliver i.now) told.new) }
     {
         let Some(sent) = self.network.record_at(i) else {
+            told.clear();
             refused(Answer::NoRecord, step, line);
             return Ok(());
         };
@@ -253,12 +255,13 @@ impl System {
         requires room { HasRoom self.old.stores }
         requires may { TakesInjected to.now }
         requires can { EventCan self.old (Inject to.now octets.now) }
-        requires none { told.old ≡ [] }
+        requires one { length told.old ≡ 1 }
         ensures happens { Happens self.old self.new (Inject to.now octets.now) step (told_in result line.new) }
         ensures grows { AddsFew self.old.stores self.new.stores }
         ensures told { OnOk result (Tells self.old (Inject to.now octets.now) told.new) }
     {
         if let Some(number) = self.network.found(to.class(), octets.as_slice()) {
+            told.clear();
             refused(Answer::Sent(number), step, line);
             return Ok(());
         }
@@ -277,7 +280,7 @@ impl System {
     ) -> Result<(), Proof>
         requires room { HasRoom self.old.stores }
         requires can { ArrivalCan self.old to octets }
-        requires none { told.old ≡ [] }
+        requires one { length told.old ≡ 1 }
         ensures arrives { Arrives self.old self.new to octets sender step (told_in result line.new) }
         ensures grows { AddsFew self.old.stores self.new.stores }
         ensures told { told.new ≡ replies_by self.old.phone self.old.core self.old.stations (input_at to octets) }
@@ -333,12 +336,13 @@ impl System {
         requires room { HasRoom self.old.stores }
         requires input { StationTakes input }
         requires can { StationCan self.old id input }
-        requires none { told.old ≡ [] }
+        requires one { length told.old ≡ 1 }
         ensures turns { StationTurns self.old self.new id input sender step (told_in result line.new) }
         ensures grows { AddsFew self.old.stores self.new.stores }
         ensures told { told.new ≡ replies_by self.old.phone self.old.core self.old.stations (ActorIn.Station id input) }
     {
         let Some(place) = place_of(self.ids.as_slice(), id) else {
+            told.clear();
             refused(Answer::NoUe, step, line);
             return Ok(());
         };

@@ -117,7 +117,7 @@ impl World {
             return Err(WorldFault::Chance(proof));
         }
         let step = self.journal.len() as u32;
-        self.replies.clear();
+        self.replies.keep_one();
         let mut line = Line {
             step,
             who: Who::World,

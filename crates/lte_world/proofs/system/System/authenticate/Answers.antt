@@ -60,7 +60,7 @@ returns-clause-happens c =
       stations = c.self.inside.stations.items;
       stores = c.self.inside.network;
     })
-    c.enroll.new.self c.args.ksi c.args.root c.args.caps c.args.step c.phone.new.phone c.core.new.core
+    c.enroll.new.self c.args.ksi c.args.root c.args.caps c.args.step c.phone.new.phone c.core_too.new.core
     (phone_call c.self.inside.phone (PhoneIn.Auth c.args.ksi c.of_octets-root.result)).1
     (core_call c.self.inside.core (CoreIn.Auth c.args.ksi c.of_octets-root.result c.args.caps)).1 c.tell.new.line
     c.in-New.ensures.enrolled
@@ -68,7 +68,7 @@ returns-clause-happens c =
     (c.phone.ensures.actor j, (phone_call c.self.inside.phone (PhoneIn.Auth c.args.ksi c.of_octets-root.result)).1))
     ∙ ap (λ k. phone_call c.self.inside.phone (PhoneIn.Auth c.args.ksi k)) c.of_octets-root.ensures)
     ((λ j. (
-      c.core.ensures.actor j,
+      c.core_too.ensures.actor j,
       (core_call c.self.inside.core (CoreIn.Auth c.args.ksi c.of_octets-root.result c.args.caps)).1,
     ))
     ∙ ap (λ k. core_call c.self.inside.core (CoreIn.Auth c.args.ksi k c.args.caps)) c.of_octets-root.ensures)
@@ -83,7 +83,7 @@ returns-in-Repeated-clause-told c =
       stores = c.self.inside.network;
     })
     c.args.self.now c.self.view_is _ c.enroll.new.self c.args.ksi c.args.root c.args.caps c.in-Repeated.row
-    c.in-Repeated.ensures.enrolled c.requires.none
+    c.in-Repeated.ensures.enrolled c.clear.ensures
 
 pub returns-clause-told : goal.returns-clause-told
 returns-clause-told c =
@@ -95,4 +95,4 @@ returns-clause-told c =
     })
     c.args.self.now c.self.view_is _ c.enroll.new.self c.args.ksi c.args.root c.args.caps c.in-New.ensures.enrolled
     (two_told c.self.inside.phone c.self.inside.core c.args.ksi c.args.root c.of_octets-root.result c.of_octets-root.ensures c.args.caps
-    _ _ _ c.requires.none c.phone.ensures.told c.core.ensures.told)
+    _ _ c.phone.ensures.told c.core_too.ensures.told)

@@ -25,7 +25,7 @@ pub returns-in_default-clause-told : goal.returns-in_default-clause-told
 returns-in_default-clause-told c =
     none_tells c.args.self.now c.args.self.now refl _ c.args.i.now
     (sym c.in_default.is ∙ c.record_at.ensures ∙ ap (λ v. record_at c.args.i.now v.stores.records) c.self.view_is)
-    c.requires.none
+    c.clear.ensures
 
 pub returns-clause-told : goal.returns-clause-told
 returns-clause-told c =

@@ -44,7 +44,7 @@ returns-in-Some-clause-told c =
     ∙ c.found.ensures
     ∙ (λ j.
     first_sent (ap (λ v. v.stores.records) c.self.view_is j) (c.class.ensures j) (c.as_slice.ensures.value j)))
-    c.requires.none
+    c.clear.ensures
 
 pub returns-clause-told : goal.returns-clause-told
 returns-clause-told c =

@@ -41,7 +41,7 @@ returns-clause-turns c =
 pub returns-in_default-clause-told : goal.returns-in_default-clause-told
 returns-in_default-clause-told c =
     told_nowhere _ c.args.self.now c.self.view_is c.self.inside.ids.items c.self.invariant.0 c.args.id c.args.input _
-    (ap (position (λ x. x == c.args.id)) (sym c.as_slice.ensures.value) ∙ sym c.place_of.ensures.place ∙ c.in_default.is) c.requires.none
+    (ap (position (λ x. x == c.args.id)) (sym c.as_slice.ensures.value) ∙ sym c.place_of.ensures.place ∙ c.in_default.is) c.clear.ensures
 
 pub returns-clause-told : goal.returns-clause-told
 returns-clause-told c =

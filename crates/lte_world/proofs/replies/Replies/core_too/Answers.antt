@@ -1,6 +1,6 @@
 use Rattle.std.proofs.Common.{ap, ◌∙◌, ◌++◌, ◌∷◌, []}
 use Rattle.lte_events.specs.declared.inputs.ActorIn.{ActorIn}
-use Rattle.lte_world.proofs.replies.Replies.core.Goals as goal
+use Rattle.lte_world.proofs.replies.Replies.core_too.Goals as goal
 
 pub returns-clause-actor : goal.returns-clause-actor
 returns-clause-actor c = ap (λ d. d.0) c.reply.ensures
