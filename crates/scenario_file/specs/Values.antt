@@ -32,6 +32,11 @@ abbrev pub result_map : {A B E : Type 0} → (A → B) → Result A E → Result
 result_map f (Ok x) = Ok (f x)
 result_map f (Err e) = Err e
 
+-- what is read into a place: what stands there then, or a fault
+abbrev pub read_in : {A E : Type 0} → Result (Unit {0}) E → A → Result A E
+read_in (Ok done) place = Ok place
+read_in (Err fault) place = Err fault
+
 -- a value that must stand
 abbrev pub value_in : Field → Members → Result Data Refusal
 value_in field table = ok_or (get_member (name_of field) table) (Missing field)

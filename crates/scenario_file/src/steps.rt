@@ -1,11 +1,11 @@
 // The steps of a scenario: for each word of `do` its other fields, in their order, and the event.
-ghost use Rattle.std.specs.Prelude.{◌≡◌, ◌≤◌, ◌<◌, ◌∷◌, [], IfOk};
+ghost use Rattle.std.specs.Prelude.{◌≡◌, ◌≤◌, ◌<◌, ◌∷◌, [], IfOk, OnOk};
 ghost use Rattle.toml.specs.View.{table_view};
 ghost use Rattle.alg_choice.specs.Caps.{IsCaps};
 ghost use Rattle.lte_events.specs.Ranges.{StationDoes, IsSetup, IsStationAct};
 ghost use Rattle.lte_events.specs.Scenario.{CanHappen};
 ghost use Rattle.scenario_file.specs.declared.fields.Field.TheVariants.{Do, From, Bearer as BearerField, Text, Who, N, To, Octets, Caps as CapsField};
-ghost use Rattle.scenario_file.specs.Values.{or_default, caps_in};
+ghost use Rattle.scenario_file.specs.Values.{read_in, or_default, caps_in};
 ghost use Rattle.scenario_file.specs.Steps.{auth_of, connect_of, start_of, station_act_of, deliver_of, if_station, user_from, user_of, rrc_from, rrc_of, nas_from, nas_event_of, if_at_station, skip_at, skip_of, phone_target, target_at, target_in, if_air, inject_at, inject_of, event_by, fields_of, phone_in, step_of};
 
 use crate::faults::Refusal;
@@ -35,18 +35,23 @@ pub(crate) enum Target {
 
 // What a step's table says.
 #[tactic(auto, unfolding(crate::specs::Steps::step_of))]
-pub(crate) fn step_in(table: &Table, system: System, start: &Start) -> Result<Step, Refusal>
+pub(crate) fn step_in(
+    table: &Table,
+    system: System,
+    start: &Start,
+    step: &mut Step,
+) -> Result<(), Refusal>
     requires setup { IsSetup start.now.setup }
     requires phones { 1 ≤ start.now.phones }
-    ensures value { result ≡ step_of system start.now (table_view table.now) }
-    ensures can { IfOk result (λ step. CanHappen start.now.setup step.event) }
-    ensures phone { IfOk result (λ step. step.phone < start.now.phones) }
+    ensures value { read_in result step.new ≡ step_of system start.now (table_view table.now) }
+    ensures can { OnOk result (CanHappen start.now.setup step.new.event) }
+    ensures phone { OnOk result (step.new.phone < start.now.phones) }
 {
     let act = values::act_at(table, Field::Do)?;
     only(table, fields(act, table), system.more_of_step())?;
-    let phone = phone_in(table, start.phones)?;
-    let event = event_by(act, table, &start.setup)?;
-    Ok(Step { phone, event })
+    step.phone = phone_in(table, start.phones)?;
+    step.event = event_by(act, table, &start.setup)?;
+    Ok(())
 }
 
 // The phone that a step happens to.

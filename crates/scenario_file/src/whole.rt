@@ -4,7 +4,7 @@ ghost use Rattle.std.specs.Prelude.{◌≡◌, ◌≢◌, ◌≤◌, ◌<◌, []
 ghost use Rattle.toml.specs.View.{table_view, items_view, view};
 ghost use Rattle.lte_events.specs.Ranges.{IsSetup};
 ghost use Rattle.lte_events.specs.Scenario.{most_events, CanHappen, IsScenarioBy};
-ghost use Rattle.scenario_file.specs.Values.{result_map};
+ghost use Rattle.scenario_file.specs.Values.{result_map, read_in};
 ghost use Rattle.scenario_file.specs.Setup.{start_of};
 ghost use Rattle.scenario_file.specs.Reading.{at_place, before_steps, steps_of, step_in, step_at, kept_from, if_few, whole_of, document_of, text_of};
 
@@ -13,6 +13,7 @@ use crate::kept::{Kept, Step};
 use crate::setup::Start;
 use crate::systems::System;
 use crate::{Field, ScenarioFault, setup, steps, values};
+use lte_events::Event;
 use std::alloc::Global;
 use toml::{Table, Value};
 
@@ -148,37 +149,47 @@ fn kept_steps<E: Kept>(
     ensures few { IfOk result (λ es. length (E.items es) ≤ most_events) }
 {
     let mut steps = E::new(alloc);
+    let mut step = Step {
+        phone: 0,
+        event: Event::Deliver(0),
+    };
     for value in values {
-        let step = step_at(value, system, start, steps.len() as u32)?;
+        step_at(value, system, start, steps.len() as u32, &mut step)?;
         steps.keep(&step)?;
     }
     Ok(steps)
 }
 
 // What a step says, by its number.
-fn step_at(value: &Value, system: System, start: &Start, n: u32) -> Result<Step, ScenarioFault>
+fn step_at(
+    value: &Value,
+    system: System,
+    start: &Start,
+    n: u32,
+    step: &mut Step,
+) -> Result<(), ScenarioFault>
     requires setup { IsSetup start.now.setup }
     requires phones { 1 ≤ start.now.phones }
-    ensures value { result ≡ step_at system start.now n (view value.now) }
+    ensures value { read_in result step.new ≡ step_at system start.now n (view value.now) }
     ensures of_text { IfErr result (λ fault. fault ≢ ScenarioFault.Memory) }
-    ensures can { IfOk result (λ step. CanHappen start.now.setup step.event) }
-    ensures phone { IfOk result (λ step. step.phone < start.now.phones) }
+    ensures can { OnOk result (CanHappen start.now.setup step.new.event) }
+    ensures phone { OnOk result (step.new.phone < start.now.phones) }
 {
-    match step_in(value, system, start) {
-        Ok(step) => Ok(step),
+    match step_in(value, system, start, step) {
+        Ok(()) => Ok(()),
         Err(refusal) => Err(refusal.at(Some(n))),
     }
 }
 
-fn step_in(value: &Value, system: System, start: &Start) -> Result<Step, Refusal>
+fn step_in(value: &Value, system: System, start: &Start, step: &mut Step) -> Result<(), Refusal>
     requires setup { IsSetup start.now.setup }
     requires phones { 1 ≤ start.now.phones }
-    ensures value { result ≡ step_in system start.now (view value.now) }
-    ensures can { IfOk result (λ step. CanHappen start.now.setup step.event) }
-    ensures phone { IfOk result (λ step. step.phone < start.now.phones) }
+    ensures value { read_in result step.new ≡ step_in system start.now (view value.now) }
+    ensures can { OnOk result (CanHappen start.now.setup step.new.event) }
+    ensures phone { OnOk result (step.new.phone < start.now.phones) }
 {
     match value.as_table() {
-        Some(table) => steps::step_in(table, system, start),
+        Some(table) => steps::step_in(table, system, start, step),
         None => Err(Refusal::Wrong(Field::Step)),
     }
 }
