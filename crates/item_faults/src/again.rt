@@ -6,7 +6,8 @@ ghost use Rattle.item_faults.specs.Steps.{again_by, again_of, anew, anew_at, ans
 use crate::steps::sender;
 use crate::{Again, Does, Message, Step};
 
-fn command(acts: u32, station: u8) -> u32
+/// The place of the act by which a station sends its RRC Reconfiguration, behind so many acts of a scenario.
+pub fn command(acts: u32, station: u8) -> u32
     requires { acts ≤ most_steps }
     ensures { result ≡ command acts station }
 {
@@ -20,7 +21,8 @@ fn ask(acts: u32, station: u8) -> u32
     acts + 3 + 3 * u32::from(station)
 }
 
-fn cancel(acts: u32, station: u8) -> u32
+/// The place of the act by which a station gives a handover up, behind so many acts of a scenario.
+pub fn cancel(acts: u32, station: u8) -> u32
     requires { acts ≤ most_steps }
     ensures { result ≡ cancel acts station }
 {

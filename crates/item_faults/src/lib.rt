@@ -10,6 +10,7 @@ mod messages;
 mod pairs;
 mod steps;
 
+pub use again::{cancel, command};
 pub use at_once::items_of;
 pub use changes::{Fault, Kind, variant};
 pub use entries::{Again, Entry};

@@ -27,9 +27,9 @@ use Rattle.lte_properties.specs.Headline.{Headline}
 use Rattle.lte_properties.proofs.StepByStep.{makes_tell}
 use Rattle.lte_world.specs.Whole.{answer_of}
 use Rattle.lte_world.specs.declared.faults.WorldFault.{WorldFault}
-use Rattle.item_lines.specs.Lines.{note_at_phone, note_at_station, phone_note, station_note}
+use Rattle.item_lines.specs.Lines.{is_key, note_at_phone, note_at_station, phone_note, station_note}
 use Rattle.item_lines.specs.declared.lines.Told.{Told}
-use Rattle.item_outcomes.specs.Keys.{is_key, is_untold_key}
+use Rattle.item_outcomes.specs.Keys.{is_untold_key}
 use Rattle.item_runs.specs.Course.{Tells, Seen, Promises}
 use Rattle.item_keys.specs.Far.{TakesFar, UntoldAt, UntoldIsFar, DifferIsFar}
 use Rattle.item_keys.proofs.Places.{map_got, got_of_map, any_before, untold_somewhere}

@@ -8,9 +8,9 @@ use Rattle.lte_machine.specs.Reply.{Took}
 use Rattle.lte_machine.specs.World.{Line}
 use Rattle.lte_properties.specs.Agreement.{ahead}
 use Rattle.lte_properties.specs.BySteps.{TakesAt, Follows}
-use Rattle.item_lines.specs.Lines.{phone_note}
+use Rattle.item_lines.specs.Lines.{is_key, phone_note}
 use Rattle.item_lines.specs.declared.lines.Told.{Told}
-use Rattle.item_outcomes.specs.Keys.{is_key, is_untold_key, keys_differ}
+use Rattle.item_outcomes.specs.Keys.{is_untold_key, keys_differ}
 use Rattle.item_runs.specs.Course.{Seen}
 
 -- at step k of the written machine's run the phone takes the key that this line tells, and what was made for that air address was

@@ -62,6 +62,11 @@ abbrev pub note_in : Option Told → Option KeyNote
 note_in None = None
 note_in (Some t) = t.line.note
 
+-- whether a key is told, and this one
+abbrev pub is_key : List ℕ → Option KeyNote → Bool
+is_key key None = false
+is_key key (Some note) = bytes_eq note.key key
+
 abbrev pub is_way_vertical : Way → Bool
 is_way_vertical Vertical = true
 is_way_vertical other = false

@@ -1,6 +1,6 @@
 ghost use Rattle.std.specs.Prelude.{◌≡◌};
 ghost use Rattle.std.specs.Option.{option_map};
-ghost use Rattle.item_lines.specs.Lines.{answers, is_done, is_no_ue, is_text, line_of, note_in, opened_in, phone_note, station_note};
+ghost use Rattle.item_lines.specs.Lines.{answers, is_done, is_key, is_no_ue, is_text, line_of, note_in, opened_in, phone_note, station_note};
 
 use lte_events::{Answer, KeyNote, Line, Who};
 
@@ -105,5 +105,15 @@ pub fn station_note(told: &Told) -> Option<KeyNote>
     match told.line.who {
         Who::Station(_) => told.line.note,
         _ => None,
+    }
+}
+
+/// Whether this key is told.
+pub fn is_key(key: &[u8; 32], note: &Option<KeyNote>) -> bool
+    ensures { result ≡ is_key key.now note.now }
+{
+    match note {
+        Some(note) => note.key == *key,
+        None => false,
     }
 }

@@ -1,20 +1,15 @@
 -- The keys that the phone came by.
 use Rattle.std.specs.Prelude.{ℕ, ◌&&◌, ◌||◌, nat_lt, Bool, true, false, not, List, [], ◌∷◌, ◌++◌, length, Option, Some, None}
 use Rattle.std.specs.List.{list_any}
-use Rattle.std.specs.Str.{bytes_eq}
 use Rattle.lte_events.specs.declared.replies.KeyNote.{KeyNote}
 use Rattle.item_lines.specs.declared.lines.Told.{Told}
-use Rattle.item_lines.specs.Lines.{line_of, phone_note, station_note, note_in, is_vertical, is_horizontal}
+use Rattle.item_lines.specs.Lines.{is_key, line_of, phone_note, station_note, note_in, is_vertical, is_horizontal}
 use Rattle.item_outcomes.specs.Probe.{probe}
 use Rattle.item_outcomes.specs.Standing.{Standing}
 
 abbrev pub is_told : Option KeyNote → Bool
 is_told None = false
 is_told (Some note) = true
-
-abbrev pub is_key : List ℕ → Option KeyNote → Bool
-is_key key None = false
-is_key key (Some note) = bytes_eq note.key key
 
 abbrev pub with_if : Bool → ℕ → List ℕ → List ℕ
 with_if true name names = names ++ name ∷ []

@@ -3,12 +3,12 @@ ghost use Rattle.growth.specs.Growth.{WasRefused};
 ghost use Rattle.std.specs.Prelude.{◌≡◌, IfOk, OnErr};
 ghost use Rattle.std.specs.List.{list_any};
 ghost use Rattle.std.specs.Option.{option_map};
-ghost use Rattle.item_outcomes.specs.Keys.{is_key, is_made, is_missed, is_untold_key, is_weaker, keys_differ, not_made, untold, weaker_key};
-ghost use Rattle.item_lines.specs.Lines.{is_horizontal, is_vertical, phone_note, station_note};
+ghost use Rattle.item_outcomes.specs.Keys.{is_made, is_missed, is_untold_key, is_weaker, keys_differ, not_made, untold, weaker_key};
+ghost use Rattle.item_lines.specs.Lines.{is_horizontal, is_key, is_vertical, phone_note, station_note};
 
 use crate::Standing;
 use crate::names::PROBE;
-use item_lines::{Told, note_in, phone_note, station_note};
+use item_lines::{Told, is_key, note_in, phone_note, station_note};
 use lte_events::KeyNote;
 use rec_base::Way;
 use std::alloc::{AllocError, Global};
@@ -113,8 +113,5 @@ fn is_told(key: &[u8; 32], before: &[Told]) -> bool
 fn tells(t: &Told, key: &[u8; 32]) -> bool
     ensures { result ≡ is_key key.now (station_note t.now) }
 {
-    match station_note(t) {
-        Some(note) => note.key == *key,
-        None => false,
-    }
+    is_key(key, &station_note(t))
 }

@@ -10,10 +10,11 @@ ghost use Rattle.item_probe.specs.Places.{more_acts};
 
 use crate::acts::other_cell;
 use crate::places::{
-    begins_at, cancel, command, connects_at, go_idle, send_again, send_down, send_nas_down,
-    send_nas_up, send_up, service,
+    begins_at, connects_at, go_idle, send_again, send_down, send_nas_down, send_nas_up, send_up,
+    service,
 };
 use annex_a_keys::Cell;
+use item_faults::{cancel, command};
 use item_outcomes::names::{
     AGAIN, BEGIN, CANCEL, COMMAND, CONNECT, IDLE, NAS_DOWN, NAS_UP, SERVICE, UP, down,
 };

@@ -1,7 +1,7 @@
 // The places of acts, behind so many events of a scenario.
 ghost use Rattle.std.specs.Prelude.{◌≡◌, ◌≤◌};
 ghost use Rattle.item_faults.specs.Entries.{most_steps};
-ghost use Rattle.item_faults.specs.Steps.{cancel, command, service};
+ghost use Rattle.item_faults.specs.Steps.{service};
 ghost use Rattle.item_probe.specs.Places.{begins_at, connects_at, go_idle, send_again, send_down, send_nas_down, send_nas_up, send_up};
 
 pub(crate) fn service(steps: u32) -> u32
@@ -44,20 +44,6 @@ pub(crate) fn go_idle(steps: u32) -> u32
     ensures { result ≡ go_idle steps }
 {
     steps + 30
-}
-
-pub(crate) fn command(steps: u32, station: u8) -> u32
-    requires { steps ≤ most_steps }
-    ensures { result ≡ command steps station }
-{
-    steps + 2 + 3 * u32::from(station)
-}
-
-pub(crate) fn cancel(steps: u32, station: u8) -> u32
-    requires { steps ≤ most_steps }
-    ensures { result ≡ cancel steps station }
-{
-    steps + 4 + 3 * u32::from(station)
 }
 
 pub(crate) fn send_down(steps: u32, station: u8) -> u32

@@ -1,6 +1,5 @@
 -- The message that a step sends: by its act, or by the message that it delivers and who takes that.
 use Rattle.std.specs.Prelude.{ℕ, ◌&&◌, Bool, true, false, List, Option, Some, None, position}
-use Rattle.std.specs.Str.{bytes_eq}
 use Rattle.lte_events.specs.declared.acts.CoreAct.{CoreAct}
 use Rattle.lte_events.specs.declared.acts.HoKind.{HoKind}
 use Rattle.lte_events.specs.declared.acts.PhoneAct.{PhoneAct}
@@ -14,7 +13,7 @@ use Rattle.item_faults.specs.declared.messages.Message.{Message}
 use Rattle.item_faults.specs.declared.steps.Does.{Does}
 use Rattle.item_faults.specs.declared.steps.Step.{Step}
 use Rattle.item_faults.specs.Steps.{delivered, step_of}
-use Rattle.item_lines.specs.Lines.{is_done}
+use Rattle.item_lines.specs.Lines.{is_done, is_key}
 use Rattle.item_lines.specs.Same.{same_who}
 use Rattle.item_lines.specs.declared.lines.Told.{Told}
 
@@ -91,10 +90,6 @@ core_answers (Some Message.HandoverCancel) = Message.HandoverCancel
 core_answers other = Message.Unnamed
 
 -- WHETHER A HANDOVER CAME OVER S1: the station came by its key at a Handover Request
-
-abbrev pub is_key : List ℕ → Option KeyNote → Bool
-is_key key None = false
-is_key key (Some note) = bytes_eq note.key key
 
 abbrev pub tells_key : Who → List ℕ → Told → Bool
 tells_key who key t = same_who t.line.who who && is_key key t.line.note

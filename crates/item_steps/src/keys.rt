@@ -1,20 +1,11 @@
 // At what message a station came by a key.
 ghost use Rattle.std.specs.Prelude.{◌≡◌, position};
-ghost use Rattle.item_steps.specs.Messages.{came_by, came_over_s1, is_handover_request, is_key, takes_request, tells_key};
+ghost use Rattle.item_steps.specs.Messages.{came_by, came_over_s1, is_handover_request, takes_request, tells_key};
 ghost use Rattle.std.specs.Option.{option_map};
 
 use item_faults::{Message, Step, delivered};
-use item_lines::Told;
-use lte_events::{KeyNote, Line, Who};
-
-fn is_key(key: &[u8; 32], note: &Option<KeyNote>) -> bool
-    ensures { result ≡ is_key key.now note.now }
-{
-    match note {
-        Some(note) => note.key == *key,
-        None => false,
-    }
-}
+use item_lines::{Told, is_key};
+use lte_events::{Line, Who};
 
 fn tells_key(who: &Who, key: &[u8; 32], t: &Told) -> bool
     ensures { result ≡ tells_key who.now key.now t.now }
