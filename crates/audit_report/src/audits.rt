@@ -64,13 +64,9 @@ fn audit_run<W: Sink>(
 {
     let mut tally = Tally::new();
     match run_through(world, events, &mut tally) {
-        Ok(Course::Ended) => {
-            write_ladder(alloc, world.ladder(), out)?;
-            Ok(Ending::Done)
-        }
+        Ok(Course::Ended) => write_ladder(alloc, world.ladder(), out).and(Ok(Ending::Done)),
         Ok(Course::Chance(step, proof)) => {
-            write_coincidence(alloc, step, proof, out)?;
-            Ok(Ending::Chance)
+            write_coincidence(alloc, step, proof, out).and(Ok(Ending::Chance))
         }
         Err(_) => Err(Unwritten::Memory),
     }

@@ -1,5 +1,5 @@
 -- The report, event by event.
-use Rattle.std.proofs.Common.{◌≡◌, refl, sym, ap, ◌∙◌, ℕ, suc, ◌+◌, ◌<◌, ◌≤◌, Some, Result, Ok, Err, List, [], ◌∷◌, ◌++◌, length, drop, take, get_or, drop_of_length-le, add-one, arith}
+use Rattle.std.proofs.Common.{◌≡◌, refl, sym, ap, ◌∙◌, ℕ, suc, ◌+◌, ◌<◌, ◌≤◌, Some, Result, Ok, Err, List, [], ◌∷◌, ◌++◌, length, drop, take, drop_of_length-le, add-one, arith}
 use Rattle.std.specs.List.{slice_get}
 use Rattle.std.proofs.lemmas.List.{length-take-le}
 use Rattle.std.proofs.lemmas.Option.{slice_get_within}
@@ -42,11 +42,8 @@ module _ (setup : Setup) (core_of : List ℕ) (events : List Event) where
       within : i < length events
       within = slice_get_within events i e at
 
-      item : e ≡ get_or events i e
-      item = item_at events i e at
-
       next_taken : take (i + 1) events ≡ take i events ++ e ∷ []
-      next_taken = ap (λ k. take k events) (add-one i) ∙ take-suc events i e within ∙ ap (λ x. take i events ++ x ∷ []) (sym item)
+      next_taken = ap (λ k. take k events) (add-one i) ∙ take-suc events i e within ∙ ap (λ x. take i events ++ x ∷ []) (item_at events i e at)
 
       pub follows : Follows (rest_at i) (answer_report (length v.events) (next_answer v.world.setup v.cores.core_of (state_written v) e)) (rest_at (i + 1))
       follows =
@@ -58,7 +55,7 @@ module _ (setup : Setup) (core_of : List ℕ) (events : List Event) where
           sym (ap (two_state setup core_of) next_taken ∙ state_more setup core_of (take i events) e) in
           let next = sym (add-one i) in
           record {
-            is = ap (λ es. two_told_from i (answers setup core_of s es) the_end) (left_at events i e within item)
+            is = ap (λ es. two_told_from i (answers setup core_of s es) the_end) (left_at events i e at)
                 ∙ one_more i (next_answer setup core_of s e) (answers setup core_of (next_state setup core_of s e) (drop (suc i) events)) the_end
                 ∙ (λ j. followed (answer_report (sym number j) (sym told j))
                 (two_told_from (next j) (answers setup core_of (state j) (drop (next j) events)) the_end));

@@ -41,8 +41,7 @@ pub fn write_two<W: Sink>(
             Ending::Chance => return Ok(Ending::Chance),
         }
     }
-    write_end(alloc, two.world(), out)?;
-    Ok(Ending::Done)
+    write_end(alloc, two.world(), out).and(Ok(Ending::Done))
 }
 
 // Lets one event happen, and writes what is answered to it. The answer is `Chance` if it is one, and else `Done`.
@@ -63,13 +62,9 @@ fn write_answer<W: Sink>(
 {
     let step = two.events().len() as u32;
     match two.apply(event) {
-        Ok(line) => {
-            write_text(two_text(alloc, step, line), out)?;
-            Ok(Ending::Done)
-        }
+        Ok(line) => write_text(two_text(alloc, step, line), out).and(Ok(Ending::Done)),
         Err(WorldFault::Chance(proof)) => {
-            write_coincidence(alloc, step, proof, out)?;
-            Ok(Ending::Chance)
+            write_coincidence(alloc, step, proof, out).and(Ok(Ending::Chance))
         }
         Err(WorldFault::Memory) => Err(Unwritten::Memory),
     }

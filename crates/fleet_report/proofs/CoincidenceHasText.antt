@@ -18,7 +18,7 @@ use Rattle.run_report.specs.Events.{HasCounts}
 use Rattle.run_report.specs.Report.{Report}
 use Rattle.run_report.specs.Written.{WritesReport, WritesText}
 use Rattle.growth.specs.Growth.{WasRefused}
-use Rattle.run_report.proofs.Partly.{one_cut, one_piece, unreported}
+use Rattle.run_report.proofs.Partly.{one_piece, unreported}
 use Rattle.run_report.specs.declared.unwritten.Unwritten.{Unwritten}
 use Rattle.run_report.specs.declared.unwritten.Unwritten.TheVariants as unwritten
 use Rattle.fleet_world.specs.declared.lines.FleetLine.{FleetLine}
@@ -80,16 +80,8 @@ fault_shown v p e (fault.Chance q proof) none is h can answered counts =
     (coincidence_shown v.setup (length v.journal) (own_at (owns_in v) p) e told.0 is h can.can.0 told.1 (subst HasCounts told.2 counts))
 
 -- how a report ends of which a coincidence was written
-abbrev pub ended : Result (Unit {0}) Unwritten → Result Ending Unwritten
-ended (Ok done) = Ok ending.Chance
-ended (Err cut) = Err cut
-
-as_report : (text : List ℕ) (result : Result (Unit {0}) Unwritten) (before after : Told)
-    → IsTrue before.ready
-    → WritesText text result before after
-    → WritesReport (record { text = text; ends = ending.Chance }) (ended result) before after
-as_report text (Ok done) before after ready written = one_piece refl written
-as_report text (Err cut) before after ready written = one_cut refl ready written
+abbrev ended : Result (Unit {0}) Unwritten → Result Ending Unwritten
+ended written = result_and written (Ok ending.Chance)
 
 -- the line for a coincidence is that of the answer
 pub fault_reported : (v : Fleeted) (p : ℕ) (e : Event) (f : FleetFault) (step own : ℕ) (result : Result (Unit {0}) Unwritten) (before after : Told)
@@ -116,7 +108,7 @@ fault_reported v p e f step own result before after steps owns says text memory 
         (unreported whole before (refused refl) ready))
     by (fault.Chance q proof) says text memory refused =
         subst (λ a. WritesReport (answer_report step own a) (ended result) before after) (says (λ same. cc))
-        (as_report (output_text (answer_output step own (Err (fault.Chance q proof)))) result before after ready (text (λ same. cc)))
+        (one_piece result refl ready (text (λ same. cc)) refl)
     by (fault.Cross phone row other other_row) says text memory refused =
         subst (λ a. WritesReport (answer_report step own a) (ended result) before after) (says (λ same. cc))
-        (as_report (output_text (answer_output step own (Err (fault.Cross phone row other other_row)))) result before after ready (text (λ same. cc)))
+        (one_piece result refl ready (text (λ same. cc)) refl)

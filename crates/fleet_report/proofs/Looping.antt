@@ -1,6 +1,7 @@
 -- The events of a fleet's report, one after the other.
-use Rattle.std.proofs.Common.{◌≡◌, sym, ap, subst, ◌∙◌, ℕ, suc, ◌+◌, ◌<◌, ◌≤◌, List, length, drop, get_or, None, All, arith}
+use Rattle.std.proofs.Common.{◌≡◌, sym, ap, subst, ◌∙◌, ℕ, suc, ◌+◌, ◌<◌, ◌≤◌, List, length, drop, slice_get, Some, None, All, arith}
 use Rattle.std.proofs.lemmas.List.{length-replicate}
+use Rattle.std.proofs.lemmas.Option.{slice_get_within}
 use Rattle.std.proofs.lemmas.List.Elements.{recursion_from_All}
 use Rattle.std.specs.List.{AllByRecursion as AllOf}
 use Rattle.lte_events.specs.Ranges.{IsEvent}
@@ -13,25 +14,28 @@ use Rattle.fleet_world.specs.Fleets.{Fleeted, CanTake, owns_in, answer_of, begun
 use Rattle.fleet_world.proofs.Standing.{owns_snoc}
 use Rattle.run_report.specs.declared.endings.Ending.TheVariants.{Done}
 use Rattle.run_report.specs.Report.{Report}
+use Rattle.run_report.proofs.HappenedSoFar.{item_at, left_at}
 use Rattle.run_report.proofs.Partly.{followed, Follows}
 use Rattle.fleet_report.specs.Events.{answer_report, event_report, IsOfPhone, Takes}
 use Rattle.fleet_report.specs.Lines.{texts}
 use Rattle.fleet_report.specs.Report.{report_from, ends_from, fleet_report_of}
 use Rattle.fleet_report.proofs.CoincidenceHasText.{answers_are}
-use Rattle.fleet_report.proofs.ReportByPiece.{events_left, none_left, event_more}
+use Rattle.fleet_report.proofs.ReportByPiece.{none_left, event_more}
 
 pub can_take : (setup : Setup) (v : Fleeted) (phones : ℕ) (events : List (ℕ × Event)) (i : ℕ) (x : ℕ × Event)
     → v.setup ≡ setup
     → length v.worlds ≡ phones
     → length v.journal ≡ i
-    → i < length events
-    → x ≡ get_or events i x
+    → slice_get events i ≡ Some x
     → IsScenarioBy (λ (y : ℕ × Event). y.1) setup events → All (IsOfPhone phones) events → CanTake v x.0 x.1
-can_take setup v phones events i x same many count low is scenario of_phones = record {
-  phone = subst (λ n. x.0 < n) (sym many) (subst (IsOfPhone phones) (sym is) (of_phones i x low));
-  can = subst (λ s. CanHappen s x.1) (sym same) (subst (λ (y : ℕ × Event). CanHappen setup y.1) (sym is) (scenario.can_happen i x low));
-  few = omega (arith, count, low, scenario.few);
-}
+can_take setup v phones events i x same many count at scenario of_phones =
+    let low = slice_get_within events i x at in
+    let is = item_at events i x at in
+    record {
+      phone = subst (λ n. x.0 < n) (sym many) (subst (IsOfPhone phones) is (of_phones i x low));
+      can = subst (λ s. CanHappen s x.1) (sym same) (subst (λ (y : ℕ × Event). CanHappen setup y.1) is (scenario.can_happen i x low));
+      few = omega (arith, count, low, scenario.few);
+    }
 
 -- events in range
 pub all_in_range : (phones : ℕ) (events : List (ℕ × Event)) → All (IsOfPhone phones) events → All (λ x. IsEvent x.1) events → AllOf (IsEventOf phones) events
@@ -42,7 +46,7 @@ unfoldable pub left_of : Fleeted → List (ℕ × Event) → ℕ → Report
 left_of v events i = report_from v.setup (owns_in v) i (drop i events)
 
 module _ (v : Fleeted) (events : List (ℕ × Event)) (i : ℕ) (x : ℕ × Event) (none : v.over ≡ None)
-    (count : length v.journal ≡ i) (low : i < length events) (is : x ≡ get_or events i x) where
+    (count : length v.journal ≡ i) (at : slice_get events i ≡ Some x) where
   -- what comes behind the event
   abbrev pub behind : Report
   behind = report_from v.setup (owns_after v.setup (owns_in v) x.0 x.1) (suc i) (drop (suc i) events)
@@ -52,7 +56,7 @@ module _ (v : Fleeted) (events : List (ℕ × Event)) (i : ℕ) (x : ℕ × Even
   event_next =
       let same : answer v.setup (owns_in v) x.0 x.1 ≡ answer_of v x.0 x.1 = sym (answers_are v x.0 x.1 none) in
       record {
-        is = ap (report_from v.setup (owns_in v) i) (events_left events i x low is) ∙ event_more v.setup (owns_in v) i x (drop (suc i) events)
+        is = ap (report_from v.setup (owns_in v) i) (left_at events i x at) ∙ event_more v.setup (owns_in v) i x (drop (suc i) events)
             ∙ (λ j. followed (answer_report (sym count j) (length (own_at (owns_in v) x.0)) (same j)) behind);
       }
 

@@ -1,5 +1,5 @@
 -- The report of a fleet, piece by piece.
-use Rattle.std.proofs.Common.{◌≡◌, refl, sym, ap, ◌∙◌, ℕ, zero, suc, ◌+◌, ◌<◌, ◌≤◌, List, [], ◌∷◌, ◌++◌, length, drop, get_or, append_assoc, append-nil, arith, Result, Ok, Err}
+use Rattle.std.proofs.Common.{◌≡◌, refl, sym, ap, ◌∙◌, ℕ, zero, suc, ◌+◌, ◌<◌, ◌≤◌, List, [], ◌∷◌, ◌++◌, length, drop, append_assoc, append-nil, arith, Result, Ok, Err}
 use Rattle.std.proofs.lemmas.List.{length-replicate}
 use Rattle.std.specs.Prelude.{slice_get, Some, IfOk}
 use Rattle.lte_events.specs.declared.events.Event.{Event}
@@ -95,11 +95,6 @@ pub event_more : (setup : Setup) (owns : List (List Event)) (step : ℕ) (x : �
 event_more setup owns step x xs =
     follows_by (answer setup owns x.0 x.1) (answer_output step (length (own_at owns x.0)) (answer setup owns x.0 x.1))
     (outputs_from setup (owns_after setup owns x.0 x.1) (suc step) xs)
-
-pub events_left : (events : List (ℕ × Event)) (i : ℕ) (x : ℕ × Event) → i < length events → x ≡ get_or events i x → drop i events ≡ x ∷ drop (suc i) events
-events_left [] i x low is = absurd (omega (arith, low))
-events_left (y ∷ ys) zero x low is = ap (λ z. z ∷ ys) (sym is)
-events_left (y ∷ ys) (suc i) x low is = events_left ys i x (omega (arith, low)) is
 
 pub none_left : (events : List (ℕ × Event)) (i : ℕ) → length events ≤ i → drop i events ≡ []
 none_left events i le = drop_past events i le

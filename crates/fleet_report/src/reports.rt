@@ -49,8 +49,7 @@ pub fn write_fleet<W: Sink>(
             Ending::Chance => return Ok(Ending::Chance),
         }
     }
-    write_ends(alloc, &fleet, phones, out)?;
-    Ok(Ending::Done)
+    write_ends(alloc, &fleet, phones, out).and(Ok(Ending::Done))
 }
 
 // Lets one event happen, and writes what is told of it. The answer is `Chance` if it is one, and else `Done`.
@@ -70,14 +69,8 @@ fn write_event<W: Sink>(
     let step = fleet.journal().len() as u32;
     let own = fleet.world(phone).journal().len() as u32;
     match fleet.apply(phone, event) {
-        Ok(told) => {
-            write_text(told_text(alloc, step, &told), out)?;
-            Ok(Ending::Done)
-        }
-        Err(fault) => {
-            write_fault(alloc, step, own, fault, out)?;
-            Ok(Ending::Chance)
-        }
+        Ok(told) => write_text(told_text(alloc, step, &told), out).and(Ok(Ending::Done)),
+        Err(fault) => write_fault(alloc, step, own, fault, out).and(Ok(Ending::Chance)),
     }
 }
 

@@ -1,6 +1,7 @@
 -- A text or a report of which a part is written, and the rest is to be.
 use Rattle.std.proofs.Common.{◌≡◌, ◌≢◌, refl, sym, ap, subst, ◌∙◌, arith, Result, Ok, Err, List, [], ◌++◌, append_assoc, append-nil, ℕ}
 use Rattle.std.specs.Prelude.{IsTrue}
+use Rattle.std.specs.Result.{result_and}
 use Rattle.std.proofs.Math.Nat.{le_refl}
 use Rattle.edge_io.proofs.Known.{nothing_out, none_of, grows_twice, prefix_on, proper_prefix_on}
 use Rattle.edge_io.specs.Told.{Told}
@@ -237,43 +238,35 @@ cut_reported {rest} {piece} {left} s follows w =
 pub unreported : (report : Report) (now : Told) → WasRefused → IsTrue now.ready → WritesReport report (Err Memory) now now
 unreported report now refused ready = record { text = unwritten report.text now refused ready; ends = tt }
 
--- its end
-pub end_reported : {A : Type 0} {done : A} {whole rest : Report} {text : List ℕ} {first mid now : Told}
+-- its last piece, behind which the report ends so
+pub last_reported : {A : Type 0} {ending : Ending} {result : Result Ending Unwritten} {whole rest : Report} {text : List ℕ} {first mid now : Told}
+    (written : Result A Unwritten)
     → ReportPartly whole rest first mid
-    → rest ≡ record { text = text; ends = Done }
-    → WritesText text (Ok done) mid now
-    → WritesReport whole (Ok Done) first now
-end_reported {whole} {first} {mid} s is w =
-    record { text = last_written (subst (λ r. Partly whole.text r.text first mid) is s.text) w; ends = sym (s.ends ∙ ap (λ r. r.ends) is) }
+    → rest ≡ record { text = text; ends = ending }
+    → WritesText text written mid now
+    → result ≡ result_and written (Ok ending)
+    → WritesReport whole result first now
+last_reported {A} {ending} {whole} {text} {first} {mid} {now} written s is w ends =
+    subst (λ r. WritesReport whole r first now) (sym ends) (by written w)
+  where
+    partly : Partly whole.text text first mid
+    partly = subst (λ r. Partly whole.text r.text first mid) is s.text
 
-pub end_cut : {A : Type 0} {fault : Unwritten} {whole rest : Report} {text : List ℕ} {first mid now : Told}
-    → ReportPartly whole rest first mid
-    → rest ≡ record { text = text; ends = Done }
-    → WritesText {A = A} text (Err fault) mid now
-    → WritesReport whole (Err fault) first now
-end_cut {whole} {first} {mid} s is w = record { text = last_cut (subst (λ r. Partly whole.text r.text first mid) is s.text) w; ends = tt }
+    by : (r : Result A Unwritten) → WritesText text r mid now → WritesReport whole (result_and r (Ok ending)) first now
+    by (Ok done) w = record { text = last_written partly w; ends = sym (s.ends ∙ ap (λ r. r.ends) is) }
+    by (Err fault) w = record { text = last_cut partly w; ends = tt }
 
 -- a report of one piece
-pub one_piece : {A : Type 0} {done : A} {ending : Ending} {report : Report} {text : List ℕ} {first now : Told}
-    → report ≡ record { text = text; ends = ending }
-    → WritesText text (Ok done) first now
-    → WritesReport report (Ok ending) first now
-one_piece {ending} {first} {now} is w =
-    subst (λ r. WritesReport r (Ok ending) first now) (sym is) (record {
-      text = record {
-        written = w.written;
-        no_fault = λ differs. w.no_fault (λ e. cc);
-        refused = λ e. cc;
-        used = w.used;
-      };
-      ends = refl;
-    })
-
-pub one_cut : {A : Type 0} {fault : Unwritten} {ending : Ending} {report : Report} {text : List ℕ} {first now : Told}
+pub one_piece : {A : Type 0} {ending : Ending} {result : Result Ending Unwritten} {report : Report} {text : List ℕ} {first now : Told}
+    (written : Result A Unwritten)
     → report ≡ record { text = text; ends = ending }
     → IsTrue first.ready
-    → WritesText {A = A} text (Err fault) first now
-    → WritesReport report (Err fault) first now
-one_cut {fault} {text} {first} {now} is ready w =
-    subst (λ r. WritesReport r (Err fault) first now) (sym is)
-    (record { text = last_cut (none_written text first ready) w; ends = tt })
+    → WritesText text written first now
+    → result ≡ result_and written (Ok ending)
+    → WritesReport report result first now
+one_piece {first} written is ready w ends = last_reported written (none_reported first ready refl) is w ends
+
+-- a coincidence does not go on
+pub never_done : {A : Type 0} {result : Result Ending Unwritten} (written : Result A Unwritten) → result ≡ result_and written (Ok Chance) → result ≢ Ok Done
+never_done (Ok done) ends is = let clash : ◌≡◌ {A = Result Ending Unwritten} (Ok Chance) (Ok Done) = sym ends ∙ is in cc
+never_done (Err fault) ends is = let clash : ◌≡◌ {A = Result Ending Unwritten} (Err fault) (Ok Done) = sym ends ∙ is in cc

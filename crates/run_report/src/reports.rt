@@ -45,8 +45,7 @@ pub fn write_run<W: Sink>(
             Ending::Chance => return Ok(Ending::Chance),
         }
     }
-    write_end(alloc, &world, out)?;
-    Ok(Ending::Done)
+    write_end(alloc, &world, out).and(Ok(Ending::Done))
 }
 
 /// Lets one event happen, and writes what is told of it. The answer is `Chance` if it is one, and else
@@ -64,13 +63,9 @@ pub fn write_event<W: Sink>(
 {
     let step = world.journal().len() as u32;
     match happen(world, event) {
-        Ok(told) => {
-            write_text(line(alloc, &told), out)?;
-            Ok(Ending::Done)
-        }
+        Ok(told) => write_text(line(alloc, &told), out).and(Ok(Ending::Done)),
         Err(WorldFault::Chance(proof)) => {
-            write_coincidence(alloc, step, proof, out)?;
-            Ok(Ending::Chance)
+            write_coincidence(alloc, step, proof, out).and(Ok(Ending::Chance))
         }
         Err(WorldFault::Memory) => Err(Unwritten::Memory),
     }

@@ -50,12 +50,10 @@ fn summarise<W: Sink>(
     match run_through(world, events, &mut tally) {
         Ok(Course::Ended) => {
             let rows = world.ladder().len() as u32;
-            write_figures(alloc, &tally, rows, out)?;
-            Ok(Ending::Done)
+            write_figures(alloc, &tally, rows, out).and(Ok(Ending::Done))
         }
         Ok(Course::Chance(step, proof)) => {
-            write_coincidence(alloc, step, proof, out)?;
-            Ok(Ending::Chance)
+            write_coincidence(alloc, step, proof, out).and(Ok(Ending::Chance))
         }
         Err(_) => Err(Unwritten::Memory),
     }

@@ -1,63 +1,48 @@
 use Rattle.std.proofs.Common.{subst}
-use Rattle.std.proofs.lemmas.Result.{err_from_is_err_and}
 use Rattle.lte_machine.specs.BothRuns.{octet_run}
 use Rattle.lte_world.specs.Whole.{run_of}
 use Rattle.run_report.specs.Counted.{ComesOut}
-use Rattle.run_report.proofs.Partly.{one_piece, one_cut}
+use Rattle.run_report.proofs.Partly.{one_piece, never_done}
 use Rattle.audit_report.proofs.OfRun.{audit_of_run}
 use Rattle.audit_report.proofs.Together.{exact_in}
 use Rattle.audit_report.proofs.Reported.{audit_ended, audit_coincidence}
 use Rattle.audit_report.proofs.audits.audit_run.Goals as goal
 
-pub returns-in_ok-write_ladder-in-Ok-Ended-clause-report : goal.returns-in_ok-write_ladder-in-Ok-Ended-clause-report
-returns-in_ok-write_ladder-in-Ok-Ended-clause-report g c =
+pub returns-in-Ok-Ended-clause-report : goal.returns-in-Ok-Ended-clause-report
+returns-in-Ok-Ended-clause-report g c =
     let ended = subst (ComesOut c.args.world.now.setup c.args.events.now.items c.run_through.new.tally
     (run_of c.run_through.new.world))
     c.in-Ok-Ended.field-0-is c.in-Ok-Ended.ensures.comes_out in
-    one_piece (audit_ended c.ladder.result.now.rows c.requires.is_scenario ended c.ladder.ensures)
-    c.in_ok-write_ladder-in-Ok-Ended.ensures.text
+    one_piece c.write_ladder.result (audit_ended c.ladder.result.now.rows c.requires.is_scenario ended c.ladder.ensures)
+    c.requires.out_ready c.write_ladder.ensures.text c.and.ensures
 
-pub returns-in_err-write_ladder-in-Ok-Ended-clause-report : goal.returns-in_err-write_ladder-in-Ok-Ended-clause-report
-returns-in_err-write_ladder-in-Ok-Ended-clause-report g c =
-    let p = err_from_is_err_and c.from_residual.result c.from_residual.ensures.1 in
-    let ended = subst (ComesOut c.args.world.now.setup c.args.events.now.items c.run_through.new.tally
-    (run_of c.run_through.new.world))
-    c.in-Ok-Ended.field-0-is c.in-Ok-Ended.ensures.comes_out in
-    rw (p.1, p.2)
-    (one_cut (audit_ended c.ladder.result.now.rows c.requires.is_scenario ended c.ladder.ensures) c.requires.out_ready
-    c.in_err-write_ladder-in-Ok-Ended.ensures.text)
-
-pub returns-in_ok-write_coincidence-in-Ok-Chance-clause-report : goal.returns-in_ok-write_coincidence-in-Ok-Chance-clause-report
-returns-in_ok-write_coincidence-in-Ok-Chance-clause-report g c =
+pub returns-in-Ok-Chance-clause-report : goal.returns-in-Ok-Chance-clause-report
+returns-in-Ok-Chance-clause-report g c =
     let coincidence = subst (ComesOut c.args.world.now.setup c.args.events.now.items c.run_through.new.tally
     (run_of c.run_through.new.world))
     c.in-Ok-Chance.field-0-is c.in-Ok-Chance.ensures.comes_out in
-    one_piece (audit_coincidence c.in-Ok-Chance.step c.in-Ok-Chance.proof c.requires.is_scenario coincidence.0)
-    c.in_ok-write_coincidence-in-Ok-Chance.ensures
+    one_piece c.write_coincidence.result
+    (audit_coincidence c.in-Ok-Chance.step c.in-Ok-Chance.proof c.requires.is_scenario coincidence.0)
+    c.requires.out_ready c.write_coincidence.ensures c.and-in-Ok-Chance.ensures
 
-pub returns-in_err-write_coincidence-in-Ok-Chance-clause-report : goal.returns-in_err-write_coincidence-in-Ok-Chance-clause-report
-returns-in_err-write_coincidence-in-Ok-Chance-clause-report g c =
-    let out = c.from_residual-in_err-write_coincidence-in-Ok-Chance in
-    let p = err_from_is_err_and out.result out.ensures.1 in
-    let coincidence = subst (ComesOut c.args.world.now.setup c.args.events.now.items c.run_through.new.tally
-    (run_of c.run_through.new.world))
-    c.in-Ok-Chance.field-0-is c.in-Ok-Chance.ensures.comes_out in
-    rw (p.1, p.2)
-    (one_cut (audit_coincidence c.in-Ok-Chance.step c.in-Ok-Chance.proof c.requires.is_scenario coincidence.0)
-    c.requires.out_ready c.in_err-write_coincidence-in-Ok-Chance.ensures)
-
-pub returns-in_ok-write_ladder-in-Ok-Ended-clause-exact : goal.returns-in_ok-write_ladder-in-Ok-Ended-clause-exact
-returns-in_ok-write_ladder-in-Ok-Ended-clause-exact g c = λ _.
+pub returns-in-Ok-Ended-clause-exact : goal.returns-in-Ok-Ended-clause-exact
+returns-in-Ok-Ended-clause-exact g c = λ _.
     let run = run_of c.run_through.new.world in
     let ended = subst (ComesOut c.args.world.now.setup c.args.events.now.items c.run_through.new.tally run)
     c.in-Ok-Ended.field-0-is c.in-Ok-Ended.ensures.comes_out in
     exact_in c.ladder.result.now.rows run (octet_run c.args.world.now.setup c.args.events.now.items) ended.state c.ladder.ensures
-    c.in_ok-write_ladder-in-Ok-Ended.ensures.exact
+    c.write_ladder.ensures.exact
 
-pub returns-in_ok-write_ladder-in-Ok-Ended-clause-of_run : goal.returns-in_ok-write_ladder-in-Ok-Ended-clause-of_run
-returns-in_ok-write_ladder-in-Ok-Ended-clause-of_run g c = λ _.
+pub returns-in-Ok-Chance-clause-exact : goal.returns-in-Ok-Chance-clause-exact
+returns-in-Ok-Chance-clause-exact g c done = absurd (never_done c.write_coincidence.result c.and-in-Ok-Chance.ensures done)
+
+pub returns-in-Ok-Ended-clause-of_run : goal.returns-in-Ok-Ended-clause-of_run
+returns-in-Ok-Ended-clause-of_run g c = λ _.
     let setup = c.args.world.now.setup in
     let run = run_of c.run_through.new.world in
     let ended = subst (ComesOut setup c.args.events.now.items c.run_through.new.tally run) c.in-Ok-Ended.field-0-is c.in-Ok-Ended.ensures.comes_out in
     audit_of_run setup c.args.events.now.items run c.ladder.result.now.rows c.requires.is_scenario ended.state c.ladder.ensures
-    c.in_ok-write_ladder-in-Ok-Ended.ensures.ladder
+    c.write_ladder.ensures.ladder
+
+pub returns-in-Ok-Chance-clause-of_run : goal.returns-in-Ok-Chance-clause-of_run
+returns-in-Ok-Chance-clause-of_run g c done = absurd (never_done c.write_coincidence.result c.and-in-Ok-Chance.ensures done)

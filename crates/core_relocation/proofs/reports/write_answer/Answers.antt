@@ -1,6 +1,5 @@
 use Rattle.std.proofs.Common.{sym, ap, ◌∙◌, Err, length}
-use Rattle.std.proofs.lemmas.Result.{err_from_is_err_and}
-use Rattle.run_report.proofs.Partly.{one_piece, one_cut}
+use Rattle.run_report.proofs.Partly.{one_piece, never_done}
 use Rattle.core_relocation.specs.Report.{answer_report}
 use Rattle.lte_world.specs.Whole.{told_of}
 use Rattle.run_report.proofs.CoincidenceHasString.{shown_in}
@@ -22,30 +21,19 @@ write_coincidence-requires-clause-string g c =
 pub write_text-requires-clause-lines : goal.write_text-requires-clause-lines
 write_text-requires-clause-lines g c = text_is _ _ _ c.two_text.ensures.text (is_lines _ (two_ends c.len-step.result c.in-Ok.line))
 
-pub returns-in_ok-write_text-in-Ok-clause-report : goal.returns-in_ok-write_text-in-Ok-clause-report
-returns-in_ok-write_text-in-Ok-clause-report g c =
-    one_piece (λ j. answer_report (sym (c.len-step.ensures ∙ ap length c.events.ensures) j)
+pub returns-in-Ok-clause-report : goal.returns-in-Ok-clause-report
+returns-in-Ok-clause-report g c =
+    one_piece c.write_text.result
+    (λ j. answer_report (sym (c.len-step.ensures ∙ ap length c.events.ensures) j)
     (sym (c.in-Ok.ensures.written c.requires.runs (λ same. cc)) j))
-    (c.in_ok-write_text-in-Ok.ensures _ c.two_text.ensures.text)
+    c.requires.out_ready (c.write_text.ensures _ c.two_text.ensures.text) c.and.ensures
 
-pub returns-in_err-write_text-in-Ok-clause-report : goal.returns-in_err-write_text-in-Ok-clause-report
-returns-in_err-write_text-in-Ok-clause-report g c =
-    let p = err_from_is_err_and c.from_residual.result c.from_residual.ensures.1 in
-    rw (p.1, p.2)
-    (one_cut (λ j. answer_report (sym (c.len-step.ensures ∙ ap length c.events.ensures) j)
-    (sym (c.in-Ok.ensures.written c.requires.runs (λ same. cc)) j))
-    c.requires.out_ready (c.in_err-write_text-in-Ok.ensures _ c.two_text.ensures.text))
-
-pub returns-in_ok-write_coincidence-in-Err-Chance-clause-report : goal.returns-in_ok-write_coincidence-in-Err-Chance-clause-report
-returns-in_ok-write_coincidence-in-Err-Chance-clause-report g c =
+pub returns-in-Err-Chance-clause-report : goal.returns-in-Err-Chance-clause-report
+returns-in-Err-Chance-clause-report g c =
     let told = ap Err (sym c.in-Err-Chance.field-0-is) ∙ c.in-Err-Chance.ensures.written c.requires.runs (λ same. cc) in
-    one_piece (λ j. answer_report (sym (c.len-step.ensures ∙ ap length c.events.ensures) j) (sym told j)) c.in_ok-write_coincidence-in-Err-Chance.ensures
+    one_piece c.write_coincidence.result
+    (λ j. answer_report (sym (c.len-step.ensures ∙ ap length c.events.ensures) j) (sym told j))
+    c.requires.out_ready c.write_coincidence.ensures c.and-in-Err-Chance.ensures
 
-pub returns-in_err-write_coincidence-in-Err-Chance-clause-report : goal.returns-in_err-write_coincidence-in-Err-Chance-clause-report
-returns-in_err-write_coincidence-in-Err-Chance-clause-report g c =
-    let told = ap Err (sym c.in-Err-Chance.field-0-is) ∙ c.in-Err-Chance.ensures.written c.requires.runs (λ same. cc) in
-    let out = c.from_residual-in_err-write_coincidence-in-Err-Chance in
-    let p = err_from_is_err_and out.result out.ensures.1 in
-    rw (p.1, p.2)
-    (one_cut (λ j. answer_report (sym (c.len-step.ensures ∙ ap length c.events.ensures) j) (sym told j)) c.requires.out_ready
-    c.in_err-write_coincidence-in-Err-Chance.ensures)
+pub returns-in-Err-Chance-clause-takes : goal.returns-in-Err-Chance-clause-takes
+returns-in-Err-Chance-clause-takes g c done = absurd (never_done c.write_coincidence.result c.and-in-Err-Chance.ensures done)

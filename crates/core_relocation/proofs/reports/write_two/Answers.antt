@@ -1,6 +1,6 @@
 use Rattle.std.proofs.Common.{ap, ◌∙◌, Ok, rules}
 use Rattle.std.proofs.lemmas.Result.{err_from_is_err_and}
-use Rattle.run_report.proofs.Partly.{none_reported, more_reported, coincidence_reported, cut_reported, end_reported, end_cut}
+use Rattle.run_report.proofs.Partly.{none_reported, more_reported, coincidence_reported, cut_reported, last_reported}
 use Rattle.core_relocation.proofs.SoFar.{whole_is, follows, taken_more, ends}
 use Rattle.core_relocation.proofs.reports.write_two.Goals as goal
 
@@ -57,19 +57,8 @@ write_end-requires-clause-out_ready g c = c.loop-number.invariant.report.text.us
 pub returns : goal.returns
 returns g c =
     let so_far = c.loop-number.invariant in
-    end_reported so_far.report
+    last_reported c.write_end.result so_far.report
     (ends c.args.setup.now c.args.core_of.now c.args.events.now.items c.loop-number.two so_far.setup so_far.core_of
     c.loop-number.number so_far.events c.world.result.now c.world.ensures.value
     (c.world.ensures.journal so_far.runs) (c.world.ensures.run so_far.runs) (search rules) (search rules))
-    c.in_ok-write_end.ensures
-
-pub returns-in_err-write_end : goal.returns-in_err-write_end
-returns-in_err-write_end g c =
-    let so_far = c.loop-number.invariant in
-    let p = err_from_is_err_and c.from_residual-in_err-write_end.result c.from_residual-in_err-write_end.ensures.1 in
-    rw (p.1, p.2)
-    (end_cut so_far.report
-    (ends c.args.setup.now c.args.core_of.now c.args.events.now.items c.loop-number.two so_far.setup so_far.core_of
-    c.loop-number.number so_far.events c.world.result.now c.world.ensures.value
-    (c.world.ensures.journal so_far.runs) (c.world.ensures.run so_far.runs) (search rules) (search rules))
-    c.in_err-write_end.ensures)
+    c.write_end.ensures c.and.ensures

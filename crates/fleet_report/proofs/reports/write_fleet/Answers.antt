@@ -1,11 +1,10 @@
 use Rattle.std.proofs.Common.{◌≤◌, ◌+◌, ap, sym, subst, ◌∙◌, Ok, length, length-append, arith}
 use Rattle.std.proofs.lemmas.List.{length-replicate}
-use Rattle.std.proofs.lemmas.Option.{slice_get_within, get_or_from_slice_get}
 use Rattle.std.proofs.lemmas.Result.{err_from_is_err_and}
 use Rattle.fleet_world.specs.Fleets.{Fleeted}
 use Rattle.fleet_report.specs.Report.{fleet_report_of}
 use Rattle.fleet_report.proofs.Looping.{can_take, event_next, behind_is, end_is, first_is}
-use Rattle.run_report.proofs.Partly.{ReportPartly, none_reported, more_reported, coincidence_reported, cut_reported, end_reported, end_cut}
+use Rattle.run_report.proofs.Partly.{ReportPartly, none_reported, more_reported, coincidence_reported, cut_reported, last_reported}
 use Rattle.fleet_report.proofs.reports.write_fleet.Goals as goal
 
 pub write_event-requires-clause-out_ready : goal.write_event-requires-clause-out_ready
@@ -16,9 +15,7 @@ write_event-requires-clause-can g c =
     let so_far = c.loop-number.invariant in
     can_take c.args.setup.now c.loop-number.fleet c.args.phones c.args.events.now.items c.loop-number.number
     c.at-step.result so_far.setup so_far.phones so_far.count
-    (slice_get_within c.args.events.now.items c.loop-number.number c.at-step.result c.at-step.ensures)
-    (sym (get_or_from_slice_get c.args.events.now.items c.loop-number.number c.at-step.result c.at-step.result
-    c.at-step.ensures))
+    c.at-step.ensures
     c.requires.is_scenario c.requires.of_phones
 
 pub loop-number-init : goal.loop-number-init
@@ -43,17 +40,13 @@ loop-number-preserved g c =
     let x = c.at-step.result in
     let takes = c.write_event.ensures.takes (c.in_ok-write_event.was ∙ ap Ok c.in-Done.is) in
     let next = event_next v events i x so_far.over so_far.count
-    (slice_get_within c.args.events.now.items c.loop-number.number c.at-step.result c.at-step.ensures)
-    (sym (get_or_from_slice_get c.args.events.now.items c.loop-number.number c.at-step.result c.at-step.result
-    c.at-step.ensures)) in
+    c.at-step.ensures in
     let more = more_reported so_far.report next c.in-Done.is c.in_ok-write_event.ensures.report in
     record {
       report = subst (λ r. ReportPartly (fleet_report_of c.args.setup.now c.args.phones events) r
           (g.W.Edge.told c.args.out.now) (g.W.Edge.told c.write_event.new.out))
           (behind_is v events i x so_far.over so_far.count
-          (slice_get_within c.args.events.now.items c.loop-number.number c.at-step.result c.at-step.ensures)
-          (sym (get_or_from_slice_get c.args.events.now.items c.loop-number.number c.at-step.result c.at-step.result
-          c.at-step.ensures))
+          c.at-step.ensures
           c.write_event.new.fleet takes)
           more;
       setup = takes.setup ∙ so_far.setup;
@@ -66,18 +59,14 @@ pub returns-in-Chance : goal.returns-in-Chance
 returns-in-Chance g c =
     let so_far = c.loop-number.invariant in
     let next = event_next c.loop-number.fleet c.args.events.now.items c.loop-number.number c.at-step.result so_far.over
-    so_far.count (slice_get_within c.args.events.now.items c.loop-number.number c.at-step.result c.at-step.ensures)
-    (sym (get_or_from_slice_get c.args.events.now.items c.loop-number.number c.at-step.result c.at-step.result
-    c.at-step.ensures)) in
+    so_far.count c.at-step.ensures in
     coincidence_reported so_far.report next c.in-Chance.is c.in_ok-write_event.ensures.report
 
 pub returns-in_err-write_event : goal.returns-in_err-write_event
 returns-in_err-write_event g c =
     let so_far = c.loop-number.invariant in
     let next = event_next c.loop-number.fleet c.args.events.now.items c.loop-number.number c.at-step.result so_far.over
-    so_far.count (slice_get_within c.args.events.now.items c.loop-number.number c.at-step.result c.at-step.ensures)
-    (sym (get_or_from_slice_get c.args.events.now.items c.loop-number.number c.at-step.result c.at-step.result
-    c.at-step.ensures)) in
+    so_far.count c.at-step.ensures in
     let p = err_from_is_err_and c.from_residual.result c.from_residual.ensures.1 in
     rw (p.1, p.2)
     (cut_reported so_far.report next c.in_err-write_event.ensures.report)
@@ -91,11 +80,5 @@ write_ends-requires-clause-few g c = let so_far = c.loop-number.invariant in ome
 pub returns : goal.returns
 returns g c =
     let past : length c.args.events.now.items ≤ c.loop-number.number = omega (arith, c.loop-number-test.false, c.len-number-end.ensures) in
-    end_reported c.loop-number.invariant.report (end_is c.loop-number.fleet c.args.events.now.items c.loop-number.number past) c.in_ok-write_ends.ensures
-
-pub returns-in_err-write_ends : goal.returns-in_err-write_ends
-returns-in_err-write_ends g c =
-    let past : length c.args.events.now.items ≤ c.loop-number.number = omega (arith, c.loop-number-test.false, c.len-number-end.ensures) in
-    let p = err_from_is_err_and c.from_residual-in_err-write_ends.result c.from_residual-in_err-write_ends.ensures.1 in
-    rw (p.1, p.2)
-    (end_cut c.loop-number.invariant.report (end_is c.loop-number.fleet c.args.events.now.items c.loop-number.number past) c.in_err-write_ends.ensures)
+    last_reported c.write_ends.result c.loop-number.invariant.report
+    (end_is c.loop-number.fleet c.args.events.now.items c.loop-number.number past) c.write_ends.ensures c.and.ensures

@@ -1,11 +1,10 @@
 use Rattle.std.proofs.Common.{◌+◌, length, drop, Ok, ap, subst, sym, ◌∙◌, rules}
 use Rattle.std.proofs.lemmas.Result.{err_from_is_err_and}
-use Rattle.std.proofs.lemmas.Option.{slice_get_within}
 use Rattle.lte_machine.specs.Run.{Running, first_world}
 use Rattle.lte_world.specs.Whole.{run_of}
 use Rattle.hub_drive.specs.Driven.{Plan, PlanWent}
 use Rattle.hub_drive.specs.Outside.{Outside, outside}
-use Rattle.run_report.proofs.HappenedSoFar.{can_take, item_at, one_taken}
+use Rattle.run_report.proofs.HappenedSoFar.{can_take, one_taken}
 use Rattle.run_report.specs.declared.endings.Ending.TheVariants.{Done}
 use Rattle.run_report.specs.Events.{told_of}
 use Rattle.hub_drive.proofs.Event.{plain_of}
@@ -14,11 +13,7 @@ use Rattle.hub_drive.specs.Plan.{event_plan, replies_at, turned, followed, event
 use Rattle.hub_drive.proofs.driving.run_all.Goals as goal
 
 pub happen-requires-clause-can : goal.happen-requires-clause-can
-happen-requires-clause-can g c =
-    let events = c.args.events.now.items in
-    let i = c.loop-number.number in
-    let e = c.at-event.result in
-    can_take e c.requires.is_scenario c.loop-number.invariant.took (slice_get_within events i e c.at-event.ensures) (item_at events i e c.at-event.ensures)
+happen-requires-clause-can g c = can_take c.at-event.result c.requires.is_scenario c.loop-number.invariant.took c.at-event.ensures
 
 pub returns-in_err-happen-clause-went : goal.returns-in_err-happen-clause-went
 returns-in_err-happen-clause-went g c =

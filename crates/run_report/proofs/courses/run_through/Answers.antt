@@ -1,12 +1,11 @@
 use Rattle.std.proofs.Common.{◌≡◌, ◌∙◌, sym, ap, subst, Err, [], length, arith}
-use Rattle.std.proofs.lemmas.Option.{slice_get_within}
 use Rattle.lte_machine.specs.BothRuns.{octet_report}
 use Rattle.lte_world.specs.Whole.{run_of}
 use Rattle.run_report.specs.Counted.{Tells}
 use Rattle.run_report.specs.Events.{told_of, CanShow}
 use Rattle.run_report.specs.Summary.{outcome_from, Coincides}
 use Rattle.run_report.proofs.Counting.{none_counted, next_counted, coincides_at, all_counted}
-use Rattle.run_report.proofs.HappenedSoFar.{none_taken, can_take, one_taken, item_at, left_at}
+use Rattle.run_report.proofs.HappenedSoFar.{none_taken, can_take, one_taken, left_at}
 use Rattle.run_report.proofs.ReportByEvent.{is_plain}
 use Rattle.run_report.proofs.courses.run_through.Goals as goal
 
@@ -16,11 +15,7 @@ loop-number-init c =
     record { took = none_taken c.requires.begun runs; counted = none_counted c.args.events.now.items runs c.requires.none }
 
 pub happen-requires : goal.happen-requires
-happen-requires c =
-    let events = c.args.events.now.items in
-    let i = c.loop-number.number in
-    let e = c.at-event.result in
-    can_take e c.requires.is_scenario c.loop-number.invariant.took (slice_get_within events i e c.at-event.ensures) (item_at events i e c.at-event.ensures)
+happen-requires c = can_take c.at-event.result c.requires.is_scenario c.loop-number.invariant.took c.at-event.ensures
 
 pub count-requires : goal.count-requires
 count-requires c =
@@ -41,7 +36,7 @@ loop-number-preserved c =
     let i = c.loop-number.number in
     let v = c.loop-number.world in
     let e = c.at-event.result in
-    let left = left_at events i e (slice_get_within events i e c.at-event.ensures) (item_at events i e c.at-event.ensures) in
+    let left = left_at events i e c.at-event.ensures in
     let takes = c.in-Ok.ensures.takes in
     record {
       took = one_taken e so_far.took (is_plain (told_of (run_of v) e) c.in-Ok.line c.in-Ok.ensures.tells) takes;
@@ -57,7 +52,7 @@ returns-in-Err-Chance-clause-comes_out c =
     let i = c.loop-number.number in
     let v = c.loop-number.world in
     let e = c.at-event.result in
-    let left = left_at events i e (slice_get_within events i e c.at-event.ensures) (item_at events i e c.at-event.ensures) in
+    let left = left_at events i e c.at-event.ensures in
     let step = c.len-step.ensures ∙ ap length c.journal.ensures ∙ ap length c.in-Err-Chance.ensures.same ∙ so_far.took.count in
     let tells = subst (λ f. Tells (told_of (run_of v) e) (Err f)) c.in-Err-Chance.field-0-is c.in-Err-Chance.ensures.tells in
     let found = coincides_at c.len-step.result e c.in-Err-Chance.proof so_far.counted left step tells in
