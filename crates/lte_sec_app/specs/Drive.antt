@@ -1,5 +1,5 @@
 -- What is so of `drive` at each status, by the input, the output and the peers before and after.
-use Rattle.std.specs.Prelude.{◌≡◌, ◌⊎◌, ℕ, ◌+◌, ◌<◌, ◌≤◌, ◌++◌, Option, Some, None, List, length, codes, Result, Ok, Err, IfSome}
+use Rattle.std.specs.Prelude.{◌≡◌, ◌≢◌, ◌⊎◌, ℕ, ◌+◌, ◌<◌, ◌≤◌, ◌++◌, Option, Some, None, List, length, codes, Result, Ok, Err, IfSome}
 use Rattle.std.specs.Fmt.{decimal}
 use Rattle.hex.specs.Hex.{encode_lower}
 use Rattle.edge_io.specs.Told.{Told, HasEnded}
@@ -11,7 +11,7 @@ use Rattle.lte_events.specs.declared.setups.Setup.{Setup}
 use Rattle.hub_drive.specs.declared.faults.DriveFault.{DriveFault}
 use Rattle.hub_drive.specs.declared.faults.DriveFault.TheVariants as fault
 use Rattle.hub_drive.specs.Acts.{Call, calls}
-use Rattle.hub_drive.specs.Driven.{Driven, WhereTold, FailedNext, GivesAll}
+use Rattle.hub_drive.specs.Driven.{AllStopped, Driven, WhereTold, FailedNext, GivesAll}
 use Rattle.hub_drive.specs.Outside.{outside}
 use Rattle.hub_drive.specs.Peerwise.{Made}
 use Rattle.hub_drive.specs.Plan.{plan_of}
@@ -42,6 +42,12 @@ LineAt text Differs out out' = Grows out.written out'.written text
 LineAt text Memory out out' = out'.written ≡ out.written
 LineAt text WriteFault out out' = GrowsByProperPrefix out.written out'.written text
 LineAt text other out out' = ⊥
+
+-- What a call did with the peers, by the status that it came to: all that were started are stopped, and one failed exactly where it says so.
+pub record UsesPeers (status : Status) (peers' : Option PeersTold) (faults faults' : ℕ) : Type 0 where
+  pub stopped : IfSome peers' AllStopped
+  pub cause : status ≡ PeerFault → Rose faults faults'
+  pub no_fault : status ≢ PeerFault → faults' ≡ faults
 
 -- the plan of a scenario was gone through as far as the answer says, and then all peers that were started were stopped
 abbrev pub WasDriven : Setup → List Event → Result Ending DriveFault → Told → Told → Option PeersTold → Option PeersTold → Type 0

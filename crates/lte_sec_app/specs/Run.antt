@@ -1,8 +1,10 @@
 -- What is so of a command that reads a text and writes its output, at each status of the program.
-use Rattle.std.specs.Prelude.{◌≡◌, ◌⊎◌, ℕ, ◌+◌, ◌<◌, ◌≤◌, Some, IfSome, List, length}
+use Rattle.std.specs.Prelude.{◌≡◌, ◌≢◌, ◌⊎◌, ℕ, ◌+◌, ◌<◌, ◌≤◌, Some, IfSome, List, length}
 use Rattle.edge_io.specs.Told.{Told, HasEnded}
-use Rattle.edge_io.specs.Cause.{Rose}
+use Rattle.edge_io.specs.Cause.{NoFault, Rose}
 use Rattle.edge_io.specs.Octets.{Grows, GrowsByPrefix, GrowsByProperPrefix, LosesWithin}
+use Rattle.edge_io.specs.Used.{UsedAsSink}
+use Rattle.growth.specs.Growth.{WasRefused}
 use Rattle.lte_sec_app.specs.declared.status.Status.{Status}
 use Rattle.lte_sec_app.specs.declared.status.Status.TheVariants.{Done, Memory, Refused, ReadFault, WriteFault, Coincidence, TooLong}
 
@@ -30,6 +32,19 @@ WritesAt output Done out out' = (output.ends ≡ Done) × Grows out.written out'
 WritesAt output Refused out out' = (output.ends ≡ Refused) × Grows out.written out'.written output.text
 WritesAt output Coincidence out out' = (output.ends ≡ Coincidence) × Grows out.written out'.written output.text
 WritesAt output other out out' = ⊥
+
+-- What a call did with its sink, by the status that it came to. Where memory is wanted std refused it, and the sink failed exactly where it says so.
+pub record UsesSink (status : Status) (out out' : Told) : Type 0 where
+  pub memory : status ≡ Memory → WasRefused
+  pub cause : status ≡ WriteFault → Rose out.write_faults out'.write_faults
+  pub no_fault : status ≢ WriteFault → NoFault out out'
+  pub used : UsedAsSink out out'
+
+-- And one that writes an output. A refusal takes no memory: where it was wanted nothing of one was written.
+pub record WritesOutput {S : Type 0} (told : S → Told) (output : Output) (status : Status) (out out' : S) : Type 0 where
+  pub text : WritesAt output status (told out) (told out')
+  pub no_refusal : status ≡ Memory → output.ends ≡ Refused → out' ≡ out
+  pub sink : UsesSink status (told out) (told out')
 
 -- a text within the limit, whose output ends with this status and was written whole
 pub record Answers (output : List ℕ → Output) (ends : Status) (octets : List ℕ) (out out' : Told) : Type 0 where

@@ -1,13 +1,12 @@
 ghost use Rattle.growth.specs.Growth.{WasRefused};
 ghost use Rattle.std.specs.Prelude.{◌≡◌, ◌≢◌, ◌≤◌, [], ℕ, List, Some, Ok, Err, length, IfOk, IfSome, IsTrue, OnErr};
 ghost use Rattle.std.specs.String.{string_bytes};
-ghost use Rattle.edge_io.specs.Cause.{NoFault, Rose};
-ghost use Rattle.edge_io.specs.Used.{UsedAsSource, UsedAsSink};
+ghost use Rattle.edge_io.specs.Cause.{NoFault};
+ghost use Rattle.edge_io.specs.Used.{UsedAsSource};
 ghost use Rattle.lte_events.specs.Scenario.{IsScenario};
-ghost use Rattle.hub_drive.specs.Driven.{AllStopped};
 ghost use Rattle.scenario_file.specs.Reading.{reading_of};
-ghost use Rattle.lte_sec_app.specs.Drive.{AllGoes, DriveAt, DriveIsComplete, LineAt, ScenarioAt, TextAt, TextGoes, difference_text, wanted_text};
-ghost use Rattle.lte_sec_app.specs.Run.{WhereRun};
+ghost use Rattle.lte_sec_app.specs.Drive.{AllGoes, DriveAt, DriveIsComplete, LineAt, ScenarioAt, TextAt, TextGoes, UsesPeers, difference_text, wanted_text};
+ghost use Rattle.lte_sec_app.specs.Run.{UsesSink, WhereRun};
 ghost use Rattle.lte_sec_app.specs.Scenario.{HasHeadline, run_output};
 ghost use Rattle.lte_sec_app.specs.Text.{HoldsOf};
 ghost use Rattle.lte_sec_app.specs.declared.command.TextCommand.{TextCommand};
@@ -37,19 +36,15 @@ pub(crate) fn drive<R: Source, P: Peers, W: Sink>(
     ensures complete { DriveIsComplete result (R.told input.old) (R.told input.new) (W.told out.old) (W.told out.new) (P.told peers.old) (P.faults peers.old) (P.faults peers.new) }
     ensures headline { HoldsOf TextCommand.Run result (R.told input.old) }
     ensures no_refusal { (octets : List ℕ) → (R.told input.old).left ≡ Some octets → result ≡ Status.Memory → (run_output octets).ends ≡ Status.Refused → out.new ≡ out.old }
-    ensures memory { result ≡ Status.Memory → WasRefused }
-    ensures stopped { IfSome (P.told peers.new) AllStopped }
-    ensures peer_cause { result ≡ Status.PeerFault → Rose (P.faults peers.old) (P.faults peers.new) }
-    ensures no_peer_fault { result ≢ Status.PeerFault → P.faults peers.new ≡ P.faults peers.old }
+    ensures peers { UsesPeers result (P.told peers.new) (P.faults peers.old) (P.faults peers.new) }
     ensures unread { result ≡ Status.ReadFault → out.new ≡ out.old }
     ensures too_long { result ≡ Status.TooLong → out.new ≡ out.old }
     ensures unread_peers { result ≡ Status.ReadFault → peers.new ≡ peers.old }
     ensures too_long_peers { result ≡ Status.TooLong → peers.new ≡ peers.old }
     ensures refused_peers { result ≡ Status.Refused → peers.new ≡ peers.old }
     ensures no_read_fault { result ≢ Status.ReadFault → NoFault (R.told input.old) (R.told input.new) }
-    ensures no_write_fault { result ≢ Status.WriteFault → NoFault (W.told out.old) (W.told out.new) }
     ensures input { UsedAsSource (R.told input.old) (R.told input.new) }
-    ensures out { UsedAsSink (W.told out.old) (W.told out.new) }
+    ensures sink { UsesSink result (W.told out.old) (W.told out.new) }
 {
     match read_text(alloc, input) {
         Ok(octets) => drive_text(alloc, &octets, peers, out),
@@ -65,16 +60,11 @@ fn drive_text<P: Peers, W: Sink>(alloc: Global, octets: &[u8], peers: &mut P, ou
     ensures complete { TextGoes (reading_of octets.now) result (W.told out.old) (W.told out.new) (P.told peers.old) (P.faults peers.old) (P.faults peers.new) }
     ensures headline { WhereRun (HasHeadline octets.now) result }
     ensures no_refusal { result ≡ Status.Memory → (run_output octets.now).ends ≡ Status.Refused → out.new ≡ out.old }
-    ensures memory { result ≡ Status.Memory → WasRefused }
-    ensures stopped { IfSome (P.told peers.new) AllStopped }
-    ensures peer_cause { result ≡ Status.PeerFault → Rose (P.faults peers.old) (P.faults peers.new) }
-    ensures write_cause { result ≡ Status.WriteFault → Rose (W.told out.old).write_faults (W.told out.new).write_faults }
-    ensures no_peer_fault { result ≢ Status.PeerFault → P.faults peers.new ≡ P.faults peers.old }
-    ensures no_write_fault { result ≢ Status.WriteFault → NoFault (W.told out.old) (W.told out.new) }
+    ensures peers { UsesPeers result (P.told peers.new) (P.faults peers.old) (P.faults peers.new) }
     ensures refused_peers { result ≡ Status.Refused → peers.new ≡ peers.old }
     ensures not_unread { result ≢ Status.ReadFault }
     ensures not_too_long { result ≢ Status.TooLong }
-    ensures out { UsedAsSink (W.told out.old) (W.told out.new) }
+    ensures sink { UsesSink result (W.told out.old) (W.told out.new) }
 {
     match unless_refused(read(alloc, octets), out) {
         Ok(scenario) => drive_scenario(alloc, &scenario.setup, &scenario.events, peers, out),
@@ -96,13 +86,8 @@ fn drive_scenario<P: Peers, W: Sink>(
     requires cells { 1 ≤ length setup.now.cells }
     ensures at { ScenarioAt setup.now events.now.items result (W.told out.old) (W.told out.new) (P.told peers.old) (P.told peers.new) }
     ensures complete { AllGoes setup.now events.now.items result (W.told out.old) (W.told out.new) (P.told peers.old) (P.faults peers.old) (P.faults peers.new) }
-    ensures memory { result ≡ Status.Memory → WasRefused }
-    ensures stopped { IfSome (P.told peers.new) AllStopped }
-    ensures peer_cause { result ≡ Status.PeerFault → Rose (P.faults peers.old) (P.faults peers.new) }
-    ensures write_cause { result ≡ Status.WriteFault → Rose (W.told out.old).write_faults (W.told out.new).write_faults }
-    ensures no_peer_fault { result ≢ Status.PeerFault → P.faults peers.new ≡ P.faults peers.old }
-    ensures no_write_fault { result ≢ Status.WriteFault → NoFault (W.told out.old) (W.told out.new) }
-    ensures out { UsedAsSink (W.told out.old) (W.told out.new) }
+    ensures peers { UsesPeers result (P.told peers.new) (P.faults peers.old) (P.faults peers.new) }
+    ensures sink { UsesSink result (W.told out.old) (W.told out.new) }
 {
     match hub_drive::drive(alloc, setup, events, peers, out) {
         Ok(Ending::Done) => Status::Done,
@@ -127,10 +112,7 @@ fn write_difference<W: Sink>(
 ) -> Status
     requires { IsTrue (W.told out.old).ready }
     ensures line { LineAt (difference_text step wanted.now got.now) result (W.told out.old) (W.told out.new) }
-    ensures memory { result ≡ Status.Memory → WasRefused }
-    ensures write_cause { result ≡ Status.WriteFault → Rose (W.told out.old).write_faults (W.told out.new).write_faults }
-    ensures no_write_fault { result ≢ Status.WriteFault → NoFault (W.told out.old) (W.told out.new) }
-    ensures out { UsedAsSink (W.told out.old) (W.told out.new) }
+    ensures sink { UsesSink result (W.told out.old) (W.told out.new) }
 {
     match difference_line(alloc, step, wanted, got) {
         Err(_) => Status::Memory,

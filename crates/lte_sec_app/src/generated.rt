@@ -1,12 +1,9 @@
-ghost use Rattle.growth.specs.Growth.{WasRefused};
-ghost use Rattle.std.specs.Prelude.{◌≡◌, ◌≢◌, ◌≤◌, IsTrue};
-ghost use Rattle.edge_io.specs.Cause.{NoFault};
-ghost use Rattle.edge_io.specs.Used.{UsedAsSink};
+ghost use Rattle.std.specs.Prelude.{◌≤◌, IsTrue};
 ghost use Rattle.lte_properties.specs.Headline.{Headline};
 ghost use Rattle.scenario_file.specs.Draws.{generated_setup, generated};
 ghost use Rattle.lte_sec_app.specs.Command.{most_steps};
 ghost use Rattle.lte_sec_app.specs.Generated.{gen_output, WritingIsComplete};
-ghost use Rattle.lte_sec_app.specs.Run.{WritesAt};
+ghost use Rattle.lte_sec_app.specs.Run.{WritesOutput};
 
 use crate::scenario::status_of;
 use crate::status::Status;
@@ -21,12 +18,9 @@ pub(crate) fn report_gen<W: Sink>(alloc: Global, steps: u32, seed: u32, out: &mu
     requires out_ready { IsTrue (W.told out.old).ready }
     requires some { 1 ≤ steps }
     requires few { steps ≤ most_steps }
-    ensures text { WritesAt (gen_output steps seed) result (W.told out.old) (W.told out.new) }
+    ensures writes { WritesOutput W.told (gen_output steps seed) result out.old out.new }
     ensures complete { WritingIsComplete (gen_output steps seed) result (W.told out.old) (W.told out.new) }
     ensures headline { Headline generated_setup (generated steps seed) }
-    ensures memory { result ≡ Status.Memory → WasRefused }
-    ensures no_fault { result ≢ Status.WriteFault → NoFault (W.told out.old) (W.told out.new) }
-    ensures out { UsedAsSink (W.told out.old) (W.told out.new) }
 {
     match generate(alloc, steps, seed) {
         Ok(scenario) => status_of(write_summary(alloc, &scenario.setup, &scenario.events, out)),

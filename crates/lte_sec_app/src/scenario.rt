@@ -1,8 +1,6 @@
 ghost use Rattle.growth.specs.Growth.{WasRefused};
 ghost use Rattle.std.specs.Prelude.{◌≡◌, ◌≢◌, ◌↔◌, ℕ, List, Ok, Err, IfOk, IfErr, IsTrue};
-ghost use Rattle.edge_io.specs.Cause.{NoFault};
-ghost use Rattle.edge_io.specs.Used.{UsedAsSink};
-ghost use Rattle.lte_sec_app.specs.Run.{WhereRun, WritesAt};
+ghost use Rattle.lte_sec_app.specs.Run.{UsesSink, WhereRun, WritesOutput};
 ghost use Rattle.lte_sec_app.specs.Scenario.{refusal_output, run_output, status_of, HasHeadline, IsRefused};
 ghost use Rattle.lte_sec_app.specs.Text.{Holds};
 ghost use Rattle.lte_sec_app.specs.declared.command.TextCommand.{TextCommand};
@@ -16,12 +14,8 @@ use std::alloc::Global;
 // Writes the report of the scenario that a text says, or the refusal of a text that says none.
 pub(crate) fn report_run<W: Sink>(alloc: Global, octets: &[u8], out: &mut W) -> Status
     requires { IsTrue (W.told out.old).ready }
-    ensures text { WritesAt (run_output octets.now) result (W.told out.old) (W.told out.new) }
+    ensures writes { WritesOutput W.told (run_output octets.now) result out.old out.new }
     ensures headline { WhereRun (HasHeadline octets.now) result }
-    ensures memory { result ≡ Status.Memory → WasRefused }
-    ensures no_refusal { result ≡ Status.Memory → (run_output octets.now).ends ≡ Status.Refused → out.new ≡ out.old }
-    ensures no_fault { result ≢ Status.WriteFault → NoFault (W.told out.old) (W.told out.new) }
-    ensures out { UsedAsSink (W.told out.old) (W.told out.new) }
 {
     match unless_refused(read(alloc, octets), out) {
         Ok(scenario) => status_of(write_run(alloc, &scenario.setup, &scenario.events, out)),
@@ -41,10 +35,8 @@ pub(crate) fn unless_refused<T, W: Sink>(
     ensures refused { IfErr result (λ status. IsRefused reading status (W.told out.old) (W.told out.new)) }
     ensures memory { (result ≡ Err Status.Memory) ↔ (reading ≡ Err ScenarioFault.Memory) }
     ensures memory_out { result ≡ Err Status.Memory → out.new ≡ out.old }
-    ensures memory_refused { IfErr result (λ status. status ≡ Status.Memory → WasRefused) }
     ensures holds { IfErr result (λ status. (command : TextCommand) (octets : List ℕ) → WhereRun (Holds command octets) status) }
-    ensures no_fault { IfErr result (λ status. status ≢ Status.WriteFault → NoFault (W.told out.old) (W.told out.new)) }
-    ensures out { UsedAsSink (W.told out.old) (W.told out.new) }
+    ensures sink { IfErr result (λ status. UsesSink status (W.told out.old) (W.told out.new)) }
 {
     match reading {
         Ok(scenario) => Ok(scenario),
@@ -57,11 +49,9 @@ pub(crate) fn unless_refused<T, W: Sink>(
 #[tactic(auto, using(crate::proofs::Ends::refused_is))]
 fn write_refusal<W: Sink>(fault: &ScenarioFault, out: &mut W) -> Status
     requires { IsTrue (W.told out.old).ready }
-    ensures text { WritesAt (refusal_output fault.now) result (W.told out.old) (W.told out.new) }
+    ensures writes { WritesOutput W.told (refusal_output fault.now) result out.old out.new }
     ensures memory { result ≢ Status.Memory }
     ensures holds { (command : TextCommand) (octets : List ℕ) → WhereRun (Holds command octets) result }
-    ensures no_fault { result ≢ Status.WriteFault → NoFault (W.told out.old) (W.told out.new) }
-    ensures out { UsedAsSink (W.told out.old) (W.told out.new) }
 {
     match write_all(out, fault.line().as_slice()) {
         Ok(()) => Status::Refused,

@@ -1,7 +1,7 @@
 ghost use Rattle.std.specs.Prelude.{◌≡◌, ◌≢◌, false, IsTrue};
 ghost use Rattle.edge_io.specs.Cause.{NoFault, NoCountFell};
-ghost use Rattle.edge_io.specs.Used.{UsedAsSink};
 ghost use Rattle.role_wire.specs.Ranges.{IsRole};
+ghost use Rattle.lte_sec_app.specs.Run.{UsesSink};
 ghost use Rattle.lte_sec_app.specs.Serve.{ServeAt, ServeIsComplete, SaidAt, bad_frame_text};
 
 use crate::status::Status;
@@ -21,8 +21,7 @@ pub(crate) fn serve<W: Sink, L: Port>(role: Role, out: &mut W, port: &mut L) -> 
     ensures no_port_fault { result ≢ Status.PeerFault → NoFault (L.told port.old) (L.told port.new) }
     ensures port { NoCountFell (L.told port.old) (L.told port.new) }
     ensures pieces { (L.told port.new).pieces ≡ (L.told port.old).pieces }
-    ensures no_write_fault { result ≢ Status.WriteFault → NoFault (W.told out.old) (W.told out.new) }
-    ensures out { UsedAsSink (W.told out.old) (W.told out.new) }
+    ensures sink { UsesSink result (W.told out.old) (W.told out.new) }
 {
     match port.open() {
         Ok(()) => {}
@@ -41,8 +40,7 @@ fn say_bad_frame<W: Sink>(place: u64, number: u8, out: &mut W) -> Status
     requires { IsTrue (W.told out.old).ready }
     ensures said { SaidAt (bad_frame_text place number) result (W.told out.old) (W.told out.new) }
     ensures no_memory { result ≢ Status.Memory }
-    ensures no_write_fault { result ≢ Status.WriteFault → NoFault (W.told out.old) (W.told out.new) }
-    ensures out { UsedAsSink (W.told out.old) (W.told out.new) }
+    ensures sink { UsesSink result (W.told out.old) (W.told out.new) }
 {
     match write_all(out, bad_frame_line(place, number).as_slice()) {
         Ok(()) => Status::BadFrame,

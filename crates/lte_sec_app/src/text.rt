@@ -1,8 +1,7 @@
-ghost use Rattle.growth.specs.Growth.{WasRefused};
 ghost use Rattle.std.specs.Prelude.{◌≡◌, ◌≢◌, ℕ, List, Some, IsTrue};
 ghost use Rattle.edge_io.specs.Cause.{NoFault};
-ghost use Rattle.edge_io.specs.Used.{UsedAsSource, UsedAsSink};
-ghost use Rattle.lte_sec_app.specs.Run.{CommandAt, CommandIsComplete, WhereRun, WritesAt};
+ghost use Rattle.edge_io.specs.Used.{UsedAsSource};
+ghost use Rattle.lte_sec_app.specs.Run.{CommandAt, CommandIsComplete, UsesSink, WhereRun, WritesOutput};
 ghost use Rattle.lte_sec_app.specs.Text.{text_output, Holds, HoldsOf};
 
 use crate::audit::report_audit;
@@ -28,14 +27,12 @@ pub(crate) fn answer_text<R: Source, W: Sink>(
     ensures at { CommandAt (text_output command) result (R.told input.old) (R.told input.new) (W.told out.old) (W.told out.new) }
     ensures complete { CommandIsComplete (text_output command) result (R.told input.old) (R.told input.new) (W.told out.old) (W.told out.new) }
     ensures holds { HoldsOf command result (R.told input.old) }
-    ensures memory { result ≡ Status.Memory → WasRefused }
     ensures no_refusal { (octets : List ℕ) → (R.told input.old).left ≡ Some octets → result ≡ Status.Memory → (text_output command octets).ends ≡ Status.Refused → out.new ≡ out.old }
     ensures unread { result ≡ Status.ReadFault → out.new ≡ out.old }
     ensures too_long { result ≡ Status.TooLong → out.new ≡ out.old }
     ensures no_read_fault { result ≢ Status.ReadFault → NoFault (R.told input.old) (R.told input.new) }
-    ensures no_write_fault { result ≢ Status.WriteFault → NoFault (W.told out.old) (W.told out.new) }
     ensures input { UsedAsSource (R.told input.old) (R.told input.new) }
-    ensures out { UsedAsSink (W.told out.old) (W.told out.new) }
+    ensures sink { UsesSink result (W.told out.old) (W.told out.new) }
 {
     match read_text(alloc, input) {
         Ok(octets) => write_text(alloc, command, &octets, out),
@@ -46,12 +43,8 @@ pub(crate) fn answer_text<R: Source, W: Sink>(
 // Writes the output of a command for a text.
 fn write_text<W: Sink>(alloc: Global, command: TextCommand, octets: &[u8], out: &mut W) -> Status
     requires { IsTrue (W.told out.old).ready }
-    ensures text { WritesAt (text_output command octets.now) result (W.told out.old) (W.told out.new) }
+    ensures writes { WritesOutput W.told (text_output command octets.now) result out.old out.new }
     ensures holds { WhereRun (Holds command octets.now) result }
-    ensures memory { result ≡ Status.Memory → WasRefused }
-    ensures no_refusal { result ≡ Status.Memory → (text_output command octets.now).ends ≡ Status.Refused → out.new ≡ out.old }
-    ensures no_fault { result ≢ Status.WriteFault → NoFault (W.told out.old) (W.told out.new) }
-    ensures out { UsedAsSink (W.told out.old) (W.told out.new) }
 {
     match command {
         TextCommand::Ladder => report_ladder(alloc, octets, out),

@@ -1,8 +1,5 @@
-ghost use Rattle.growth.specs.Growth.{WasRefused};
-ghost use Rattle.std.specs.Prelude.{◌≡◌, ◌≢◌, IsTrue};
-ghost use Rattle.edge_io.specs.Cause.{NoFault};
-ghost use Rattle.edge_io.specs.Used.{UsedAsSink};
-ghost use Rattle.lte_sec_app.specs.Run.{WhereRun, WritesAt};
+ghost use Rattle.std.specs.Prelude.{IsTrue};
+ghost use Rattle.lte_sec_app.specs.Run.{WhereRun, WritesOutput};
 ghost use Rattle.lte_sec_app.specs.Two.{two_output, HasTwo};
 
 use crate::scenario::{status_of, unless_refused};
@@ -15,12 +12,8 @@ use std::alloc::Global;
 // Writes the report of a scenario with two cores, or the refusal of a text that says none.
 pub(crate) fn report_two<W: Sink>(alloc: Global, octets: &[u8], out: &mut W) -> Status
     requires { IsTrue (W.told out.old).ready }
-    ensures text { WritesAt (two_output octets.now) result (W.told out.old) (W.told out.new) }
+    ensures writes { WritesOutput W.told (two_output octets.now) result out.old out.new }
     ensures holds { WhereRun (HasTwo octets.now) result }
-    ensures memory { result ≡ Status.Memory → WasRefused }
-    ensures no_refusal { result ≡ Status.Memory → (two_output octets.now).ends ≡ Status.Refused → out.new ≡ out.old }
-    ensures no_fault { result ≢ Status.WriteFault → NoFault (W.told out.old) (W.told out.new) }
-    ensures out { UsedAsSink (W.told out.old) (W.told out.new) }
 {
     match unless_refused(read_two(alloc, octets), out) {
         Ok(scenario) => status_of(write_two(

@@ -1,11 +1,11 @@
-use Rattle.std.proofs.Common.{refl, subst, sym}
+use Rattle.std.proofs.Common.{ap, refl, subst, sym}
 use Rattle.std.proofs.lemmas.Result.{IfOk-at_ok}
 use Rattle.audit_report.specs.AuditReport.{audit_report_of}
 use Rattle.scenario_file.specs.Reading.{reading_of}
 use Rattle.lte_sec_app.specs.Audit.{output_of, HasAudit}
 use Rattle.lte_sec_app.specs.Run.{WhereRun}
 use Rattle.lte_sec_app.proofs.Audited.{audited}
-use Rattle.lte_sec_app.proofs.Refusing.{refusal_writes, read_never_refused}
+use Rattle.lte_sec_app.proofs.Refusing.{refusal_writes, report_writes}
 use Rattle.lte_sec_app.proofs.Reports.{headline_of}
 use Rattle.lte_sec_app.proofs.audit.report_audit.Goals as goal
 
@@ -22,13 +22,15 @@ returns-in-Ok-clause-holds g c =
     (λ ok. (c.write_audit.ensures.exact ok, c.write_audit.ensures.of_run ok))
     c.write_audit.ensures.report.ends)
 
-pub returns-in-Err-clause-text : goal.returns-in-Err-clause-text
-returns-in-Err-clause-text g c =
-    refusal_writes output_of (λ why. refl) (reading_of c.args.octets.now) c.in-Err.status _ _ c.read.result c.read.ensures.refused c.in-Err.ensures.refused
-
-pub returns-in-Ok-clause-no_refusal : goal.returns-in-Ok-clause-no_refusal
-returns-in-Ok-clause-no_refusal g c memory refused =
+pub returns-in-Ok-clause-writes : goal.returns-in-Ok-clause-writes
+returns-in-Ok-clause-writes g c =
     let s = c.in-Ok.scenario in
-    absurd (read_never_refused (λ r. (output_of r).ends) (reading_of c.args.octets.now) _
-    (audit_report_of s.setup s.events.items).ends
-    (IfOk-at_ok _ c.in-Ok.ensures.read.0 c.read.ensures.scenario) refl refused)
+    report_writes g.W.Edge.told _ (audit_report_of s.setup s.events.items) c.write_audit.result c.status_of.result
+    (ap output_of (IfOk-at_ok _ c.in-Ok.ensures.read.0 c.read.ensures.scenario))
+    c.status_of.ensures.value c.in-Ok.ensures.read.1 c.write_audit.ensures.report
+
+pub returns-in-Err-clause-writes : goal.returns-in-Err-clause-writes
+returns-in-Err-clause-writes g c =
+    let why = c.in-Err.ensures in
+    refusal_writes g.W.Edge.told output_of (λ why. refl) (reading_of c.args.octets.now) c.read.result c.in-Err.status
+    c.read.ensures.refused why.refused why.memory_out why.sink

@@ -1,6 +1,17 @@
+use Rattle.std.proofs.Common.{refl}
 use Rattle.lte_sec_app.proofs.Refusing.{ladder_refused}
 use Rattle.lte_sec_app.proofs.ladder.report_ladder.Goals as goal
 
-pub returns-clause-no_refusal : goal.returns-clause-no_refusal
-returns-clause-no_refusal g c memory refused =
-    c.write_answer.ensures.no_refusal (c.status_of.ensures.memory memory) (ladder_refused _ refused)
+pub returns-in-Memory : goal.returns-in-Memory
+returns-in-Memory g c =
+    let wrote = c.in-Memory.ensures in
+    record {
+      text = wrote.output;
+      no_refusal = λ memory refused. wrote.no_refusal refl (ladder_refused _ refused);
+      sink = record {
+        memory = λ memory. wrote.memory refl;
+        cause = λ e. cc;
+        no_fault = λ differs. wrote.no_fault (λ e. cc);
+        used = wrote.out;
+      };
+    }

@@ -1,9 +1,9 @@
 use Rattle.run_report.specs.Report.{report_of}
-use Rattle.std.proofs.Common.{refl}
+use Rattle.std.proofs.Common.{ap, refl}
 use Rattle.std.proofs.lemmas.Result.{IfOk-at_ok}
 use Rattle.scenario_file.specs.Reading.{reading_of}
 use Rattle.lte_sec_app.specs.Scenario.{output_of, HasHeadline}
-use Rattle.lte_sec_app.proofs.Refusing.{refusal_writes, read_never_refused}
+use Rattle.lte_sec_app.proofs.Refusing.{refusal_writes, report_writes}
 use Rattle.lte_sec_app.proofs.Reports.{has_headline}
 use Rattle.lte_sec_app.proofs.Running.{where_run}
 use Rattle.lte_sec_app.proofs.scenario.report_run.Goals as goal
@@ -15,13 +15,15 @@ returns-in-Ok-clause-headline g c =
     where_run c.status_of.result (HasHeadline c.args.octets.now)
     (has_headline c.args.octets.now c.in-Ok.scenario.setup c.in-Ok.scenario.events.items (IfOk-at_ok _ is read.scenario) (IfOk-at_ok _ is read.is_scenario))
 
-pub returns-in-Err-clause-text : goal.returns-in-Err-clause-text
-returns-in-Err-clause-text g c =
-    refusal_writes output_of (λ why. refl) (reading_of c.args.octets.now) c.in-Err.status _ _ c.read.result c.read.ensures.refused c.in-Err.ensures.refused
-
-pub returns-in-Ok-clause-no_refusal : goal.returns-in-Ok-clause-no_refusal
-returns-in-Ok-clause-no_refusal g c memory refused =
+pub returns-in-Ok-clause-writes : goal.returns-in-Ok-clause-writes
+returns-in-Ok-clause-writes g c =
     let s = c.in-Ok.scenario in
-    absurd (read_never_refused (λ r. (output_of r).ends) (reading_of c.args.octets.now) _
-    (report_of s.setup s.events.items).ends
-    (IfOk-at_ok _ c.in-Ok.ensures.read.0 c.read.ensures.scenario) refl refused)
+    report_writes g.W.Edge.told _ (report_of s.setup s.events.items) c.write_run.result c.status_of.result
+    (ap output_of (IfOk-at_ok _ c.in-Ok.ensures.read.0 c.read.ensures.scenario))
+    c.status_of.ensures.value c.in-Ok.ensures.read.1 c.write_run.ensures
+
+pub returns-in-Err-clause-writes : goal.returns-in-Err-clause-writes
+returns-in-Err-clause-writes g c =
+    let why = c.in-Err.ensures in
+    refusal_writes g.W.Edge.told output_of (λ why. refl) (reading_of c.args.octets.now) c.read.result c.in-Err.status
+    c.read.ensures.refused why.refused why.memory_out why.sink

@@ -1,11 +1,11 @@
 use Rattle.core_relocation.specs.Report.{two_report_of}
-use Rattle.std.proofs.Common.{refl}
+use Rattle.std.proofs.Common.{ap, refl}
 use Rattle.std.proofs.lemmas.Result.{IfOk-at_ok}
 use Rattle.core_relocation.proofs.Promised.{two_headline}
 use Rattle.lte_events.proofs.InRange.{in_range}
 use Rattle.scenario_file.specs.Reading.{two_reading_of}
 use Rattle.lte_sec_app.specs.Two.{output_of, HasTwo}
-use Rattle.lte_sec_app.proofs.Refusing.{refusal_writes, read_never_refused}
+use Rattle.lte_sec_app.proofs.Refusing.{refusal_writes, report_writes}
 use Rattle.lte_sec_app.proofs.Running.{where_run}
 use Rattle.lte_sec_app.proofs.two.report_two.Goals as goal
 
@@ -26,14 +26,15 @@ returns-in-Ok-clause-holds g c =
       holds = two_headline setup core_of events scenario.can_start (in_range setup events scenario.can_happen);
     })
 
-pub returns-in-Err-clause-text : goal.returns-in-Err-clause-text
-returns-in-Err-clause-text g c =
-    refusal_writes output_of (λ why. refl) (two_reading_of c.args.octets.now) c.in-Err.status _ _ c.read_two.result
-    c.read_two.ensures.refused c.in-Err.ensures.refused
-
-pub returns-in-Ok-clause-no_refusal : goal.returns-in-Ok-clause-no_refusal
-returns-in-Ok-clause-no_refusal g c memory refused =
+pub returns-in-Ok-clause-writes : goal.returns-in-Ok-clause-writes
+returns-in-Ok-clause-writes g c =
     let s = c.in-Ok.scenario in
-    absurd (read_never_refused (λ r. (output_of r).ends) (two_reading_of c.args.octets.now) _
-    (two_report_of s.setup s.core_of s.events.items).ends
-    (IfOk-at_ok _ c.in-Ok.ensures.read.0 c.read_two.ensures.scenario) refl refused)
+    report_writes g.W.Edge.told _ (two_report_of s.setup s.core_of s.events.items) c.write_two.result c.status_of.result
+    (ap output_of (IfOk-at_ok _ c.in-Ok.ensures.read.0 c.read_two.ensures.scenario))
+    c.status_of.ensures.value c.in-Ok.ensures.read.1 c.write_two.ensures
+
+pub returns-in-Err-clause-writes : goal.returns-in-Err-clause-writes
+returns-in-Err-clause-writes g c =
+    let why = c.in-Err.ensures in
+    refusal_writes g.W.Edge.told output_of (λ why. refl) (two_reading_of c.args.octets.now) c.read_two.result c.in-Err.status
+    c.read_two.ensures.refused why.refused why.memory_out why.sink
