@@ -1,6 +1,7 @@
 -- A coincidence of a phone has a text.
 use Rattle.std.proofs.Common.{◌≡◌, ◌≢◌, refl, sym, ap, subst, ◌∙◌, ℕ, List, length, Option, Some, None, Result, Ok, Err}
 use Rattle.std.specs.Prelude.{IsTrue}
+use Rattle.std.specs.Result.{result_and}
 use Rattle.edge_io.specs.Told.{Told}
 use Rattle.lte_events.specs.Ranges.{IsEvent, IsSetup}
 use Rattle.lte_events.specs.declared.events.Event.{Event}
@@ -80,7 +81,7 @@ fault_shown v p e (fault.Chance q proof) none is h can answered counts =
     (coincidence_shown v.setup (length v.journal) (own_at (owns_in v) p) e told.0 is h can.can.0 told.1 (subst HasCounts told.2 counts))
 
 -- how a report ends of which a coincidence was written
-abbrev ended : Result (Unit {0}) Unwritten → Result Ending Unwritten
+abbrev pub ended : Result (Unit {0}) Unwritten → Result Ending Unwritten
 ended written = result_and written (Ok ending.Chance)
 
 -- the line for a coincidence is that of the answer

@@ -55,11 +55,11 @@ one_taken {v} e took plain takes = record {
 }
 
 -- the report of the events from i on begins with what is told of the one at i
-pub follows : {setup : Setup} {events : List Event} {i : ℕ} {v : Whole} {e : Event} (run : RunState (List ℕ) ℕ Kept)
+pub follows : {setup : Setup} {i : ℕ} {v : Whole} {e : Event} (events : List Event) (run : RunState (List ℕ) ℕ Kept)
     → Took setup i v
     → slice_get events i ≡ Some e
     → run ≡ turned (run_of v) e
     → Follows (report_from (length events) i (run_of v) (drop i events)) (told_report (length v.journal) (told_of (run_of v) e))
     (report_from (length events) (i + 1) run (drop (i + 1) events))
-follows {events} {i} {v} {e} run took at turns =
+follows {i} {v} {e} events run took at turns =
     report_more (length events) i (length v.journal) (run_of v) run events e (left_at events i e at) took.count turns

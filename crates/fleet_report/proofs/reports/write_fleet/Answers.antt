@@ -14,8 +14,7 @@ pub write_event-requires-clause-can : goal.write_event-requires-clause-can
 write_event-requires-clause-can g c =
     let so_far = c.loop-number.invariant in
     can_take c.args.setup.now c.loop-number.fleet c.args.phones c.args.events.now.items c.loop-number.number
-    c.at-step.result so_far.setup so_far.phones so_far.count
-    c.at-step.ensures
+    c.at-step.result so_far.setup so_far.phones so_far.count c.at-step.ensures
     c.requires.is_scenario c.requires.of_phones
 
 pub loop-number-init : goal.loop-number-init
@@ -38,17 +37,13 @@ loop-number-preserved g c =
     let i = c.loop-number.number in
     let v = c.loop-number.fleet in
     let x = c.at-step.result in
+    let at = c.at-step.ensures in
     let takes = c.write_event.ensures.takes (c.in_ok-write_event.was ∙ ap Ok c.in-Done.is) in
-    let next = event_next v events i x so_far.over so_far.count
-    c.at-step.ensures in
-    let more = more_reported so_far.report next c.in-Done.is c.in_ok-write_event.ensures.report in
+    let more = more_reported so_far.report (event_next v events i x so_far.over so_far.count at) c.in-Done.is c.in_ok-write_event.ensures.report in
     record {
       report = subst (λ r. ReportPartly (fleet_report_of c.args.setup.now c.args.phones events) r
           (g.W.Edge.told c.args.out.now) (g.W.Edge.told c.write_event.new.out))
-          (behind_is v events i x so_far.over so_far.count
-          c.at-step.ensures
-          c.write_event.new.fleet takes)
-          more;
+          (behind_is v events i x so_far.over so_far.count at c.write_event.new.fleet takes) more;
       setup = takes.setup ∙ so_far.setup;
       over = takes.over;
       count = ap length takes.journal ∙ length-append v.journal _ ∙ ap (λ n. n + 1) so_far.count;

@@ -15,13 +15,6 @@ returns-in-Ok-clause-headline g c =
     where_run c.status_of.result (HasHeadline c.args.octets.now)
     (has_headline c.args.octets.now c.in-Ok.scenario.setup c.in-Ok.scenario.events.items (IfOk-at_ok _ is read.scenario) (IfOk-at_ok _ is read.is_scenario))
 
-pub returns-in-Ok-clause-writes : goal.returns-in-Ok-clause-writes
-returns-in-Ok-clause-writes g c =
-    let s = c.in-Ok.scenario in
-    report_writes g.W.Edge.told _ (report_of s.setup s.events.items) c.write_run.result c.status_of.result
-    (ap output_of (IfOk-at_ok _ c.in-Ok.ensures.read.0 c.read.ensures.scenario))
-    c.status_of.ensures.value c.in-Ok.ensures.read.1 c.write_run.ensures
-
 pub returns-in-Err-clause-writes : goal.returns-in-Err-clause-writes
 returns-in-Err-clause-writes g c =
     let why = c.in-Err.ensures in

@@ -25,19 +25,19 @@ loop-number-preserved g c =
     let takes = c.write_event.ensures.takes (c.in_ok-write_event.was ∙ ap Ok done) in
     record {
       took = one_taken c.at-event.result so_far.took (sym c.in_ok-write_event.ensures.report.ends ∙ done) takes;
-      report = more_reported so_far.report (follows _ so_far.took c.at-event.ensures takes.run) done c.in_ok-write_event.ensures.report;
+      report = more_reported so_far.report (follows c.args.events.now.items _ so_far.took c.at-event.ensures takes.run) done c.in_ok-write_event.ensures.report;
     }
 
 pub returns-in-Chance : goal.returns-in-Chance
 returns-in-Chance g c =
     let so_far = c.loop-number.invariant in
-    coincidence_reported so_far.report (follows _ so_far.took c.at-event.ensures refl) c.in-Chance.is c.in_ok-write_event.ensures.report
+    coincidence_reported so_far.report (follows c.args.events.now.items _ so_far.took c.at-event.ensures refl) c.in-Chance.is c.in_ok-write_event.ensures.report
 
 pub returns-in_err-write_event : goal.returns-in_err-write_event
 returns-in_err-write_event g c =
     let p = err_from_is_err_and c.from_residual.result c.from_residual.ensures.1 in
     let so_far = c.loop-number.invariant in
-    rw (p.1, p.2) (cut_reported so_far.report (follows _ so_far.took c.at-event.ensures refl) c.in_err-write_event.ensures.report)
+    rw (p.1, p.2) (cut_reported so_far.report (follows c.args.events.now.items _ so_far.took c.at-event.ensures refl) c.in_err-write_event.ensures.report)
 
 pub write_end-requires-clause-few : goal.write_end-requires-clause-few
 write_end-requires-clause-few g c = let took = c.loop-number.invariant.took in omega (arith, took.count, c.requires.is_scenario.few)
