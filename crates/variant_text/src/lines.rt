@@ -56,7 +56,7 @@ pub fn variant_line(
 
 /// The last line: how many variants there are.
 #[tactic(auto, unfolding(crate::specs::Lines::end_line))]
-pub fn end_line(alloc: Global, variants: u32) -> Result<String, AllocError>
+pub fn end_line(alloc: Global, variants: u128) -> Result<String, AllocError>
     ensures text { IfOk result (λ text. string_bytes text ≡ end_line variants) }
     ensures refused { OnErr result WasRefused }
 {

@@ -1,0 +1,47 @@
+-- Each line that the program writes is a line.
+use Rattle.std.proofs.Common.{◌≡◌, ℕ, true, List}
+use Rattle.std.specs.Prelude.{codes}
+use Rattle.std.specs.Fmt.{decimal}
+use Rattle.edge_io.specs.Lines.{EndsLine, are_lines}
+use Rattle.edge_io.proofs.Ending.{feed, is_lines, on}
+use Rattle.item_faults.specs.declared.changes.Fault.{Fault}
+use Rattle.item_faults.specs.declared.messages.Message.{Message}
+use Rattle.item_outcomes.specs.declared.judging.Outcome.{Outcome}
+use Rattle.scenario_file.specs.Refused.{fault_text, refused_text}
+use Rattle.scenario_file.specs.declared.faults.ScenarioFault.{ScenarioFault}
+use Rattle.variant_text.specs.Faults.{faults_text}
+use Rattle.variant_text.specs.Lines.{end_line, message_line, scenario_line, variant_line}
+use Rattle.variant_text.specs.Messages.{message_name}
+use Rattle.variant_text.specs.Outcomes.{outcomes_text}
+
+refused_ends : (fault : ScenarioFault) → EndsLine (refused_text fault)
+unfolding refused_text
+refused_ends fault = on (codes "refused ") _ (on (fault_text fault) _ feed)
+
+pub refused_is : (fault : ScenarioFault) → are_lines (refused_text fault) ≡ true
+refused_is fault = is_lines _ (refused_ends fault)
+
+scenario_ends : (steps messages serving : ℕ) → EndsLine (scenario_line steps messages serving)
+unfolding scenario_line
+scenario_ends steps messages serving =
+    on (codes "scenario ") _ (on (decimal steps) _ (on (codes " ") _ (on (decimal messages) _ (on (codes " serving ") _ (on (decimal serving) _ feed)))))
+
+pub scenario_is : (steps messages serving : ℕ) → are_lines (scenario_line steps messages serving) ≡ true
+scenario_is steps messages serving = is_lines _ (scenario_ends steps messages serving)
+
+message_ends : (number : ℕ) (message : Message) → EndsLine (message_line number message)
+unfolding message_line
+message_ends number message = on (codes "message ") _ (on (decimal number) _ (on (codes " ") _ (on (message_name message) _ feed)))
+
+pub message_is : (number : ℕ) (message : Message) → are_lines (message_line number message) ≡ true
+message_is number message = is_lines _ (message_ends number message)
+
+pub variant_is : (faults : List Fault) (outcomes : List Outcome) → are_lines (variant_line faults outcomes) ≡ true
+variant_is faults outcomes = is_lines _ (on (faults_text faults) _ (on (codes ": ") _ (on (outcomes_text outcomes) _ feed)))
+
+end_ends : (variants : ℕ) → EndsLine (end_line variants)
+unfolding end_line
+end_ends variants = on (codes "end ") _ (on (decimal variants) _ feed)
+
+pub end_is : (variants : ℕ) → are_lines (end_line variants) ≡ true
+end_is variants = is_lines _ (end_ends variants)

@@ -1,0 +1,5 @@
+pub mod Turns
+pub mod Ends
+pub mod Few
+pub mod Telling
+pub mod Running

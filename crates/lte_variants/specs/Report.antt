@@ -1,0 +1,66 @@
+-- What is told of a scenario: its messages, and what becomes of it with faults of them.
+use Rattle.std.specs.Prelude.{ℕ, Bool, List, [], ◌++◌, length, Option, Some, None}
+use Rattle.std.specs.List.{filter, flat_map}
+use Rattle.std.specs.Option.{is_some, option_and_then}
+use Rattle.item_faults.specs.Faults.{faults_of}
+use Rattle.item_faults.specs.Steps.{delivered, messages_of, step_of}
+use Rattle.item_faults.specs.declared.changes.Fault.{Fault}
+use Rattle.item_faults.specs.declared.messages.Message.{Message}
+use Rattle.item_faults.specs.declared.steps.Step.{Step}
+use Rattle.item_outcomes.specs.declared.judging.Outcome.{Outcome}
+use Rattle.variant_runs.specs.Judged.{entries, judged}
+use Rattle.variant_runs.specs.Original.{Original}
+use Rattle.variant_text.specs.Lines.{end_line, message_line, scenario_line, variant_line}
+use Rattle.lte_variants.specs.Choices.{choices_of, in_share}
+use Rattle.lte_variants.specs.Kinds.{happening}
+use Rattle.lte_variants.specs.declared.request.Request.{Request}
+
+-- ITS MESSAGES: a line for each, by the step that delivers it
+abbrev pub message_at : List Step → ℕ → Option Message
+message_at steps number = option_and_then (λ s. delivered steps s.does) (step_of steps (Some number))
+
+abbrev pub line_with : ℕ → Option Message → List ℕ
+line_with number None = []
+line_with number (Some message) = message_line number message
+
+unfoldable pub line_at : List Step → ℕ → List ℕ
+line_at steps number = line_with number (message_at steps number)
+
+-- ITS VARIANTS: a line for each choice of faults that go together
+abbrev pub line_told : List Fault → Option (List Outcome) → List ℕ
+line_told faults None = []
+line_told faults (Some outcomes) = variant_line faults outcomes
+
+unfoldable pub line_of : Original → List Fault → List ℕ
+line_of o faults = line_told faults (judged o faults)
+
+unfoldable pub is_variant : Original → List Fault → Bool
+is_variant o faults = is_some (judged o faults)
+
+-- THE REPORT: the scenario and its messages
+abbrev pub message_lines : Original → List ℕ → List ℕ
+message_lines o messages = flat_map (line_at o.steps) messages
+
+abbrev pub messages_told : Original → List ℕ → List ℕ
+messages_told o messages = scenario_line (length o.steps) (length messages) o.usual.serving ++ message_lines o messages
+
+-- the variants of these choices, and how many there are
+abbrev pub variant_lines : Original → List (List Fault) → List ℕ
+variant_lines o choices = flat_map (line_of o) choices
+
+abbrev pub variants : Original → List (List Fault) → ℕ
+variants o choices = length (filter (is_variant o) choices)
+
+abbrev pub told_of : Original → List (List Fault) → List ℕ
+told_of o choices = variant_lines o choices ++ end_line (variants o choices)
+
+-- the choices of a share, of the faults of these messages that happen
+abbrev pub asked : Request → Original → List ℕ → List (List Fault)
+asked r o messages = in_share r.share (choices_of r.together (happening r.kinds (faults_of (entries o) messages)))
+
+-- both, by the messages
+abbrev pub report_with : Request → Original → List ℕ → List ℕ
+report_with r o messages = messages_told o messages ++ told_of o (asked r o messages)
+
+unfoldable pub report_of : Request → Original → List ℕ
+report_of r o = report_with r o (messages_of r.packets o.steps)

@@ -1,0 +1,15 @@
+-- The exit status of the program, with the codes of `lte_sec_app`.
+use Rattle.std.specs.Prelude.{ℕ}
+use Rattle.lte_variants.specs.declared.status.Status.{Status}
+use Rattle.lte_variants.specs.declared.status.Status.TheVariants.{Done, Memory, BadWords, Refused, ReadFault, WriteFault, Coincidence, TooLong, TooManySteps}
+
+abbrev pub code_of : Status → ℕ
+code_of Done = 0
+code_of Memory = 1
+code_of BadWords = 2
+code_of Refused = 3
+code_of ReadFault = 4
+code_of WriteFault = 5
+code_of Coincidence = 7
+code_of TooLong = 9
+code_of TooManySteps = 11
