@@ -2,12 +2,13 @@
 from __future__ import annotations
 
 from collections import Counter
-from collections.abc import Iterable, Iterator
+from collections.abc import Iterator
 from dataclasses import dataclass, field
 from itertools import groupby
 from typing import Any
 
 from .charted import Chart, with_numbers
+from .listed import Listed
 from .outcomes import GOES_ON, RANK, USUAL_BAD, limit
 from .remarks import named, with_frames
 from .study import Variant
@@ -35,11 +36,6 @@ class Answer:
     whole: bool = True
     frames: dict[int, str] = field(default_factory=dict)  # of steps, where the scenario has them
     chart: Chart | None = None  # its own course, where those of the variants are kept
-
-    def take(self, variants: Iterable[Variant]) -> None:
-        for variant in variants:
-            self.singles.append(variant)
-            self.counts.setdefault(1, Counter())[variant.worst] += 1
 
     def sort(self) -> None:
         self.singles.sort(key=order)
@@ -190,8 +186,17 @@ def outcome(variant: Variant, word: str, answer: Answer) -> str:
 def of_faults(faults: list[Fault], messages: dict[str, str], frames: dict[int, str]) -> str:
     """Faults of one message and kind, in words."""
     first = faults[0]
-    after = f" after {', '.join(named(fault.after or 0, frames) for fault in faults)}" if first.after is not None else ""
+    after = f" after {ranges([int(fault.after or 0) for fault in faults], frames)}" if first.after is not None else ""
     return f"{named(first.item, frames)} {messages[first.item]} {first.kind}{after}"
+
+
+def ranges(steps: list[int], frames: dict[int, str]) -> str:
+    """Steps in words, three or more in a row as `12 to 14`."""
+    words: list[str] = []
+    for _, row in groupby(enumerate(steps), lambda it: it[1] - it[0]):
+        names = [named(step, frames) for _, step in row]
+        words += [f"{names[0]} to {names[-1]}"] if len(names) > 2 else names
+    return ", ".join(words)
 
 
 def counted(faults: int, answer: Answer) -> str:
@@ -205,6 +210,6 @@ def counted(faults: int, answer: Answer) -> str:
     return f"{what}{more}: {', '.join(words)}"
 
 
-def line(variant: Variant) -> str:
+def line(variant: Variant | Listed) -> str:
     """A variant in a line of its own."""
     return f"{' + '.join(map(str, variant.faults))}: {', '.join(variant.outcomes)}"

@@ -71,14 +71,16 @@ class Prober:
         self.runs, self.scenario = runs, scenario
         self.probes = {station: probe(scenario, station) for station in scenario.stations}
 
-    def probed(self, items: list[Item], usual: dict[str, bool], guess: dict[str, bool], serving: int) -> tuple[Course, int]:
-        """The course of the items and the probe, and the station that serves the phone, by a guess of which it is."""
+    def probed(self, items: list[Item], usual: dict[str, bool], guess: dict[str, bool], serving: int, otherwise: int) -> tuple[Course, int]:
+        """The course of the items and the probe, and the station that serves the phone, by a guess of which it is; the other one where the phone's
+        packet comes to none."""
         count = 0
-        for _ in self.probes:
+        while True:
             course = self.runs.course([*items, *self.probes[serving]], usual, guess)
             count += course.runs
             found = serving_of(course)
-            if found is None or found == serving:
+            found = otherwise if found is None else found
+            if found == serving:
                 break
             serving, guess = found, course.sends()
         course.runs = count

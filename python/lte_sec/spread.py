@@ -1,4 +1,4 @@
-"""Variants spread over processes, and shares of them over machines."""
+"""The variants of a scenario as the program lists them, and those that are told run again, spread over processes and shares over machines."""
 from __future__ import annotations
 
 import multiprocessing
@@ -7,24 +7,28 @@ import sys
 import time
 from collections import Counter
 from collections.abc import Callable, Iterable, Iterator
-from dataclasses import dataclass, field
-from itertools import combinations, islice
+from dataclasses import dataclass
+from itertools import combinations, groupby, islice
 from pathlib import Path
 from typing import Any, TypeVar
 
 from .answers import Answer, line
+from .courses import ProgramFails
+from .listed import Listed, Lists
 from .outcomes import GOES_ON, RANK
 from .saving import save
-from .study import Study, Variant
+from .study import Study, Tried, Variant
+from .variants import Fault
 
 MANY_AT_ONCE, SECONDS = 32, 5
 Some = TypeVar("Some")
+More = TypeVar("More")
 
 
 @dataclass
 class Share:
     """How the variants are spread: so many processes, a part of so many, how many faults at once, where each is saved, and whether a line
-    of each is wanted."""
+    of each is wanted in place of the answer."""
 
     jobs: int = 1
     part: tuple[int, int] | None = None
@@ -32,81 +36,52 @@ class Share:
     folder: Path | None = None
     lines: bool = False
 
-    def of(self, things: Iterable[Some]) -> Iterator[Some]:
-        """The part of these things."""
-        first, step = self.part or (1, 1)
-        return islice(things, first - 1, None, step)
-
-
-@dataclass
-class Found:
-    """What a task found: variants of one fault, or of more that bring something new; counts, lines and runs of all."""
-
-    variants: list[Variant] = field(default_factory=list)
-    counts: Counter[str] = field(default_factory=Counter)
-    lines: list[str] = field(default_factory=list)
-    runs: int = 0
-
 
 class Work:
-    """What each process does; it has the study, and for several faults at once the variants of one."""
+    """What each process does: it runs variants."""
 
     def __init__(self, study: Study, share: Share):
         self.study, self.share = study, share
-        self.singles: list[Variant] = []
-        self.words: dict[tuple[int, ...], set[str]] = {}
+        self.has_all = share.folder is not None or study.charts is not None
 
-    def chain(self, task: tuple[str, str]) -> Found:
-        """All variants of one message and kind of fault."""
-        found, before = Found(), self.study.runs.count
-        for variant, course in self.study.single(*task):
-            found.variants.append(variant)
-            if self.share.folder:
-                save(self.share.folder, self.study, variant, course)
-        found.lines = [line(variant) for variant in found.variants] if self.share.lines else []
-        found.runs = self.study.runs.count - before
-        return found
-
-    def several(self, task: list[tuple[int, ...]]) -> Found:
-        """Variants of several faults, each named by its place among those of one."""
-        found, before = Found(), self.study.runs.count
-        for places in task:
-            tried = self.tried(places)
-            if tried is None:
+    def told(self, variants: list[Variant]) -> tuple[list[Variant], int]:
+        """Variants of one message and kind, or one of several faults, with what is told of them, and how many runs that took."""
+        before = self.study.runs.count
+        found: list[Variant] = []
+        near: Tried | None = None
+        last: Fault | None = None  # that of the variant before, which ends as that, if it is told
+        for variant in variants:
+            if not self.has_all and RANK[variant.worst] <= RANK[GOES_ON]:
+                found.append(variant)
+                last = None
                 continue
-            variant, course = tried
-            found.counts[variant.worst] += 1
-            if self.share.lines:
-                found.lines.append(line(variant))
-            if self.is_new(places, variant):
-                found.variants.append(variant)
-                if self.share.folder:
-                    save(self.share.folder, self.study, variant, course)
-        found.runs = self.study.runs.count - before
-        return found
+            if near and last and self.is_alike(near, last, variant):
+                found.append(self.study.alike(variant.faults, near))
+            else:
+                near = self.tried(variant, near)
+                found.append(near.variant)
+            last = variant.faults[0]
+        return found, self.study.runs.count - before
 
-    def tried(self, places: tuple[int, ...]) -> Any:
-        singles = [self.singles[place] for place in places]
-        sends = {name: sends for single in singles for name, sends in single.sends.items()}
-        near = Variant((), {}, [], 0, sends, next((it.serving for it in singles if it.serving != self.study.serving), self.study.serving))
-        return self.study.tried(tuple(it.faults[0] for it in singles), near)
+    def is_alike(self, before: Tried, last: Fault, variant: Variant) -> bool:
+        if self.share.folder or list(before.variant.outcomes) != list(variant.outcomes):
+            return False
+        return self.study.is_alike(last, variant.faults[0], before.course)
 
-    def is_new(self, places: tuple[int, ...], variant: Variant) -> bool:
-        """Whether the faults bring an outcome that no fewer of them bring. A phone that is cut off by one and whose NAS comes apart by
-        another is stuck, which is nothing new."""
-        known = {word for place in places for word in self.singles[place].outcomes}
-        new = {word for word in variant.outcomes if RANK[word] > RANK[GOES_ON]} - known
-        if {"cut off", "NAS apart"} <= known:
-            new.discard("stuck")
-        for fewer in combinations(places, len(places) - 1) if new and len(places) > 2 else ():
-            new -= self.words_of(fewer)
-        return bool(new)
+    def tried(self, variant: Variant, near: Tried | None) -> Tried:
+        """The variant as its run has it, with the outcomes that the program lists, saved where it is to be."""
+        tried = self.study.tried(variant.faults, near)
+        if list(tried.variant.outcomes) != list(variant.outcomes):
+            raise ProgramFails(f"{line(variant)} by lte_variants, and {', '.join(tried.variant.outcomes)} by its run")
+        if self.share.folder:
+            save(self.share.folder, self.study, tried.variant, tried.course)
+        return tried
 
-    def words_of(self, places: tuple[int, ...]) -> set[str]:
-        if places not in self.words:
-            tried = self.tried(places)
-            self.words[places] = set(tried[0].outcomes) if tried else set()
-        return self.words[places]
+    def judged(self, variant: Listed) -> tuple[Listed, int]:
+        """The variant with the outcomes of its own run, and how many runs that took."""
+        before = self.study.runs.count
+        outcomes = self.study.tried(variant.faults).variant.outcomes
+        return Listed(variant.faults, tuple(outcomes)), self.study.runs.count - before
 
 
 work: Work | None = None
@@ -117,89 +92,111 @@ def quiet() -> None:
     signal.signal(signal.SIGINT, signal.SIG_IGN)
 
 
-def chain(task: tuple[str, str]) -> Found:
+def told(variants: list[Variant]) -> tuple[list[Variant], int]:
     assert work
-    return work.chain(task)
+    return work.told(variants)
 
 
-def several(task: list[tuple[int, ...]]) -> Found:
+def judged(variant: Listed) -> tuple[Listed, int]:
     assert work
-    return work.several(task)
+    return work.judged(variant)
 
 
-def spread(jobs: int, function: Callable[[Any], Found], tasks: Iterable[Any], take: Callable[[Found], None]) -> None:
-    """Does the tasks in so many processes, and takes what each found, in the order of the tasks."""
+def spread(jobs: int, function: Callable[[Some], More], things: Iterable[Some]) -> Iterator[More]:
+    """What a function makes of these things, by so many processes, in their order."""
     if jobs == 1:
-        for task in tasks:
-            take(function(task))
+        yield from map(function, things)
         return
+    rest = iter(things)
     with multiprocessing.get_context("fork").Pool(jobs, quiet) as pool:
-        for found in pool.imap(function, tasks):
-            take(found)
+        while chunk := list(islice(rest, MANY_AT_ONCE * jobs)):
+            yield from pool.imap(function, chunk)
 
 
-def chunks(things: Iterator[Some]) -> Iterator[list[Some]]:
-    while chunk := list(islice(things, MANY_AT_ONCE)):
-        yield chunk
+def chain_of(variant: Variant) -> tuple[Any, ...]:
+    """What variants that are run one after the other have in common: message and kind; of several faults each is run alone."""
+    first = variant.faults[0]
+    return (first.item, first.kind) if len(variant.faults) == 1 else variant.faults
 
 
 class Gathering:
     """The answer as it comes in."""
 
-    def __init__(self, study: Study, share: Share):
+    def __init__(self, study: Study, lists: Lists, share: Share):
         global work
-        work = self.work = Work(study, share)
-        self.study, self.share = study, share
-        self.answer = Answer({}, {name: study.original.messages[name] for name in study.messages()}, part=share.part)
-        self.runs, self.began, self.told = study.runs.count, time.monotonic(), time.monotonic()
+        work = Work(study, share)
+        self.study, self.lists, self.share = study, lists, share
+        self.answer = Answer({}, {}, part=share.part)
+        self.outcomes: dict[tuple[Any, ...], tuple[str, ...]] = {}  # of variants of fewer faults, to know what is new
+        self.runs, self.began, self.last = study.runs.count, time.monotonic(), time.monotonic()
 
     def gather(self) -> None:
         """All variants of this share, or those that there are when it is interrupted."""
         try:
-            self.ones()
-            for faults in range(2, self.share.faults + 1):
-                self.more(faults)
+            for faults in range(1, self.share.faults + 1):
+                self.take(faults)
         except KeyboardInterrupt:
             self.answer.whole = False
+        self.answer.messages |= self.study.names(self.lists.messages, self.lists.serving)
         self.answer.sort()
 
-    def ones(self) -> None:
-        """The variants of one fault; where more are tried at once each part needs them all, and tells its share."""
-        chains = self.study.chains()
-        ours = set(self.share.of(chains))
+    def take(self, faults: int) -> None:
+        """The variants of so many faults; where more are tried at once each part needs them all, and tells its share."""
+        if self.share.part and faults < self.share.faults:
+            self.outcomes |= self.listed(faults, None)
+        kept = self.answer.singles if faults == 1 else self.answer.together
+        counts = Counter[str]() if faults == 1 else self.answer.counts.setdefault(faults, Counter())
+        at = len(kept)
+        for variant in self.listed(faults, self.share.part):
+            counts[variant.outcomes[0]] += 1
+            self.answer.counts[faults] = counts
+            if faults < self.share.faults:
+                self.outcomes[variant.faults] = variant.outcomes
+            if self.share.lines:
+                print(line(variant), flush=True)
+            if faults == 1 or self.is_new(variant):
+                kept.append(Variant(variant.faults, dict.fromkeys(variant.outcomes, "")))
+            self.tell(faults, counts.total())
+        if work and (work.has_all or not self.share.lines):
+            self.tell_of(kept, at)
 
-        def take(found: Found) -> None:
-            self.runs += found.runs
-            self.work.singles += found.variants
-            first = found.variants[0].faults[0] if found.variants else None
-            if first and (first.item, first.kind) in ours:
-                self.answer.take(found.variants)
-                self.tell(found.lines)
+    def listed(self, faults: int, part: tuple[int, int] | None) -> Iterator[Listed]:
+        """The variants as the program lists them; where a handover is begun by the station that serves, as their own runs have them."""
+        variants = self.lists.all(faults, part, self.share.jobs)
+        if not self.study.follows:
+            yield from variants
+            return
+        for variant, runs in spread(self.share.jobs, judged, variants):
+            self.runs += runs
+            yield variant
 
-        spread(self.share.jobs, chain, chains if self.share.faults > 1 else [it for it in chains if it in ours], take)
+    def tell_of(self, variants: list[Variant], at: int) -> None:
+        """Runs those that are told of these variants, from one place on, and puts what is told of them there."""
+        chains = [list(chain) for _, chain in groupby(variants[at:], chain_of)]
+        for found, runs in spread(self.share.jobs, told, chains):
+            self.runs += runs
+            variants[at:at + len(found)] = found
+            at += len(found)
 
-    def more(self, faults: int) -> None:
-        """The variants of several faults."""
-        done, counts = 0, self.answer.counts.setdefault(faults, Counter())
+    def is_new(self, variant: Listed) -> bool:
+        """Whether the faults bring an outcome that no fewer of them bring. A phone that is cut off by one and whose NAS comes apart by
+        another is stuck, which is nothing new."""
+        new = {word for word in variant.outcomes if RANK[word] > RANK[GOES_ON]}
+        known = {word for fault in variant.faults for word in self.outcomes[(fault,)]}
+        if {"cut off", "NAS apart"} <= known:
+            new.discard("stuck")
+        for fewer in combinations(variant.faults, 2) if len(variant.faults) > 2 else ():
+            known.update(self.outcomes.get(fewer, ()))
+        return bool(new - known)
 
-        def take(found: Found) -> None:
-            nonlocal done
-            done += MANY_AT_ONCE
-            self.runs += found.runs
-            counts.update(found.counts)
-            self.answer.together += found.variants
-            self.tell(found.lines)
-            if time.monotonic() - self.told > SECONDS:
-                self.told = time.monotonic()
-                print(f"lte_sec: {done:,} variants of {faults} faults in {self.told - self.began:.0f} s", file=sys.stderr)
-
-        places = combinations(range(len(self.work.singles)), faults)
-        spread(self.share.jobs, several, chunks(self.share.of(places)), take)
-
-    def tell(self, lines: list[str]) -> None:
-        if lines:
-            print(*lines, sep="\n", flush=True)
+    def tell(self, faults: int, done: int) -> None:
+        """How far it is, from time to time."""
+        if faults > 1 and time.monotonic() - self.last > SECONDS:
+            self.last = time.monotonic()
+            print(f"lte_sec: {done:,} variants of {faults} faults in {self.last - self.began:.0f} s", file=sys.stderr)
 
     def cost(self) -> str:
         """What it took, in words."""
-        return f"{self.runs:,} runs in {time.monotonic() - self.began:.1f} s, by {self.share.jobs} process{'' if self.share.jobs == 1 else 'es'}"
+        many = sum(counts.total() for counts in self.answer.counts.values())
+        jobs = f"{self.share.jobs} process{'' if self.share.jobs == 1 else 'es'}"
+        return f"{many:,} variants, and {self.runs:,} runs for what is told of them, in {time.monotonic() - self.began:.1f} s, by {jobs}"

@@ -1,43 +1,30 @@
 """The variants of one scenario, each run with the probe behind it and judged."""
 from __future__ import annotations
 
-from collections.abc import Iterator
-from dataclasses import dataclass, field
-from typing import Any
+from collections.abc import Mapping
+from dataclasses import dataclass, field, replace
+from typing import Any, NamedTuple
 
 from .charted import Charts
-from .courses import Course, Item, Runs, act, delivery
+from .courses import Course, Item, ProgramFails, Runs, act, delivery
+from .messages import NAS_TEXT
 from .outcomes import Comparison, Standing
 from .probe import PROBE, Prober
 from .scenarios import Scenario, setup_text
-from .variants import KINDS, Fault, Faults, Original, matters, moved, own_guess
+from .variants import Fault, Faults, Original, moved, own_guess
 
-USER = "user packet"
 HANDOVERS = ("x2", "s1", "intra")
 MOST_ANSWERS = 3
 
 
-@dataclass(frozen=True)
-class Choice:
-    """Which variants are tried: the kinds of faults, whether user packets are messages, and whether a handover is begun by the station
-    that serves."""
-
-    kinds: tuple[str, ...] = KINDS
-    packets: bool = False
-    follow: bool = False
-    charts: bool = False  # whether the course of each variant is kept
-
-
 @dataclass(slots=True)
 class Variant:
-    """A variant: its faults, its outcomes with what they are about, the worst first, and the answers that lead to them."""
+    """A variant: its faults, its outcomes with what they are about, the worst first, and the answers that lead to them. One that was not
+    run has no more than its outcomes."""
 
     faults: tuple[Fault, ...]
     outcomes: dict[str, str]
-    answers: list[str]
-    runs: int = 0
-    sends: dict[str, bool] = field(default_factory=dict)
-    serving: int = 0
+    answers: list[str] = field(default_factory=list)
     run: list[Any] = field(default_factory=list)  # of one fault: its course beside the scenario's, and what falls away
     gone: list[str] = field(default_factory=list)
 
@@ -46,11 +33,20 @@ class Variant:
         return next(iter(self.outcomes))
 
 
+class Tried(NamedTuple):
+    """A variant that was run: its course, and the station that serves the phone."""
+
+    variant: Variant
+    course: Course
+    serving: int
+
+
 class Study:
     """A scenario with its own probe, to which its variants are compared."""
 
-    def __init__(self, program: str, scenario: Scenario, choice: Choice):
-        self.scenario, self.choice = scenario, choice
+    def __init__(self, program: str, scenario: Scenario, follows: bool = False, charts: bool = False):
+        """Where it follows, a handover is begun by the station that serves; with charts the course of each variant is kept."""
+        self.scenario, self.follows = scenario, follows
         self.runs = Runs(program, setup_text(scenario.setup))
         self.original = Original(scenario, self.runs)
         self.faults = Faults(self.original)
@@ -58,84 +54,64 @@ class Study:
         first, behind = next(iter(self.prober.probes.items()))
         sources = {item.of for item in behind}
         usual = self.original.usual() | {item.name: item.name in sources for item in behind}
-        self.course, self.serving = self.prober.probed(self.original.items, usual, {}, first)
+        self.course, self.serving = self.prober.probed(self.original.items, usual, {}, first, first)
         self.usual = usual | self.course.sends()
         self.standing = Standing(scenario, self.course, self.serving)
-        self.charts = Charts(scenario, self.course) if choice.charts else None
+        self.charts = Charts(scenario, self.course) if charts else None
 
-    def messages(self) -> list[str]:
-        """The deliveries that a fault may happen to."""
-        names = self.original.messages
-        return [name for name in names if self.choice.packets or names[name] != USER]
+    def names(self, messages: Mapping[str, str], serving: int | None) -> dict[str, str]:
+        """The names of the messages that the program has, with the station that serves; that of a NAS text is its type."""
+        if serving not in (None, self.serving):
+            raise ProgramFails(f"station {serving} serves by lte_variants, and station {self.serving} by the lines of run")
+        for step, name in messages.items():
+            here = self.original.messages.get(step)
+            if here != name and name != NAS_TEXT:
+                raise ProgramFails(f"step {step} delivers {name} by lte_variants, and {here} by the lines of run")
+        return {step: self.original.messages[step] for step in messages}
 
-    def chains(self) -> list[tuple[str, str]]:
-        """Each message with each kind of fault."""
-        return [(item, kind) for item in self.messages() for kind in self.choice.kinds]
-
-    def single(self, item: str, kind: str) -> Iterator[tuple[Variant, Course]]:
-        """The variants of one fault of this kind: for `late` and `twice` those places where the order matters."""
-        if kind in ("lost", "again"):
-            tried = self.tried((Fault(kind, item),))
-            if tried:
-                yield tried
-            return
-        last: tuple[Variant, Course] | None = None
-        for fault, names, passed in self.places(item, kind):
-            if passed and not self.matters(last[1] if last else self.course, names, passed):
-                continue
-            tried = self.tried((fault,), last[0] if last else None)
-            if tried:
-                yield tried
-                last = tried
-
-    def matters(self, course: Course, names: set[str], passed: Item) -> bool:
-        """Whether it matters that this item is passed. Which station begins a handover, if that is to be the one that serves, depends on
-        the phone."""
-        return self.choice.follow and passed.do in HANDOVERS or matters(course, names, passed)
-
-    def places(self, item: str, kind: str) -> Iterator[tuple[Fault, set[str], Item | None]]:
-        """The places of a late or repeated message, each with what moves there and the item that is passed, as seen from the place before."""
-        items = self.original.items
-        at = next(place for place, it in enumerate(items) if it.name == item)
-        if kind == "twice":
-            yield Fault(kind, item, item), set(), None
-        for to in range(at + 1, len(items)):
-            names = {item + "'"} if kind == "twice" else moved(items, at, to)
-            if items[to].name not in names:
-                yield Fault(kind, item, items[to].name), names, items[to]
-
-    def tried(self, faults: tuple[Fault, ...], near: Variant | None = None) -> tuple[Variant, Course] | None:
-        """The variant with these faults and its course, by a guess from one that is near; None where the faults do not go together."""
+    def tried(self, faults: tuple[Fault, ...], near: Tried | None = None) -> Tried:
+        """The variant with these faults, which go together, by a guess from one that is near."""
         items = self.faults.put_all(faults)
         if items is None:
-            return None
+            raise ProgramFails(f"lte_variants has {' and '.join(map(str, faults))}, which do not go together")
         guess = own_guess(items, self.usual)
         if near:
-            guess |= {name: sends for name, sends in near.sends.items() if name in guess or name.startswith(PROBE) or name[-1] == "+"}
-        before = self.runs.count
+            guess |= {name: sends for name, sends in near.course.sends().items() if sends != self.usual.get(name, False) and (name in guess or name.startswith(PROBE) or name[-1] == "+")}
         course, serving = self.followed(items, guess, near.serving if near else self.serving)
-        if not all(self.is_sent(fault, course) for fault in faults if fault.kind == "again"):
-            return None
         standing = Standing(self.scenario, course, serving)
         own = own_items(items, self.faults.of) | {fault.item for fault in faults if fault.kind == "lost"}
         outcomes = Comparison(self.standing, standing, own).outcomes()
-        sends = {name: sends for name, sends in course.sends().items() if sends != self.usual.get(name, False)}
-        run, gone = self.charts.run(course) if self.charts and len(faults) == 1 else ([], [])
-        return Variant(faults, outcomes, self.answers(course), self.runs.count - before, sends, serving, run, gone), course
+        return Tried(self.told(faults, outcomes, course), course, serving)
 
-    def is_sent(self, fault: Fault, course: Course) -> bool:
-        """Whether the message of a fault is sent, by the actor that sends it in the scenario."""
-        source = self.faults.of[fault.item].of or ""
-        line = course.lines.get(source)
-        return line is not None and line.sent is not None and line.who == self.original.lines[source].who
+    def told(self, faults: tuple[Fault, ...], outcomes: dict[str, str], course: Course) -> Variant:
+        run, gone = self.charts.run(course) if self.charts and len(faults) == 1 else ([], [])
+        return Variant(faults, outcomes, self.answers(course), run, gone)
+
+    def is_alike(self, before: Fault, fault: Fault, course: Course) -> bool:
+        """Whether all ends as in the course of the fault before: it has the place before, and the item that is passed has no actor in common with
+        what passes it."""
+        if self.follows or before.after is None or fault.after in (None, fault.item):
+            return False
+        items = self.original.items
+        at, was, to = (next(place for place, item in enumerate(items) if item.name == name) for name in (fault.item, before.after, fault.after))
+        names, passed = {fault.item + "'"} if fault.kind == "twice" else moved(items, at, to), items[to]
+        if any(item.name not in names for item in items[was + 1:to]):
+            return False
+        return passed.name not in course.lines or passed.do != "inject" and not course.actors(names) & course.actors({passed.name})
+
+    def alike(self, faults: tuple[Fault, ...], before: Tried) -> Variant:
+        """The variant that ends as this one: the same lines, in its own order."""
+        places = {item.name: place for place, item in enumerate(self.faults.put_all(faults) or [])}
+        items = sorted(before.course.items, key=lambda item: places.get(item.name.rstrip("+"), len(places)))
+        return self.told(faults, before.variant.outcomes, replace(before.course, items=items))
 
     def followed(self, items: list[Item], guess: dict[str, bool], serving: int) -> tuple[Course, int]:
         """The course of the items, in which, if so chosen, a handover that its station cannot begin is begun by the one that serves, which
         cancels an open one first."""
         done: set[tuple[str, int, bool]] = set()
         while True:
-            course, serving = self.prober.probed(items, self.usual, guess, serving)
-            change = self.to_follow(course) if self.choice.follow and not course.ended else None
+            course, serving = self.prober.probed(items, self.usual, guess, serving, self.serving)
+            change = self.to_follow(course) if self.follows and not course.ended else None
             if change is None or change in done:
                 return course, serving
             done.add(change)

@@ -4,7 +4,7 @@ from __future__ import annotations
 from collections.abc import Iterator, Mapping
 from dataclasses import dataclass
 
-from .courses import Course, Item, Runs, act, delivery
+from .courses import Item, Runs, act, delivery
 from .messages import Line, Names, nas_name
 from .scenarios import Scenario, Step, value
 
@@ -34,8 +34,6 @@ class Original:
         self.scenario = scenario
         report = runs.run([value(step) for step in scenario.steps])
         lines = [line for line in map(Line.read, report.splitlines()[: len(scenario.steps)]) if line]
-        if len(lines) < len(scenario.steps):
-            raise Coincidence(report.splitlines()[len(lines)])
         self.lines = {str(number): line for number, line in enumerate(lines)}
         self.messages: dict[str, str] = {}  # of each delivery, what it brings
         self.items = list(self.read(lines))
@@ -69,10 +67,6 @@ class Original:
     def usual(self) -> dict[str, bool]:
         """Which steps send."""
         return {name: line.sent is not None for name, line in self.lines.items()}
-
-
-class Coincidence(Exception):
-    """The scenario itself ends at a coincidence; its line."""
 
 
 def moved(items: list[Item], at: int, to: int) -> set[str]:
@@ -120,7 +114,7 @@ class Faults:
             if put is None:
                 return None
             items = put
-        return items if len(faults) == 1 or in_order(items) else None
+        return items
 
     def again(self, item: Item, mark: str) -> list[Item] | None:
         """The acts and deliveries by which its sender sends a message once more; None where no act does."""
@@ -147,12 +141,6 @@ class Faults:
         return [*begin, delivery(item.name, third)] if source is opened else [*begin, delivery(fourth, third), delivery(item.name, fourth)]
 
 
-def in_order(items: list[Item]) -> bool:
-    """Whether nothing is delivered before it is sent."""
-    places = {item.name: at for at, item in enumerate(items)}
-    return all(places.get(item.of or "", -1) < at for at, item in enumerate(items))
-
-
 def own_guess(items: list[Item], usual: Mapping[str, bool]) -> dict[str, bool]:
     """A first guess of which items send: those that send in the scenario, if what makes them happen does; and what a fault has sent
     again."""
@@ -164,9 +152,3 @@ def own_guess(items: list[Item], usual: Mapping[str, bool]) -> dict[str, bool]:
             happening.add(item.name)
         guess[item.name] = item.name in happening and usual.get(item.name, item.name in delivered)
     return guess
-
-
-def matters(course: Course, names: set[str], item: Item) -> bool:
-    """Whether what moves and the item that it passes have an actor in common, so that their order may matter."""
-    there = item.name in course.lines
-    return there and (item.do == "inject" or bool(course.actors(names) & course.actors({item.name})))

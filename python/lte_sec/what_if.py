@@ -1,4 +1,4 @@
-"""The word `what-if` of the launcher: `PROGRAM [OPTION].. [SCENARIO]`, or `PROGRAM --merge FILE..`. docs/WHATIF.md has its answer."""
+"""The word `what-if` of the launcher: `RUN VARIANTS [OPTION].. [SCENARIO]`, or `RUN VARIANTS --merge FILE..`, by the programs of `run` and of variants. docs/WHATIF.md has its answer."""
 from __future__ import annotations
 
 import hashlib
@@ -8,20 +8,21 @@ import subprocess
 import sys
 from dataclasses import dataclass, field
 from pathlib import Path
-from typing import Any
+from typing import Any, NamedTuple
 
 from . import matrix_page, pages
 from .answers import Answer, NoParts, from_json, merged, table, to_json
 from .charted import name_of
 from .courses import ProgramFails
+from .listed import TOO_MANY, Lists, TooManySteps
 from .matrix import draw
 from .outcomes import RANK, USUAL_BAD
 from .remarks import frames_of
 from .scenarios import NoScenario, read
 from .spread import Gathering, Share
-from .study import Choice, Study
+from .study import Study
 from .terms import TraceError
-from .variants import KINDS, Coincidence
+from .variants import KINDS
 
 VALUED = ("--faults", "--kinds", "--bad", "--jobs", "--part", "--save", "--picture", "--html")
 FLAGS = ("--packets", "--follow", "--json", "--lines", "--merge")
@@ -31,6 +32,13 @@ REASONS = Path(__file__).resolve().parents[2] / "launcher" / "reasons"
 
 class Wrong(Exception):
     """What is wrong with the words."""
+
+
+class Programs(NamedTuple):
+    """The program of `run`, and that which lists variants."""
+
+    run: str
+    variants: str
 
 
 @dataclass
@@ -131,21 +139,21 @@ def scenario_of(program: str, words: Words) -> tuple[bytes, int]:
     return octets, ran.returncode
 
 
-def tried(program: str, words: Words) -> tuple[Answer | None, int]:
+def tried(programs: Programs, words: Words) -> tuple[Answer | None, int]:
     """The answer for a scenario, and a status where there is none."""
-    choice = Choice(words.kinds(), "--packets" in words.flags, "--follow" in words.flags, "--json" in words.flags or "--html" in words.values)
+    kinds, packets, follows = words.kinds(), "--packets" in words.flags, "--follow" in words.flags
     jobs = words.number("--jobs", len(os.sched_getaffinity(0)), MOST_JOBS)
     share = Share(jobs, words.part(), words.number("--faults", 1, MOST_FAULTS), words.folder(), "--lines" in words.flags and "--json" not in words.flags)
-    octets, status = scenario_of(program, words)
+    octets, status = scenario_of(programs.run, words)
     if status:
         return None, status
     scenario = read(octets)
-    study = Study(program, scenario, choice)
-    gathering = Gathering(study, share)
+    study = Study(programs.run, scenario, follows, "--json" in words.flags or "--html" in words.values)
+    gathering = Gathering(study, Lists(programs.variants, octets, kinds, packets), share)
     if study.charts:
         gathering.answer.chart = study.charts.chart(name_of(octets.decode(errors="replace"), words.files[0].stem if words.files else "a scenario"))
     gathering.answer.tried = {
-        "scenario": hashlib.sha256(octets).hexdigest(), "faults": share.faults, "kinds": list(choice.kinds), "packets": choice.packets, "follow": choice.follow,
+        "scenario": hashlib.sha256(octets).hexdigest(), "faults": share.faults, "kinds": list(kinds), "packets": packets, "follow": follows,
         "within": any(step.get("do") == "intra" for step in scenario.steps),
     }
     gathering.answer.frames = frames_of(octets.decode(errors="replace"))
@@ -193,7 +201,7 @@ def tell(answer: Answer, words: Words) -> int:
     return BAD if worst is not None and RANK[worst] >= RANK[words.bad()] else 0
 
 
-def answered(program: str, given: list[str]) -> int:
+def answered(programs: Programs, given: list[str]) -> int:
     words = Words.read(given)
     words.bad()
     picture = Path(words.values["--picture"]) if "--picture" in words.values else None
@@ -203,22 +211,22 @@ def answered(program: str, given: list[str]) -> int:
         pages.writable(Path(words.values["--html"]))
     if "--merge" in words.flags:
         return tell(merged_of(words), words)
-    answer, status = tried(program, words)
+    answer, status = tried(programs, words)
     return tell(answer, words) if answer else status
 
 
 def main(words: list[str]) -> int:
     try:
-        return answered(words[0], words[1:])
+        return answered(Programs(*words[:2]), words[2:])
     except (Wrong, NoParts, TraceError) as fault:
         print(f"lte_sec: status 2: what-if: {fault}", file=sys.stderr)
         return WORDS
     except NoScenario as fault:
         print(f"lte_sec: status 3: {fault}", file=sys.stderr)
         return REFUSED
-    except Coincidence as fault:
-        print(fault)
-        return ENDED
+    except TooManySteps as fault:
+        print(f"lte_sec: status {TOO_MANY}: {fault}", file=sys.stderr)
+        return TOO_MANY
     except ProgramFails as fault:
         print(f"lte_sec: status 6: {fault}", file=sys.stderr)
         return 6

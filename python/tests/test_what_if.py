@@ -16,19 +16,20 @@ from functools import lru_cache
 from pathlib import Path
 
 from lte_sec import scenarios, what_if
-from lte_sec.answers import from_json, merged, to_json
-from lte_sec.courses import Course, Item, act, delivery
+from lte_sec.answers import from_json, merged, ranges, to_json
+from lte_sec.courses import Course, Item, ProgramFails, act, delivery
+from lte_sec.listed import Listed, Lists, order, variant_of
 from lte_sec.messages import Line
 from lte_sec.outcomes import RANK, WORDS, Comparison, Standing, limit, signature
 from lte_sec.probe import PROBE
 from lte_sec.saving import save
 from lte_sec.scenarios import text
-from lte_sec.study import Choice, Study, Variant
-from lte_sec.variants import Fault
+from lte_sec.study import Study, Variant
+from lte_sec.variants import KINDS, Fault
 
 TOP = Path(__file__).resolve().parents[2]
 EXAMPLES = TOP / "examples"
-PROGRAM = ""
+PROGRAM = VARIANTS = ""
 # Of each outcome a scenario and a kind of fault with a variant that has it as its worst.
 SHOWN = {
     ("run/ordinary", "lost"): ("weaker key", "not made", "no handover", "cut off", "stuck"),
@@ -42,22 +43,30 @@ SHOWN = {
 }
 
 
-def setUpModule() -> None:
-    global PROGRAM
-    told = subprocess.run([TOP / "lte_sec", "--program"], capture_output=True, text=True)
+def program(name: str) -> str:
+    told = subprocess.run([TOP / "lte_sec", "--program", name], capture_output=True, text=True)
     if told.returncode:
-        raise unittest.SkipTest(f"the program is not built: {told.stderr.strip()}")
-    PROGRAM = told.stdout.split()[1]
+        raise unittest.SkipTest(f"the program {name} is not built: {told.stderr.strip()}")
+    return told.stdout.split()[1]
+
+
+def setUpModule() -> None:
+    global PROGRAM, VARIANTS
+    PROGRAM, VARIANTS = program("lte_sec_app"), program("lte_variants")
+
+
+def octets(name: str) -> bytes:
+    return (EXAMPLES / f"{name}.toml").read_bytes()
 
 
 @lru_cache(maxsize=None)
-def study(name: str, choice: Choice = Choice()) -> Study:
-    return Study(PROGRAM, scenarios.read((EXAMPLES / f"{name}.toml").read_bytes()), choice)
+def study(name: str, follows: bool = False) -> Study:
+    return Study(PROGRAM, scenarios.read(octets(name)), follows)
 
 
-@lru_cache(maxsize=None)
-def singles(of: Study) -> list[tuple[Variant, Course]]:
-    return [it for chain in of.chains() for it in of.single(*chain)]
+def listed(scenario: bytes, *kinds: str, packets: bool = False) -> list[Listed]:
+    """The variants of one fault of these kinds, as the program lists them."""
+    return list(Lists(VARIANTS, scenario, kinds or KINDS, packets).all(1, None, 1))
 
 
 def launched(*words: object, given: bytes = b"") -> subprocess.CompletedProcess[bytes]:
@@ -68,7 +77,7 @@ def called(*words: object) -> tuple[int, str, str]:
     """The status, the output and what is said of a call in this process."""
     out, err = io.StringIO(), io.StringIO()
     with contextlib.redirect_stdout(out), contextlib.redirect_stderr(err):
-        status = what_if.main([PROGRAM, *map(str, words)])
+        status = what_if.main([PROGRAM, VARIANTS, *map(str, words)])
     return status, out.getvalue(), err.getvalue()
 
 
@@ -94,32 +103,61 @@ class Scenarios(unittest.TestCase):
             self.assertEqual(whole.course.report.splitlines()[: len(steps)], steps)
 
 
-class Places(unittest.TestCase):
-    def test_a_place_that_is_left_out_is_as_the_one_before(self) -> None:
-        skipped = 0
+class Lines(unittest.TestCase):
+    """What the program lists, by the kinds of its lines."""
+
+    def test_each_message_has_each_fault_at_each_place(self) -> None:
+        found = listed(octets("run/ordinary"))
+        faults = {kind: [one.faults[0].after for one in found if one.faults[0].kind == kind and one.faults[0].item == "18"] for kind in KINDS}
+        places = [str(step) for step in range(18, 27)]
+        self.assertEqual(faults, {"lost": [None], "late": places[1:], "twice": places, "again": []})
+        self.assertEqual(len({one.faults for one in found}), len(found))
+        self.assertEqual(found, sorted(found, key=order))
+
+    def test_shares_have_each_choice_once(self) -> None:
+        scenario = octets("run/two-preparations")
+        whole = listed(scenario)
+        for part, jobs in (((1, 1), 3), ((2, 3), 1), ((2, 3), 4)):
+            found = list(Lists(VARIANTS, scenario, KINDS, False).all(1, part, jobs))
+            self.assertEqual(found, whole[part[0] - 1::part[1]], f"{part} {jobs}")
+
+    def test_lines_are_read(self) -> None:
+        for line, faults, outcomes in (
+            ("lost 9: stuck; not made", (Fault("lost", "9"),), ("stuck", "not made")),
+            ("late 9 12, again 14: same", (Fault("late", "9", "12"), Fault("again", "14")), ("same",)),
+        ):
+            self.assertEqual(variant_of(line), (faults, outcomes))
+        lists = Lists("", b"", KINDS, False)
+        lines = ["scenario 27 2 serving 1", "message 9 X2 Handover Request", "lost 9: same", "end 1"]
+        self.assertEqual([variant.outcomes for variant in lists.variants(iter(lines))], [("same",)])
+        self.assertEqual((lists.serving, lists.messages), (1, {"9": "X2 Handover Request"}))
+        with self.assertRaises(ProgramFails):
+            list(lists.variants(iter([*lines[:-1], "end 2"])))
+
+    def test_steps_in_a_row_stand_together(self) -> None:
+        self.assertEqual(ranges([10, 11, 12, 14, 15, 17], {12: "7"}), "10 to 12[f7], 14, 15, 17")
+
+    def test_a_place_that_is_not_run_is_as_the_one_before(self) -> None:
+        alike = 0
         for name in ("run/ordinary", "run/lost-answer", "what-if/release-and-service"):
-            whole = study(name)
-            for item, kind in whole.chains():
-                if kind in ("late", "twice"):
-                    skipped += self.left_out(whole, item, kind)
-        self.assertGreater(skipped, 500)
+            whole, before = study(name), None
+            for each in listed(octets(name), "late", "twice"):
+                tried = whole.tried(each.faults, before)
+                if before and before.variant.faults[0].item == each.faults[0].item and whole.is_alike(before.variant.faults[0], each.faults[0], before.course):
+                    alike += 1
+                    self.assertEqual(told(tried.course), told(before.course), f"{each.faults}")
+                before = tried
+        self.assertGreater(alike, 500)
 
-    def left_out(self, whole: Study, item: str, kind: str) -> int:
-        count = 0
-        last: tuple[Variant | None, Course] = (None, whole.course)
-        for fault, names, passed in whole.places(item, kind):
-            tried = whole.tried((fault,), last[0])
-            assert tried
-            if passed and not whole.matters(last[1], names, passed):
-                count += 1
-                self.assertEqual(told(tried[1]), told(last[1]), f"{fault}")
-            last = tried
-        return count
-
-    def test_places_of_ordinary(self) -> None:
-        whole = study("run/ordinary")
-        self.assertEqual([str(it[0].faults[0].after) for it in whole.single("18", "late")], ["20", "24", "25"])
-        self.assertEqual([str(fault) for fault, _, _ in whole.places("24", "twice")], ["twice 24 after 24", "twice 24 after 25", "twice 24 after 26"])
+    def test_an_outcome_of_its_own_that_differs_is_told(self) -> None:
+        with tempfile.TemporaryDirectory() as room:
+            wrong = Path(room) / "wrong"
+            wrong.write_text(f"#!/bin/sh\n'{VARIANTS}' \"$@\" | sed 's/^lost 3: .*/lost 3: keys differ/'\n")
+            wrong.chmod(0o700)
+            out, err = io.StringIO(), io.StringIO()
+            with contextlib.redirect_stdout(out), contextlib.redirect_stderr(err):
+                status = what_if.main([PROGRAM, str(wrong), "--jobs", "1", str(EXAMPLES / "run/wrong-ksi.toml")])
+        self.assertEqual((status, out.getvalue(), err.getvalue()), (6, "", "lte_sec: status 6: lost 3: keys differ by lte_variants, and goes on by its run\n"))
 
 
 def told(course: Course) -> dict[str, object]:
@@ -148,17 +186,10 @@ class Faults(unittest.TestCase):
             self.assertEqual([it.do for it in items[at - len(acts) : at]], acts)
         self.assertIsNone(whole.faults.put_all((Fault("again", "2"),)))
 
-    def test_pairs_that_do_not_go_together(self) -> None:
-        whole = study("run/ordinary")
-        self.assertIsNone(whole.tried((Fault("lost", "14"), Fault("twice", "14", "14"))))
-        self.assertIsNone(whole.tried((Fault("lost", "14"), Fault("late", "12", "14"))))
-        self.assertIsNotNone(whole.tried((Fault("twice", "14", "14"), Fault("lost", "16"))))
-
     def test_what_nobody_expects_is_delivered_at_once(self) -> None:
         tried = study("what-if/re-authentication").tried((Fault("twice", "2", "13"),))
-        assert tried
-        self.assertEqual(signature(tried[1].lines["2'+"]), ("core", "done", None, None))
-        self.assertIn("phone WrongKsi at the copy of step 2", tried[0].answers)
+        self.assertEqual(signature(tried.course.lines["2'+"]), ("core", "done", None, None))
+        self.assertIn("phone WrongKsi at the copy of step 2", tried.variant.answers)
 
 
 class Courses(unittest.TestCase):
@@ -181,11 +212,12 @@ class Outcomes(unittest.TestCase):
     def test_a_variant_of_each_outcome_is_saved_and_run(self) -> None:
         self.assertEqual({word for words in SHOWN.values() for word in words}, set(WORDS))
         for (name, kind), words in SHOWN.items():
-            whole = study(name, Choice((kind,), packets="COUNTs apart" in words))
-            found = singles(whole)
+            found = listed(octets(name), kind, packets="COUNTs apart" in words)
             for word in words:
                 with self.subTest(word=word):
-                    self.saved(whole, *next(each for each in found if each[0].worst == word))
+                    tried = study(name).tried(next(each.faults for each in found if each.outcomes[0] == word))
+                    self.assertEqual(tried.variant.worst, word)
+                    self.saved(study(name), tried.variant, tried.course)
 
     def saved(self, whole: Study, variant: Variant, course: Course) -> None:
         with tempfile.TemporaryDirectory() as room:
@@ -200,9 +232,10 @@ class Outcomes(unittest.TestCase):
         self.assertEqual(tuple(rows), WORDS)
 
     def test_who_can_derive_the_phones_key_is_as_audit_has_it(self) -> None:
-        whole = study("what-if/two-path-switches", Choice(("lost", "again")))
-        for variant, course in singles(whole):
-            standing = Standing(whole.scenario, course, variant.serving)
+        whole = study("what-if/two-path-switches")
+        for each in listed(octets("what-if/two-path-switches"), "lost", "again"):
+            variant, course, serving = whole.tried(each.faults)
+            standing = Standing(whole.scenario, course, serving)
             key = standing.phone_key()
             given = text(whole.runs.setup, course.steps).encode()
             audit = subprocess.run([PROGRAM, "audit"], input=given, capture_output=True, text=False).stdout.decode()
@@ -211,13 +244,14 @@ class Outcomes(unittest.TestCase):
                 self.assertEqual(standing.reach(), set(rows[str(standing.by_key[key])].split(",")) - {"-"}, str(variant.faults))
 
     def test_the_cores_view_is_as_a_release_has_it(self) -> None:
-        whole = study("what-if/attach-and-handovers", Choice(("lost", "late")))
+        whole = study("what-if/attach-and-handovers")
         tried = 0
-        for variant, course in singles(whole):
+        for each in listed(octets("what-if/attach-and-handovers"), "lost", "late")[::3]:
+            variant, course, serving = whole.tried(each.faults)
             places = [place for place, item in enumerate(course.items) if item.name == PROBE + "up"]
             steps = [*course.steps[: places[0]], '{ do = "release" }', '{ do = "deliver", record = -1 }']
             lines = [Line.read(line) for line in whole.runs.run(steps).splitlines()[places[0] : places[0] + 2]]
-            view = Standing(whole.scenario, course, variant.serving).view
+            view = Standing(whole.scenario, course, serving).view
             if lines[0] and lines[1] and lines[0].answer == "done" and lines[0].sent is not None:
                 self.assertEqual(f"station {view}", lines[1].who, str(variant.faults))
                 tried += 1
@@ -232,16 +266,14 @@ class Outcomes(unittest.TestCase):
 
     def test_findings(self) -> None:
         """What a person found in the reports, by hand."""
-        for name, faults, word, choice in (
-            ("what-if/two-path-switches", (Fault("late", "14", "23"),), "misrouted", Choice()),
-            ("what-if/two-path-switches", (Fault("lost", "32"),), "no handover", Choice()),
-            ("what-if/re-authentication", (Fault("twice", "2", "13"),), "NAS apart", Choice()),
-            ("run/ordinary", (Fault("lost", "16"),), "weaker key", Choice()),
-            ("what-if/ten-handovers", (Fault("lost", "11"),), "not made", Choice(follow=True)),
+        for name, faults, word, follows in (
+            ("what-if/two-path-switches", (Fault("late", "14", "23"),), "misrouted", False),
+            ("what-if/two-path-switches", (Fault("lost", "32"),), "no handover", False),
+            ("what-if/re-authentication", (Fault("twice", "2", "13"),), "NAS apart", False),
+            ("run/ordinary", (Fault("lost", "16"),), "weaker key", False),
+            ("what-if/ten-handovers", (Fault("lost", "11"),), "not made", True),
         ):
-            tried = study(name, choice).tried(faults)
-            assert tried
-            self.assertEqual(tried[0].worst, word, str(faults))
+            self.assertEqual(study(name, follows).tried(faults).variant.worst, word, str(faults))
 
     def test_what_a_dropped_pair_brings_is_marked(self) -> None:
         """By hand: at steps 28 to 31 station 2 hands the phone on within, and at 34 the answer to what it asked at 32 comes to it."""
@@ -254,38 +286,36 @@ class Outcomes(unittest.TestCase):
             ("late", "34", "36", None),  # the pair comes behind the begin of the next handover
             ("lost", "30", None, None),  # the handover within is not completed
         ):
-            tried = whole.tried((Fault(kind, item, after),))
-            assert tried
-            self.assertIn("weaker key", tried[0].outcomes)
-            self.assertEqual(limit(tried[0], "weaker key", whole.original.messages), expected, f"{kind} {item} {after}")
+            variant = whole.tried((Fault(kind, item, after),)).variant
+            self.assertIn("weaker key", variant.outcomes)
+            self.assertEqual(limit(variant, "weaker key", whole.original.messages), expected, f"{kind} {item} {after}")
 
     def test_a_dropped_pair_is_marked_at_the_probes_handover(self) -> None:
         scenario = study("what-if/handover-within").scenario
-        whole = Study(PROGRAM, dataclasses.replace(scenario, steps=scenario.steps[:36]), Choice())
+        whole = Study(PROGRAM, dataclasses.replace(scenario, steps=scenario.steps[:36]))
         for fault, expected in ((Fault("late", "31", "34"), "horizontal at the next handover (here)"), (Fault("lost", "34"), "horizontal at the next handover")):
-            tried = whole.tried((fault,))
-            assert tried
-            self.assertEqual(tried[0].outcomes["weaker key"], expected)
+            self.assertEqual(whole.tried((fault,)).variant.outcomes["weaker key"], expected)
 
     def test_keys_that_differ_by_dropped_pairs_are_marked(self) -> None:
         """Seven pairs are dropped by handovers within; an answer that is lost and sent again is the eighth step ahead. Without handovers within
         it is no limit of the profile."""
-        scenario = scenarios.read((EXAMPLES / "procedures/eight-steps-and-nothing-lost.toml").read_bytes().replace(b"first_ncc = 2", b"first_ncc = 1"))
-        for whole, expected in ((Study(PROGRAM, scenario, Choice(("again",))), [True] * 7), (study("run/seven-ahead", Choice(("again",))), [False])):
-            found = [variant for variant, _ in singles(whole) if "keys differ" in variant.outcomes]
+        for scenario, expected in (
+            (octets("procedures/eight-steps-and-nothing-lost").replace(b"first_ncc = 2", b"first_ncc = 1"), [True] * 7), (octets("run/seven-ahead"), [False]),
+        ):
+            whole = Study(PROGRAM, scenarios.read(scenario))
+            found = [whole.tried(each.faults).variant for each in listed(scenario, "again") if "keys differ" in each.outcomes]
             self.assertEqual([limit(variant, "keys differ", whole.original.messages) is not None for variant in found], expected)
 
     def test_a_handover_is_begun_by_the_station_that_serves(self) -> None:
-        tried = study("what-if/ten-handovers", Choice(follow=True)).tried((Fault("lost", "11"),))
+        tried = study("what-if/ten-handovers", True).tried((Fault("lost", "11"),))
         plain = study("what-if/ten-handovers").tried((Fault("lost", "11"),))
-        assert tried and plain
-        self.assertEqual(tried[0].outcomes["not made"], "handover of step 14")
-        self.assertIn("23", plain[0].outcomes["not made"])
+        self.assertEqual(tried.variant.outcomes["not made"], "handover of step 14")
+        self.assertIn("23", plain.variant.outcomes["not made"])
 
 
 class Answers(unittest.TestCase):
     def test_parts_are_merged_to_the_whole(self) -> None:
-        scenario, words = EXAMPLES / "run/ordinary.toml", ["--faults", "2", "--kinds", "lost,again", "--json"]
+        scenario, words = EXAMPLES / "run/smc-complete-lost.toml", ["--faults", "2", "--json"]
         with tempfile.TemporaryDirectory() as room:
             files = [Path(room) / str(number) for number in range(1, 5)]
             calls = []
@@ -308,7 +338,7 @@ class Answers(unittest.TestCase):
         self.assertIn("lost 2: stuck, NAS apart, no handover, not made", lines)
 
     def test_a_triple_is_told_if_no_pair_brings_its_outcome(self) -> None:
-        status, out, err = called("--faults", "3", "--kinds", "again", EXAMPLES / "run/two-preparations.toml")
+        status, out, err = called("--faults", "3", EXAMPLES / "worked/nas-count-spent.toml")
         self.assertEqual(status, 0, err)
         self.assertIn("triple", out.splitlines()[-1])
 
@@ -331,11 +361,16 @@ class Answers(unittest.TestCase):
         for status, words in (
             (0, ["run/ordinary.toml"]), (1, ["--bad", "cut off", "run/ordinary.toml"]), (1, ["--bad", "cut-off", "run/ordinary.toml"]),
             (1, ["--kinds", "again", "run/seven-ahead.toml"]), (0, ["--bad", "coincidence", "--kinds", "again", "run/seven-ahead.toml"]), (3, ["ladder/first.txt"]), (3, ["fleet/two-phones.toml"]),
-            (7, ["run/coincidence.toml"]), (0, ["worked/repeated-root.toml"]),
+            (7, ["run/coincidence.toml"]), (0, ["worked/repeated-root.toml"]), (0, ["--follow", "--kinds", "lost", "run/two-preparations.toml"]),
         ):
             ran = launched(*words[:-1], EXAMPLES / words[-1])
             self.assertEqual(ran.returncode, status, f"{words} {ran.stderr!r}")
             self.assertNotIn(b"Traceback", ran.stderr)
+
+    def test_of_too_many_steps_it_tells_why(self) -> None:
+        head, _, _ = octets("run/wrong-ksi").partition(b"step")
+        ran = launched("--json", given=head + b"step = [" + b'{ do = "idle" },' * 2001 + b"]")
+        self.assertEqual((ran.returncode, json.loads(ran.stdout)), (11, {"error": "the scenario has more than 2,000 steps", "status": 11}))
 
     def test_what_is_wrong_is_told_in_one_line(self) -> None:
         ordinary = EXAMPLES / "run/ordinary.toml"
