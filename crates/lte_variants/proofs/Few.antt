@@ -1,5 +1,5 @@
 -- There are fewer choices of faults than 2 ^ 128.
-use Rattle.std.proofs.Common.{◌≡◌, ℕ, suc, ◌+◌, ◌*◌, ◌^◌, ◌<◌, ◌≤◌, ◌==◌, Bool, true, false, if◌then◌else◌, List, [], ◌∷◌, ◌++◌, length, map, arith, length-append}
+use Rattle.std.proofs.Common.{ℕ, suc, ◌+◌, ◌*◌, ◌^◌, ◌<◌, ◌≤◌, ◌==◌, Bool, true, false, if◌then◌else◌, List, [], ◌∷◌, length, map, arith, length-append}
 use Rattle.std.specs.Prelude.{◌%◌}
 use Rattle.std.proofs.lemmas.List.{length-map}
 use Rattle.item_faults.specs.Entries.{most_steps}
@@ -12,7 +12,7 @@ use Rattle.item_faults.specs.declared.entries.Entry.{Entry}
 use Rattle.item_faults.specs.declared.steps.Step.{Step}
 use Rattle.variant_runs.specs.Judged.{entries}
 use Rattle.variant_runs.specs.Original.{Original}
-use Rattle.lte_variants.specs.Choices.{alone, choices_of, in_share, share_from}
+use Rattle.lte_variants.specs.Choices.{alone, choices_of, share_from}
 use Rattle.lte_variants.specs.Kinds.{happening, happens}
 use Rattle.lte_variants.specs.Report.{asked}
 use Rattle.lte_variants.specs.declared.kinds.Kinds.{Kinds}

@@ -1,5 +1,5 @@
 -- What is so of a run at each status.
-use Rattle.std.proofs.Common.{◌≡◌, ◌∙◌, ℕ, ◌<◌, ◌≤◌, ◌==◌, nat_lt, Bool, true, false, if◌then◌else◌, Some, Result, Ok, Err, List, length, inl, inr, refl, sym, ap, subst, arith}
+use Rattle.std.proofs.Common.{◌≡◌, ◌∙◌, ℕ, ◌<◌, ◌≤◌, nat_lt, false, if◌then◌else◌, Some, Result, Ok, Err, List, length, inl, inr, refl, sym, ap, subst, arith}
 use Rattle.std.specs.Option.{IfSome}
 use Rattle.std.proofs.lemmas.Bool.{eq-eqb}
 use Rattle.std.proofs.lemmas.Bool.Decides.{nat_tests}
@@ -37,7 +37,7 @@ told_whole r setup events few all =
 ends_so : (text : List ℕ) (result : Result (Unit {0}) Unwritten) (out out' : Told) → WritesText text result out out'
     → WritesAt (whole text) (status_of result) out out'
 ends_so text (Ok done) out out' w = (refl, w.written)
-ends_so text (Err unwritten.Memory) out out' w = w.written
+ends_so text (Err unwritten.Memory) out out' w = inr (refl, w.written)
 ends_so text (Err unwritten.WriteFault) out out' w = w.written.1
 
 pub report_told : (r : Request) (setup : Setup) (events : List Event) (o : Original) (result : Result (Unit {0}) Unwritten)

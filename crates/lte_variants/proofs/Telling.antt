@@ -1,5 +1,5 @@
 -- The lines of a report, one after the other.
-use Rattle.std.proofs.Common.{◌≡◌, refl, sym, ap, subst, ◌∙◌, ℕ, ◌+◌, ◌≤◌, ◌<◌, Bool, true, false, if◌then◌else◌, Option, Some, None, Result, Ok, Err, List, [], ◌∷◌, ◌++◌, length, drop, get_or, arith}
+use Rattle.std.proofs.Common.{◌≡◌, refl, sym, ap, subst, ◌∙◌, ℕ, ◌+◌, ◌≤◌, ◌<◌, Bool, true, false, if◌then◌else◌, Option, Ok, Err, List, [], ◌∷◌, length, drop, get_or, arith}
 use Rattle.std.specs.Prelude.{IsTrue}
 use Rattle.std.specs.List.{filter, flat_map}
 use Rattle.std.specs.Option.{is_some}
@@ -15,7 +15,6 @@ use Rattle.run_report.specs.declared.unwritten.Unwritten.{Unwritten}
 use Rattle.run_report.proofs.Partly.{Begins, Partly, all_written, cut_written, last_cut, last_written, more_written, none_written}
 use Rattle.variant_runs.specs.Judged.{judged}
 use Rattle.variant_runs.specs.Original.{Original}
-use Rattle.variant_text.specs.Lines.{variant_line}
 use Rattle.lte_variants.specs.Report.{is_variant, line_at, line_of, line_told, line_with, message_at, report_of, report_with, variant_lines, variants}
 use Rattle.lte_variants.specs.declared.request.Request.{Request}
 

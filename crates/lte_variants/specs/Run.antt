@@ -16,14 +16,14 @@ most_octets = 16777216
 abbrev pub WritesAll : Output → Status → Told → Told → Type 0
 WritesAll output status out out' = (output.ends ≡ status) × Grows out.written out'.written output.text
 
--- What was written of an output at each status: all of it, or as far as memory and the sink went. Where the sink failed,
--- something was still to be written.
+-- What was written of an output at each status: all of it, or as far as memory and the sink went. Memory ran out before anything
+-- was written, or in a report. Where the sink failed, something was still to be written.
 abbrev pub WritesAt : Output → Status → Told → Told → Type 0
 WritesAt output Done out out' = WritesAll output Done out out'
 WritesAt output Refused out out' = WritesAll output Refused out out'
 WritesAt output Coincidence out out' = WritesAll output Coincidence out out'
 WritesAt output TooManySteps out out' = WritesAll output TooManySteps out out'
-WritesAt output Memory out out' = GrowsByPrefix out.written out'.written output.text
+WritesAt output Memory out out' = (out' ≡ out) ⊎ ((output.ends ≡ Done) × GrowsByPrefix out.written out'.written output.text)
 WritesAt output WriteFault out out' = GrowsByProperPrefix out.written out'.written output.text
 WritesAt output other out out' = ⊥
 

@@ -1,4 +1,4 @@
-use Rattle.std.proofs.Common.{◌≡◌, ◌∙◌, sym, ap, subst, Ok, Err, Bool, true, false, Some, None}
+use Rattle.std.proofs.Common.{◌∙◌, sym, ap, subst, Ok, Err, Bool, true, false, Some, None}
 use Rattle.std.proofs.lemmas.Result.{err_from_is_err_and}
 use Rattle.std.specs.Option.{option_map}
 use Rattle.edge_io.proofs.Ending.{text_is}

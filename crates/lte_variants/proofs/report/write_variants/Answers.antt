@@ -1,9 +1,8 @@
 use Rattle.std.proofs.Common.{◌≡◌, ◌∙◌, ◌<◌, ◌^◌, sym, ap, subst, length}
 use Rattle.item_faults.specs.Faults.{faults_of}
-use Rattle.run_report.specs.Written.{WritesText}
 use Rattle.lte_variants.specs.Choices.{choices_of, in_share}
 use Rattle.lte_variants.specs.Kinds.{happening}
-use Rattle.lte_variants.specs.Report.{asked, told_of}
+use Rattle.lte_variants.specs.Report.{asked}
 use Rattle.lte_variants.proofs.Few.{asked-few}
 use Rattle.lte_variants.proofs.report.write_variants.Goals as goal
 
@@ -16,14 +15,3 @@ write_told-requires-clause-few g c =
     let is : c.of-choices.result ≡ asked r o messages =
     c.of-choices.ensures ∙ ap (λ fs. in_share r.share (choices_of r.together fs)) faults in
     subst (λ cs. length cs < 2 ^ 128) (sym is) (asked-few r o messages c.requires.few c.requires.fewer)
-
-pub returns-in-Ok : goal.returns-in-Ok
-returns-in-Ok g c =
-    let r = c.args.request.now in
-    let o = c.args.study.now in
-    let messages = c.args.messages.now in
-    let faults = c.as_slice.ensures.value ∙ c.in-Ok.ensures.faults ∙ ap (λ es. happening r.kinds (faults_of es messages)) c.entries.ensures in
-    let is : c.of-choices.result ≡ asked r o messages =
-    c.of-choices.ensures ∙ ap (λ fs. in_share r.share (choices_of r.together fs)) faults in
-    subst (λ cs. WritesText (told_of o cs) c.write_told.result (g.W.Edge.told c.args.out.now) (g.W.Edge.told c.write_told.new.out)) is
-    c.write_told.ensures
