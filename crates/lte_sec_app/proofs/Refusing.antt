@@ -1,23 +1,19 @@
--- What is written for a text: the report of the scenario that was read, or the refusal of one that is none.
-use Rattle.std.proofs.Common.{◌≡◌, ◌≢◌, ◌∙◌, ◌⊎◌, inl, inr, List, ℕ, Result, Ok, Err, refl, sym, ap, subst}
+-- What is written for a text that was not read as a scenario, and that one that was read is not refused.
+use Rattle.std.proofs.Common.{◌≡◌, ◌≢◌, ◌∙◌, ◌⊎◌, inl, inr, Result, Ok, Err, refl, sym, ap, subst}
 use Rattle.std.specs.Prelude.{IfErr}
 use Rattle.edge_io.specs.Told.{Told}
 use Rattle.edge_io.proofs.Known.{none_of}
 use Rattle.scenario_file.specs.declared.faults.ScenarioFault.{ScenarioFault}
 use Rattle.scenario_file.specs.declared.faults.ScenarioFault.TheVariants as fault
 use Rattle.lte_sec_app.specs.declared.status.Status.{Status}
-use Rattle.lte_sec_app.specs.declared.status.Status.TheVariants.{Done, Memory, Refused, WriteFault, Coincidence}
+use Rattle.lte_sec_app.specs.declared.status.Status.TheVariants.{Memory, Refused}
 use Rattle.ladder_text.specs.declared.ending.Ending.{Ending as LadderEnding}
 use Rattle.ladder_text.specs.declared.ending.Ending.TheVariants as ladder
 use Rattle.run_report.specs.declared.endings.Ending.{Ending}
 use Rattle.run_report.specs.declared.endings.Ending.TheVariants as ending
-use Rattle.run_report.specs.declared.unwritten.Unwritten.{Unwritten}
-use Rattle.run_report.specs.declared.unwritten.Unwritten.TheVariants as unwritten
-use Rattle.run_report.specs.Report.{Report}
-use Rattle.run_report.specs.Written.{WritesText, WritesReport}
 use Rattle.lte_sec_app.specs.Ladder.{status_of as ladder_status}
 use Rattle.lte_sec_app.specs.Run.{Output, UsesSink, WritesAt, WritesOutput}
-use Rattle.lte_sec_app.specs.Scenario.{RefusedBy, IsRefused, report_status, output_of_report, refusal_output, status_of}
+use Rattle.lte_sec_app.specs.Scenario.{RefusedBy, IsRefused, report_status, refusal_output}
 
 pub is_memory : (why : ScenarioFault) → (why ≡ fault.Memory) ⊎ (why ≢ fault.Memory)
 is_memory fault.Memory = inl refl
@@ -81,40 +77,6 @@ pub read_never_refused : {B : Type 0} (ends_of : Result B ScenarioFault → Stat
     → ends_of reading ≢ Refused
 read_never_refused ends_of reading scenario ended reads ends is =
     never_refused ended (sym ends ∙ ap ends_of (sym reads) ∙ is)
-
-report_at : (report : Report) (written : Result Ending Unwritten) (out out' : Told) → WritesReport report written out out'
-    → WritesAt (output_of_report report) (status_of written) out out'
-report_at report (Ok ending.Done) out out' w = (ap report_status (sym w.ends), w.text.written)
-report_at report (Ok ending.Chance) out out' w = (ap report_status (sym w.ends), w.text.written)
-report_at report (Err unwritten.Memory) out out' w = w.text.written
-report_at report (Err unwritten.WriteFault) out out' w = w.text.written
-
-report_sink : (text : List ℕ) (written : Result Ending Unwritten) (out out' : Told) → WritesText text written out out' → UsesSink (status_of written) out out'
-report_sink text (Ok ending.Done) out out' w =
-    record { memory = λ e. cc; cause = λ e. cc; no_fault = λ differs. w.no_fault (λ e. cc); used = w.used }
-report_sink text (Ok ending.Chance) out out' w =
-    record { memory = λ e. cc; cause = λ e. cc; no_fault = λ differs. w.no_fault (λ e. cc); used = w.used }
-report_sink text (Err unwritten.Memory) out out' w =
-    record { memory = λ e. w.refused refl; cause = λ e. cc; no_fault = λ differs. w.no_fault (λ e. cc); used = w.used }
-report_sink text (Err unwritten.WriteFault) out out' w =
-    record { memory = λ e. cc; cause = λ e. w.written.0; no_fault = λ differs. absurd (differs refl); used = w.used }
-
-pub report_writes : {S : Type 0} (told : S → Told) (output : Output) (report : Report) (written : Result Ending Unwritten)
-    (status : Status) {out between out' : S}
-    → output ≡ output_of_report report
-    → status ≡ status_of written
-    → between ≡ out
-    → WritesReport report written (told between) (told out')
-    → WritesOutput told output status out out'
-report_writes told output report written status {out} {between} {out'} is ends same w =
-    let at : WritesOutput told (output_of_report report) (status_of written) between out' = record {
-      text = report_at report written (told between) (told out') w;
-      no_refusal = λ memory refused. absurd (never_refused report.ends refused);
-      sink = report_sink report.text written (told between) (told out') w.text;
-    } in
-    subst (λ o. WritesOutput told o status out out') (sym is)
-    (subst (λ s. WritesOutput told (output_of_report report) s out out') (sym ends)
-    (subst (λ first. WritesOutput told (output_of_report report) (status_of written) first out') same at))
 
 -- A LADDER TEXT
 

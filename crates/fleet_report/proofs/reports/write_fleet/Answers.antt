@@ -1,4 +1,4 @@
-use Rattle.std.proofs.Common.{◌≤◌, ◌+◌, ap, sym, subst, ◌∙◌, Ok, length, length-append, arith}
+use Rattle.std.proofs.Common.{◌≤◌, ◌+◌, ap, subst, ◌∙◌, Ok, length, length-append, arith}
 use Rattle.std.proofs.lemmas.List.{length-replicate}
 use Rattle.std.proofs.lemmas.Result.{err_from_is_err_and}
 use Rattle.fleet_world.specs.Fleets.{Fleeted}

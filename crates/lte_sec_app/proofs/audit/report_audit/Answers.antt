@@ -1,11 +1,10 @@
-use Rattle.std.proofs.Common.{ap, refl, subst, sym}
+use Rattle.std.proofs.Common.{refl, subst, sym}
 use Rattle.std.proofs.lemmas.Result.{IfOk-at_ok}
-use Rattle.audit_report.specs.AuditReport.{audit_report_of}
 use Rattle.scenario_file.specs.Reading.{reading_of}
 use Rattle.lte_sec_app.specs.Audit.{output_of, HasAudit}
 use Rattle.lte_sec_app.specs.Run.{WhereRun}
 use Rattle.lte_sec_app.proofs.Audited.{audited}
-use Rattle.lte_sec_app.proofs.Refusing.{refusal_writes, report_writes}
+use Rattle.lte_sec_app.proofs.Refusing.{refusal_writes}
 use Rattle.lte_sec_app.proofs.Reports.{headline_of}
 use Rattle.lte_sec_app.proofs.audit.report_audit.Goals as goal
 
@@ -21,13 +20,6 @@ returns-in-Ok-clause-holds g c =
     c.write_audit.ensures.alone c.write_audit.result
     (λ ok. (c.write_audit.ensures.exact ok, c.write_audit.ensures.of_run ok))
     c.write_audit.ensures.report.ends)
-
-pub returns-in-Ok-clause-writes : goal.returns-in-Ok-clause-writes
-returns-in-Ok-clause-writes g c =
-    let s = c.in-Ok.scenario in
-    report_writes g.W.Edge.told _ (audit_report_of s.setup s.events.items) c.write_audit.result c.status_of.result
-    (ap output_of (IfOk-at_ok _ c.in-Ok.ensures.read.0 c.read.ensures.scenario))
-    c.status_of.ensures.value c.in-Ok.ensures.read.1 c.write_audit.ensures.report
 
 pub returns-in-Err-clause-writes : goal.returns-in-Err-clause-writes
 returns-in-Err-clause-writes g c =

@@ -1,11 +1,10 @@
-use Rattle.std.proofs.Common.{ap, refl}
+use Rattle.std.proofs.Common.{refl}
 use Rattle.std.proofs.lemmas.Result.{IfOk-at_ok}
 use Rattle.fleet_report.proofs.Holding.{holds}
 use Rattle.fleet_report.proofs.Looping.{all_in_range}
-use Rattle.fleet_report.specs.Report.{fleet_report_of}
 use Rattle.scenario_file.specs.Reading.{fleet_reading_of}
 use Rattle.lte_sec_app.specs.Fleet.{output_of, HasFleet}
-use Rattle.lte_sec_app.proofs.Refusing.{refusal_writes, report_writes}
+use Rattle.lte_sec_app.proofs.Refusing.{refusal_writes}
 use Rattle.lte_sec_app.proofs.Running.{where_run}
 use Rattle.lte_sec_app.proofs.fleet.report_fleet.Goals as goal
 
@@ -26,13 +25,6 @@ returns-in-Ok-clause-holds g c =
       holds = holds setup phones events scenario.can_start
           (all_in_range phones events (IfOk-at_ok _ is read.phones_stand) (λ k d low. (scenario.can_happen k d low).0));
     })
-
-pub returns-in-Ok-clause-writes : goal.returns-in-Ok-clause-writes
-returns-in-Ok-clause-writes g c =
-    let s = c.in-Ok.scenario in
-    report_writes g.W.Edge.told _ (fleet_report_of s.setup s.phones s.events.items) c.write_fleet.result c.status_of.result
-    (ap output_of (IfOk-at_ok _ c.in-Ok.ensures.read.0 c.read_fleet.ensures.scenario))
-    c.status_of.ensures.value c.in-Ok.ensures.read.1 c.write_fleet.ensures
 
 pub returns-in-Err-clause-writes : goal.returns-in-Err-clause-writes
 returns-in-Err-clause-writes g c =

@@ -1,9 +1,8 @@
-use Rattle.run_report.specs.Report.{report_of}
-use Rattle.std.proofs.Common.{ap, refl}
+use Rattle.std.proofs.Common.{refl}
 use Rattle.std.proofs.lemmas.Result.{IfOk-at_ok}
 use Rattle.scenario_file.specs.Reading.{reading_of}
 use Rattle.lte_sec_app.specs.Scenario.{output_of, HasHeadline}
-use Rattle.lte_sec_app.proofs.Refusing.{refusal_writes, report_writes}
+use Rattle.lte_sec_app.proofs.Refusing.{refusal_writes}
 use Rattle.lte_sec_app.proofs.Reports.{has_headline}
 use Rattle.lte_sec_app.proofs.Running.{where_run}
 use Rattle.lte_sec_app.proofs.scenario.report_run.Goals as goal

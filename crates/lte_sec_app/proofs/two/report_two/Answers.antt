@@ -1,11 +1,10 @@
-use Rattle.core_relocation.specs.Report.{two_report_of}
-use Rattle.std.proofs.Common.{ap, refl}
+use Rattle.std.proofs.Common.{refl}
 use Rattle.std.proofs.lemmas.Result.{IfOk-at_ok}
 use Rattle.core_relocation.proofs.Promised.{two_headline}
 use Rattle.lte_events.proofs.InRange.{in_range}
 use Rattle.scenario_file.specs.Reading.{two_reading_of}
 use Rattle.lte_sec_app.specs.Two.{output_of, HasTwo}
-use Rattle.lte_sec_app.proofs.Refusing.{refusal_writes, report_writes}
+use Rattle.lte_sec_app.proofs.Refusing.{refusal_writes}
 use Rattle.lte_sec_app.proofs.Running.{where_run}
 use Rattle.lte_sec_app.proofs.two.report_two.Goals as goal
 
@@ -25,13 +24,6 @@ returns-in-Ok-clause-holds g c =
       reads = IfOk-at_ok _ is read.scenario;
       holds = two_headline setup core_of events scenario.can_start (in_range setup events scenario.can_happen);
     })
-
-pub returns-in-Ok-clause-writes : goal.returns-in-Ok-clause-writes
-returns-in-Ok-clause-writes g c =
-    let s = c.in-Ok.scenario in
-    report_writes g.W.Edge.told _ (two_report_of s.setup s.core_of s.events.items) c.write_two.result c.status_of.result
-    (ap output_of (IfOk-at_ok _ c.in-Ok.ensures.read.0 c.read_two.ensures.scenario))
-    c.status_of.ensures.value c.in-Ok.ensures.read.1 c.write_two.ensures
 
 pub returns-in-Err-clause-writes : goal.returns-in-Err-clause-writes
 returns-in-Err-clause-writes g c =
