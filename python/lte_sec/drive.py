@@ -346,7 +346,9 @@ class Run:
             self.relays.finish()
             late = self.relays.of.get(self.driven.failed.decode()) if status == FAULT else None
             if self.driven.is_unwritten or late is None or not late.comes():
-                self.driven.how = late.failure() if late else ""
+                if late:
+                    late.hear_out()
+                    self.driven.how = late.failure()
                 return status, self.driven
             printed = len(self.driven.lines)
 

@@ -40,7 +40,7 @@ class Relay:
     def __init__(self, actor: str, command: list[str], seconds: float):
         self.actor, self.seconds = actor, seconds
         self.told, self.said = Frames(), Frames()
-        self.is_closed, self.counted = False, 0
+        self.is_closed, self.counted, self.to_say = False, 0, TO_SAY
         self.moved = time.monotonic()
         self.is_over = threading.Event()  # the program has ended
         self.thread: threading.Thread | None = None
@@ -134,12 +134,16 @@ class Relay:
         """How it failed."""
         return "it closed the connection before it gave a whole reply" if self.is_closed else f"it was silent for {self.seconds:g} seconds, where a reply was due"
 
+    def hear_out(self) -> None:
+        """Where it closed it may still be writing why: it has some seconds for that, once."""
+        seconds, self.to_say = self.to_say if self.is_closed else 0, 0
+        with contextlib.suppress(subprocess.TimeoutExpired):
+            self.peer.process.wait(seconds)
+
     def end(self) -> None:
-        """Ends it; one that closed may still be writing why."""
         self.is_over.set()
         self.listener.close()
-        with contextlib.suppress(subprocess.TimeoutExpired):
-            self.peer.process.wait(TO_SAY if self.is_closed else 0)
+        self.hear_out()
         self.peer.end()
 
 
