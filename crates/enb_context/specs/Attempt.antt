@@ -1,25 +1,65 @@
 -- The states of an attempt as the written machine has them.
-use Rattle.std.specs.Prelude.{ℕ, List}
+use Rattle.std.specs.Prelude.{ℕ, List, Some, None}
+use Rattle.key_model.specs.Reading.{octet_reading}
+use Rattle.x2_handover.specs.Attempt.{X2Start, x2_order}
+use Rattle.s1_handover.specs.Attempt.{S1Start, s1_order}
 use Rattle.enb_context.specs.declared.attempt.X2State.{X2State}
 use Rattle.enb_context.specs.declared.attempt.X2State as x2_states
 use Rattle.enb_context.specs.declared.attempt.S1State.{S1State}
 use Rattle.enb_context.specs.declared.attempt.S1State as s1_states
 use Rattle.enb_context.specs.declared.attempt.Attempt.{Attempt}
 use Rattle.enb_context.specs.declared.attempt.Attempt as attempts
+use Rattle.lte_machine.specs.StationRecords.{renewing}
 use Rattle.lte_machine.specs.StationState as machine
 
-abbrev pub x2_state_of : X2State → machine.X2State (List ℕ) ℕ
-x2_state_of (x2_states.TheVariants.Open start) = machine.X2Open start
-x2_state_of (x2_states.TheVariants.Ready acked) = machine.X2Ready acked
-x2_state_of (x2_states.TheVariants.Commanded sent) = machine.X2Commanded sent
+-- an attempt over X2, or within the station, whose target has not answered or has
+abbrev pub x2_opened : machine.Via → X2Start (List ℕ) ℕ → machine.Progress → machine.Attempt (List ℕ) ℕ
+x2_opened via start progress = record {
+  number = start.number;
+  station = start.station;
+  cell = start.cell;
+  via = via;
+  keys = Some (record { star = start.star; spent = start.spent });
+  progress = progress;
+}
 
-abbrev pub s1_state_of : S1State → machine.S1State
-s1_state_of (s1_states.TheVariants.Open start) = machine.S1Open start
-s1_state_of (s1_states.TheVariants.Ready acked) = machine.S1Ready acked
-s1_state_of (s1_states.TheVariants.Commanded sent) = machine.S1Commanded sent
+abbrev pub x2_attempt : machine.Via → X2State → machine.Attempt (List ℕ) ℕ
+x2_attempt via (x2_states.TheVariants.Open start) = x2_opened via start machine.Open
+x2_attempt via (x2_states.TheVariants.Ready acked) = x2_opened via acked.start (machine.Ready (x2_order octet_reading.ncc acked))
+x2_attempt via (x2_states.TheVariants.Commanded sent) = record {
+  number = sent.number;
+  station = sent.station;
+  cell = sent.cell;
+  via = via;
+  keys = None;
+  progress = machine.Commanded sent.order;
+}
+
+-- an attempt over S1
+abbrev pub s1_opened : S1Start → machine.Progress → machine.Attempt (List ℕ) ℕ
+s1_opened start progress = record {
+  number = start.number;
+  station = start.station;
+  cell = start.cell;
+  via = machine.OverS1;
+  keys = None;
+  progress = progress;
+}
+
+abbrev pub s1_attempt : S1State → machine.Attempt (List ℕ) ℕ
+s1_attempt (s1_states.TheVariants.Open start) = s1_opened start machine.Open
+s1_attempt (s1_states.TheVariants.Ready acked) = s1_opened acked.start (machine.Ready (s1_order acked))
+s1_attempt (s1_states.TheVariants.Commanded sent) = record {
+  number = sent.number;
+  station = sent.station;
+  cell = sent.cell;
+  via = machine.OverS1;
+  keys = None;
+  progress = machine.Commanded sent.order;
+}
 
 abbrev pub attempt_of : Attempt → machine.Attempt (List ℕ) ℕ
-attempt_of (attempts.TheVariants.OverX2 state) = machine.OverX2 (x2_state_of state)
-attempt_of (attempts.TheVariants.OverS1 state) = machine.OverS1 (s1_state_of state)
-attempt_of (attempts.TheVariants.Within state) = machine.Within (x2_state_of state)
-attempt_of (attempts.TheVariants.Renewing renewal) = machine.Renewing renewal
+attempt_of (attempts.TheVariants.OverX2 state) = x2_attempt machine.OverX2 state
+attempt_of (attempts.TheVariants.OverS1 state) = s1_attempt state
+attempt_of (attempts.TheVariants.Within state) = x2_attempt machine.Within state
+attempt_of (attempts.TheVariants.Renewing renewal) = renewing renewal.number renewal.order

@@ -3,3 +3,4 @@ pub mod Attempt
 pub mod Orders
 pub mod Preps
 pub mod Step
+pub mod Renewal

@@ -1,12 +1,13 @@
 // The attempt of a context.
 ghost use Rattle.std.specs.Prelude.{◌≡◌, ◌≤◌, ◌<◌, ◌^◌, IfErr, IfOk, Some, None, ℕ};
-ghost use Rattle.std.specs.Bool.{OnTrue, OnFalse};
-ghost use Rattle.std.specs.Prelude.{IsSome, IfSome};
+ghost use Rattle.std.specs.Prelude.{IfSome};
 ghost use Rattle.x2_handover.specs.InRange.{InRange as IsOrder};
 ghost use Rattle.rrc_rec.specs.Spelling.{InRange};
-ghost use Rattle.lte_machine.specs.StationKeys.{x2_spent, spent_in};
-ghost use Rattle.enb_context.specs.Attempt.{attempt_of, x2_state_of, s1_state_of};
-ghost use Rattle.enb_context.specs.Orders.{x2_ordered, s1_ordered, ordered, order_record, cancels_of, IsCancel};
+ghost use Rattle.lte_machine.specs.StationState.{Via, OverX2, OverS1};
+ghost use Rattle.lte_machine.specs.StationKeys.{spent_of, spent_in};
+ghost use Rattle.lte_machine.specs.StationRecords.{order_record};
+ghost use Rattle.enb_context.specs.Attempt.{attempt_of, x2_attempt, s1_attempt};
+ghost use Rattle.enb_context.specs.Orders.{is_open, ordered, cancels_of, IsCancel};
 
 use crate::renewal::Renewal;
 use annex_a_keys::Cell;
@@ -53,8 +54,8 @@ impl X2State {
     // The attempt after its command and the order, which may be given again; the attempt itself where it is
     // open.
     fn command(self) -> Result<(X2State, Order), X2State>
-        ensures ok { IfOk result (λ d. x2_ordered (x2_state_of self) ≡ Some (x2_state_of d.0, d.1)) }
-        ensures open { IfErr result (λ back. x2_ordered (x2_state_of self) ≡ None) }
+        ensures ok { IfOk result (λ d. (via : Via) → ordered (x2_attempt via self) ≡ Some (x2_attempt via d.0, order_record via d.1)) }
+        ensures open { IfErr result (λ back. (via : Via) → ordered (x2_attempt via self) ≡ None) }
         ensures same { IfErr result (λ back. back ≡ self) }
         ensures in_range { IfOk result (λ d. IsOrder d.1) }
     {
@@ -73,7 +74,7 @@ impl X2State {
 
     // Ends the attempt: the pair that was used, if one was and it has not commanded.
     fn cancel(self) -> Option<Spent>
-        ensures { result ≡ x2_spent (x2_state_of self) }
+        ensures { (via : Via) → result ≡ spent_of (x2_attempt via self).keys }
     {
         match self {
             X2State::Open(open) => open.cancel(),
@@ -86,8 +87,8 @@ impl X2State {
 impl S1State {
     // The same over S1.
     fn command(self) -> Result<(S1State, Order), S1State>
-        ensures ok { IfOk result (λ d. s1_ordered (s1_state_of self) ≡ Some (s1_state_of d.0, d.1)) }
-        ensures open { IfErr result (λ back. s1_ordered (s1_state_of self) ≡ None) }
+        ensures ok { IfOk result (λ d. ordered (s1_attempt self) ≡ Some (s1_attempt d.0, order_record OverS1 d.1)) }
+        ensures open { IfErr result (λ back. ordered (s1_attempt self) ≡ None) }
         ensures same { IfErr result (λ back. back ≡ self) }
         ensures in_range { IfOk result (λ d. IsOrder d.1) }
     {
@@ -108,7 +109,7 @@ impl S1State {
 // The text of an order (TS 36.331 5.3.5.4).
 fn text_of(order: &Order) -> RrcRecord
     requires { IsOrder order.now }
-    ensures text { result ≡ order_record order.now }
+    ensures text { result ≡ order_record OverX2 order.now }
     ensures in_range { InRange result }
 {
     RrcRecord::Reconfiguration {
@@ -122,10 +123,9 @@ fn text_of(order: &Order) -> RrcRecord
 
 impl Attempt {
     // The attempt after its command and the text of the order; the attempt itself where it is open.
-    pub(crate) fn command(self, id: u8) -> Result<(Attempt, RrcRecord), Attempt>
-        requires { id ≤ 7 }
-        ensures ok { IfOk result (λ d. ordered id (attempt_of self) ≡ Some (attempt_of d.0, d.1)) }
-        ensures open { IfErr result (λ back. ordered id (attempt_of self) ≡ None) }
+    pub(crate) fn command(self) -> Result<(Attempt, RrcRecord), Attempt>
+        ensures ok { IfOk result (λ d. ordered (attempt_of self) ≡ Some (attempt_of d.0, d.1)) }
+        ensures open { IfErr result (λ back. ordered (attempt_of self) ≡ None) }
         ensures same { IfErr result (λ back. back ≡ self) }
         ensures in_range { IfOk result (λ d. InRange d.1) }
     {
@@ -143,29 +143,22 @@ impl Attempt {
                 Err(state) => Err(Attempt::Within(state)),
             },
             Attempt::Renewing(renewal) => {
-                let order = renewal.order(id);
-                Ok((Attempt::Renewing(renewal), order))
+                let text = renewal.text();
+                Ok((Attempt::Renewing(renewal), text))
             }
         }
     }
 
     // Whether it is open, so that it cannot command.
     pub(crate) fn is_open(&self) -> bool
-        ensures open { OnTrue result ((id : ℕ) → ordered id (attempt_of self.now) ≡ None) }
-        ensures shut { OnFalse result ((id : ℕ) → IsSome (ordered id (attempt_of self.now))) }
+        ensures { result ≡ is_open (attempt_of self.now).progress }
     {
-        match self {
-            Attempt::OverX2(X2State::Open(_)) => true,
-            Attempt::OverX2(X2State::Ready(_)) => false,
-            Attempt::OverX2(X2State::Commanded(_)) => false,
-            Attempt::OverS1(S1State::Open(_)) => true,
-            Attempt::OverS1(S1State::Ready(_)) => false,
-            Attempt::OverS1(S1State::Commanded(_)) => false,
-            Attempt::Within(X2State::Open(_)) => true,
-            Attempt::Within(X2State::Ready(_)) => false,
-            Attempt::Within(X2State::Commanded(_)) => false,
-            Attempt::Renewing(_) => false,
-        }
+        matches!(
+            self,
+            Attempt::OverX2(X2State::Open(_))
+                | Attempt::OverS1(S1State::Open(_))
+                | Attempt::Within(X2State::Open(_))
+        )
     }
 
     // What is told where it is given up; nothing where its command was sent.

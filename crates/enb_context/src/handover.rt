@@ -6,12 +6,10 @@ ghost use Rattle.key_model.specs.Reading.{octet_reading};
 ghost use Rattle.key_model.specs.Derivation.{derived_of};
 ghost use Rattle.nh_chain.specs.Station.{opened, way_of};
 ghost use Rattle.pdcp_guard.specs.AsKeys.{as_derivations};
-ghost use Rattle.lte_machine.specs.StationState.{StationActs};
-ghost use Rattle.lte_machine.specs.StationChoice.{start_row, is_misplaced, attempt_number, x2_number, s1_number};
+ghost use Rattle.lte_machine.specs.StationState.{Via, StationActs};
+ghost use Rattle.lte_machine.specs.StationChoice.{start_row, is_misplaced};
 ghost use Rattle.lte_machine.specs.StationRecords.{own_prep};
-ghost use Rattle.lte_machine.specs.StationState.{map_attempt, map_x2_state};
-ghost use Rattle.lte_machine.specs.Reply.{unseen};
-ghost use Rattle.enb_context.specs.Attempt.{attempt_of, x2_state_of, s1_state_of};
+ghost use Rattle.enb_context.specs.Attempt.{attempt_of, x2_attempt, s1_attempt};
 ghost use Rattle.enb_context.specs.Step.{answered, seen_plain};
 ghost use Rattle.enb_context.specs.Admission.{started_row};
 
@@ -243,8 +241,8 @@ impl Context {
 
 impl X2State {
     // The attempt's number.
-    fn number(&self) -> u32
-        ensures { result ≡ x2_number (map_x2_state unseen octet_reading.ncc (x2_state_of self.now)) }
+    pub(crate) fn number(&self) -> u32
+        ensures { (via : Via) → result ≡ (x2_attempt via self.now).number }
     {
         match self {
             X2State::Open(open) => open.number(),
@@ -256,8 +254,8 @@ impl X2State {
 
 impl S1State {
     // The attempt's number.
-    fn number(&self) -> u32
-        ensures { result ≡ s1_number (s1_state_of self.now) }
+    pub(crate) fn number(&self) -> u32
+        ensures { result ≡ (s1_attempt self.now).number }
     {
         match self {
             S1State::Open(open) => open.number(),
@@ -270,7 +268,7 @@ impl S1State {
 impl Attempt {
     // The attempt's number.
     pub(crate) fn number(&self) -> u32
-        ensures { result ≡ attempt_number (map_attempt unseen octet_reading.ncc (attempt_of self.now)) }
+        ensures { result ≡ (attempt_of self.now).number }
     {
         match self {
             Attempt::OverX2(state) | Attempt::Within(state) => state.number(),

@@ -4,7 +4,7 @@ ghost use Rattle.std.specs.Bool.{OnTrue, OnFalse};
 ghost use Rattle.s1x2_rec.specs.Fields.{ContextModification as Modified};
 ghost use Rattle.lte_machine.specs.Bearers.{Signalling1, srb_sent, is_spent};
 ghost use Rattle.lte_machine.specs.StationState.{Renewing};
-ghost use Rattle.lte_machine.specs.StationRecords.{signalling_sent, change_text};
+ghost use Rattle.lte_machine.specs.StationRecords.{signalling_sent, order_text, change_order, renewing};
 ghost use Rattle.lte_machine.specs.Calls.{sending};
 ghost use Rattle.enb_context.specs.Step.{on_s1};
 
@@ -17,6 +17,7 @@ use annex_a_keys::Kenb;
 use ho_prep::Prep;
 use lte_events::{ActorOut, Answer, KeyNote};
 use rec_base::{Bearer, Way};
+use x2_handover::Order;
 
 impl Station {
     // UE Context Modification Request (TS 36.413 8.3.4): KeNB* of the new KeNB for the same cell, a preparation
@@ -94,19 +95,21 @@ impl Context {
         ensures left { OnTrue result (is_spent self.old.bearers.srb1 ≡ false) }
         ensures new { OnTrue result (self.new ≡ record self.old {
           bearers = srb_sent Signalling1 self.old.bearers;
-          attempt = Some (Renewing (record { number = number; cell = self.old.cell; algs = self.old.algs; air = air }));
+          attempt = Some (renewing number (change_order 0 id air self.old));
         }) }
         ensures value { OnTrue result (out.new ≡ sending (signalling_sent id self.old.air self.old.keys Signalling1 self.old.bearers.srb1.send
-            (change_text id (record { number = number; cell = self.old.cell; algs = self.old.algs; air = air })))) }
+            (order_text Renewing (change_order 0 id air self.old)))) }
     {
-        let renewal = Renewal {
-            number,
+        let order = Order {
             cell: self.cell,
+            ncc: 0,
             algs: self.algs,
+            station: id,
             air,
         };
-        let order = renewal.order(id).write();
-        if !self.signal(id, Bearer::Srb1, true, order.as_slice(), out) {
+        let renewal = Renewal { number, order };
+        let text = renewal.text().write();
+        if !self.signal(id, Bearer::Srb1, true, text.as_slice(), out) {
             return false;
         }
         self.begin(Attempt::Renewing(renewal));

@@ -96,13 +96,13 @@ impl Context {
         requires id { id ≤ 7 }
         requires left { is_spent self.old.bearers.srb1 ≡ false }
         ensures step { (s : State (List ℕ) ℕ) (a : Tried (List ℕ) ℕ) → self.old.attempt ≡ Some a →
-            (serving_at s id self.new, out.new) ≡ commanded_by s id self.old false (ordered id a) }
+            (serving_at s id self.new, out.new) ≡ commanded_by s id self.old false (ordered a) }
         ensures conn { self.new.conn ≡ self.old.conn }
     {
         let Some(attempt) = self.attempt.take() else {
             return out.only(Answer::NoAttempt);
         };
-        match attempt.command(id) {
+        match attempt.command() {
             Ok((attempt, order)) => {
                 self.begin(attempt);
                 if !self.signal(id, Bearer::Srb1, true, order.write().as_slice(), out) {

@@ -6,7 +6,7 @@ ghost use Rattle.s1x2_rec.specs.Fields.{InitialContext as Given, ContextRelease 
 ghost use Rattle.lte_machine.specs.StationState.{Station as State};
 ghost use Rattle.lte_machine.specs.Calls.{actor_out};
 ghost use Rattle.lte_machine.specs.Reply.{only, finished};
-ghost use Rattle.lte_machine.specs.StationRecords.{source_release, with_s1_ack};
+ghost use Rattle.lte_machine.specs.StationRecords.{source_release};
 ghost use Rattle.enb_context.specs.Step.{on_s1, serving};
 
 use crate::Station;
@@ -259,41 +259,25 @@ impl Context {
             (serving s self.new, out.new) ≡ on_s1 (serving s self.old) (Commanded conn attempt cell ncc algs air) None }
         ensures conn { self.new.conn ≡ self.old.conn }
     {
-        match &self.attempt {
+        match self.attempt.take() {
             Some(Attempt::OverS1(S1State::Open(open))) => {
                 if open.number() != attempt {
+                    self.begin(Attempt::OverS1(S1State::Open(open)));
                     return out.only(Answer::NoAttempt);
                 }
+                self.begin(Attempt::OverS1(S1State::Ready(open.acked(ncc, algs, air))));
+                out.only(Answer::Done)
             }
-            Some(Attempt::OverS1(S1State::Ready(ready))) => {
-                return acked_before(ready.number(), attempt, out);
+            Some(Attempt::OverS1(state)) => {
+                let own = state.number();
+                self.begin(Attempt::OverS1(state));
+                acked_before(own, attempt, out)
             }
-            Some(Attempt::OverS1(S1State::Commanded(commanded))) => {
-                return acked_before(commanded.number(), attempt, out);
-            }
-            None
-            | Some(Attempt::OverX2(_))
-            | Some(Attempt::Within(_))
-            | Some(Attempt::Renewing(_)) => {
-                return out.only(Answer::NoAttempt);
+            other => {
+                self.attempt = other;
+                out.only(Answer::NoAttempt)
             }
         }
-        self.ack_s1(ncc, algs, air);
-        out.only(Answer::Done)
-    }
-
-    // An open attempt over S1 is ready now.
-    fn ack_s1(&mut self, ncc: u8, algs: Algs, air: u32)
-        requires ncc { ncc ≤ 7 }
-        requires air { 1 ≤ air }
-        ensures { self.new ≡ with_s1_ack ncc algs air self.old }
-    {
-        self.attempt = match self.attempt.take() {
-            Some(Attempt::OverS1(S1State::Open(open))) => {
-                Some(Attempt::OverS1(S1State::Ready(open.acked(ncc, algs, air))))
-            }
-            other => other,
-        };
     }
 }
 

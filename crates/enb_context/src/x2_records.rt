@@ -2,7 +2,6 @@
 ghost use Rattle.std.specs.Prelude.{◌≡◌, ◌≤◌, Some, None, ℕ, List, ◌==◌, if◌then◌else◌};
 ghost use Rattle.s1x2_rec.specs.Fields.{X2Request as Requested, X2Ack as Acked, X2Release as Released, X2Cancel as Cancelled};
 ghost use Rattle.lte_machine.specs.StationState.{Station as State};
-ghost use Rattle.lte_machine.specs.StationRecords.{with_x2_ack};
 ghost use Rattle.enb_context.specs.Step.{on_x2, serving};
 
 use crate::Station;
@@ -146,39 +145,24 @@ impl Context {
             (serving s self.new, out.new) ≡ on_x2 (serving s self.old) (Acked conn attempt cell algs air) None }
         ensures conn { self.new.conn ≡ self.old.conn }
     {
-        match &self.attempt {
+        match self.attempt.take() {
             Some(Attempt::OverX2(X2State::Open(open))) => {
                 if open.number() != attempt {
+                    self.begin(Attempt::OverX2(X2State::Open(open)));
                     return out.only(Answer::NoAttempt);
                 }
+                self.begin(Attempt::OverX2(X2State::Ready(open.acked(algs, air))));
+                out.only(Answer::Done)
             }
-            Some(Attempt::OverX2(X2State::Ready(ready))) => {
-                return acked_before(ready.number(), attempt, out);
+            Some(Attempt::OverX2(state)) => {
+                let own = state.number();
+                self.begin(Attempt::OverX2(state));
+                acked_before(own, attempt, out)
             }
-            Some(Attempt::OverX2(X2State::Commanded(commanded))) => {
-                return acked_before(commanded.number(), attempt, out);
-            }
-            None
-            | Some(Attempt::OverS1(_))
-            | Some(Attempt::Within(_))
-            | Some(Attempt::Renewing(_)) => {
-                return out.only(Answer::NoAttempt);
+            other => {
+                self.attempt = other;
+                out.only(Answer::NoAttempt)
             }
         }
-        self.ack_x2(algs, air);
-        out.only(Answer::Done)
-    }
-
-    // An open attempt over X2 is ready now.
-    fn ack_x2(&mut self, algs: Algs, air: u32)
-        requires { 1 ≤ air }
-        ensures { self.new ≡ with_x2_ack algs air self.old }
-    {
-        self.attempt = match self.attempt.take() {
-            Some(Attempt::OverX2(X2State::Open(open))) => {
-                Some(Attempt::OverX2(X2State::Ready(open.acked(algs, air))))
-            }
-            other => other,
-        };
     }
 }

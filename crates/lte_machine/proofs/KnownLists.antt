@@ -12,10 +12,10 @@ use Rattle.pdcp_guard.specs.AsKeys.{AsKeys, as_derivations}
 use Rattle.ho_prep.specs.Prep.{Prep}
 use Rattle.lte_machine.specs.Wire.{Ciphering, Outgoing, SealedNas, PlainNas, SealedRrc, UserPacket, Between, ciphering_use, uses_of}
 use Rattle.lte_machine.specs.PhoneState.{Partial, NasContext, Radio, Idle, Connecting, Connected, Phone}
-use Rattle.lte_machine.specs.StationState.{Station, Context, Attempt, OverX2, Within, X2State, X2Open, X2Ready, X2Commanded}
+use Rattle.lte_machine.specs.StationState.{Station, Context, Attempt, SourceKeys}
 use Rattle.lte_machine.specs.CoreState.{Core, CorePartial, CoreContext, CoreLink}
 use Rattle.lte_machine.specs.World.{with_one, put_if, put_station, newest_if, record_at, uses_in}
-use Rattle.lte_machine.specs.Known.{AsKnown, NasKnown, PairKnown, PartialKnown, NasContextKnown, RadioKnown, PhoneKnown, X2Known, AttemptKnown, ContextKnown, PrepKnown, StationKnown, CorePartialKnown, ProcedureKnown, CoreContextKnown, LinkKnown, CoreKnown, CipheringKnown, SentKnown}
+use Rattle.lte_machine.specs.Known.{AsKnown, NasKnown, PairKnown, PartialKnown, NasContextKnown, RadioKnown, PhoneKnown, SourceKeysKnown, AttemptKnown, ContextKnown, PrepKnown, StationKnown, CorePartialKnown, ProcedureKnown, CoreContextKnown, LinkKnown, CoreKnown, CipheringKnown, SentKnown}
 use Rattle.lte_machine.proofs.Rows.{From, from_more}
 
 -- a value is so, if there is one
@@ -185,15 +185,13 @@ module _ (P Q : Term → Type 0) (f : (t : Term) → P t → Q t) where
   pub phone_more : (s : Phone Term ℕ) → PhoneKnown P s → PhoneKnown Q s
   phone_more s h = (partial_more s.partial h.0, nas_context_more s.context h.1, radio_more s.radio h.2)
 
-  x2_more : (state : X2State Term ℕ) → X2Known P state → X2Known Q state
-  x2_more (X2Open start) h = (f start.star.key h.0, pair_more start.spent h.1)
-  x2_more (X2Ready acked) h = (f acked.start.star.key h.0, pair_more acked.start.spent h.1)
-  x2_more (X2Commanded sent) h = tt
+  source_keys_more : (o : Option (SourceKeys Term ℕ)) → SourceKeysKnown P o → SourceKeysKnown Q o
+  source_keys_more None h = tt
+  source_keys_more (Some keys) h = (f keys.star.key h.0, pair_more keys.spent h.1)
 
   attempt_more : (o : Option (Attempt Term ℕ)) → AttemptKnown P o → AttemptKnown Q o
-  attempt_more (Some (OverX2 state)) h = x2_more state h
-  attempt_more (Some (Within state)) h = x2_more state h
-  attempt_more other h = tt
+  attempt_more None h = tt
+  attempt_more (Some a) h = source_keys_more a.keys h
 
   context_more : (o : Option (Context Term ℕ)) → ContextKnown P o → ContextKnown Q o
   context_more None h = tt

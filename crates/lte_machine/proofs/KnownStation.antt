@@ -8,13 +8,13 @@ use Rattle.key_model.specs.Reading.{term_reading_by}
 use Rattle.nh_chain.specs.Station.{StationKey, pair_after, restored_if, base_of}
 use Rattle.ho_prep.specs.Prep.{Prep, at_air, drop_below, is_of, is_at}
 use Rattle.lte_machine.specs.Reply.{Origin, Reply}
-use Rattle.lte_machine.specs.StationState.{Station, Context, Attempt, OverX2, Within, X2State, X2Open, X2Ready, X2Commanded}
+use Rattle.lte_machine.specs.StationState.{Station, Context, Attempt, SourceKeys}
 use Rattle.lte_machine.specs.StationRows.{StationRow, OfRecord, OfAir, OfAct}
-use Rattle.lte_machine.specs.StationKeys.{x2_spent, spent_in, given_up, with_security, with_rrc_taken, with_packet_taken, with_skipped, station_does}
-use Rattle.lte_machine.specs.StationRecords.{with_pair, with_s1_ack, with_x2_ack, source_release}
-use Rattle.lte_machine.specs.Known.{PairKnown, StationKeyKnown, X2Known, AttemptKnown, ContextKnown, PrepKnown, StationKnown, SentKnown}
+use Rattle.lte_machine.specs.StationKeys.{spent_of, spent_in, given_up, with_security, with_rrc_taken, with_packet_taken, with_skipped, station_does}
+use Rattle.lte_machine.specs.StationRecords.{with_pair, with_answer, source_release}
+use Rattle.lte_machine.specs.Known.{PairKnown, StationKeyKnown, SourceKeysKnown, AttemptKnown, ContextKnown, PrepKnown, StationKnown, SentKnown}
 use Rattle.lte_machine.proofs.StationCases.{Any, RecordCases, AirCases, ActCases, record_case, air_case, act_case}
-use Rattle.lte_machine.proofs.AttemptSteps.{s1_acked_so, x2_acked_so, commanded_so}
+use Rattle.lte_machine.proofs.Tests.{changed_so}
 use Rattle.lte_machine.proofs.KnownLists.{OfSome, all_append, all_filter, all_find, Chain, AllOut, as_chain, star_chain, pair_more, station_more}
 
 -- what a step keeps: its derivations are from known keys, and with their keys known all keys of the station and of what it
@@ -25,15 +25,13 @@ StationKeeps P Q d = Chain P d.1.derived × (AllOut Q d.1.derived → StationKno
 -- PARTS OF A CONTEXT
 
 module _ (Q : Term → Type 0) where
-  x2_spent_known : (state : X2State Term ℕ) → X2Known Q state → PairKnown Q (x2_spent state)
-  x2_spent_known (X2Open start) h = h.1
-  x2_spent_known (X2Ready acked) h = h.1
-  x2_spent_known (X2Commanded sent) h = tt
+  spent_of_known : (o : Option (SourceKeys Term ℕ)) → SourceKeysKnown Q o → PairKnown Q (spent_of o)
+  spent_of_known None h = tt
+  spent_of_known (Some keys) h = h.1
 
   spent_known : (o : Option (Attempt Term ℕ)) → AttemptKnown Q o → PairKnown Q (spent_in o)
-  spent_known (Some (OverX2 state)) h = x2_spent_known state h
-  spent_known (Some (Within state)) h = x2_spent_known state h
-  spent_known other h = tt
+  spent_known None h = tt
+  spent_known (Some a) h = spent_of_known a.keys h
 
   pair_after_known : (o : Option (NumberedKey Term ℕ)) (back : NumberedKey Term ℕ) → PairKnown Q o → Q back.key → PairKnown Q (pair_after o back)
   pair_after_known None back h b = b
@@ -48,11 +46,6 @@ module _ (Q : Term → Type 0) where
   base_known : (o : Option (NumberedKey Term ℕ)) (kenb : Term) (number : ℕ) → Q kenb → PairKnown Q o → Q (base_of o kenb number).key
   base_known None kenb number k h = k
   base_known (Some pair) kenb number k h = h
-
-  mapped_known : (f : Context Term ℕ → Context Term ℕ) → ((c : Context Term ℕ) → ContextKnown Q (Some c) → ContextKnown Q (Some (f c))) →
-      (o : Option (Context Term ℕ)) → ContextKnown Q o → ContextKnown Q (option_map f o)
-  mapped_known f g None h = tt
-  mapped_known f g (Some c) h = g c h
 
   given_up_known : (c : Context Term ℕ) → ContextKnown Q (Some c) → ContextKnown Q (Some (given_up c))
   given_up_known c h = (restored_known c.key (spent_in c.attempt) h.0 (spent_known c.attempt h.2), h.1, tt)
@@ -74,6 +67,10 @@ module _ (same : Term → Term → Bool) (P Q : Term → Type 0) (s : Station Te
   found : (at : ℕ) (x : Prep Term ℕ) → at_air at s.preps ≡ Some x → PrepKnown Q x
   found at x e = subst (OfSome (PrepKnown Q)) e (all_find (PrepKnown Q) (is_at at) s.preps q.1)
 
+  mapped_known : (f : Context Term ℕ → Context Term ℕ) → ((c : Context Term ℕ) → ContextKnown Q (Some c) → ContextKnown Q (Some (f c)))
+      → ContextKnown Q (option_map f s.context)
+  mapped_known f g = changed_so (ContextKnown Q) f g s.context q.0
+
   -- the preparations with one more
   admitted_known : (conn : ℕ) (x : Prep Term ℕ) → PrepKnown Q x → AllOf (PrepKnown Q) (drop_below conn s.preps ++ x ∷ [])
   admitted_known conn x h =
@@ -88,7 +85,7 @@ module _ (same : Term → Term → Bool) (P Q : Term → Type 0) (s : Station Te
         taken = λ conn origin pair k. (
           tt,
           λ o. (
-            (mapped_known Q (with_pair pair) (λ c h. ((h.0.0, k.1), h.1, h.2)) s.context q.0, q.1),
+            (mapped_known (with_pair pair) (λ c h. ((h.0.0, k.1), h.1, h.2)), q.1),
             release_known Q conn origin,
           ),
         );
@@ -97,30 +94,9 @@ module _ (same : Term → Term → Bool) (P Q : Term → Type 0) (s : Station Te
           λ o. ((q.0, admitted_known w.conn _ ((o.0, tt), (o.1.0, o.1.1.0, o.1.1.1.0))), tt),
         );
         by_x2 = λ w star k. (as_chain same P star.key w.algs k.0, λ o. ((q.0, admitted_known w.conn _ ((k.1, tt), (o.0, o.1.0, o.1.1.0))), tt));
-        acked_s1 = λ ncc algs air key k. (
+        answered = λ order key k. (
           tt,
-          λ o. (
-            (
-              mapped_known Q (with_s1_ack ncc algs air)
-                  (λ c h.
-                  (h.0, h.1, s1_acked_so (AttemptKnown Q) ncc algs air (λ start m. tt) c.attempt h.2))
-                  s.context q.0,
-              q.1,
-            ),
-            tt,
-          ),
-        );
-        acked_x2 = λ algs air key k. (
-          tt,
-          λ o. (
-            (
-              mapped_known Q (with_x2_ack algs air)
-                  (λ c h. (h.0, h.1, x2_acked_so (AttemptKnown Q) algs air (λ start m. m) c.attempt h.2))
-                  s.context q.0,
-              q.1,
-            ),
-            tt,
-          ),
+          λ o. ((mapped_known (with_answer order) (λ c h. (h.0, h.1, changed_so (AttemptKnown Q) _ (λ a m. m) c.attempt h.2)), q.1), tt),
         );
         cancelled = λ from key k. (tt, λ o. ((q.0, all_filter (PrepKnown Q) (λ x. not (is_of from.source from.attempt x)) s.preps q.1), tt));
         left = λ key k. (tt, λ o. ((tt, q.1), tt));
@@ -135,9 +111,9 @@ module _ (same : Term → Term → Bool) (P Q : Term → Type 0) (s : Station Te
   air_keeps =
       record {
         nothing = λ answer. (tt, λ o. (q, tt));
-        secured = λ count k. (tt, λ o. ((mapped_known Q (with_security count) (λ c h. h) s.context q.0, q.1), tt));
-        opened = λ srb count text k. (tt, λ o. ((mapped_known Q (with_rrc_taken srb count) (λ c h. h) s.context q.0, q.1), tt));
-        packet = λ drb count text k. (tt, λ o. ((mapped_known Q (with_packet_taken drb count) (λ c h. h) s.context q.0, q.1), tt));
+        secured = λ count k. (tt, λ o. ((mapped_known (with_security count) (λ c h. h), q.1), tt));
+        opened = λ srb count text k. (tt, λ o. ((mapped_known (with_rrc_taken srb count) (λ c h. h), q.1), tt));
+        packet = λ drb count text k. (tt, λ o. ((mapped_known (with_packet_taken drb count) (λ c h. h), q.1), tt));
         by_s1 = λ at count k p e. let h = found at p e in (tt, λ o. (((h.0, h.1, tt), tt), tt));
         within = λ at count origin k p e. let h = found at p e in (tt, λ o. (((h.0, h.1, tt), tt), tt));
         by_x2 = λ at count number k p e. let h = found at p e in (tt, λ o. (((h.0, h.1, tt), tt), tt));
@@ -167,29 +143,16 @@ module _ (same : Term → Term → Bool) (P Q : Term → Type 0) (s : Station Te
                 tt,
               ),
             );
-        commanded = λ order count k c e.
-            let h = here c e in (
-              tt,
-              λ o. (
-                (
-                  (
-                    h.0,
-                    h.1,
-                    commanded_so (AttemptKnown Q) order (λ a m. tt) (λ a m. tt) (λ a m. tt) c.attempt h.2,
-                  ),
-                  q.1,
-                ),
-                (h.1.1, h.1.0),
-              ),
-            );
-        changed = λ renewal count k c e. let h = here c e in (tt, λ o. ((h, q.1), (h.1.1, h.1.0)));
-        cancelled_x2 = λ conn number target k. (tt, λ o. ((mapped_known Q given_up (given_up_known Q) s.context q.0, q.1), tt));
-        cancelled_s1 = λ conn number cell k. (tt, λ o. ((mapped_known Q given_up (given_up_known Q) s.context q.0, q.1), tt));
+        commanded = λ via order count k c e.
+            let h = here c e in
+            (tt, λ o. (((h.0, h.1, changed_so (AttemptKnown Q) _ (λ a m. tt) c.attempt h.2), q.1), (h.1.1, h.1.0)));
+        cancelled_x2 = λ conn number target k. (tt, λ o. ((mapped_known given_up (given_up_known Q), q.1), tt));
+        cancelled_s1 = λ conn number cell k. (tt, λ o. ((mapped_known given_up (given_up_known Q), q.1), tt));
         cancelled_within = λ number k. (
           tt,
           λ o. (
             (
-              mapped_known Q given_up (given_up_known Q) s.context q.0,
+              mapped_known given_up (given_up_known Q),
               all_filter (PrepKnown Q) (λ x. not (is_of s.id number x)) s.preps q.1,
             ),
             tt,
@@ -198,7 +161,7 @@ module _ (same : Term → Term → Bool) (P Q : Term → Type 0) (s : Station Te
         asked = λ number k c e. let h = here c e in (tt, λ o. ((h, q.1), tt));
         packet = λ drb count text k c e. let h = here c e in (tt, λ o. ((h, q.1), h.1.2));
         text = λ srb count text k c e. let h = here c e in (tt, λ o. ((h, q.1), (h.1.1, h.1.0)));
-        skipped = λ on n k. (tt, λ o. ((mapped_known Q (with_skipped on n) (λ c h. h) s.context q.0, q.1), tt));
+        skipped = λ on n k. (tt, λ o. ((mapped_known (with_skipped on n) (λ c h. h), q.1), tt));
       }
 
 -- each row of a station, where the key of the record that was read is known

@@ -3,7 +3,6 @@ pub mod RecordFacts
 pub mod AirFacts
 pub mod StationActFacts
 pub mod StationCases
-pub mod AttemptSteps
 pub mod NasFacts
 pub mod ActFacts
 pub mod S1Facts

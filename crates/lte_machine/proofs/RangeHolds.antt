@@ -16,7 +16,7 @@ use Rattle.ho_prep.specs.Prep.{Prep}
 use Rattle.lte_events.specs.Ranges.{IsStationAct, IsCoreAct}
 use Rattle.lte_machine.specs.Reply.{Origin}
 use Rattle.lte_machine.specs.Wire.{Outgoing, Between}
-use Rattle.lte_machine.specs.StationState.{Station, Context, Attempt, OverX2, OverS1, Within, X2State, X2Open, X2Ready, X2Commanded, S1State, S1Open, S1Ready, S1Commanded, StationInput, StationActs, AirPdu, StationRecord, Renewing}
+use Rattle.lte_machine.specs.StationState.{Station, Context, Attempt, StationInput, StationActs, AirPdu, StationRecord}
 use Rattle.lte_machine.specs.CoreState.{Core, CorePartial, CoreContext, CoreLink, CoreInput, CoreAuth, CoreActs, CoreNasPdu, CoreRecord}
 use Rattle.lte_machine.specs.World.{World}
 use Rattle.lte_machine.proofs.RangeKeys.{IsDerived}
@@ -60,23 +60,10 @@ ByRanged By.X2 = Unit {0}
 ByRanged By.S1 = Unit {0}
 ByRanged (By.Intra origin) = OriginRanged (option_map (λ o. record { source = o.0; attempt = o.1 }) origin)
 
--- an attempt that may be given up: its number, and on S1 its cell
-abbrev pub X2Ranged : {K C : Type 0} → X2State K C → Type 0
-X2Ranged (X2Open start) = IsNumber start.number
-X2Ranged (X2Ready acked) = IsNumber acked.start.number
-X2Ranged (X2Commanded sent) = Unit {0}
-
-abbrev pub S1Ranged : S1State → Type 0
-S1Ranged (S1Open start) = IsNumber start.number × IsCell start.cell
-S1Ranged (S1Ready acked) = IsNumber acked.start.number × IsCell acked.start.cell
-S1Ranged (S1Commanded sent) = Unit {0}
-
+-- an attempt
 abbrev pub AttemptRanged : {K C : Type 0} → Option (Attempt K C) → Type 0
 AttemptRanged None = Unit {0}
-AttemptRanged (Some (OverX2 state)) = X2Ranged state
-AttemptRanged (Some (OverS1 state)) = S1Ranged state
-AttemptRanged (Some (Within state)) = X2Ranged state
-AttemptRanged (Some (Renewing renewal)) = Unit {0}
+AttemptRanged (Some a) = IsNumber a.number × IsCell a.cell
 
 abbrev pub ContextRanged : {K C : Type 0} → Option (Context K C) → Type 0
 ContextRanged None = Unit {0}

@@ -16,24 +16,22 @@ use Rattle.alg_choice.specs.Caps.{IsCaps}
 use Rattle.s1x2_rec.specs.Spelling.{FieldsInRange}
 use Rattle.ho_prep.specs.declared.origins.By.{By}
 use Rattle.ho_prep.specs.Prep.{Prep, at_air, is_of, is_at}
-use Rattle.x2_handover.specs.Attempt.{X2Start}
-use Rattle.s1_handover.specs.Attempt.{S1Start}
 use Rattle.lte_machine.specs.Bearers.{Which, which}
 use Rattle.lte_machine.specs.Opening.{Outcome}
 use Rattle.lte_machine.specs.Reply.{Origin, Reply, unseen}
-use Rattle.lte_machine.specs.StationState.{Station, Context, X2State, X2Open, X2Ready, X2Commanded, S1State, S1Open, S1Ready, S1Commanded, Interface, StationInput, StationActs, AirPdu, StationRecord}
+use Rattle.lte_machine.specs.StationState.{Station, Context, Via, OverX2, OverS1, Interface, StationInput, StationActs, AirPdu, StationRecord}
 use Rattle.lte_machine.specs.StationRows.{Admitted}
 use Rattle.lte_machine.specs.StationKeys.{given_up, with_security, with_rrc_taken, with_packet_taken, with_skipped}
-use Rattle.lte_machine.specs.StationRecords.{with_pair, with_s1_ack, with_x2_ack, source_release}
+use Rattle.lte_machine.specs.StationRecords.{with_pair, with_answer, source_release}
 use Rattle.lte_machine.specs.StationStep.{plain_station, station_step}
 use Rattle.lte_machine.specs.StationChoice.{record_row, air_front, air_row, act_row}
-use Rattle.lte_machine.proofs.RangeHolds.{SentRanged, OriginRanged, ByRanged, X2Ranged, S1Ranged, AttemptRanged, ContextRanged, PrepRanged, StationRanged, StationInputRanged}
-use Rattle.lte_machine.proofs.AttemptSteps.{s1_acked_so, x2_acked_so, commanded_so}
+use Rattle.lte_machine.proofs.RangeHolds.{SentRanged, OriginRanged, ByRanged, AttemptRanged, ContextRanged, PrepRanged, StationRanged, StationInputRanged}
+use Rattle.lte_machine.proofs.Tests.{changed_so}
 use Rattle.lte_machine.proofs.KnownLists.{OfSome, all_filter, all_find}
 use Rattle.lte_machine.proofs.StationCases.{RecordCases, AirCases, ActCases, record_case, air_case, act_case}
 use Rattle.lte_machine.proofs.RecordFacts.{Admits, RecordHas, record_has}
 use Rattle.lte_machine.proofs.AirFacts.{AtPrepared, AirHas, air_has}
-use Rattle.lte_machine.proofs.StationActFacts.{Starts, X2Began, S1Began, CancelsX2, CancelsS1, StationActHas, station_act_has}
+use Rattle.lte_machine.proofs.StationActFacts.{Starts, GivesUp, StationActHas, station_act_has}
 
 -- LISTS
 
@@ -54,27 +52,7 @@ three_bits n = omega arith
 drawn : (number next : ℕ) → number ≡ next → next < 4294967296 → 1 ≤ next → IsNumber number
 drawn number next e lt low = subst IsNumber (sym e) (low, lt)
 
--- PARTS OF A STATION
-
--- an attempt that may be given up
-x2_began_ranged : {K C : Type 0} (state : X2State K C) (start : X2Start K C) → X2Began state start → X2Ranged state → IsNumber start.number
-x2_began_ranged (X2Open first) start e h = subst (λ x. IsNumber x.number) e h
-x2_began_ranged (X2Ready acked) start e h = subst (λ x. IsNumber x.number) e h
-x2_began_ranged (X2Commanded sent) start e h = absurd e
-
-s1_began_ranged : (state : S1State) (start : S1Start) → S1Began state start → S1Ranged state → IsNumber start.number × IsCell start.cell
-s1_began_ranged (S1Open first) start e h = subst (λ x. IsNumber x.number × IsCell x.cell) e h
-s1_began_ranged (S1Ready acked) start e h = subst (λ x. IsNumber x.number × IsCell x.cell) e h
-s1_began_ranged (S1Commanded sent) start e h = absurd e
-
 -- CONTEXTS
-
--- a context that changes
-with_ranged : (f : Context Term ℕ → Context Term ℕ) →
-    ((c : Context Term ℕ) → ContextRanged (Some c) → ContextRanged (Some (f c))) → (o : Option (Context Term ℕ)) →
-    ContextRanged o → ContextRanged (option_map f o)
-with_ranged f k None h = tt
-with_ranged f k (Some c) h = k c h
 
 origin_within : (o : Option Origin) → OriginRanged o →
     OriginRanged (option_map (λ (p : ℕ × ℕ). record { source = p.0; attempt = p.1 }) (option_map (λ a. (a.source, a.attempt)) o))
@@ -115,7 +93,7 @@ module _ (same : Term → Term → Bool) where
 
     mapped : (f : Context Term ℕ → Context Term ℕ) → ((c : Context Term ℕ) → ContextRanged (Some c) → ContextRanged (Some (f c)))
         → StationRanged (record s { context = option_map f s.context })
-    mapped f k = with_context (option_map f s.context) (with_ranged f k s.context h.2)
+    mapped f k = with_context (option_map f s.context) (changed_so (λ o. ContextRanged o) f k s.context h.2)
 
     gives_up : StationRanged (record s { context = option_map given_up s.context })
     gives_up = mapped given_up (λ c k. attempt_ranged c k tt)
@@ -170,14 +148,8 @@ module _ (same : Term → Term → Bool) where
                 (h.0, next_up w.air, h.2, admitted_preps w _ (conn, source, attempt, cell, caps, tt)),
                 ((conn, attempt, cell, air), tt),
               );
-          acked_s1 = λ ncc algs air key k. (
-            mapped (with_s1_ack ncc algs air)
-                (λ c k. attempt_ranged c k (s1_acked_so (λ o. AttemptRanged o) ncc algs air (λ start m. m) c.attempt (attempt_of c k))),
-            tt,
-          );
-          acked_x2 = λ algs air key k. (
-            mapped (with_x2_ack algs air)
-                (λ c k. attempt_ranged c k (x2_acked_so (λ o. AttemptRanged o) algs air (λ start m. m) c.attempt (attempt_of c k))),
+          answered = λ order key k. (
+            mapped (with_answer order) (λ c k. attempt_ranged c k (changed_so (λ o. AttemptRanged o) _ (λ a m. m) c.attempt (attempt_of c k))),
             tt,
           );
           cancelled = λ from key k. ((h.0, h.1, h.2, all_filter PrepRanged (λ p. not (is_of from.source from.attempt p)) s.preps preps), tt);
@@ -185,7 +157,7 @@ module _ (same : Term → Term → Bool) where
           renewed = λ conn number air count c e kenb k.
               let (held, cell, caps, _, origin) = here c e in
               let f = renewed_ranged fields i conn number k.context.conn k.fields_is k.number_is k.left in (
-                (h.0, next_up air, (held, cell, caps, tt, origin), ((f.0, h.0, f.1, cell, caps, origin_within c.origin origin), tt)),
+                (h.0, next_up air, (held, cell, caps, (f.1, cell), origin), ((f.0, h.0, f.1, cell, caps, origin_within c.origin origin), tt)),
                 tt,
               );
         }
@@ -221,16 +193,13 @@ module _ (same : Term → Term → Bool) where
         → IsNumber number × IsCell cell
     starts_ranged act kind number target cell f i = (drawn number s.next f.number_is f.left h.1, subst IsStationAct f.act_is i)
 
-    cancels_x2_ranged : (act : StationAct) (conn number target : ℕ) → CancelsX2 s act conn number target → IsNumber conn × IsNumber number
-    cancels_x2_ranged act conn number target f =
+    -- what is given up is of the context, and in range
+    gives_up_ranged : (act : StationAct) (via : Via) (number : ℕ) → (f : GivesUp s act via number)
+        → IsNumber f.context.conn × IsNumber number × IsCell f.attempt.cell
+    gives_up_ranged act via number f =
         let c = here f.context f.serving in
-        (subst IsNumber (sym f.conn_is) c.0, subst IsNumber (sym f.number_is) (x2_began_ranged f.state f.start f.began (subst AttemptRanged f.trying (attempt_of f.context c))))
-
-    cancels_s1_ranged : (act : StationAct) (conn number : ℕ) (cell : Place) → CancelsS1 s act conn number cell → IsNumber conn × IsNumber number × IsCell cell
-    cancels_s1_ranged act conn number cell f =
-        let c = here f.context f.serving in
-        let k = s1_began_ranged f.state f.start f.began (subst AttemptRanged f.trying (attempt_of f.context c)) in
-        (subst IsNumber (sym f.conn_is) c.0, subst IsNumber (sym f.number_is) k.0, subst IsCell (sym f.cell_is) k.1)
+        let a = subst AttemptRanged f.trying (attempt_of f.context c) in
+        (c.0, subst IsNumber (sym f.number_is) a.0, a.1)
 
     act_ranged : (act : StationAct) → IsStationAct act → ActCases r s (StationActHas r s act) StationDone
     act_ranged act i =
@@ -239,7 +208,7 @@ module _ (same : Term → Term → Bool) where
           by_x2 = λ number target cell k c e.
               let d = here c e in
               let f = starts_ranged act HoKind.X2 number target cell k i in
-              ((h.0, next_up number, attempt_ranged c d f.0, preps), ((d.0, h.0, f.0, f.1, d.2), (tt, three_bits _)));
+              ((h.0, next_up number, attempt_ranged c d f, preps), ((d.0, h.0, f.0, f.1, d.2), (tt, three_bits _)));
           by_s1 = λ number target cell k c e.
               let d = here c e in
               let f = starts_ranged act HoKind.S1 number target cell k i in
@@ -250,20 +219,19 @@ module _ (same : Term → Term → Bool) where
                 (
                   h.0,
                   next_up air,
-                  (conn, now, caps, f.0, origin),
+                  (conn, now, caps, f, origin),
                   all_append PrepRanged s.preps _ preps ((conn, h.0, f.0, f.1, caps, origin_within c.origin origin), tt),
                 ),
                 tt,
               );
-          commanded = λ order count k c e.
+          commanded = λ via order count k c e.
               let d = here c e in
-              let sent = commanded_so (λ o. AttemptRanged o) order (λ a m. tt) (λ a m. tt) (λ a m. tt) c.attempt (attempt_of c d) in
-              ((h.0, h.1, attempt_ranged c d sent, preps), tt);
-          changed = λ renewal count k c e. (with_context (Some c) (here c e), tt);
+              ((h.0, h.1, attempt_ranged c d (changed_so (λ o. AttemptRanged o) _ (λ a m. m) c.attempt (attempt_of c d)), preps), tt);
           cancelled_x2 = λ conn number target k.
-              let f = cancels_x2_ranged act conn number target k in (gives_up, ((f.0, h.0, f.1), tt));
+              let f = gives_up_ranged act OverX2 number k.gives_up in (gives_up, ((subst IsNumber (sym k.conn_is) f.0, h.0, f.1), tt));
           cancelled_s1 = λ conn number cell k.
-              let f = cancels_s1_ranged act conn number cell k in (gives_up, ((f.0, h.0, f.1, f.2), tt));
+              let f = gives_up_ranged act OverS1 number k.gives_up in
+              (gives_up, ((subst IsNumber (sym k.conn_is) f.0, h.0, f.1, subst IsCell (sym k.cell_is) f.2), tt));
           cancelled_within = λ number k. ((h.0, h.1, gives_up.2, all_filter PrepRanged (λ p. not (is_of s.id number p)) s.preps preps), tt);
           asked = λ number k c e. let d = here c e in ((h.0, next_up number, d, preps), ((d.0, h.0, drawn number s.next k.number_is k.left h.1, d.1, d.2), tt));
           packet = λ drb count text k c e. (with_context (Some c) (here c e), tt);

@@ -13,15 +13,14 @@ use Rattle.key_model.specs.Reading.{Reading}
 use Rattle.s1x2_rec.specs.Content.{Content, map_content}
 use Rattle.s1x2_rec.specs.Fields.{Fields, InitialContext, ContextRelease, PathSwitchAnswer, HandoverRequest, HandoverCommand, HandoverCancel, X2Request, X2Ack, X2Cancel, X2Release, ContextModification}
 use Rattle.ho_prep.specs.Prep.{has_attempt}
-use Rattle.x2_handover.specs.Attempt.{X2Start, Commanded}
-use Rattle.s1_handover.specs.Attempt.{S1Start}
+use Rattle.x2_handover.specs.declared.orders.Order.{Order}
 use Rattle.lte_machine.specs.Bearers.{is_spent}
 use Rattle.lte_machine.specs.Reply.{Origin, unseen}
-use Rattle.lte_machine.specs.StationState.{Station, Context, Attempt, OverX2, OverS1, Within, Renewing, X2Open, X2Ready, X2Commanded, S1Open, S1Ready, S1Commanded, Interface, OnS1, OnX2, map_context, map_attempt}
-use Rattle.lte_machine.specs.StationRows.{Admitted, RecordRow, RecordRefused, ContextGiven, ContextReleased, PairTaken, PreparedByS1, PreparedByX2, AckedByS1, AckedByX2, PreparationCancelled, SourceReleased, KeyRenewed}
-use Rattle.lte_machine.specs.StationChoice.{runs_out, is_station, is_own, is_full, initial_choice, initial_row, release_row, answer_row_by, answer_row, admitted_choice, admitted_row, acked_open, s1_acked_row, s1_ack_row, x2_acked_row, x2_ack_row, cancel_row, x2_released_row, x2_release_row, renewed_alone, modification_row, s1_row, x2_row, record_row}
+use Rattle.lte_machine.specs.StationState.{Station, Context, Via, OverX2, OverS1, Progress, Open, Ready, Commanded, Attempt, Interface, OnS1, OnX2, map_context, map_attempt, map_source_keys}
+use Rattle.lte_machine.specs.StationRows.{Admitted, RecordRow, RecordRefused, ContextGiven, ContextReleased, PairTaken, PreparedByS1, PreparedByX2, AttemptAnswered, PreparationCancelled, SourceReleased, KeyRenewed}
+use Rattle.lte_machine.specs.StationChoice.{runs_out, is_station, is_own, is_full, initial_choice, initial_row, release_row, answer_row_by, answer_row, admitted_choice, admitted_row, order_of, is_over_x2, is_over_s1, star_ncc, answered_row, s1_acked_row, s1_ack_row, x2_acked_row, x2_ack_row, cancel_row, released_row, x2_released_row, x2_release_row, renewed_alone, modification_row, s1_row, x2_row, record_row}
 use Rattle.lte_machine.specs.StationStep.{plain_station}
-use Rattle.lte_machine.proofs.Tests.{by_test, above_of, at_least_of, same_of}
+use Rattle.lte_machine.proofs.Tests.{by_test, both_true, above_of, at_least_of, same_of}
 
 -- numbers that may be drawn have 32 bits
 pub one_left : (n : ℕ) → runs_out 1 n ≡ false → n < 4294967296
@@ -81,36 +80,35 @@ pub record AdmitsOnX2 {K C : Type 0} (r : Reading K C) (s : Station K C) (on : I
   pub fields_is : fields ≡ X2Request w.conn w.from.source w.from.attempt w.cell w.caps
   pub admits : Admits r s w
 
+-- what the answer to an attempt says, and the order by it
+abbrev pub AnswerSays : {K C : Type 0} → Reading K C → Interface → Fields → Attempt K C → Order → Type 0
+AnswerSays r OnS1 (HandoverCommand conn number cell ncc algs air) a order =
+    (a.via ≡ OverS1) × (a.number ≡ number) × (order ≡ order_of a ncc algs air)
+AnswerSays r OnX2 (X2Ack conn number cell algs air) a order =
+    (a.via ≡ OverX2) × (a.number ≡ number) × (order ≡ order_of a (star_ncc (option_map (map_source_keys unseen r.ncc) a.keys)) algs air)
+AnswerSays r on fields a order = ⊥
+
 -- the open attempt of the context is answered
-pub record AnswersS1 {K C : Type 0} (s : Station K C) (on : Interface) (fields : Fields) (ncc : ℕ) (algs : Algs) (air : ℕ) : Type 0 where
-  pub on_is : on ≡ OnS1
+pub record Answers {K C : Type 0} (r : Reading K C) (s : Station K C) (on : Interface) (fields : Fields) (order : Order) : Type 0 where
   pub context : Context K C
   pub serving : s.context ≡ Some context
-  pub start : S1Start
-  pub opened : context.attempt ≡ Some (OverS1 (S1Open start))
-  pub conn : ℕ
-  pub cell : Place
-  pub fields_is : fields ≡ HandoverCommand conn start.number cell ncc algs air
+  pub attempt : Attempt K C
+  pub trying : context.attempt ≡ Some attempt
+  pub waits : attempt.progress ≡ Open
+  pub says : AnswerSays r on fields attempt order
 
-pub record AnswersX2 {K C : Type 0} (s : Station K C) (on : Interface) (fields : Fields) (algs : Algs) (air : ℕ) : Type 0 where
-  pub on_is : on ≡ OnX2
-  pub context : Context K C
-  pub serving : s.context ≡ Some context
-  pub start : X2Start K C
-  pub opened : context.attempt ≡ Some (OverX2 (X2Open start))
-  pub conn : ℕ
-  pub cell : Place
-  pub fields_is : fields ≡ X2Ack conn start.number cell algs air
-
--- the source of a commanded handover is released
+-- the source of a commanded handover over X2 is released
 pub record Leaves {K C : Type 0} (s : Station K C) (on : Interface) (fields : Fields) : Type 0 where
   pub on_is : on ≡ OnX2
   pub context : Context K C
   pub serving : s.context ≡ Some context
-  pub sent : Commanded
-  pub commanded : context.attempt ≡ Some (OverX2 (X2Commanded sent))
+  pub attempt : Attempt K C
+  pub trying : context.attempt ≡ Some attempt
+  pub via : attempt.via ≡ OverX2
+  pub order : Order
+  pub commanded : attempt.progress ≡ Commanded order
   pub conn : ℕ
-  pub fields_is : fields ≡ X2Release conn sent.number
+  pub fields_is : fields ≡ X2Release conn attempt.number
 
 -- the key of an active context with no attempt changes: two numbers are drawn, and its order takes the next COUNT of SRB1
 pub record Renews {K C : Type 0} (s : Station K C) (on : Interface) (fields : Fields) (conn number air count : ℕ) : Type 0 where
@@ -135,11 +133,18 @@ RecordHas r s on fields ContextReleased = Releases s on fields
 RecordHas r s on fields (PairTaken conn origin) = Takes s on fields conn origin
 RecordHas r s on fields (PreparedByS1 w) = AdmitsOnS1 r s on fields w
 RecordHas r s on fields (PreparedByX2 w) = AdmitsOnX2 r s on fields w
-RecordHas r s on fields (AckedByS1 ncc algs air) = AnswersS1 s on fields ncc algs air
-RecordHas r s on fields (AckedByX2 algs air) = AnswersX2 s on fields algs air
+RecordHas r s on fields (AttemptAnswered order) = Answers r s on fields order
 RecordHas r s on fields (PreparationCancelled from) = has_attempt from.source from.attempt (plain_station r s).preps ≡ true
 RecordHas r s on fields SourceReleased = Leaves s on fields
 RecordHas r s on fields (KeyRenewed conn number air count) = Renews s on fields conn number air count
+
+over_s1_so : (via : Via) → is_over_s1 via ≡ true → via ≡ OverS1
+over_s1_so OverS1 e = refl
+over_s1_so other e = absurd cc
+
+over_x2_so : (via : Via) → is_over_x2 via ≡ true → via ≡ OverX2
+over_x2_so OverX2 e = refl
+over_x2_so other e = absurd cc
 
 own_so : (id : ℕ) (o : Option ℕ) → is_station id o ≡ true → o ≡ Some id
 own_so id None e = absurd cc
@@ -233,55 +238,6 @@ module _ {K C : Type 0} (r : Reading K C) (s : Station K C) (on : Interface) (fi
           by_test Has (runs_out 1 s.next) _ _ (λ e. tt)
           (λ e. f algs (record { at_least = at_least; own = own; new = new; room = room; chosen = g; air_is = refl; left = one_left s.next e }))
 
-  open_has : (number own : ℕ) (row : RecordRow) → ((own == number) ≡ true → Has row) → Has (acked_open number own row)
-  open_has number own row h = by_test Has (own == number) _ _ h (λ e. tt)
-
-  s1_ack_has : (conn number : ℕ) (cell : Place) (ncc : ℕ) (algs : Algs) (air : ℕ) → on ≡ OnS1 → fields ≡ HandoverCommand conn number cell ncc algs air
-      → (o : Option (Context K C)) → s.context ≡ o → Has (s1_ack_row number ncc algs air (option_map (map_context unseen r.ncc) o))
-  s1_ack_has conn number cell ncc algs air via says None e = tt
-  s1_ack_has conn number cell ncc algs air via says (Some c) e = acked c.attempt refl where
-    acked : (o : Option (Attempt K C)) → c.attempt ≡ o → Has (s1_acked_row number (AckedByS1 ncc algs air) (option_map (map_attempt unseen r.ncc) o))
-    acked None f = tt
-    acked (Some (OverX2 state)) f = tt
-    acked (Some (Within state)) f = tt
-    acked (Some (Renewing renewal)) f = tt
-    acked (Some (OverS1 (S1Open start))) f =
-        open_has number start.number _ (λ g. record {
-          on_is = via;
-          context = c;
-          serving = e;
-          start = start;
-          opened = f;
-          conn = conn;
-          cell = cell;
-          fields_is = subst (λ n. fields ≡ HandoverCommand conn n cell ncc algs air) (sym (same_of start.number number g)) says;
-        })
-    acked (Some (OverS1 (S1Ready ready))) f = open_has number ready.start.number _ (λ g. tt)
-    acked (Some (OverS1 (S1Commanded sent))) f = open_has number sent.number _ (λ g. tt)
-
-  x2_ack_has : (conn number : ℕ) (cell : Place) (algs : Algs) (air : ℕ) → on ≡ OnX2 → fields ≡ X2Ack conn number cell algs air
-      → (o : Option (Context K C)) → s.context ≡ o → Has (x2_ack_row number algs air (option_map (map_context unseen r.ncc) o))
-  x2_ack_has conn number cell algs air via says None e = tt
-  x2_ack_has conn number cell algs air via says (Some c) e = acked c.attempt refl where
-    acked : (o : Option (Attempt K C)) → c.attempt ≡ o → Has (x2_acked_row number (AckedByX2 algs air) (option_map (map_attempt unseen r.ncc) o))
-    acked None f = tt
-    acked (Some (OverS1 state)) f = tt
-    acked (Some (Within state)) f = tt
-    acked (Some (Renewing renewal)) f = tt
-    acked (Some (OverX2 (X2Open start))) f =
-        open_has number start.number _ (λ g. record {
-          on_is = via;
-          context = c;
-          serving = e;
-          start = start;
-          opened = f;
-          conn = conn;
-          cell = cell;
-          fields_is = subst (λ n. fields ≡ X2Ack conn n cell algs air) (sym (same_of start.number number g)) says;
-        })
-    acked (Some (OverX2 (X2Ready ready))) f = open_has number ready.start.number _ (λ g. tt)
-    acked (Some (OverX2 (X2Commanded sent))) f = open_has number sent.number _ (λ g. tt)
-
   cancel_has : (from : Origin) → Has (cancel_row (plain_station r s) from)
   cancel_has from = by_test Has (has_attempt from.source from.attempt (plain_station r s).preps) _ _ (λ e. e) (λ e. tt)
 
@@ -289,24 +245,29 @@ module _ {K C : Type 0} (r : Reading K C) (s : Station K C) (on : Interface) (fi
       → Has (x2_release_row number (option_map (map_context unseen r.ncc) o))
   x2_release_has conn number via says None e = tt
   x2_release_has conn number via says (Some c) e = released c.attempt refl where
-    released : (o : Option (Attempt K C)) → c.attempt ≡ o → Has (x2_released_row number (option_map (map_attempt unseen r.ncc) o))
-    released None f = tt
-    released (Some (OverS1 state)) f = tt
-    released (Some (Within state)) f = tt
-    released (Some (Renewing renewal)) f = tt
-    released (Some (OverX2 (X2Open start))) f = tt
-    released (Some (OverX2 (X2Ready ready))) f = tt
-    released (Some (OverX2 (X2Commanded sent))) f =
-        by_test Has (sent.number == number) _ _
-        (λ g. record {
+    left : (a : Attempt K C) → c.attempt ≡ Some a → (a.via ≡ OverX2) → (a.number ≡ number) → (p : Progress) → a.progress ≡ p → Has (released_row p)
+    left a f x n Open g = tt
+    left a f x n (Ready order) g = tt
+    left a f x n (Commanded order) g =
+        record {
           on_is = via;
           context = c;
           serving = e;
-          sent = sent;
-          commanded = f;
+          attempt = a;
+          trying = f;
+          via = x;
+          order = order;
+          commanded = g;
           conn = conn;
-          fields_is = subst (λ n. fields ≡ X2Release conn n) (sym (same_of sent.number number g)) says;
-        }) (λ g. tt)
+          fields_is = subst (λ n. fields ≡ X2Release conn n) (sym n) says;
+        }
+
+    released : (o : Option (Attempt K C)) → c.attempt ≡ o → Has (x2_released_row number (option_map (map_attempt unseen r.ncc) o))
+    released None f = tt
+    released (Some a) f =
+        by_test Has (is_over_x2 a.via && (a.number == number)) _ _ (λ g.
+        let both = both_true (is_over_x2 a.via) (a.number == number) g in
+        left a f (over_x2_so a.via both.0) (same_of a.number number both.1) a.progress refl) (λ g. tt)
 
   modification_has : (conn next : ℕ) → on ≡ OnS1 → fields ≡ ContextModification conn next → (o : Option (Context K C)) → s.context ≡ o
       → Has (modification_row (plain_station r s) conn next (option_map (map_context unseen r.ncc) o))
@@ -336,7 +297,42 @@ module _ {K C : Type 0} (r : Reading K C) (s : Station K C) (on : Interface) (fi
             unspent = h;
           }))
 
+-- an answer, on S1 and on X2
+module _ {K C : Type 0} (r : Reading K C) (s : Station K C) (on : Interface) (fields : Fields) (c : Context K C) (e : s.context ≡ Some c)
+    (a : Attempt K C) (f : c.attempt ≡ Some a) where
+  answered_has : (number : ℕ) (order : Order) → AnswerSays r on fields a order → (p : Progress) → a.progress ≡ p
+      → RecordHas r s on fields (answered_row number order p)
+  answered_has number order says Open g = record { context = c; serving = e; attempt = a; trying = f; waits = g; says = says }
+  answered_has number order says (Ready old) g = tt
+  answered_has number order says (Commanded old) g = tt
+
 module _ {K C : Type 0} (r : Reading K C) (s : Station K C) where
+  s1_ack_has : (conn number : ℕ) (cell : Place) (ncc : ℕ) (algs : Algs) (air : ℕ) → (o : Option (Context K C)) → s.context ≡ o
+      → RecordHas r s OnS1 (HandoverCommand conn number cell ncc algs air) (s1_ack_row number ncc algs air (option_map (map_context unseen r.ncc) o))
+  s1_ack_has conn number cell ncc algs air None e = tt
+  s1_ack_has conn number cell ncc algs air (Some c) e = acked c.attempt refl where
+    acked : (o : Option (Attempt K C)) → c.attempt ≡ o
+        → RecordHas r s OnS1 (HandoverCommand conn number cell ncc algs air) (s1_acked_row number ncc algs air (option_map (map_attempt unseen r.ncc) o))
+    acked None f = tt
+    acked (Some a) f =
+        by_test (RecordHas r s OnS1 (HandoverCommand conn number cell ncc algs air)) (is_over_s1 a.via && (a.number == number)) _ _ (λ g.
+        let both = both_true (is_over_s1 a.via) (a.number == number) g in
+        answered_has r s OnS1 (HandoverCommand conn number cell ncc algs air) c e a f number (order_of a ncc algs air)
+        (over_s1_so a.via both.0, same_of a.number number both.1, refl) a.progress refl) (λ g. tt)
+
+  x2_ack_has : (conn number : ℕ) (cell : Place) (algs : Algs) (air : ℕ) → (o : Option (Context K C)) → s.context ≡ o
+      → RecordHas r s OnX2 (X2Ack conn number cell algs air) (x2_ack_row number algs air (option_map (map_context unseen r.ncc) o))
+  x2_ack_has conn number cell algs air None e = tt
+  x2_ack_has conn number cell algs air (Some c) e = acked c.attempt refl where
+    acked : (o : Option (Attempt K C)) → c.attempt ≡ o
+        → RecordHas r s OnX2 (X2Ack conn number cell algs air) (x2_acked_row number algs air (option_map (map_attempt unseen r.ncc) o))
+    acked None f = tt
+    acked (Some a) f =
+        by_test (RecordHas r s OnX2 (X2Ack conn number cell algs air)) (is_over_x2 a.via && (a.number == number)) _ _ (λ g.
+        let both = both_true (is_over_x2 a.via) (a.number == number) g in
+        answered_has r s OnX2 (X2Ack conn number cell algs air) c e a f number (order_of a (star_ncc (option_map (map_source_keys unseen r.ncc) a.keys)) algs air)
+        (over_x2_so a.via both.0, same_of a.number number both.1, refl) a.progress refl) (λ g. tt)
+
   s1_has : (fields : Fields) → RecordHas r s OnS1 fields (s1_row (plain_station r s) fields)
   s1_has (InitialContext conn cell caps) = initial_has r s OnS1 _ conn cell caps refl refl
   s1_has (ContextRelease conn) = release_has r s OnS1 _ conn refl refl s.context refl
@@ -344,7 +340,7 @@ module _ {K C : Type 0} (r : Reading K C) (s : Station K C) where
   s1_has (HandoverRequest conn source attempt cell caps) =
       admitted_has r s OnS1 _ conn (record { source = source; attempt = attempt }) cell caps PreparedByS1
       (λ algs a. record { on_is = refl; fields_is = refl; admits = a })
-  s1_has (HandoverCommand conn attempt cell ncc algs air) = s1_ack_has r s OnS1 _ conn attempt cell ncc algs air refl refl s.context refl
+  s1_has (HandoverCommand conn attempt cell ncc algs air) = s1_ack_has conn attempt cell ncc algs air s.context refl
   s1_has (HandoverCancel conn source attempt cell) = cancel_has r s OnS1 _ (record { source = source; attempt = attempt })
   s1_has (ContextModification conn next) = modification_has r s OnS1 _ conn next refl refl s.context refl
   s1_has other = tt
@@ -353,7 +349,7 @@ module _ {K C : Type 0} (r : Reading K C) (s : Station K C) where
   x2_has (X2Request conn source attempt cell caps) =
       admitted_has r s OnX2 _ conn (record { source = source; attempt = attempt }) cell caps PreparedByX2
       (λ algs a. record { on_is = refl; fields_is = refl; admits = a })
-  x2_has (X2Ack conn attempt cell algs air) = x2_ack_has r s OnX2 _ conn attempt cell algs air refl refl s.context refl
+  x2_has (X2Ack conn attempt cell algs air) = x2_ack_has conn attempt cell algs air s.context refl
   x2_has (X2Cancel conn source attempt) = cancel_has r s OnX2 _ (record { source = source; attempt = attempt })
   x2_has (X2Release conn attempt) = x2_release_has r s OnX2 _ conn attempt refl refl s.context refl
   x2_has other = tt

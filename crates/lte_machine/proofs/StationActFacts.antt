@@ -1,6 +1,6 @@
 -- What a station's choice of a row on an act established: the one walk through its refusals. For the row that was chosen, all that the
 -- passed tests say.
-use Rattle.std.proofs.Common.{◌≡◌, refl, subst, ap, ◌∙◌, ℕ, ◌+◌, ◌<◌, Bool, true, false, ◌==◌, List, Option, Some, None, option_map, arith}
+use Rattle.std.proofs.Common.{◌≡◌, refl, sym, subst, ap, ◌∙◌, ℕ, ◌+◌, ◌<◌, Bool, true, false, ◌==◌, List, Option, Some, None, option_map, arith}
 use Rattle.std.specs.Prelude.{⊤}
 use Rattle.annex_a_keys.specs.Cell.{Place}
 use Rattle.rec_base.specs.declared.bearers.Bearer.{Bearer}
@@ -11,13 +11,11 @@ use Rattle.lte_events.specs.declared.acts.StationAct.TheVariants.{Start, Command
 use Rattle.key_model.specs.Reading.{Reading}
 use Rattle.pdcp_guard.specs.Counts.{Counts}
 use Rattle.x2_handover.specs.declared.orders.Order.{Order}
-use Rattle.x2_handover.specs.Attempt.{X2Start, x2_order}
-use Rattle.s1_handover.specs.Attempt.{S1Start, s1_order}
 use Rattle.lte_machine.specs.Bearers.{Srb, Drb, Which, OnSrb, OnDrb, which, srb_counts, drb_counts, is_spent}
 use Rattle.lte_machine.specs.Reply.{Origin, unseen}
-use Rattle.lte_machine.specs.StationState.{Station, Context, Attempt, OverX2, OverS1, Within, Renewal, Renewing, X2State, X2Open, X2Ready, X2Commanded, S1State, S1Open, S1Ready, S1Commanded, map_context, map_attempt, map_x2_state}
-use Rattle.lte_machine.specs.StationRows.{ActRow, ActRefused, StartedByX2, StartedByS1, StartedWithin, HandoverCommanded, ChangeCommanded, CancelledByX2, CancelledByS1, CancelledWithin, PathSwitchAsked, PacketSent, RrcSent, BearerSkipped}
-use Rattle.lte_machine.specs.StationChoice.{runs_out, is_full, is_misplaced, active_row, unless_spent, begun_row, target_row, start_row, attempt_command_row, command_row, x2_cancel_row, s1_cancel_row, within_cancel_row, attempt_cancel_row, give_up_row, came_row, ask_row, packet_row, send_rrc_row, skip_row, act_row}
+use Rattle.lte_machine.specs.StationState.{Station, Context, Via, OverX2, OverS1, Within, Renewing, Progress, Open, Ready, Commanded, Attempt, map_context, map_attempt}
+use Rattle.lte_machine.specs.StationRows.{ActRow, ActRefused, StartedByX2, StartedByS1, StartedWithin, OrderSent, CancelledByX2, CancelledByS1, CancelledWithin, PathSwitchAsked, PacketSent, RrcSent, BearerSkipped}
+use Rattle.lte_machine.specs.StationChoice.{runs_out, is_full, is_misplaced, active_row, unless_spent, begun_row, target_row, start_row, ordered_row, attempt_command_row, command_row, unless_commanded, cancelled_row, attempt_cancel_row, give_up_row, came_row, ask_row, packet_row, send_rrc_row, skip_row, act_row}
 use Rattle.lte_machine.specs.StationStep.{plain_station}
 use Rattle.lte_machine.proofs.Tests.{by_test}
 use Rattle.lte_machine.proofs.RecordFacts.{one_left, two_left, same_unless}
@@ -42,86 +40,42 @@ pub record StartsWithin {K C : Type 0} (r : Reading K C) (s : Station K C) (act 
   pub left : s.next + 1 < 4294967296
 
 -- what an attempt orders
-abbrev pub X2Orders : {K C : Type 0} → Reading K C → X2State K C → Order → Type 0
-X2Orders r (X2Open start) order = ⊥
-X2Orders r (X2Ready acked) order = order ≡ x2_order r.ncc acked
-X2Orders r (X2Commanded sent) order = order ≡ sent.order
+abbrev pub Orders : Progress → Order → Type 0
+Orders Open order = ⊥
+Orders (Ready known) order = order ≡ known
+Orders (Commanded known) order = order ≡ known
 
-abbrev pub S1Orders : S1State → Order → Type 0
-S1Orders (S1Open start) order = ⊥
-S1Orders (S1Ready acked) order = order ≡ s1_order acked
-S1Orders (S1Commanded sent) order = order ≡ sent.order
-
-abbrev pub Orders : {K C : Type 0} → Reading K C → Attempt K C → Order → Type 0
-Orders r (OverX2 state) order = X2Orders r state order
-Orders r (OverS1 state) order = S1Orders state order
-Orders r (Within state) order = X2Orders r state order
-Orders r (Renewing renewal) order = ⊥
-
--- the attempt is commanded, with the next COUNT of SRB1
-pub record Commands {K C : Type 0} (r : Reading K C) (s : Station K C) (act : StationAct) (order : Order) (count : ℕ) : Type 0 where
+-- the order of the attempt is sent, with the next COUNT of SRB1
+pub record Commands {K C : Type 0} (s : Station K C) (act : StationAct) (via : Via) (order : Order) (count : ℕ) : Type 0 where
   pub act_is : act ≡ Command
   pub context : Context K C
   pub serving : s.context ≡ Some context
   pub attempt : Attempt K C
   pub trying : context.attempt ≡ Some attempt
-  pub orders : Orders r attempt order
+  pub via_is : via ≡ attempt.via
+  pub orders : Orders attempt.progress order
   pub count_is : count ≡ context.bearers.srb1.send
   pub unspent : is_spent context.bearers.srb1 ≡ false
-
-pub record CommandsChange {K C : Type 0} (s : Station K C) (act : StationAct) (renewal : Renewal) (count : ℕ) : Type 0 where
-  pub act_is : act ≡ Command
-  pub context : Context K C
-  pub serving : s.context ≡ Some context
-  pub trying : context.attempt ≡ Some (Renewing renewal)
-  pub count_is : count ≡ context.bearers.srb1.send
-  pub unspent : is_spent context.bearers.srb1 ≡ false
-
--- an attempt that is not commanded yet began so
-abbrev pub X2Began : {K C : Type 0} → X2State K C → X2Start K C → Type 0
-X2Began (X2Open first) start = first ≡ start
-X2Began (X2Ready acked) start = acked.start ≡ start
-X2Began (X2Commanded sent) start = ⊥
-
-abbrev pub S1Began : S1State → S1Start → Type 0
-S1Began (S1Open first) start = first ≡ start
-S1Began (S1Ready acked) start = acked.start ≡ start
-S1Began (S1Commanded sent) start = ⊥
 
 -- it is given up
-pub record CancelsX2 {K C : Type 0} (s : Station K C) (act : StationAct) (conn number target : ℕ) : Type 0 where
+pub record GivesUp {K C : Type 0} (s : Station K C) (act : StationAct) (via : Via) (number : ℕ) : Type 0 where
   pub act_is : act ≡ Cancel
   pub context : Context K C
   pub serving : s.context ≡ Some context
-  pub state : X2State K C
-  pub trying : context.attempt ≡ Some (OverX2 state)
-  pub start : X2Start K C
-  pub began : X2Began state start
-  pub conn_is : conn ≡ context.conn
-  pub number_is : number ≡ start.number
-  pub target_is : target ≡ start.station
+  pub attempt : Attempt K C
+  pub trying : context.attempt ≡ Some attempt
+  pub via_is : attempt.via ≡ via
+  pub number_is : number ≡ attempt.number
+
+pub record CancelsX2 {K C : Type 0} (s : Station K C) (act : StationAct) (conn number target : ℕ) : Type 0 where
+  pub gives_up : GivesUp s act OverX2 number
+  pub conn_is : conn ≡ gives_up.context.conn
+  pub target_is : target ≡ gives_up.attempt.station
 
 pub record CancelsS1 {K C : Type 0} (s : Station K C) (act : StationAct) (conn number : ℕ) (cell : Place) : Type 0 where
-  pub act_is : act ≡ Cancel
-  pub context : Context K C
-  pub serving : s.context ≡ Some context
-  pub state : S1State
-  pub trying : context.attempt ≡ Some (OverS1 state)
-  pub start : S1Start
-  pub began : S1Began state start
-  pub conn_is : conn ≡ context.conn
-  pub number_is : number ≡ start.number
-  pub cell_is : cell ≡ start.cell
-
-pub record CancelsWithin {K C : Type 0} (s : Station K C) (act : StationAct) (number : ℕ) : Type 0 where
-  pub act_is : act ≡ Cancel
-  pub context : Context K C
-  pub serving : s.context ≡ Some context
-  pub state : X2State K C
-  pub trying : context.attempt ≡ Some (Within state)
-  pub start : X2Start K C
-  pub began : X2Began state start
-  pub number_is : number ≡ start.number
+  pub gives_up : GivesUp s act OverS1 number
+  pub conn_is : conn ≡ gives_up.context.conn
+  pub cell_is : cell ≡ gives_up.attempt.cell
 
 -- a Path Switch Request again, of an active context that came by X2, under the next number
 pub record Asks {K C : Type 0} (s : Station K C) (act : StationAct) (number : ℕ) : Type 0 where
@@ -170,11 +124,10 @@ StationActHas r s act (ActRefused answer) = ⊤
 StationActHas r s act (StartedByX2 number target cell) = Starts s act HoKind.X2 number target cell
 StationActHas r s act (StartedByS1 number target cell) = Starts s act HoKind.S1 number target cell
 StationActHas r s act (StartedWithin number air cell) = StartsWithin r s act number air cell
-StationActHas r s act (HandoverCommanded order count) = Commands r s act order count
-StationActHas r s act (ChangeCommanded renewal count) = CommandsChange s act renewal count
+StationActHas r s act (OrderSent via order count) = Commands s act via order count
 StationActHas r s act (CancelledByX2 conn number target) = CancelsX2 s act conn number target
 StationActHas r s act (CancelledByS1 conn number cell) = CancelsS1 s act conn number cell
-StationActHas r s act (CancelledWithin number) = CancelsWithin s act number
+StationActHas r s act (CancelledWithin number) = GivesUp s act Within number
 StationActHas r s act (PathSwitchAsked number) = Asks s act number
 StationActHas r s act (PacketSent drb count text) = SendsPacket s act drb count text
 StationActHas r s act (RrcSent srb count text) = SendsText s act srb count text
@@ -234,16 +187,29 @@ module _ {K C : Type 0} (r : Reading K C) (s : Station K C) (act : StationAct) w
     target_has kind cell a f (Some target) h (Some attempt) g = by_test Has (is_misplaced kind (target == s.id)) _ _ (λ i. tt) (λ i. tt)
     target_has kind cell a f (Some target) h None g = by_test Has (is_misplaced kind (target == s.id)) _ _ (λ i. tt) (λ i. begun_has kind target cell a f g h i)
 
-    ordered_has : act ≡ Command → (attempt : Attempt K C) → c.attempt ≡ Some attempt → (order : Order) → Orders r attempt order
-        → Has (unless_spent c.bearers.srb1 (HandoverCommanded order c.bearers.srb1.send))
-    ordered_has a attempt f order g =
+    ordered_has : act ≡ Command → (a : Attempt K C) → c.attempt ≡ Some a → (p : Progress) → a.progress ≡ p → Has (ordered_row a.via p c.bearers.srb1)
+    ordered_has is a f Open g = tt
+    ordered_has is a f (Ready order) g =
         unspent_has c.bearers.srb1 _ (λ h. record {
-          act_is = a;
+          act_is = is;
           context = c;
           serving = e;
-          attempt = attempt;
+          attempt = a;
           trying = f;
-          orders = g;
+          via_is = refl;
+          orders = subst (λ p. Orders p order) (sym g) refl;
+          count_is = refl;
+          unspent = h;
+        })
+    ordered_has is a f (Commanded order) g =
+        unspent_has c.bearers.srb1 _ (λ h. record {
+          act_is = is;
+          context = c;
+          serving = e;
+          attempt = a;
+          trying = f;
+          via_is = refl;
+          orders = subst (λ p. Orders p order) (sym g) refl;
           count_is = refl;
           unspent = h;
         })
@@ -252,101 +218,27 @@ module _ {K C : Type 0} (r : Reading K C) (s : Station K C) (act : StationAct) w
         → (o : Option (Attempt K C))
         → c.attempt ≡ o
         → Has (attempt_command_row (option_map (map_attempt unseen r.ncc) o) c.bearers.srb1)
-    command_has a None f = tt
-    command_has a (Some (OverX2 (X2Open start))) f = tt
-    command_has a (Some (OverS1 (S1Open start))) f = tt
-    command_has a (Some (Within (X2Open start))) f = tt
-    command_has a (Some (Renewing renewal)) f =
-        unspent_has c.bearers.srb1 _ (λ h. record { act_is = a; context = c; serving = e; trying = f; count_is = refl; unspent = h })
-    command_has a other f = ordered_has a _ f _ refl
+    command_has is None f = tt
+    command_has is (Some a) f = ordered_has is a f a.progress refl
 
-    x2_cancel_has : act ≡ Cancel → (state : X2State K C) → c.attempt ≡ Some (OverX2 state) → Has (x2_cancel_row c.conn (map_x2_state unseen r.ncc state))
-    x2_cancel_has a (X2Open start) f =
-        record {
-          act_is = a;
-          context = c;
-          serving = e;
-          state = X2Open start;
-          trying = f;
-          start = start;
-          began = refl;
-          conn_is = refl;
-          number_is = refl;
-          target_is = refl;
-        }
-    x2_cancel_has a (X2Ready acked) f =
-        record {
-          act_is = a;
-          context = c;
-          serving = e;
-          state = X2Ready acked;
-          trying = f;
-          start = acked.start;
-          began = refl;
-          conn_is = refl;
-          number_is = refl;
-          target_is = refl;
-        }
-    x2_cancel_has a (X2Commanded sent) f = tt
+    module _ (is : act ≡ Cancel) (a : Attempt K C) (f : c.attempt ≡ Some a) where
+      abbrev gives : (via : Via) → a.via ≡ via → GivesUp s act via a.number
+      gives via g = record { act_is = is; context = c; serving = e; attempt = a; trying = f; via_is = g; number_is = refl }
 
-    s1_cancel_has : act ≡ Cancel → (state : S1State) → c.attempt ≡ Some (OverS1 state) → Has (s1_cancel_row c.conn state)
-    s1_cancel_has a (S1Open start) f =
-        record {
-          act_is = a;
-          context = c;
-          serving = e;
-          state = S1Open start;
-          trying = f;
-          start = start;
-          began = refl;
-          conn_is = refl;
-          number_is = refl;
-          cell_is = refl;
-        }
-    s1_cancel_has a (S1Ready acked) f =
-        record {
-          act_is = a;
-          context = c;
-          serving = e;
-          state = S1Ready acked;
-          trying = f;
-          start = acked.start;
-          began = refl;
-          conn_is = refl;
-          number_is = refl;
-          cell_is = refl;
-        }
-    s1_cancel_has a (S1Commanded sent) f = tt
+      cancelled_has : (via : Via) → a.via ≡ via → Has (cancelled_row c.conn (map_attempt unseen r.ncc a) via)
+      cancelled_has OverX2 g = record { gives_up = gives OverX2 g; conn_is = refl; target_is = refl }
+      cancelled_has OverS1 g = record { gives_up = gives OverS1 g; conn_is = refl; cell_is = refl }
+      cancelled_has Within g = gives Within g
+      cancelled_has Renewing g = tt
 
-    within_cancel_has : act ≡ Cancel → (state : X2State K C) → c.attempt ≡ Some (Within state) → Has (within_cancel_row (map_x2_state unseen r.ncc state))
-    within_cancel_has a (X2Open start) f = record {
-      act_is = a;
-      context = c;
-      serving = e;
-      state = X2Open start;
-      trying = f;
-      start = start;
-      began = refl;
-      number_is = refl;
-    }
-    within_cancel_has a (X2Ready acked) f = record {
-      act_is = a;
-      context = c;
-      serving = e;
-      state = X2Ready acked;
-      trying = f;
-      start = acked.start;
-      began = refl;
-      number_is = refl;
-    }
-    within_cancel_has a (X2Commanded sent) f = tt
+      uncommanded_has : (p : Progress) (row : ActRow) → Has row → Has (unless_commanded p row)
+      uncommanded_has Open row h = h
+      uncommanded_has (Ready order) row h = h
+      uncommanded_has (Commanded order) row h = tt
 
     cancel_has : act ≡ Cancel → (o : Option (Attempt K C)) → c.attempt ≡ o → Has (attempt_cancel_row c.conn (option_map (map_attempt unseen r.ncc) o))
-    cancel_has a None f = tt
-    cancel_has a (Some (OverX2 state)) f = x2_cancel_has a state f
-    cancel_has a (Some (OverS1 state)) f = s1_cancel_has a state f
-    cancel_has a (Some (Within state)) f = within_cancel_has a state f
-    cancel_has a (Some (Renewing renewal)) f = tt
+    cancel_has is None f = tt
+    cancel_has is (Some a) f = uncommanded_has is a f a.progress _ (cancelled_has is a f a.via refl)
 
     came_has : act ≡ Ask → c.starting ≡ false → (o : Option Origin) → c.origin ≡ o → Has (came_row s.next o)
     came_has a f None g = tt

@@ -16,10 +16,10 @@ use Rattle.x2_handover.specs.declared.orders.Order.{Order}
 use Rattle.lte_machine.specs.Bearers.{Srb, Drb, Which, which}
 use Rattle.lte_machine.specs.Opening.{Outcome}
 use Rattle.lte_machine.specs.Reply.{Origin, Reply, only, unseen}
-use Rattle.lte_machine.specs.StationState.{Station, Context, Renewal, Interface, StationInput, StationActs, AirPdu, StationRecord}
-use Rattle.lte_machine.specs.StationRows.{Admitted, RecordRow, RecordRefused, ContextGiven, ContextReleased, PairTaken, PreparedByS1, PreparedByX2, AckedByS1, AckedByX2, PreparationCancelled, SourceReleased, KeyRenewed, AirRow, AirRefused, SecurityStarted, RrcOpened, PacketOpened, CompletedByS1, CompletedWithin, CompletedByX2, ActRow, ActRefused, StartedByX2, StartedByS1, StartedWithin, HandoverCommanded, ChangeCommanded, CancelledByX2, CancelledByS1, CancelledWithin, PathSwitchAsked, PacketSent, RrcSent, BearerSkipped, StationRow, OfRecord, OfAir, OfAct}
+use Rattle.lte_machine.specs.StationState.{Station, Context, Via, Interface, StationInput, StationActs, AirPdu, StationRecord}
+use Rattle.lte_machine.specs.StationRows.{Admitted, RecordRow, RecordRefused, ContextGiven, ContextReleased, PairTaken, PreparedByS1, PreparedByX2, AttemptAnswered, PreparationCancelled, SourceReleased, KeyRenewed, AirRow, AirRefused, SecurityStarted, RrcOpened, PacketOpened, CompletedByS1, CompletedWithin, CompletedByX2, ActRow, ActRefused, StartedByX2, StartedByS1, StartedWithin, OrderSent, CancelledByX2, CancelledByS1, CancelledWithin, PathSwitchAsked, PacketSent, RrcSent, BearerSkipped, StationRow, OfRecord, OfAir, OfAct}
 use Rattle.lte_machine.specs.StationRecords.{context_given, pair_taken, prepared_by_s1, prepared_by_x2, key_renewed, record_does}
-use Rattle.lte_machine.specs.StationKeys.{completed_by_s1, completed_within, completed_by_x2, air_does, started_by_x2, started_by_s1, started_within, commands, commands_change, asks_again, sends_packet, sends_rrc, act_does, station_does}
+use Rattle.lte_machine.specs.StationKeys.{completed_by_s1, completed_within, completed_by_x2, air_does, started_by_x2, started_by_s1, started_within, commands, asks_again, sends_packet, sends_rrc, act_does, station_does}
 use Rattle.lte_machine.specs.StationChoice.{record_row, air_front, air_row, act_row}
 use Rattle.lte_machine.specs.StationStep.{plain_station, station_row_of, station_key}
 use Rattle.lte_machine.proofs.Tests.{Anything}
@@ -38,9 +38,7 @@ pub record RecordCases {K C : Type 0} (r : Reading K C) (s : Station K C) (Known
       → P (pair_taken conn origin (Some pair) s)
   pub by_s1 : (w : Admitted) → (pair : NumberedKey K C) → Known (PreparedByS1 w) (Some pair) → P (prepared_by_s1 r w (Some pair) s)
   pub by_x2 : (w : Admitted) → (star : NumberedKey K C) → Known (PreparedByX2 w) (Some star) → P (prepared_by_x2 r w (Some star) s)
-  pub acked_s1 : (ncc : ℕ) (algs : Algs) (air : ℕ) (key : Option (NumberedKey K C)) → Known (AckedByS1 ncc algs air) key
-      → P (record_does r (AckedByS1 ncc algs air) None s)
-  pub acked_x2 : (algs : Algs) (air : ℕ) (key : Option (NumberedKey K C)) → Known (AckedByX2 algs air) key → P (record_does r (AckedByX2 algs air) None s)
+  pub answered : (order : Order) (key : Option (NumberedKey K C)) → Known (AttemptAnswered order) key → P (record_does r (AttemptAnswered order) None s)
   pub cancelled : (from : Origin) (key : Option (NumberedKey K C)) → Known (PreparationCancelled from) key
       → P (record_does r (PreparationCancelled from) None s)
   pub left : (key : Option (NumberedKey K C)) → Known SourceReleased key → P (record_does r SourceReleased None s)
@@ -69,10 +67,8 @@ pub record ActCases {K C : Type 0} (r : Reading K C) (s : Station K C) (Known : 
       → P (started_by_s1 number target cell (Some c) s)
   pub within : (number air : ℕ) (cell : Place) → Known (StartedWithin number air cell) → (c : Context K C) → s.context ≡ Some c
       → P (started_within r number air cell (Some c) s)
-  pub commanded : (order : Order) (count : ℕ) → Known (HandoverCommanded order count) → (c : Context K C) → s.context ≡ Some c
-      → P (commands order count (Some c) s)
-  pub changed : (renewal : Renewal) (count : ℕ) → Known (ChangeCommanded renewal count) → (c : Context K C) → s.context ≡ Some c
-      → P (commands_change renewal count (Some c) s)
+  pub commanded : (via : Via) (order : Order) (count : ℕ) → Known (OrderSent via order count) → (c : Context K C) → s.context ≡ Some c
+      → P (commands via order count (Some c) s)
   pub cancelled_x2 : (conn number target : ℕ) → Known (CancelledByX2 conn number target) → P (act_does r (CancelledByX2 conn number target) s)
   pub cancelled_s1 : (conn number : ℕ) (cell : Place) → Known (CancelledByS1 conn number cell) → P (act_does r (CancelledByS1 conn number cell) s)
   pub cancelled_within : (number : ℕ) → Known (CancelledWithin number) → P (act_does r (CancelledWithin number) s)
@@ -92,8 +88,7 @@ module _ {K C : Type 0} (r : Reading K C) (s : Station K C) (P : Station K C × 
   record_case Known x (PairTaken conn origin) (Some pair) k = x.taken conn origin pair k
   record_case Known x (PreparedByS1 w) (Some pair) k = x.by_s1 w pair k
   record_case Known x (PreparedByX2 w) (Some star) k = x.by_x2 w star k
-  record_case Known x (AckedByS1 ncc algs air) key k = x.acked_s1 ncc algs air key k
-  record_case Known x (AckedByX2 algs air) key k = x.acked_x2 algs air key k
+  record_case Known x (AttemptAnswered order) key k = x.answered order key k
   record_case Known x (PreparationCancelled from) key k = x.cancelled from key k
   record_case Known x SourceReleased key k = x.left key k
   record_case Known x (KeyRenewed conn number air count) key k = renews s.context refl key k where
@@ -128,9 +123,7 @@ module _ {K C : Type 0} (r : Reading K C) (s : Station K C) (P : Station K C × 
       if_one s.context (λ o. P (started_by_s1 number target cell o s)) (x.nothing Done) (x.by_s1 number target cell k)
   act_case Known x (StartedWithin number air cell) k =
       if_one s.context (λ o. P (started_within r number air cell o s)) (x.nothing Done) (x.within number air cell k)
-  act_case Known x (HandoverCommanded order count) k = if_one s.context (λ o. P (commands order count o s)) (x.nothing Done) (x.commanded order count k)
-  act_case Known x (ChangeCommanded renewal count) k =
-      if_one s.context (λ o. P (commands_change renewal count o s)) (x.nothing Done) (x.changed renewal count k)
+  act_case Known x (OrderSent via order count) k = if_one s.context (λ o. P (commands via order count o s)) (x.nothing Done) (x.commanded via order count k)
   act_case Known x (CancelledByX2 conn number target) k = x.cancelled_x2 conn number target k
   act_case Known x (CancelledByS1 conn number cell) k = x.cancelled_s1 conn number cell k
   act_case Known x (CancelledWithin number) k = x.cancelled_within number k

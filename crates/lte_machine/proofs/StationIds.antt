@@ -22,8 +22,7 @@ module _ {K C : Type 0} (r : Reading K C) (s : Station K C) where
         taken = λ conn origin pair k. refl;
         by_s1 = λ w pair k. refl;
         by_x2 = λ w star k. refl;
-        acked_s1 = λ ncc algs air key k. refl;
-        acked_x2 = λ algs air key k. refl;
+        answered = λ order key k. refl;
         cancelled = λ from key k. refl;
         left = λ key k. refl;
         renewed = λ conn number air count c e kenb k. refl;
@@ -42,8 +41,7 @@ module _ {K C : Type 0} (r : Reading K C) (s : Station K C) where
         by_x2 = λ number target cell k c e. refl;
         by_s1 = λ number target cell k c e. refl;
         within = λ number air cell k c e. refl;
-        commanded = λ order count k c e. refl;
-        changed = λ renewal count k c e. refl;
+        commanded = λ via order count k c e. refl;
         cancelled_x2 = λ conn number target k. refl;
         cancelled_s1 = λ conn number cell k. refl;
         cancelled_within = λ number k. refl;

@@ -20,8 +20,8 @@ use Rattle.lte_machine.specs.Wire.{map_outgoing}
 use Rattle.lte_machine.specs.Opening.{Opening, OpensNothing, OpensNas, OpensSrb, OpensDrb, Outcome, Opened as Came, Differs, accepted_of}
 use Rattle.key_model.specs.Use.{map_use}
 use Rattle.lte_machine.specs.Reply.{Origin, finished}
-use Rattle.lte_machine.specs.StationState.{Station, Context, Attempt, OverX2, OverS1, Within, X2State, X2Open, X2Ready, X2Commanded, S1Open, S1Ready, S1Commanded, StationInput, StationActs, AirPdu, StationRecord, map_x2_state, map_attempt, map_context, map_station, map_read, map_station_input, Renewal, Renewing}
-use Rattle.lte_machine.specs.StationRows.{Admitted, RecordRow, ContextGiven, PairTaken, PreparedByS1, PreparedByX2, AckedByS1, AckedByX2, PreparationCancelled, AirRow, AirRefused, SecurityStarted, RrcOpened, PacketOpened, CompletedByS1, CompletedWithin, CompletedByX2, ActRow, ActRefused, StartedByX2, StartedByS1, StartedWithin, HandoverCommanded, CancelledByX2, CancelledByS1, CancelledWithin, PathSwitchAsked, PacketSent, RrcSent, BearerSkipped, StationRow, OfRecord, OfAir, OfAct, KeyRenewed, ChangeCommanded}
+use Rattle.lte_machine.specs.StationState.{Station, Context, Via, Attempt, SourceKeys, StationInput, StationActs, AirPdu, StationRecord, map_source_keys, map_attempt, map_context, map_station, map_read, map_station_input}
+use Rattle.lte_machine.specs.StationRows.{Admitted, RecordRow, ContextGiven, PairTaken, PreparedByS1, PreparedByX2, AttemptAnswered, PreparationCancelled, AirRow, AirRefused, SecurityStarted, RrcOpened, PacketOpened, CompletedByS1, CompletedWithin, CompletedByX2, ActRow, ActRefused, StartedByX2, StartedByS1, StartedWithin, OrderSent, CancelledByX2, CancelledByS1, CancelledWithin, PathSwitchAsked, PacketSent, RrcSent, BearerSkipped, StationRow, OfRecord, OfAir, OfAct, KeyRenewed}
 use Rattle.lte_machine.specs.StationChoice.{AirFront, AirSettled, OnStarting, OnSignalling, OnUser, OnPrepared, StationFront, Settled, FromAir, station_front, station_row}
 use Rattle.lte_machine.specs.StationKeys as keys
 use Rattle.lte_machine.specs.StationRecords as record_keys
@@ -162,39 +162,17 @@ module _ {K C L D : Type 0} {r : Reading K C} {q : Reading L D} {f : K → L} {g
       ∙ (λ j. record_keys.prepared_by_s1_with q w (star_made_map pair.key w.cell j) (star_line_map pair w.cell j)
       (map_station f g s))
 
-  s1_acked_map : (ncc : ℕ) (algs : Algs) (air : ℕ) (o : Option (Attempt K C)) →
-      option_map (map_attempt f g) (option_map (record_keys.s1_acked ncc algs air) o)
-      ≡ option_map (record_keys.s1_acked ncc algs air) (option_map (map_attempt f g) o)
-  s1_acked_map ncc algs air None = refl
-  s1_acked_map ncc algs air (Some (OverX2 state)) = refl
-  s1_acked_map ncc algs air (Some (OverS1 (S1Open start))) = refl
-  s1_acked_map ncc algs air (Some (OverS1 (S1Ready acked))) = refl
-  s1_acked_map ncc algs air (Some (OverS1 (S1Commanded sent))) = refl
-  s1_acked_map ncc algs air (Some (Within state)) = refl
-  s1_acked_map ncc algs air (Some (Renewing renewal)) = refl
+  answered_map : (order : Order) (o : Option (Attempt K C)) →
+      option_map (map_attempt f g) (option_map (record_keys.answered order) o)
+      ≡ option_map (record_keys.answered order) (option_map (map_attempt f g) o)
+  answered_map order None = refl
+  answered_map order (Some a) = refl
 
-  x2_acked_map : (algs : Algs) (air : ℕ) (o : Option (Attempt K C)) →
-      option_map (map_attempt f g) (option_map (record_keys.x2_acked algs air) o)
-      ≡ option_map (record_keys.x2_acked algs air) (option_map (map_attempt f g) o)
-  x2_acked_map algs air None = refl
-  x2_acked_map algs air (Some (OverX2 (X2Open start))) = refl
-  x2_acked_map algs air (Some (OverX2 (X2Ready acked))) = refl
-  x2_acked_map algs air (Some (OverX2 (X2Commanded sent))) = refl
-  x2_acked_map algs air (Some (OverS1 state)) = refl
-  x2_acked_map algs air (Some (Within state)) = refl
-  x2_acked_map algs air (Some (Renewing renewal)) = refl
-
-  with_s1_ack_map : (ncc : ℕ) (algs : Algs) (air : ℕ) (o : Option (Context K C)) →
-      option_map (map_context f g) (option_map (record_keys.with_s1_ack ncc algs air) o)
-      ≡ option_map (record_keys.with_s1_ack ncc algs air) (option_map (map_context f g) o)
-  with_s1_ack_map ncc algs air None = refl
-  with_s1_ack_map ncc algs air (Some x) = rw (s1_acked_map ncc algs air x.attempt) refl
-
-  with_x2_ack_map : (algs : Algs) (air : ℕ) (o : Option (Context K C)) →
-      option_map (map_context f g) (option_map (record_keys.with_x2_ack algs air) o)
-      ≡ option_map (record_keys.with_x2_ack algs air) (option_map (map_context f g) o)
-  with_x2_ack_map algs air None = refl
-  with_x2_ack_map algs air (Some x) = rw (x2_acked_map algs air x.attempt) refl
+  with_answer_map : (order : Order) (o : Option (Context K C)) →
+      option_map (map_context f g) (option_map (record_keys.with_answer order) o)
+      ≡ option_map (record_keys.with_answer order) (option_map (map_context f g) o)
+  with_answer_map order None = refl
+  with_answer_map order (Some x) = rw (answered_map order x.attempt) refl
 
   own_prep_map : (conn id number air : ℕ) (cell : Place) (x : Context K C) (star : NumberedKey K C) →
       map_prep f g (record_keys.own_prep r conn id number air cell x star)
@@ -230,8 +208,7 @@ module _ {K C L D : Type 0} {r : Reading K C} {q : Reading L D} {f : K → L} {g
   record_does_map (PairTaken conn origin) key s = pair_taken_map conn origin key s
   record_does_map (PreparedByS1 w) key s = prepared_by_s1_map w key s
   record_does_map (PreparedByX2 w) key s = prepared_by_x2_map w key s
-  record_does_map (AckedByS1 ncc algs air) key s = rw (with_s1_ack_map ncc algs air s.context) refl
-  record_does_map (AckedByX2 algs air) key s = rw (with_x2_ack_map algs air s.context) refl
+  record_does_map (AttemptAnswered order) key s = rw (with_answer_map order s.context) refl
   record_does_map (PreparationCancelled from) key s = rw (← without-map f g from.source from.attempt s.preps) refl
   record_does_map (KeyRenewed conn number air count) key s = key_renewed_map conn number air count s.context key s
   record_does_map other key s = refl
@@ -338,41 +315,26 @@ module _ {K C L D : Type 0} {r : Reading K C} {q : Reading L D} {f : K → L} {g
       started_within_with_map number air cell x (opened r x.key cell) s
       ∙ (λ j. keys.started_within_with q number air cell (map_context f g x) (opened_map x.key cell j) (map_station f g s))
 
-  x2_commanded_map : (order : Order) (state : X2State K C) →
-      map_x2_state f g (keys.x2_commanded order state) ≡ keys.x2_commanded order (map_x2_state f g state)
-  x2_commanded_map order (X2Open start) = refl
-  x2_commanded_map order (X2Ready acked) = refl
-  x2_commanded_map order (X2Commanded sent) = refl
-
   commanded_map : (order : Order) (o : Option (Attempt K C)) →
       option_map (map_attempt f g) (option_map (keys.commanded order) o)
       ≡ option_map (keys.commanded order) (option_map (map_attempt f g) o)
-  commanded_map order (Some (OverX2 state)) = λ j. Some (OverX2 (x2_commanded_map order state j))
-  commanded_map order (Some (Within state)) = λ j. Some (Within (x2_commanded_map order state j))
-  commanded_map order other = refl
+  commanded_map order None = refl
+  commanded_map order (Some a) = refl
 
-  commands_map : (order : Order) (count : ℕ) (o : Option (Context K C)) (s : Station K C) →
-      map_station_done f g (keys.commands order count o s)
-      ≡ keys.commands order count (option_map (map_context f g) o) (map_station f g s)
-  commands_map order count None s = refl
-  commands_map order count (Some x) s = rw (commanded_map order x.attempt) refl
+  commands_map : (via : Via) (order : Order) (count : ℕ) (o : Option (Context K C)) (s : Station K C) →
+      map_station_done f g (keys.commands via order count o s)
+      ≡ keys.commands via order count (option_map (map_context f g) o) (map_station f g s)
+  commands_map via order count None s = refl
+  commands_map via order count (Some x) s = rw (commanded_map order x.attempt) refl
 
-  commands_change_map : (renewal : Renewal) (count : ℕ) (o : Option (Context K C)) (s : Station K C) →
-      map_station_done f g (keys.commands_change renewal count o s)
-      ≡ keys.commands_change renewal count (option_map (map_context f g) o) (map_station f g s)
-  commands_change_map renewal count None s = refl
-  commands_change_map renewal count (Some x) s = refl
-
-  x2_spent_map : (state : X2State K C) → map_pair f g (keys.x2_spent state) ≡ keys.x2_spent (map_x2_state f g state)
-  x2_spent_map (X2Open start) = refl
-  x2_spent_map (X2Ready acked) = refl
-  x2_spent_map (X2Commanded sent) = refl
+  spent_of_map : (o : Option (SourceKeys K C)) → map_pair f g (keys.spent_of o) ≡ keys.spent_of (option_map (map_source_keys f g) o)
+  spent_of_map None = refl
+  spent_of_map (Some kept) = refl
 
   spent_in_map : (o : Option (Attempt K C)) →
       map_pair f g (keys.spent_in o) ≡ keys.spent_in (option_map (map_attempt f g) o)
-  spent_in_map (Some (OverX2 state)) = x2_spent_map state
-  spent_in_map (Some (Within state)) = x2_spent_map state
-  spent_in_map other = refl
+  spent_in_map None = refl
+  spent_in_map (Some a) = spent_of_map a.keys
 
   restored_map : (kenb : K) (number : C) (pair back : Option (NumberedKey K C)) →
       map_station_key f g (restored_if (record { kenb = kenb; number = number; pair = pair }) back)
@@ -417,8 +379,7 @@ module _ {K C L D : Type 0} {r : Reading K C} {q : Reading L D} {f : K → L} {g
   act_does_map (StartedByX2 number target cell) s = started_by_x2_map number target cell s.context s
   act_does_map (StartedByS1 number target cell) s = started_by_s1_map number target cell s.context s
   act_does_map (StartedWithin number air cell) s = started_within_map number air cell s.context s
-  act_does_map (HandoverCommanded order count) s = commands_map order count s.context s
-  act_does_map (ChangeCommanded renewal count) s = commands_change_map renewal count s.context s
+  act_does_map (OrderSent via order count) s = commands_map via order count s.context s
   act_does_map (CancelledByX2 conn number target) s = rw (given_up_map s.context) refl
   act_does_map (CancelledByS1 conn number cell) s = rw (given_up_map s.context) refl
   act_does_map (CancelledWithin number) s =

@@ -8,9 +8,8 @@ use Rattle.rec_base.specs.declared.faults.RecFault.{RecFault}
 use Rattle.nh_chain.specs.Station.{StationKey, map_pair, map_station_key}
 use Rattle.s1x2_rec.specs.Content.{Content, map_content}
 use Rattle.ho_prep.specs.Prep.{Prep, map_prep}
-use Rattle.x2_handover.specs.Attempt.{X2Start, map_x2_start}
 use Rattle.lte_machine.specs.Reply.{unseen}
-use Rattle.lte_machine.specs.StationState.{Context, Attempt, OverX2, Within, X2State, X2Open, X2Ready, X2Commanded, Station, StationInput, StationActs, AirPdu, StationRecord, map_x2_state, map_attempt, map_context, map_preps, map_station, map_read, map_station_input}
+use Rattle.lte_machine.specs.StationState.{Context, Attempt, SourceKeys, Station, StationInput, StationActs, AirPdu, StationRecord, map_source_keys, map_attempt, map_context, map_preps, map_station, map_read, map_station_input}
 use Rattle.lte_machine.specs.StationStep.{plain_station}
 
 module _ {K C L D : Type 0} {r : Reading K C} {q : Reading L D} {f : K → L} {g : C → D} (c : Carries r q f g) where
@@ -22,22 +21,16 @@ module _ {K C L D : Type 0} {r : Reading K C} {q : Reading L D} {f : K → L} {g
       map_station_key unseen q.ncc (map_station_key f g key) ≡ map_station_key unseen r.ncc key
   key_plain key = rw (c.ncc key.number, pair_plain key.pair) refl
 
-  start_plain : (start : X2Start K C) →
-      map_x2_start unseen q.ncc (map_x2_start f g start) ≡ map_x2_start unseen r.ncc start
-  start_plain start = rw (c.ncc start.star.number, pair_plain start.spent) refl
-
-  x2_plain : (state : X2State K C) →
-      map_x2_state unseen q.ncc (map_x2_state f g state) ≡ map_x2_state unseen r.ncc state
-  x2_plain (X2Open start) = ap X2Open (start_plain start)
-  x2_plain (X2Ready acked) = λ j. X2Ready (record { start = start_plain acked.start j; algs = acked.algs; air = acked.air })
-  x2_plain (X2Commanded sent) = refl
+  source_keys_plain : (keys : Option (SourceKeys K C)) →
+      option_map (map_source_keys unseen q.ncc) (option_map (map_source_keys f g) keys) ≡ option_map (map_source_keys unseen r.ncc) keys
+  source_keys_plain None = refl
+  source_keys_plain (Some keys) = rw (c.ncc keys.star.number, pair_plain keys.spent) refl
 
   attempt_plain : (attempt : Option (Attempt K C)) →
       option_map (map_attempt unseen q.ncc) (option_map (map_attempt f g) attempt)
       ≡ option_map (map_attempt unseen r.ncc) attempt
-  attempt_plain (Some (OverX2 state)) = λ j. Some (OverX2 (x2_plain state j))
-  attempt_plain (Some (Within state)) = λ j. Some (Within (x2_plain state j))
-  attempt_plain other = refl
+  attempt_plain None = refl
+  attempt_plain (Some a) = rw (source_keys_plain a.keys) refl
 
   context_plain : (x : Context K C) → map_context unseen q.ncc (map_context f g x) ≡ map_context unseen r.ncc x
   context_plain x = rw (key_plain x.key, attempt_plain x.attempt) refl

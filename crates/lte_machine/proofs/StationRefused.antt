@@ -31,8 +31,7 @@ module _ {K C : Type 0} (r : Reading K C) where
         taken = λ conn origin pair k. done s _;
         by_s1 = λ w pair k. done s _;
         by_x2 = λ w star k. done s _;
-        acked_s1 = λ ncc algs air key k. done s _;
-        acked_x2 = λ algs air key k. done s _;
+        answered = λ order key k. done s _;
         cancelled = λ from key k. done s _;
         left = λ key k. done s _;
         renewed = λ conn number air count c e kenb k. done s _;
@@ -51,8 +50,7 @@ module _ {K C : Type 0} (r : Reading K C) where
         by_x2 = λ number target cell k c e. done s _;
         by_s1 = λ number target cell k c e. done s _;
         within = λ number air cell k c e. done s _;
-        commanded = λ order count k c e. done s _;
-        changed = λ renewal count k c e. done s _;
+        commanded = λ via order count k c e. done s _;
         cancelled_x2 = λ conn number target k. done s _;
         cancelled_s1 = λ conn number cell k. done s _;
         cancelled_within = λ number k. done s _;

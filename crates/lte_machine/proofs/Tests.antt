@@ -1,5 +1,5 @@
 -- What the tests of a choice say.
-use Rattle.std.proofs.Common.{◌≡◌, refl, ap, ℕ, ◌≤◌, ◌<◌, Bool, true, false, if◌then◌else◌, ◌==◌, ◌&&◌, nat_le, nat_lt, Option, Some, None, arith}
+use Rattle.std.proofs.Common.{◌≡◌, refl, ap, ℕ, ◌≤◌, ◌<◌, Bool, true, false, if◌then◌else◌, ◌==◌, ◌&&◌, nat_le, nat_lt, Option, Some, None, option_map, arith}
 use Rattle.std.proofs.lemmas.Bool.Decides.{nat_tests}
 
 -- by the two ends of a test
@@ -32,6 +32,11 @@ value_or d (Some x) = x
 
 pub by_some : {A : Type 0} {x y : A} → Some x ≡ Some y → x ≡ y
 by_some {x = x} e = ap (value_or x) e
+
+-- what is so of an option is so after a change of what is there, if the change keeps it so
+pub changed_so : {A : Type 0} (Q : Option A → Type 0) (f : A → A) → ((x : A) → Q (Some x) → Q (Some (f x))) → (o : Option A) → Q o → Q (option_map f o)
+changed_so Q f g None h = h
+changed_so Q f g (Some x) h = g x h
 
 -- where nothing need be known of two
 abbrev pub Anything : {A B : Type 0} → A → B → Type 0

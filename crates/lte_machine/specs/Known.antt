@@ -8,10 +8,9 @@ use Rattle.nh_chain.specs.Chain.{ChainState}
 use Rattle.nh_chain.specs.Station.{StationKey}
 use Rattle.pdcp_guard.specs.AsKeys.{AsKeys}
 use Rattle.ho_prep.specs.Prep.{Prep}
-use Rattle.x2_handover.specs.Attempt.{X2Start}
 use Rattle.lte_machine.specs.Wire.{Ciphering, Outgoing, SealedNas, PlainNas, SealedRrc, UserPacket, Between}
 use Rattle.lte_machine.specs.PhoneState.{Partial, NasContext, Radio, Idle, Connecting, Connected, Phone}
-use Rattle.lte_machine.specs.StationState.{Station, Context, Attempt, OverX2, OverS1, Within, Renewing, X2State, X2Open, X2Ready, X2Commanded}
+use Rattle.lte_machine.specs.StationState.{Station, Context, Attempt, SourceKeys}
 use Rattle.lte_machine.specs.CoreState.{Core, CorePartial, CoreContext, CoreLink}
 use Rattle.lte_machine.specs.World.{World}
 use Rattle.lte_machine.specs.Distinct.{keys_of, Member}
@@ -53,20 +52,13 @@ PhoneKnown P s = PartialKnown P s.partial × NasContextKnown P s.context × Radi
 abbrev pub StationKeyKnown : (Term → Type 0) → StationKey Term ℕ → Type 0
 StationKeyKnown P key = P key.kenb × PairKnown P key.pair
 
-abbrev pub X2StartKnown : (Term → Type 0) → X2Start Term ℕ → Type 0
-X2StartKnown P start = P start.star.key × PairKnown P start.spent
-
-abbrev pub X2Known : (Term → Type 0) → X2State Term ℕ → Type 0
-X2Known P (X2Open start) = X2StartKnown P start
-X2Known P (X2Ready acked) = X2StartKnown P acked.start
-X2Known P (X2Commanded sent) = Unit {0}
+abbrev pub SourceKeysKnown : (Term → Type 0) → Option (SourceKeys Term ℕ) → Type 0
+SourceKeysKnown P None = Unit {0}
+SourceKeysKnown P (Some keys) = P keys.star.key × PairKnown P keys.spent
 
 abbrev pub AttemptKnown : (Term → Type 0) → Option (Attempt Term ℕ) → Type 0
 AttemptKnown P None = Unit {0}
-AttemptKnown P (Some (OverX2 state)) = X2Known P state
-AttemptKnown P (Some (OverS1 state)) = Unit {0}
-AttemptKnown P (Some (Within state)) = X2Known P state
-AttemptKnown P (Some (Renewing renewal)) = Unit {0}
+AttemptKnown P (Some a) = SourceKeysKnown P a.keys
 
 abbrev pub ContextKnown : (Term → Type 0) → Option (Context Term ℕ) → Type 0
 ContextKnown P None = Unit {0}

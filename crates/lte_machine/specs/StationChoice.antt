@@ -26,14 +26,12 @@ use Rattle.s1x2_rec.specs.Content.{Content}
 use Rattle.ho_prep.specs.declared.origins.By.{By}
 use Rattle.ho_prep.specs.Prep.{Prep, at_air, has_attempt, most_preparations}
 use Rattle.x2_handover.specs.declared.orders.Order.{Order}
-use Rattle.x2_handover.specs.Attempt.{x2_order}
-use Rattle.s1_handover.specs.Attempt.{s1_order}
 use Rattle.lte_machine.specs.Bearers.{Srb, Signalling1, Drb, Which, OnSrb, OnDrb, which, Bearers, srb_counts, drb_counts, is_spent}
 use Rattle.lte_machine.specs.Opening.{Outcome, Opened, Differs}
 use Rattle.lte_machine.specs.Refusals.{of_pdcp}
 use Rattle.lte_machine.specs.Reply.{Origin}
-use Rattle.lte_machine.specs.StationState.{Station, Context, Attempt, OverX2, OverS1, Within, Renewing, X2State, X2Open, X2Ready, X2Commanded, S1State, S1Open, S1Ready, S1Commanded, Interface, OnS1, OnX2, StationInput, StationActs, AirPdu, StationRecord}
-use Rattle.lte_machine.specs.StationRows.{Admitted, RecordRow, RecordRefused, ContextGiven, ContextReleased, PairTaken, PreparedByS1, PreparedByX2, AckedByS1, AckedByX2, PreparationCancelled, SourceReleased, KeyRenewed, AirRow, AirRefused, SecurityStarted, RrcOpened, PacketOpened, CompletedByS1, CompletedWithin, CompletedByX2, ActRow, ActRefused, StartedByX2, StartedByS1, StartedWithin, HandoverCommanded, ChangeCommanded, CancelledByX2, CancelledByS1, CancelledWithin, PathSwitchAsked, PacketSent, RrcSent, BearerSkipped, StationRow, OfRecord, OfAir, OfAct}
+use Rattle.lte_machine.specs.StationState.{Station, Context, Via, OverX2, OverS1, Within, Renewing, Progress, Open, Ready, Commanded, SourceKeys, Attempt, Interface, OnS1, OnX2, StationInput, StationActs, AirPdu, StationRecord}
+use Rattle.lte_machine.specs.StationRows.{Admitted, RecordRow, RecordRefused, ContextGiven, ContextReleased, PairTaken, PreparedByS1, PreparedByX2, AttemptAnswered, PreparationCancelled, SourceReleased, KeyRenewed, AirRow, AirRefused, SecurityStarted, RrcOpened, PacketOpened, CompletedByS1, CompletedWithin, CompletedByX2, ActRow, ActRefused, StartedByX2, StartedByS1, StartedWithin, OrderSent, CancelledByX2, CancelledByS1, CancelledWithin, PathSwitchAsked, PacketSent, RrcSent, BearerSkipped, StationRow, OfRecord, OfAir, OfAct}
 
 -- a station without its keys
 abbrev pub PlainStation : Type 0
@@ -58,22 +56,17 @@ is_station id (Some station) = station == id
 abbrev pub is_own : PlainStation → Place → Bool
 is_own s cell = is_station s.id (station_of cell s.cells)
 
--- the number of an attempt
-abbrev pub x2_number : {K C : Type 0} → X2State K C → ℕ
-x2_number (X2Open start) = start.number
-x2_number (X2Ready acked) = acked.start.number
-x2_number (X2Commanded sent) = sent.number
+-- the order for the phone of an attempt whose target answered: NCC, algorithms chosen, air address drawn (TS 36.331 5.3.5.4)
+abbrev pub order_of : {K C : Type 0} → Attempt K C → ℕ → Algs → ℕ → Order
+order_of a ncc algs air = record { cell = a.cell; ncc = ncc; algs = algs; station = a.station; air = air }
 
-abbrev pub s1_number : S1State → ℕ
-s1_number (S1Open start) = start.number
-s1_number (S1Ready acked) = acked.start.number
-s1_number (S1Commanded sent) = sent.number
+abbrev pub is_over_x2 : Via → Bool
+is_over_x2 OverX2 = true
+is_over_x2 other = false
 
-abbrev pub attempt_number : PlainAttempt → ℕ
-attempt_number (OverX2 state) = x2_number state
-attempt_number (OverS1 state) = s1_number state
-attempt_number (Within state) = x2_number state
-attempt_number (Renewing renewal) = renewal.number
+abbrev pub is_over_s1 : Via → Bool
+is_over_s1 OverS1 = true
+is_over_s1 other = false
 
 -- RECORDS
 
@@ -133,34 +126,37 @@ admitted_row s conn from cell caps row =
     else (if (conn == s.last) && is_full s then RecordRefused PrepFull
     else admitted_choice s conn from cell caps row (choice_of s.priority caps))))
 
--- an answer to an attempt of this kind and number, which may still be open
-abbrev pub acked_open : ℕ → ℕ → RecordRow → RecordRow
-acked_open number own row = if own == number then row else RecordRefused NoAttempt
-
-abbrev pub acked_before : ℕ → ℕ → RecordRow
-acked_before number own = acked_open number own (RecordRefused (Repeated number number))
+-- an answer to an attempt is taken while it is open
+abbrev pub answered_row : ℕ → Order → Progress → RecordRow
+answered_row number order Open = AttemptAnswered order
+answered_row number order other = RecordRefused (Repeated number number)
 
 -- Handover Command (TS 36.413 8.4.1)
-abbrev pub s1_acked_row : ℕ → RecordRow → Option PlainAttempt → RecordRow
-s1_acked_row number row (Some (OverS1 (S1Open start))) = acked_open number start.number row
-s1_acked_row number row (Some (OverS1 (S1Ready acked))) = acked_before number acked.start.number
-s1_acked_row number row (Some (OverS1 (S1Commanded sent))) = acked_before number sent.number
-s1_acked_row number row other = RecordRefused NoAttempt
+abbrev pub s1_acked_row : ℕ → ℕ → Algs → ℕ → Option PlainAttempt → RecordRow
+s1_acked_row number ncc algs air None = RecordRefused NoAttempt
+s1_acked_row number ncc algs air (Some a) =
+    if is_over_s1 a.via && (a.number == number) then answered_row number (order_of a ncc algs air) a.progress
+    else RecordRefused NoAttempt
 
 abbrev pub s1_ack_row : ℕ → ℕ → Algs → ℕ → Option PlainContext → RecordRow
 s1_ack_row number ncc algs air None = RecordRefused NoUe
-s1_ack_row number ncc algs air (Some c) = s1_acked_row number (AckedByS1 ncc algs air) c.attempt
+s1_ack_row number ncc algs air (Some c) = s1_acked_row number ncc algs air c.attempt
+
+-- the NCC of KeNB*
+abbrev pub star_ncc : Option (SourceKeys (Unit {0}) ℕ) → ℕ
+star_ncc None = 0
+star_ncc (Some keys) = keys.star.number
 
 -- Handover Request Acknowledge on X2 (TS 36.423 8.2.1)
-abbrev pub x2_acked_row : ℕ → RecordRow → Option PlainAttempt → RecordRow
-x2_acked_row number row (Some (OverX2 (X2Open start))) = acked_open number start.number row
-x2_acked_row number row (Some (OverX2 (X2Ready acked))) = acked_before number acked.start.number
-x2_acked_row number row (Some (OverX2 (X2Commanded sent))) = acked_before number sent.number
-x2_acked_row number row other = RecordRefused NoAttempt
+abbrev pub x2_acked_row : ℕ → Algs → ℕ → Option PlainAttempt → RecordRow
+x2_acked_row number algs air None = RecordRefused NoAttempt
+x2_acked_row number algs air (Some a) =
+    if is_over_x2 a.via && (a.number == number) then answered_row number (order_of a (star_ncc a.keys) algs air) a.progress
+    else RecordRefused NoAttempt
 
 abbrev pub x2_ack_row : ℕ → Algs → ℕ → Option PlainContext → RecordRow
 x2_ack_row number algs air None = RecordRefused NoUe
-x2_ack_row number algs air (Some c) = x2_acked_row number (AckedByX2 algs air) c.attempt
+x2_ack_row number algs air (Some c) = x2_acked_row number algs air c.attempt
 
 -- Handover Cancel (TS 36.423 8.2.4). This project's own rule: on S1 the core passes it on, with this name, and the target
 -- is released by it (in TS 36.413 8.4.5 by a UE Context Release)
@@ -169,10 +165,14 @@ cancel_row s from =
     if has_attempt from.source from.attempt s.preps then PreparationCancelled from else RecordRefused NoAttempt
 
 -- UE Context Release on X2 (TS 36.423 8.2.3). This project's own rule: only after the command was sent
+abbrev pub released_row : Progress → RecordRow
+released_row (Commanded order) = SourceReleased
+released_row other = RecordRefused NoAttempt
+
 abbrev pub x2_released_row : ℕ → Option PlainAttempt → RecordRow
-x2_released_row number (Some (OverX2 (X2Commanded sent))) =
-    if sent.number == number then SourceReleased else RecordRefused NoAttempt
-x2_released_row number other = RecordRefused NoAttempt
+x2_released_row number None = RecordRefused NoAttempt
+x2_released_row number (Some a) =
+    if is_over_x2 a.via && (a.number == number) then released_row a.progress else RecordRefused NoAttempt
 
 abbrev pub x2_release_row : ℕ → Option PlainContext → RecordRow
 x2_release_row number None = RecordRefused NoUe
@@ -185,7 +185,7 @@ renewed_row next_conn next counts =
     else (if is_spent counts then RecordRefused CountSpent else KeyRenewed next_conn next (next + 1) counts.send)
 
 abbrev pub renewed_alone : ℕ → ℕ → Counts → Option PlainAttempt → RecordRow
-renewed_alone next_conn next counts (Some attempt) = RecordRefused (AttemptOpen (attempt_number attempt))
+renewed_alone next_conn next counts (Some attempt) = RecordRefused (AttemptOpen attempt.number)
 renewed_alone next_conn next counts None = renewed_row next_conn next counts
 
 -- UE Context Modification Request (TS 36.413 8.3.4). This project's own rules: it is of the context's connection, which gets
@@ -339,7 +339,7 @@ begun_row s target cell HoKind.Intra =
 
 -- this project's own rule: a context has at most one attempt
 abbrev pub alone_row : PlainStation → ℕ → Place → HoKind → Option PlainAttempt → ActRow
-alone_row s target cell kind (Some attempt) = ActRefused (AttemptOpen (attempt_number attempt))
+alone_row s target cell kind (Some attempt) = ActRefused (AttemptOpen attempt.number)
 alone_row s target cell kind None = begun_row s target cell kind
 
 abbrev pub target_row : PlainStation → Option PlainAttempt → Place → HoKind → Option ℕ → ActRow
@@ -353,52 +353,33 @@ start_row s kind cell (Some c) =
     active_row c.starting (target_row s c.attempt cell kind (station_of cell s.cells))
 
 -- the command (TS 36.331 5.3.5.4). This project's own rule: it may be sent again
-abbrev pub ordered_row : Order → Counts → ActRow
-ordered_row order counts = unless_spent counts (HandoverCommanded order counts.send)
-
-abbrev pub x2_command_row : X2State (Unit {0}) ℕ → Counts → ActRow
-x2_command_row (X2Open start) counts = ActRefused NotReady
-x2_command_row (X2Ready acked) counts = ordered_row (x2_order (λ ncc. ncc) acked) counts
-x2_command_row (X2Commanded sent) counts = ordered_row sent.order counts
-
-abbrev pub s1_command_row : S1State → Counts → ActRow
-s1_command_row (S1Open start) counts = ActRefused NotReady
-s1_command_row (S1Ready acked) counts = ordered_row (s1_order acked) counts
-s1_command_row (S1Commanded sent) counts = ordered_row sent.order counts
+abbrev pub ordered_row : Via → Progress → Counts → ActRow
+ordered_row via Open counts = ActRefused NotReady
+ordered_row via (Ready order) counts = unless_spent counts (OrderSent via order counts.send)
+ordered_row via (Commanded order) counts = unless_spent counts (OrderSent via order counts.send)
 
 abbrev pub attempt_command_row : Option PlainAttempt → Counts → ActRow
 attempt_command_row None counts = ActRefused NoAttempt
-attempt_command_row (Some (OverX2 state)) counts = x2_command_row state counts
-attempt_command_row (Some (OverS1 state)) counts = s1_command_row state counts
-attempt_command_row (Some (Within state)) counts = x2_command_row state counts
-attempt_command_row (Some (Renewing renewal)) counts = unless_spent counts (ChangeCommanded renewal counts.send)
+attempt_command_row (Some a) counts = ordered_row a.via a.progress counts
 
 abbrev pub command_row : Option PlainContext → ActRow
 command_row None = ActRefused NoUe
 command_row (Some c) = attempt_command_row c.attempt c.bearers.srb1
 
 -- giving an attempt up (TS 36.413 8.4.5, TS 36.423 8.2.4). This project's own rule: until its command was sent
-abbrev pub x2_cancel_row : ℕ → X2State (Unit {0}) ℕ → ActRow
-x2_cancel_row conn (X2Open start) = CancelledByX2 conn start.number start.station
-x2_cancel_row conn (X2Ready acked) = CancelledByX2 conn acked.start.number acked.start.station
-x2_cancel_row conn (X2Commanded sent) = ActRefused CommandSent
+abbrev pub unless_commanded : Progress → ActRow → ActRow
+unless_commanded (Commanded order) row = ActRefused CommandSent
+unless_commanded other row = row
 
-abbrev pub s1_cancel_row : ℕ → S1State → ActRow
-s1_cancel_row conn (S1Open start) = CancelledByS1 conn start.number start.cell
-s1_cancel_row conn (S1Ready acked) = CancelledByS1 conn acked.start.number acked.start.cell
-s1_cancel_row conn (S1Commanded sent) = ActRefused CommandSent
-
-abbrev pub within_cancel_row : X2State (Unit {0}) ℕ → ActRow
-within_cancel_row (X2Open start) = CancelledWithin start.number
-within_cancel_row (X2Ready acked) = CancelledWithin acked.start.number
-within_cancel_row (X2Commanded sent) = ActRefused CommandSent
+abbrev pub cancelled_row : ℕ → PlainAttempt → Via → ActRow
+cancelled_row conn a OverX2 = CancelledByX2 conn a.number a.station
+cancelled_row conn a OverS1 = CancelledByS1 conn a.number a.cell
+cancelled_row conn a Within = CancelledWithin a.number
+cancelled_row conn a Renewing = ActRefused CommandSent
 
 abbrev pub attempt_cancel_row : ℕ → Option PlainAttempt → ActRow
 attempt_cancel_row conn None = ActRefused NoAttempt
-attempt_cancel_row conn (Some (OverX2 state)) = x2_cancel_row conn state
-attempt_cancel_row conn (Some (OverS1 state)) = s1_cancel_row conn state
-attempt_cancel_row conn (Some (Within state)) = within_cancel_row state
-attempt_cancel_row conn (Some (Renewing renewal)) = ActRefused CommandSent
+attempt_cancel_row conn (Some a) = unless_commanded a.progress (cancelled_row conn a a.via)
 
 abbrev pub give_up_row : Option PlainContext → ActRow
 give_up_row None = ActRefused NoUe

@@ -15,15 +15,14 @@ use Rattle.rrc_rec.specs.Spelling.{spelling_of}
 use Rattle.s1x2_rec.specs.Fields.{PathSwitchRequest, HandoverRequired, HandoverNotify, HandoverCancel, X2Request, X2Cancel}
 use Rattle.ho_prep.specs.Prep.{Prep, at_air, without}
 use Rattle.x2_handover.specs.declared.orders.Order.{Order}
-use Rattle.x2_handover.specs.Attempt.{X2Start}
 use Rattle.lte_machine.specs.Bearers.{Srb, Signalling1, Drb, Which, new_bearers, srb_sent, drb_sent, srb_taken, drb_taken, skipped_on}
 use Rattle.lte_machine.specs.Wire.{Outgoing, Between, srb_use, srb_ciphering, drb_ciphering}
 use Rattle.lte_machine.specs.Opening.{Opening, OpensNothing, OpensSrb, OpensDrb}
 use Rattle.lte_machine.specs.Reply.{Origin, ByAttempt, Reply, only, BySource, ByTarget}
-use Rattle.lte_machine.specs.StationState.{Station, Context, Attempt, OverX2, OverS1, Within, Renewal, Renewing, X2State, X2Open, X2Ready, X2Commanded, S1State, S1Open, S1Ready, S1Commanded}
-use Rattle.lte_machine.specs.StationRows.{AirRow, AirRefused, SecurityStarted, RrcOpened, PacketOpened, CompletedByS1, CompletedWithin, CompletedByX2, ActRow, ActRefused, StartedByX2, StartedByS1, StartedWithin, HandoverCommanded, ChangeCommanded, CancelledByX2, CancelledByS1, CancelledWithin, PathSwitchAsked, PacketSent, RrcSent, BearerSkipped, StationRow, OfRecord, OfAir, OfAct}
+use Rattle.lte_machine.specs.StationState.{Station, Context, Via, OverX2, OverS1, Within, Open, Ready, Commanded, SourceKeys, Attempt}
+use Rattle.lte_machine.specs.StationRows.{AirRow, AirRefused, SecurityStarted, RrcOpened, PacketOpened, CompletedByS1, CompletedWithin, CompletedByX2, ActRow, ActRefused, StartedByX2, StartedByS1, StartedWithin, OrderSent, CancelledByX2, CancelledByS1, CancelledWithin, PathSwitchAsked, PacketSent, RrcSent, BearerSkipped, StationRow, OfRecord, OfAir, OfAct}
 use Rattle.lte_machine.specs.StationChoice.{AirFront, AirSettled, OnStarting, OnSignalling, OnUser, OnPrepared, StationFront, Settled, FromAir}
-use Rattle.lte_machine.specs.StationRecords.{signalling_sent, packet_sent, order_text, to_core, to_station, note_of, change_text, own_prep, record_does}
+use Rattle.lte_machine.specs.StationRecords.{signalling_sent, packet_sent, order_text, to_core, to_station, note_of, own_prep, record_does}
 
 -- OPENING: WHICH USES A STATION EXPECTS (TS 36.323 5.6 and 5.7)
 
@@ -142,8 +141,8 @@ air_does r (CompletedByX2 air count number) s = completed_by_x2 r count number (
 
 -- KeNB* comes from the stored pair, which moves into the attempt, and is vertical; with none from the active KeNB, and is
 -- horizontal (TS 33.401 7.2.8.4.1, 7.2.8.4.2)
-abbrev pub x2_start : {K C : Type 0} → ℕ → ℕ → Place → Opened K C → X2Start K C
-x2_start number target cell o = record { number = number; station = target; cell = cell; star = o.star; spent = o.spent }
+abbrev pub source_keys : {K C : Type 0} → Opened K C → SourceKeys K C
+source_keys o = record { star = o.star; spent = o.spent }
 
 -- X2 Handover Request with KeNB* and its NCC (TS 36.423 8.2.1)
 abbrev pub started_by_x2_with : {K C : Type 0} →
@@ -151,7 +150,17 @@ abbrev pub started_by_x2_with : {K C : Type 0} →
 started_by_x2_with r number target cell c o s = (
   record s {
     next = number + 1;
-    context = Some (record c { key = o.key; attempt = Some (OverX2 (X2Open (x2_start number target cell o))) });
+    context = Some (record c {
+      key = o.key;
+      attempt = Some (record {
+        number = number;
+        station = target;
+        cell = cell;
+        via = OverX2;
+        keys = Some (source_keys o);
+        progress = Open;
+      });
+    });
   },
   record (only Done) {
     sent = Some (Between (StationX2 target) (X2Request c.conn s.id number cell c.caps) (Some o.star));
@@ -183,7 +192,14 @@ started_by_s1 number target cell (Some c) s = (
   record s {
     next = number + 1;
     context = Some (record c {
-      attempt = Some (OverS1 (S1Open (record { number = number; station = target; cell = cell })));
+      attempt = Some (record {
+        number = number;
+        station = target;
+        cell = cell;
+        via = OverS1;
+        keys = None;
+        progress = Open;
+      });
     });
   },
   record (only Done) {
@@ -210,7 +226,14 @@ started_within_with r number air cell c o s = (
     next = air + 1;
     context = Some (record c {
       key = o.key;
-      attempt = Some (Within (X2Ready (record { start = x2_start number s.id cell o; algs = c.algs; air = air })));
+      attempt = Some (record {
+        number = number;
+        station = s.id;
+        cell = cell;
+        via = Within;
+        keys = Some (source_keys o);
+        progress = Ready (record { cell = cell; ncc = r.ncc o.star.number; algs = c.algs; station = s.id; air = air });
+      });
     });
     preps = s.preps ++ own_prep r c.conn s.id number air cell c o.star ∷ [];
   },
@@ -245,63 +268,30 @@ abbrev pub started_within : {K C : Type 0} →
 started_within r number air cell None s = (s, only Done)
 started_within r number air cell (Some c) s = started_within_with r number air cell c (opened r c.key cell) s
 
--- a ready attempt is commanded; a commanded one stays so
-abbrev pub x2_commanded : {K C : Type 0} → Order → X2State K C → X2State K C
-x2_commanded order (X2Ready acked) = X2Commanded (record {
-  number = acked.start.number;
-  station = acked.start.station;
-  cell = acked.start.cell;
-  order = order;
-})
-x2_commanded order other = other
-
-abbrev pub s1_commanded : Order → S1State → S1State
-s1_commanded order (S1Ready acked) = S1Commanded (record {
-  number = acked.start.number;
-  station = acked.start.station;
-  cell = acked.start.cell;
-  order = order;
-})
-s1_commanded order other = other
-
+-- once the order is sent, nothing is kept for it
 abbrev pub commanded : {K C : Type 0} → Order → Attempt K C → Attempt K C
-commanded order (OverX2 state) = OverX2 (x2_commanded order state)
-commanded order (OverS1 state) = OverS1 (s1_commanded order state)
-commanded order (Within state) = Within (x2_commanded order state)
-commanded order (Renewing renewal) = Renewing renewal
+commanded order a = record a { keys = None; progress = Commanded order }
 
-abbrev pub commands : {K C : Type 0} → Order → ℕ → Option (Context K C) → Station K C → Station K C × Reply K C
-commands order count None s = (s, only Done)
-commands order count (Some c) s = (
+abbrev pub commands : {K C : Type 0} → Via → Order → ℕ → Option (Context K C) → Station K C → Station K C × Reply K C
+commands via order count None s = (s, only Done)
+commands via order count (Some c) s = (
   record s {
     context = Some (record c {
       bearers = srb_sent Signalling1 c.bearers;
       attempt = option_map (commanded order) c.attempt;
     });
   },
-  record (only Done) { sent = Some (signalling_sent s.id c.air c.keys Signalling1 count (order_text order)) },
+  record (only Done) { sent = Some (signalling_sent s.id c.air c.keys Signalling1 count (order_text via order)) },
 )
 
--- the order of a key change once more
-abbrev pub commands_change : {K C : Type 0} → Renewal → ℕ → Option (Context K C) → Station K C → Station K C × Reply K C
-commands_change renewal count None s = (s, only Done)
-commands_change renewal count (Some c) s = (
-  record s { context = Some (record c { bearers = srb_sent Signalling1 c.bearers }) },
-  record (only Done) { sent = Some (signalling_sent s.id c.air c.keys Signalling1 count (change_text s.id renewal)) },
-)
-
--- the pair that an attempt used
-abbrev pub x2_spent : {K C : Type 0} → X2State K C → Option (NumberedKey K C)
-x2_spent (X2Open start) = start.spent
-x2_spent (X2Ready acked) = acked.start.spent
-x2_spent (X2Commanded sent) = None
+-- the pair that an attempt used, while it is kept
+abbrev pub spent_of : {K C : Type 0} → Option (SourceKeys K C) → Option (NumberedKey K C)
+spent_of None = None
+spent_of (Some keys) = keys.spent
 
 abbrev pub spent_in : {K C : Type 0} → Option (Attempt K C) → Option (NumberedKey K C)
 spent_in None = None
-spent_in (Some (OverX2 state)) = x2_spent state
-spent_in (Some (OverS1 state)) = None
-spent_in (Some (Within state)) = x2_spent state
-spent_in (Some (Renewing renewal)) = None
+spent_in (Some a) = spent_of a.keys
 
 -- this project's own rule: the pair goes back, unless another is stored by now
 abbrev pub given_up : {K C : Type 0} → Context K C → Context K C
@@ -339,8 +329,7 @@ act_does r (ActRefused answer) s = (s, only answer)
 act_does r (StartedByX2 number target cell) s = started_by_x2 r number target cell s.context s
 act_does r (StartedByS1 number target cell) s = started_by_s1 number target cell s.context s
 act_does r (StartedWithin number air cell) s = started_within r number air cell s.context s
-act_does r (HandoverCommanded order count) s = commands order count s.context s
-act_does r (ChangeCommanded renewal count) s = commands_change renewal count s.context s
+act_does r (OrderSent via order count) s = commands via order count s.context s
 act_does r (CancelledByX2 conn number target) s = (
   record s { context = option_map given_up s.context },
   record (only Done) { sent = Some (to_station target (X2Cancel conn s.id number)) },

@@ -15,6 +15,7 @@ use Rattle.key_model.specs.HandoverLines.{star_line, change_line}
 use Rattle.key_model.specs.Derivation.{Derivation, star_made}
 use Rattle.nh_chain.specs.Station.{initial_key, given_key, stored}
 use Rattle.pdcp_guard.specs.AsKeys.{AsKeys, as_keys_of, as_derivations}
+use Rattle.rrc_rec.specs.declared.records.RrcRecord.{RrcRecord}
 use Rattle.rrc_rec.specs.declared.records.RrcRecord.TheVariants.{SecurityModeCommand, Reconfiguration, KeyChange}
 use Rattle.rrc_rec.specs.Spelling.{spelling_of}
 use Rattle.s1x2_rec.specs.Fields.{Fields, HandoverRequestAck, X2Ack, X2Release}
@@ -24,8 +25,8 @@ use Rattle.x2_handover.specs.declared.orders.Order.{Order}
 use Rattle.lte_machine.specs.Bearers.{Srb, Signalling1, Drb, new_bearers, srb_sent}
 use Rattle.lte_machine.specs.Wire.{Outgoing, SealedRrc, UserPacket, Between, srb_use, srb_ciphering, drb_ciphering}
 use Rattle.lte_machine.specs.Reply.{Note, Origin, BySetup, ByAttempt, ByChange, Made, Reply, only}
-use Rattle.lte_machine.specs.StationState.{Station, Context, Attempt, OverX2, OverS1, Renewal, Renewing, X2Open, X2Ready, S1Open, S1Ready}
-use Rattle.lte_machine.specs.StationRows.{Admitted, RecordRow, RecordRefused, ContextGiven, ContextReleased, PairTaken, PreparedByS1, PreparedByX2, AckedByS1, AckedByX2, PreparationCancelled, SourceReleased, KeyRenewed}
+use Rattle.lte_machine.specs.StationState.{Station, Context, Via, Renewing, Ready, Commanded, Attempt}
+use Rattle.lte_machine.specs.StationRows.{Admitted, RecordRow, RecordRefused, ContextGiven, ContextReleased, PairTaken, PreparedByS1, PreparedByX2, AttemptAnswered, PreparationCancelled, SourceReleased, KeyRenewed}
 
 -- SENDING (TS 36.323 5.6 and 5.7)
 
@@ -44,9 +45,13 @@ abbrev pub packet_sent : {K C : Type 0} → ℕ → ℕ → AsKeys K → Drb →
 packet_sent id air keys drb count text =
     UserPacket Down id air drb (drb_ciphering Down keys drb count) text
 
--- the handover command (TS 36.331 5.3.5.4)
-abbrev pub order_text : Order → List ℕ
-order_text o = spelling_of (Reconfiguration o.cell o.ncc o.algs o.station o.air)
+-- the order for the phone: the handover command, or that of a key change, which needs no NCC (TS 36.331 5.3.5.4, TS 33.401 7.2.9.2)
+abbrev pub order_record : Via → Order → RrcRecord
+order_record Renewing o = KeyChange o.cell o.algs o.station o.air
+order_record other o = Reconfiguration o.cell o.ncc o.algs o.station o.air
+
+abbrev pub order_text : Via → Order → List ℕ
+order_text via o = spelling_of (order_record via o)
 
 -- a record with no key, to the core or to a station
 abbrev pub to_core : {K C : Type 0} → Fields → Outgoing K C
@@ -185,25 +190,12 @@ prepared_by_x2 r w (Some star) s = (
   },
 )
 
--- an open attempt is acknowledged
-abbrev pub s1_acked : {K C : Type 0} → ℕ → Algs → ℕ → Attempt K C → Attempt K C
-s1_acked ncc algs air (OverS1 (S1Open start)) =
-    OverS1 (S1Ready (record { start = start; ncc = ncc; algs = algs; air = air }))
-s1_acked ncc algs air other = other
+-- the target answered: the order is known
+abbrev pub answered : {K C : Type 0} → Order → Attempt K C → Attempt K C
+answered order a = record a { progress = Ready order }
 
-abbrev pub x2_acked : {K C : Type 0} → Algs → ℕ → Attempt K C → Attempt K C
-x2_acked algs air (OverX2 (X2Open start)) = OverX2 (X2Ready (record { start = start; algs = algs; air = air }))
-x2_acked algs air other = other
-
-abbrev pub with_s1_ack : {K C : Type 0} → ℕ → Algs → ℕ → Context K C → Context K C
-with_s1_ack ncc algs air c = record c { attempt = option_map (s1_acked ncc algs air) c.attempt }
-
-abbrev pub with_x2_ack : {K C : Type 0} → Algs → ℕ → Context K C → Context K C
-with_x2_ack algs air c = record c { attempt = option_map (x2_acked algs air) c.attempt }
-
--- the order of a key change (TS 36.331 5.3.5.4, TS 33.401 7.2.9.2)
-abbrev pub change_text : ℕ → Renewal → List ℕ
-change_text id a = spelling_of (KeyChange a.cell a.algs id a.air)
+abbrev pub with_answer : {K C : Type 0} → Order → Context K C → Context K C
+with_answer order c = record c { attempt = option_map (answered order) c.attempt }
 
 -- a preparation within the station, for a phone that comes at an air address with a key; cell, algorithms and capabilities
 -- are given, and so is the X2 handover that the context came by
@@ -222,20 +214,37 @@ own_prep r conn id number air cell c star = record {
   caps = c.caps;
 }
 
+-- the order of a change of the context's key, and the attempt whose order was sent at once
+abbrev pub change_order : {K C : Type 0} → ℕ → ℕ → ℕ → Context K C → Order
+change_order ncc id air c = record { cell = c.cell; ncc = ncc; algs = c.algs; station = id; air = air }
+
+abbrev pub renewing : {K C : Type 0} → ℕ → Order → Attempt K C
+renewing number order = record {
+  number = number;
+  station = order.station;
+  cell = order.cell;
+  via = Renewing;
+  keys = None;
+  progress = Commanded order;
+}
+
 -- the key of the context is to change: KeNB* of the new KeNB for the same cell, a preparation for it in place of all others,
 -- and the order to the phone under the present keys (TS 33.401 7.2.9.2 and A.5)
 abbrev pub key_renewed_with : {K C : Type 0} →
     Reading K C → ℕ → ℕ → ℕ → ℕ → Context K C → Derivation K → NumberedKey K C → Station K C → Station K C × Reply K C
 key_renewed_with r conn number air count c made star s =
-    let renewal : Renewal = record { number = number; cell = c.cell; algs = c.algs; air = air } in (
+    let order = change_order (r.ncc star.number) s.id air c in (
       record s {
         next = air + 1;
         last = conn;
-        context = Some (record c { bearers = srb_sent Signalling1 c.bearers; attempt = Some (Renewing renewal) });
+        context = Some (record c {
+          bearers = srb_sent Signalling1 c.bearers;
+          attempt = Some (renewing number order);
+        });
         preps = own_prep r conn s.id number air c.cell c star ∷ [];
       },
       record (only Done) {
-        sent = Some (signalling_sent s.id c.air c.keys Signalling1 count (change_text s.id renewal));
+        sent = Some (signalling_sent s.id c.air c.keys Signalling1 count (order_text Renewing order));
         derived = made ∷ as_derivations r star.key c.algs;
         note = Some (note_of r Given star);
         made = Some (record {
@@ -266,9 +275,7 @@ record_does r ContextReleased key s = (record s { context = None; preps = [] }, 
 record_does r (PairTaken conn origin) key s = pair_taken conn origin key s
 record_does r (PreparedByS1 w) key s = prepared_by_s1 r w key s
 record_does r (PreparedByX2 w) key s = prepared_by_x2 r w key s
-record_does r (AckedByS1 ncc algs air) key s =
-    (record s { context = option_map (with_s1_ack ncc algs air) s.context }, only Done)
-record_does r (AckedByX2 algs air) key s = (record s { context = option_map (with_x2_ack algs air) s.context }, only Done)
+record_does r (AttemptAnswered order) key s = (record s { context = option_map (with_answer order) s.context }, only Done)
 record_does r (PreparationCancelled from) key s =
     (record s { preps = without from.source from.attempt s.preps }, only Done)
 record_does r SourceReleased key s = (record s { context = None }, only Done)

@@ -8,7 +8,7 @@ use Rattle.lte_events.specs.declared.answers.Answer.{Answer}
 use Rattle.x2_handover.specs.declared.orders.Order.{Order}
 use Rattle.lte_machine.specs.Bearers.{Srb, Drb, Which}
 use Rattle.lte_machine.specs.Reply.{Origin}
-use Rattle.lte_machine.specs.StationState.{Renewal}
+use Rattle.lte_machine.specs.StationState.{Via}
 
 -- a handover request that is taken (TS 36.413 8.4.2, TS 36.423 8.2.1): connection, source and attempt, cell,
 -- capabilities, the algorithms chosen (TS 33.401 7.2.4.2.2 and 7.2.4.2.3) and the air address drawn
@@ -33,10 +33,8 @@ pub data RecordRow : Type 0 where
   PreparedByS1 : Admitted → RecordRow
   -- Handover Request on X2 (TS 36.423 8.2.1, TS 33.401 7.2.8.4.2)
   PreparedByX2 : Admitted → RecordRow
-  -- Handover Command (TS 36.413 8.4.1): NCC, algorithms, air address
-  AckedByS1 : ℕ → Algs → ℕ → RecordRow
-  -- Handover Request Acknowledge on X2 (TS 36.423 8.2.1): algorithms, air address
-  AckedByX2 : Algs → ℕ → RecordRow
+  -- Handover Command (TS 36.413 8.4.1), or Handover Request Acknowledge on X2 (TS 36.423 8.2.1): the order for the phone
+  AttemptAnswered : Order → RecordRow
   -- Handover Cancel (TS 36.413 8.4.5, TS 36.423 8.2.4)
   PreparationCancelled : Origin → RecordRow
   -- UE Context Release on X2 (TS 36.423 8.2.3)
@@ -69,10 +67,8 @@ pub data ActRow : Type 0 where
   StartedByS1 : ℕ → ℕ → Place → ActRow
   -- within the station: the attempt drawn, the air address drawn, target cell
   StartedWithin : ℕ → ℕ → Place → ActRow
-  -- Reconfiguration on SRB1 (TS 36.331 5.3.5.4): what it orders, its COUNT
-  HandoverCommanded : Order → ℕ → ActRow
-  -- the order of a key change again, and its COUNT
-  ChangeCommanded : Renewal → ℕ → ActRow
+  -- Reconfiguration on SRB1 (TS 36.331 5.3.5.4): by which kind of attempt, what it orders, its COUNT
+  OrderSent : Via → Order → ℕ → ActRow
   -- an attempt is given up (TS 36.423 8.2.4, TS 36.413 8.4.5): connection, attempt, and the target station on X2 or the
   -- target cell on S1
   CancelledByX2 : ℕ → ℕ → ℕ → ActRow

@@ -8,43 +8,49 @@ use Rattle.rec_base.specs.declared.bearers.Bearer.{Bearer}
 use Rattle.rec_base.specs.declared.faults.RecFault.{RecFault}
 use Rattle.lte_events.specs.declared.acts.StationAct.{StationAct}
 use Rattle.lte_events.specs.Site.{Site}
-use Rattle.nh_chain.specs.Station.{StationKey, map_station_key}
+use Rattle.key_model.specs.HandoverTable.{NumberedKey}
+use Rattle.key_model.specs.HandoverLines.{map_numbered}
+use Rattle.nh_chain.specs.Station.{StationKey, map_station_key, map_pair}
 use Rattle.pdcp_guard.specs.AsKeys.{AsKeys, map_as_keys}
 use Rattle.ho_prep.specs.Prep.{Prep, map_prep}
-use Rattle.x2_handover.specs.Attempt.{X2Start, X2Acked, Commanded, map_x2_start, map_x2_acked}
-use Rattle.s1_handover.specs.Attempt.{S1Start, S1Acked}
+use Rattle.x2_handover.specs.declared.orders.Order.{Order}
 use Rattle.s1x2_rec.specs.Content.{Content, map_content}
 use Rattle.lte_machine.specs.Bearers.{Bearers}
 use Rattle.lte_machine.specs.Reply.{Origin}
 
--- an attempt of a handover over X2, or within the station, by how far it is
-pub data X2State (K C : Type 0) : Type 0 where
-  X2Open : X2Start K C → X2State K C
-  X2Ready : X2Acked K C → X2State K C
-  X2Commanded : Commanded → X2State K C
+-- which way an attempt goes: a handover over X2, over S1 or within the station, or a change of the context's key
+pub data Via : Type 0 where
+  OverX2 OverS1 Within Renewing : Via
 
-pub data S1State : Type 0 where
-  S1Open : S1Start → S1State
-  S1Ready : S1Acked → S1State
-  S1Commanded : Commanded → S1State
+-- how far an attempt is
+pub data Progress : Type 0 where
+  -- its target has not answered
+  Open : Progress
+  -- the target has, by which this order for the phone is known
+  Ready : Order → Progress
+  -- the order was sent
+  Commanded : Order → Progress
 
--- a change of the context's key, whose order was sent at once
-pub record Renewal : Type 0 where
-  -- the number of the attempt
+-- what the source of a handover over X2, or within the station, keeps until the order is sent
+pub record SourceKeys (K C : Type 0) : Type 0 where
+  -- KeNB* for the target
+  pub star : NumberedKey K C
+  -- the pair of NH and NCC that was used for it, if one was
+  pub spent : Option (NumberedKey K C)
+
+-- an attempt at a handover, or at a change of the context's key, whose order is sent at once
+pub record Attempt (K C : Type 0) : Type 0 where
+  -- its number
   pub number : ℕ
-  -- the cell of the context, which stays
+  -- the target station, and the target cell
+  pub station : ℕ
   pub cell : Place
-  -- its algorithms, which stay
-  pub algs : Algs
-  -- the air address drawn
-  pub air : ℕ
-
--- the kinds of attempt are apart
-pub data Attempt (K C : Type 0) : Type 0 where
-  OverX2 : X2State K C → Attempt K C
-  OverS1 : S1State → Attempt K C
-  Within : X2State K C → Attempt K C
-  Renewing : Renewal → Attempt K C
+  -- which way it goes
+  pub via : Via
+  -- what the source keeps for it
+  pub keys : Option (SourceKeys K C)
+  -- how far it is
+  pub progress : Progress
 
 -- the context of the phone
 pub record Context (K C : Type 0) : Type 0 where
@@ -117,16 +123,18 @@ pub data StationInput (K C : Type 0) : Type 0 where
   -- a record, as it reads
   StationRecord : Interface → Result (Content K C) RecFault → StationInput K C
 
-abbrev pub map_x2_state : {K C L D : Type 0} → (K → L) → (C → D) → X2State K C → X2State L D
-map_x2_state f g (X2Open s) = X2Open (map_x2_start f g s)
-map_x2_state f g (X2Ready a) = X2Ready (map_x2_acked f g a)
-map_x2_state f g (X2Commanded s) = X2Commanded s
+abbrev pub map_source_keys : {K C L D : Type 0} → (K → L) → (C → D) → SourceKeys K C → SourceKeys L D
+map_source_keys f g keys = record { star = map_numbered f g keys.star; spent = map_pair f g keys.spent }
 
 abbrev pub map_attempt : {K C L D : Type 0} → (K → L) → (C → D) → Attempt K C → Attempt L D
-map_attempt f g (OverX2 a) = OverX2 (map_x2_state f g a)
-map_attempt f g (OverS1 a) = OverS1 a
-map_attempt f g (Within a) = Within (map_x2_state f g a)
-map_attempt f g (Renewing a) = Renewing a
+map_attempt f g a = record {
+  number = a.number;
+  station = a.station;
+  cell = a.cell;
+  via = a.via;
+  keys = option_map (map_source_keys f g) a.keys;
+  progress = a.progress;
+}
 
 abbrev pub map_context : {K C L D : Type 0} → (K → L) → (C → D) → Context K C → Context L D
 map_context f g c = record {

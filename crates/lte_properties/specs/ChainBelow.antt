@@ -7,7 +7,7 @@ use Rattle.key_model.specs.HandoverTable.{NumberedKey}
 use Rattle.s1x2_rec.specs.Fields.{Fields, InitialContext, ContextRelease, PathSwitchRequest, PathSwitchAnswer, HandoverRequired, HandoverRequest, HandoverRequestAck, HandoverCommand, HandoverNotify, HandoverCancel, X2Request, X2Ack, X2Cancel, X2Release, ContextModification}
 use Rattle.ho_prep.specs.Prep.{Prep}
 use Rattle.lte_machine.specs.Wire.{Outgoing, Between}
-use Rattle.lte_machine.specs.StationState.{Station, Context, Attempt, OverX2, OverS1, Within, Renewing, X2State, X2Open, X2Ready, X2Commanded}
+use Rattle.lte_machine.specs.StationState.{Station, Context, Attempt, SourceKeys}
 use Rattle.lte_machine.specs.StationKeys.{spent_in}
 use Rattle.lte_machine.specs.CoreState.{Core, CoreLink}
 
@@ -16,18 +16,14 @@ abbrev pub OfPair : (ℕ → Type 0) → Option (NumberedKey Term ℕ) → Type 
 OfPair P None = ⊤
 OfPair P (Some pair) = P pair.number
 
--- the KeNB* that an attempt has for its target
-abbrev pub x2_star : X2State Term ℕ → Option (NumberedKey Term ℕ)
-x2_star (X2Open start) = Some start.star
-x2_star (X2Ready acked) = Some acked.start.star
-x2_star (X2Commanded sent) = None
+-- the KeNB* that an attempt keeps for its target
+abbrev pub star_of : Option (SourceKeys Term ℕ) → Option (NumberedKey Term ℕ)
+star_of None = None
+star_of (Some keys) = Some keys.star
 
 abbrev pub star_in : Option (Attempt Term ℕ) → Option (NumberedKey Term ℕ)
 star_in None = None
-star_in (Some (OverX2 state)) = x2_star state
-star_in (Some (OverS1 state)) = None
-star_in (Some (Within state)) = x2_star state
-star_in (Some (Renewing renewal)) = None
+star_in (Some a) = star_of a.keys
 
 -- each number of a context is so: of its term, of its stored pair, of its attempt's KeNB* and of the attempt's pair
 abbrev pub EachNumber : (ℕ → Type 0) → Context Term ℕ → Type 0

@@ -5,10 +5,11 @@ use Rattle.key_model.specs.Chain.{nh}
 use Rattle.key_model.specs.HandoverTable.{NumberedKey}
 use Rattle.s1x2_rec.specs.Fields.{InitialContext, PathSwitchAnswer, HandoverRequest, X2Request, ContextModification}
 use Rattle.ho_prep.specs.Prep.{Prep}
+use Rattle.x2_handover.specs.declared.orders.Order.{Order}
 use Rattle.lte_events.specs.declared.events.Event.{Event}
 use Rattle.lte_events.specs.declared.setups.Setup.{Setup}
 use Rattle.lte_machine.specs.Reply.{From, BySetup, ByAttempt, ByChange, Made, Tried, Came, Changed, Took, Handover, BySource, ByTarget}
-use Rattle.lte_machine.specs.StationState.{Context, Attempt, OverX2, OverS1, Within, Renewing}
+use Rattle.lte_machine.specs.StationState.{Context, Via, Renewing, Commanded, Attempt}
 use Rattle.lte_machine.specs.CoreState.{CoreLink}
 use Rattle.lte_machine.specs.Wire.{Outgoing, Between}
 use Rattle.lte_machine.specs.World.{Machine, World}
@@ -18,7 +19,6 @@ use Rattle.lte_properties.specs.Origins.{root_of, nas_count_of}
 use Rattle.lte_properties.specs.ChainBelow.{AllOf}
 use Rattle.lte_properties.specs.ChainHolds.{core_numbers, run}
 use Rattle.lte_machine.specs.Distinct.{Member}
-use Rattle.lte_machine.specs.StationChoice.{x2_number, s1_number}
 
 -- the key of a chain, an NH or the KeNB that it begins with, from which a KeNB comes by KeNB* steps
 abbrev pub chain_key : Term → Term
@@ -68,14 +68,20 @@ OpenedUnder tried id x number =
     (e : Tried Term ℕ) × Member e tried × (e.station ≡ id) × (e.attempt ≡ number) × (e.conn ≡ x.conn)
     × (e.key ≡ x.key.kenb) × (e.number ≡ x.key.number)
 
+-- a change of the context's key: its order is for what was made of that
+abbrev pub ChangeOn : List (Made Term ℕ) → ℕ → Context Term ℕ → Attempt Term ℕ → Type 0
+ChangeOn made id x a =
+    (order : Order) × (a.progress ≡ Commanded order)
+    × (m : Made Term ℕ) × (made_at made id order.air ≡ Some m) × (m.from ≡ ByChange x.key.kenb)
+
 -- an attempt belongs to the context under whose key it was opened, and so does a change of the key
+abbrev pub ViaOn : List (Made Term ℕ) → List (Tried Term ℕ) → ℕ → Context Term ℕ → Attempt Term ℕ → Via → Type 0
+ViaOn made tried id x a Renewing = ChangeOn made id x a
+ViaOn made tried id x a other = OpenedUnder tried id x a.number
+
 abbrev pub AttemptOn : List (Made Term ℕ) → List (Tried Term ℕ) → ℕ → Context Term ℕ → Option (Attempt Term ℕ) → Type 0
 AttemptOn made tried id x None = ⊤
-AttemptOn made tried id x (Some (OverX2 state)) = OpenedUnder tried id x (x2_number state)
-AttemptOn made tried id x (Some (OverS1 state)) = OpenedUnder tried id x (s1_number state)
-AttemptOn made tried id x (Some (Within state)) = OpenedUnder tried id x (x2_number state)
-AttemptOn made tried id x (Some (Renewing a)) =
-    (m : Made Term ℕ) × (made_at made id a.air ≡ Some m) × (m.from ≡ ByChange x.key.kenb)
+AttemptOn made tried id x (Some a) = ViaOn made tried id x a a.via
 
 abbrev pub AttemptsOn : List (Made Term ℕ) → List (Tried Term ℕ) → ℕ → Option (Context Term ℕ) → Type 0
 AttemptsOn made tried id None = ⊤

@@ -54,8 +54,7 @@ module _ {K C : Type 0} (r : Reading K C) (s : Station K C) where
         taken = λ conn origin pair k. tt;
         by_s1 = λ w pair k. (admitted_cell on fields w k i, (tt, (tt, (tt, tt))));
         by_x2 = λ w star k. (tt, (tt, (tt, tt)));
-        acked_s1 = λ ncc algs air key k. tt;
-        acked_x2 = λ algs air key k. tt;
+        answered = λ order key k. tt;
         cancelled = λ from key k. tt;
         left = λ key k. tt;
         renewed = λ conn number air count c e kenb k. (context_cell h.2 c e, (tt, (tt, (tt, tt))));
@@ -80,8 +79,7 @@ module _ {K C : Type 0} (r : Reading K C) (s : Station K C) where
         by_x2 = λ number target cell k c e. (subst IsStationAct k.act_is i, tt);
         by_s1 = λ number target cell k c e. tt;
         within = λ number air cell k c e. (subst IsStationAct k.starts.act_is i, (tt, (tt, (tt, tt))));
-        commanded = λ order count k c e. tt;
-        changed = λ renewal count k c e. tt;
+        commanded = λ via order count k c e. tt;
         cancelled_x2 = λ conn number target k. tt;
         cancelled_s1 = λ conn number cell k. tt;
         cancelled_within = λ number k. tt;

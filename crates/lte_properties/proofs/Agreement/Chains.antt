@@ -13,22 +13,21 @@ use Rattle.s1x2_rec.specs.Fields.{InitialContext, PathSwitchAnswer, HandoverRequ
 use Rattle.ho_prep.specs.Prep.{Prep}
 use Rattle.lte_machine.specs.CoreState.{CoreLink}
 use Rattle.lte_machine.specs.Reply.{From, BySetup, ByAttempt, ByChange, Made, Tried, Came, Secured, Commanded, Changed, Took, Handover, BySource, ByTarget}
-use Rattle.lte_machine.specs.StationState.{Context, Attempt, OverX2, OverS1, Within, Renewing, X2State, X2Open, X2Ready, X2Commanded, S1State, S1Open, S1Ready, S1Commanded}
+use Rattle.lte_machine.specs.StationState.{Context, Via, Renewing, Progress, Open, Ready, Commanded as Sent, Attempt}
 use Rattle.lte_machine.specs.Wire.{Outgoing, Between}
-use Rattle.lte_properties.specs.Agreement.{TookMade, ObeysMade, KeyGrows}
+use Rattle.lte_properties.specs.Agreement.{made_at, TookMade, ObeysMade, KeyGrows}
 use Rattle.lte_properties.specs.Origins.{root_of, nas_count_of}
-use Rattle.lte_properties.specs.Chains.{chain_key, OnChain, Chains, IsKeyOf, IsPairOf, ArePairsOf, GivenOn, TriedOn, ContextOn, OpenedUnder, AttemptOn, AttemptsOn, PrepOn, LinkOn, RecordOn, StarOf, MadeHow, BelongsTo, TookOn, AreChains}
+use Rattle.lte_properties.specs.Chains.{chain_key, OnChain, Chains, IsKeyOf, IsPairOf, ArePairsOf, GivenOn, TriedOn, ContextOn, OpenedUnder, ChangeOn, ViaOn, AttemptOn, AttemptsOn, PrepOn, LinkOn, RecordOn, StarOf, MadeHow, BelongsTo, TookOn, AreChains}
 use Rattle.lte_properties.specs.ChainBelow.{AllOf, LinkTop}
 use Rattle.lte_properties.specs.ChainHolds.{Holds}
 use Rattle.lte_properties.proofs.ChainNumbers.Lists.{all_map}
 use Rattle.lte_properties.proofs.Agreement.Terms.{climb, lands, climb-nh, root_base, root_nh, on_chain_lands}
-use Rattle.lte_properties.proofs.Agreement.Ghost.{is_tried_at, taken, TermOk, PairOk, PairsOk, FromIs, FromOk, MadeOk, GivenOk, TriedOk, TookOk, UnderKey, X2Ok, S1Ok, AttemptOk, CtxOk, PrepOk, StationOk, CoreLinkOk, SentOk}
+use Rattle.lte_properties.proofs.Agreement.Ghost.{is_tried_at, taken, TermOk, PairOk, PairsOk, FromIs, FromOk, MadeOk, GivenOk, TriedOk, TookOk, UnderKey, ProgressOk, ChangeOk, ViaOk, AttemptOk, CtxOk, PrepOk, StationOk, CoreLinkOk, SentOk}
 use Rattle.lte_properties.proofs.Agreement.Later.{same_found}
 use Rattle.lte_properties.proofs.Agreement.PhoneWalk.{both_named}
 use Rattle.lte_properties.proofs.Agreement.ToldIsFound.{all_found, found_holds, term_number}
 use Rattle.lte_properties.proofs.Agreement.World.{Conns, ghost, WorldOk}
 use Rattle.lte_machine.specs.Distinct.{Member}
-use Rattle.lte_machine.specs.StationChoice.{x2_number, s1_number}
 use Rattle.lte_machine.proofs.Worlds.{TheWorld}
 
 -- a key on two chains has one number
@@ -91,19 +90,24 @@ module _ (cells : List Site) (c : Conns) (w : TheWorld) (h : WorldOk cells c w) 
       ∙ term_number (ghost c w) x.conn x.key.kenb x.key.number own in
       (e, found_in (is_tried_at id number) w.tried e k.found, at.0, at.1, k.conn, k.key, one)
 
-  x2_under : (id : ℕ) (x : Context Term ℕ) (state : X2State Term ℕ)
-      → X2Ok (ghost c w) id x.conn x.key.kenb state
-      → UnderKey (ghost c w) id x.conn x.key.kenb (x2_number state)
-  x2_under id x (X2Open start) k = search (k.0)
-  x2_under id x (X2Ready acked) k = k.2
-  x2_under id x (X2Commanded sent) k = k.1
+  under : (id : ℕ) (x : Context Term ℕ) (a : Attempt Term ℕ) (p : Progress)
+      → ProgressOk (ghost c w) id x.conn x.key.kenb a p
+      → UnderKey (ghost c w) id x.conn x.key.kenb a.number
+  under id x a Open k = search (k.0)
+  under id x a (Ready order) k = k.1
+  under id x a (Sent order) k = k.1
 
-  s1_under : (id : ℕ) (x : Context Term ℕ) (state : S1State)
-      → S1Ok (ghost c w) id x.conn x.key.kenb state
-      → UnderKey (ghost c w) id x.conn x.key.kenb (s1_number state)
-  s1_under id x (S1Open start) k = search
-  s1_under id x (S1Ready acked) k = k.1
-  s1_under id x (S1Commanded sent) k = k.1
+  change_on : (id : ℕ) (x : Context Term ℕ) (a : Attempt Term ℕ) → ChangeOk (ghost c w) id x.key.kenb a → ChangeOn w.made id x a
+  change_on id x a k =
+      (k.order, k.commanded, k.change.made, subst (λ n. made_at w.made n k.order.air ≡ Some k.change.made) k.station k.change.found, k.change.from)
+
+  via_on : (id : ℕ) (x : Context Term ℕ)
+      → TermOk (ghost c w) x.conn x.key.kenb x.key.number
+      → (a : Attempt Term ℕ) (via : Via)
+      → ViaOk (ghost c w) id x.conn x.key.kenb a via
+      → ViaOn w.made w.tried id x a via
+  via_on id x own a Renewing k = change_on id x a k
+  via_on id x own a other k = opened_under id x a.number own (under id x a a.progress k)
 
   attempt_on : (id : ℕ) (x : Context Term ℕ)
       → TermOk (ghost c w) x.conn x.key.kenb x.key.number
@@ -111,10 +115,7 @@ module _ (cells : List Site) (c : Conns) (w : TheWorld) (h : WorldOk cells c w) 
       → AttemptOk (ghost c w) id x.conn x.key.kenb o
       → AttemptOn w.made w.tried id x o
   attempt_on id x own None k = tt
-  attempt_on id x own (Some (OverX2 state)) k = opened_under id x (x2_number state) own (x2_under id x state k)
-  attempt_on id x own (Some (OverS1 state)) k = opened_under id x (s1_number state) own (s1_under id x state k)
-  attempt_on id x own (Some (Within state)) k = opened_under id x (x2_number state) own (x2_under id x state k)
-  attempt_on id x own (Some (Renewing a)) k = (k.made, k.found, k.from)
+  attempt_on id x own (Some a) k = via_on id x own a a.via k.1
 
   attempts_on : (id : ℕ) (o : Option (Context Term ℕ)) → CtxOk (ghost c w) id o → AttemptsOn w.made w.tried id o
   attempts_on id None k = tt

@@ -21,13 +21,12 @@ use Rattle.rrc_rec.specs.Reading.{read_rrc}
 use Rattle.s1x2_rec.specs.Fields.{Fields, InitialContext, PathSwitchAnswer, HandoverRequired, HandoverRequest, HandoverRequestAck, HandoverCommand, X2Request, X2Ack, ContextModification}
 use Rattle.ho_prep.specs.Prep.{Prep}
 use Rattle.x2_handover.specs.declared.orders.Order.{Order}
-use Rattle.x2_handover.specs.Attempt.{x2_order}
-use Rattle.s1_handover.specs.Attempt.{s1_order}
 use Rattle.lte_machine.specs.Bearers.{Srb, Signalling1, Bearers}
 use Rattle.lte_machine.specs.Wire.{KeyUse, Ciphering, Outgoing, SealedNas, SealedRrc, Between, srb_use, srb_ciphering}
 use Rattle.lte_machine.specs.Reply.{Origin, From, BySetup, ByAttempt, ByChange, Made, Tried, Came, Secured, Commanded, Changed, Took, Handover, BySource, ByTarget}
 use Rattle.lte_machine.specs.PhoneState.{Link, Radio, Idle, Connecting, Connected}
-use Rattle.lte_machine.specs.StationState.{Station, Context, Attempt, OverX2, OverS1, Within, Renewing, X2State, X2Open, X2Ready, X2Commanded, S1State, S1Open, S1Ready, S1Commanded}
+use Rattle.lte_machine.specs.StationState.{Station, Context, Via, OverX2, Renewing, Progress, Open, Ready, Commanded as Sent, SourceKeys, Attempt}
+use Rattle.lte_machine.specs.StationKeys.{spent_of}
 use Rattle.lte_machine.specs.CoreState.{Core, CoreLink}
 use Rattle.std.specs.Prelude.{slice_index, length, ◌==◌, ◌&&◌, Bool, true, false, find, ⊤}
 use Rattle.lte_properties.specs.ChainBelow.{AllOf}
@@ -241,24 +240,38 @@ UnderKey g id conn t number = record {
   conn : tried.conn ≡ conn;
 }
 
-abbrev pub X2Ok : Ghost → ℕ → ℕ → Term → X2State Term ℕ → Type 0
-X2Ok g id conn t (X2Open start) =
-    StartIs g id conn t start.number start.station start.cell (BySource start.star) × PairsOk g conn start.spent
-X2Ok g id conn t (X2Ready acked) =
-    IsOrder g id t (x2_order ncc_of acked) × PairsOk g conn acked.start.spent × UnderKey g id conn t acked.start.number
-X2Ok g id conn t (X2Commanded sent) = IsOrder g id t sent.order × UnderKey g id conn t sent.number
+-- what was told of the start of an attempt
+abbrev pub handover_by : Option (SourceKeys Term ℕ) → Handover Term ℕ
+handover_by None = ByTarget
+handover_by (Some keys) = BySource keys.star
 
-abbrev pub S1Ok : Ghost → ℕ → ℕ → Term → S1State → Type 0
-S1Ok g id conn t (S1Open start) = StartIs g id conn t start.number start.station start.cell ByTarget
-S1Ok g id conn t (S1Ready acked) = IsOrder g id t (s1_order acked) × UnderKey g id conn t acked.start.number
-S1Ok g id conn t (S1Commanded sent) = IsOrder g id t sent.order × UnderKey g id conn t sent.number
+-- an open attempt over X2 has a KeNB*
+abbrev pub HasStar : Via → Option (SourceKeys Term ℕ) → Type 0
+HasStar OverX2 None = ⊥
+HasStar other keys = ⊤
+
+-- an attempt at a handover, by how far it is
+abbrev pub ProgressOk : Ghost → ℕ → ℕ → Term → Attempt Term ℕ → Progress → Type 0
+ProgressOk g id conn t a Open = StartIs g id conn t a.number a.station a.cell (handover_by a.keys) × HasStar a.via a.keys
+ProgressOk g id conn t a (Ready order) = IsOrder g id t order × UnderKey g id conn t a.number
+ProgressOk g id conn t a (Sent order) = IsOrder g id t order × UnderKey g id conn t a.number
+
+-- a change of the key
+abbrev pub ChangeOk : Ghost → ℕ → Term → Attempt Term ℕ → Type 0
+ChangeOk g id t a = record {
+  order : Order;
+  commanded : a.progress ≡ Sent order;
+  station : order.station ≡ id;
+  change : ChangeIs g t order.cell order.algs order.station order.air;
+}
+
+abbrev pub ViaOk : Ghost → ℕ → ℕ → Term → Attempt Term ℕ → Via → Type 0
+ViaOk g id conn t a Renewing = ChangeOk g id t a
+ViaOk g id conn t a other = ProgressOk g id conn t a a.progress
 
 abbrev pub AttemptOk : Ghost → ℕ → ℕ → Term → Option (Attempt Term ℕ) → Type 0
 AttemptOk g id conn t None = ⊤
-AttemptOk g id conn t (Some (OverX2 state)) = X2Ok g id conn t state
-AttemptOk g id conn t (Some (OverS1 state)) = S1Ok g id conn t state
-AttemptOk g id conn t (Some (Within state)) = X2Ok g id conn t state
-AttemptOk g id conn t (Some (Renewing a)) = ChangeIs g t a.cell a.algs id a.air
+AttemptOk g id conn t (Some a) = PairsOk g conn (spent_of a.keys) × ViaOk g id conn t a a.via
 
 -- a context whose security starts has no attempt, and the phone had taken the key of any other
 abbrev pub StartedOk : Ghost → ℕ → ℕ → Term → Bool → Option (Attempt Term ℕ) → Type 0

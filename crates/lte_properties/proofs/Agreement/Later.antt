@@ -15,14 +15,15 @@ use Rattle.lte_machine.specs.Bearers.{Srb}
 use Rattle.lte_machine.specs.Wire.{KeyUse, Ciphering, Outgoing, SealedNas, SealedRrc, Between}
 use Rattle.lte_machine.specs.Reply.{From, BySetup, ByAttempt, ByChange, Made, Tried, Came, Secured, Commanded, Changed, Took, Handover, BySource, ByTarget}
 use Rattle.lte_machine.specs.PhoneState.{Radio, Idle, Connecting, Connected}
-use Rattle.lte_machine.specs.StationState.{Context, Attempt, OverX2, OverS1, Within, Renewing, X2State, X2Open, X2Ready, X2Commanded, S1State, S1Open, S1Ready, S1Commanded}
+use Rattle.lte_machine.specs.StationState.{Context, Via, Renewing, Progress, Open, Ready, Commanded as Sent, Attempt}
+use Rattle.lte_machine.specs.StationKeys.{spent_of}
 use Rattle.lte_properties.specs.ChainBelow.{AllOf}
 use Rattle.std.proofs.Common.{◌≡◌, ℕ, ◌<◌, ◌≤◌, refl, sym, ◌∙◌, ap, le_trans, arith, Bool, true, false, List, [], ◌∷◌, ◌++◌, Option, Some, None, inl, inr}
 use Rattle.std.specs.Prelude.{find}
 use Rattle.std.specs.Option.{option_or}
 use Rattle.std.proofs.lemmas.List.Folds.{find-append}
 use Rattle.lte_properties.specs.Agreement.{made_at, HadTaken, TakenIfTried}
-use Rattle.lte_properties.proofs.Agreement.Ghost.{Ghost, tried_at, took_at, chain_at, TermOk, PairOk, PairsOk, FromIs, HereIs, FromOk, MadeOk, GivenOk, TriedOk, UnderIs, TookOk, EntryIs, X2Ok, S1Ok, AttemptOk, StartedOk, CtxOk, PrepOk, RadioOk, SaysOk, CipheredSo, DownOk, UpOk, CommandTo, X2AckTo, BetweenOk, SentOk}
+use Rattle.lte_properties.proofs.Agreement.Ghost.{Ghost, tried_at, took_at, chain_at, TermOk, PairOk, PairsOk, FromIs, HereIs, FromOk, MadeOk, GivenOk, TriedOk, UnderIs, TookOk, EntryIs, ProgressOk, ViaOk, AttemptOk, StartedOk, CtxOk, PrepOk, RadioOk, SaysOk, CipheredSo, DownOk, UpOk, CommandTo, X2AckTo, BetweenOk, SentOk}
 use Rattle.lte_machine.specs.Distinct.{Member}
 
 -- more is told, connections go on, and none begins anew
@@ -148,22 +149,18 @@ module _ (g h : Ghost) (l : Later g h) where
   pub entry_later : (id air : ℕ) (t : Term) (number : ℕ) (algs : Algs) → EntryIs g id air t number algs → EntryIs h id air t number algs
   entry_later id air t number algs x = search (known, taken_if_later)
 
-  x2_later : (id conn : ℕ) (t : Term) (state : X2State Term ℕ) → X2Ok g id conn t state → X2Ok h id conn t state
-  x2_later id conn t (X2Open start) x = search known
-  x2_later id conn t (X2Ready acked) x = search known
-  x2_later id conn t (X2Commanded sent) x = search known
+  progress_later : (id conn : ℕ) (t : Term) (a : Attempt Term ℕ) (p : Progress) → ProgressOk g id conn t a p → ProgressOk h id conn t a p
+  progress_later id conn t a Open x = search known
+  progress_later id conn t a (Ready order) x = search known
+  progress_later id conn t a (Sent order) x = search known
 
-  s1_later : (id conn : ℕ) (t : Term) (state : S1State) → S1Ok g id conn t state → S1Ok h id conn t state
-  s1_later id conn t (S1Open start) x = search known
-  s1_later id conn t (S1Ready acked) x = search known
-  s1_later id conn t (S1Commanded sent) x = search known
+  via_later : (id conn : ℕ) (t : Term) (a : Attempt Term ℕ) (via : Via) → ViaOk g id conn t a via → ViaOk h id conn t a via
+  via_later id conn t a Renewing x = search known
+  via_later id conn t a other x = progress_later id conn t a a.progress x
 
   attempt_later : (id conn : ℕ) (t : Term) (o : Option (Attempt Term ℕ)) → AttemptOk g id conn t o → AttemptOk h id conn t o
   attempt_later id conn t None x = tt
-  attempt_later id conn t (Some (OverX2 state)) x = x2_later id conn t state x
-  attempt_later id conn t (Some (OverS1 state)) x = s1_later id conn t state x
-  attempt_later id conn t (Some (Within state)) x = x2_later id conn t state x
-  attempt_later id conn t (Some (Renewing a)) x = search known
+  attempt_later id conn t (Some a) x = (pairs_later conn (spent_of a.keys) x.0, via_later id conn t a a.via x.1)
 
   started_later : (id air : ℕ) (t : Term) (starting : Bool) (o : Option (Attempt Term ℕ)) → StartedOk g id air t starting o → StartedOk h id air t starting o
   started_later id air t true o x = x

@@ -60,8 +60,7 @@ station_tells same row key s =
       taken = λ conn origin pair k. tt;
       by_s1 = λ w pair k. tt;
       by_x2 = λ w star k. tt;
-      acked_s1 = λ ncc algs air key k. tt;
-      acked_x2 = λ algs air key k. tt;
+      answered = λ order key k. tt;
       cancelled = λ from key k. tt;
       left = λ key k. tt;
       renewed = λ conn number air count c e kenb k. tt;
@@ -84,8 +83,7 @@ station_tells same row key s =
       within = λ number air cell k c e.
           started_way s.id (started_within (term_reading_by same) number air cell (Some c) s).0
           (opened (term_reading_by same) c.key cell).star.key c.key.pair;
-      commanded = λ order count k c e. tt;
-      changed = λ renewal count k c e. tt;
+      commanded = λ via order count k c e. tt;
       cancelled_x2 = λ conn number target k. tt;
       cancelled_s1 = λ conn number cell k. tt;
       cancelled_within = λ number k. tt;

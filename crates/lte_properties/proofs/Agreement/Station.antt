@@ -14,18 +14,19 @@ use Rattle.key_model.specs.Reading.{Reading, term_reading_by}
 use Rattle.key_model.specs.HandoverTable.{NumberedKey}
 use Rattle.key_model.specs.HandoverLines.{star_line}
 use Rattle.rrc_rec.specs.declared.records.RrcRecord.TheVariants.{SecurityModeCommand}
+use Rattle.x2_handover.specs.declared.orders.Order.{Order}
 use Rattle.s1x2_rec.specs.Content.{Content, map_content}
-use Rattle.s1x2_rec.specs.Fields.{Fields, HandoverRequest, X2Request, ContextModification}
+use Rattle.s1x2_rec.specs.Fields.{Fields, HandoverRequest, HandoverCommand, X2Request, X2Ack, ContextModification}
 use Rattle.ho_prep.specs.declared.origins.By.{By}
 use Rattle.lte_machine.specs.Bearers.{Signalling1}
 use Rattle.lte_machine.specs.Reply.{Origin, BySetup, ByAttempt, ByChange, Made, Tried, Reply, Handover, BySource, ByTarget, only, unseen}
 use Rattle.lte_machine.specs.Wire.{Outgoing, Between}
-use Rattle.lte_machine.specs.StationState.{Station, Context, Attempt, OverX2, OverS1, Renewal, X2Open, S1Open, Interface, OnS1, OnX2}
+use Rattle.lte_machine.specs.StationState.{Station, Context, Via, OverX2, Renewing, Progress, Open, Commanded, SourceKeys, Attempt, Interface, OnS1, OnX2, map_source_keys}
 use Rattle.lte_machine.specs.StationRows.{Admitted, RecordRow}
-use Rattle.lte_machine.specs.StationRecords.{context_given, with_pair, source_release, pair_taken, admitted_prep, admitted_made, with_admitted, prepared_by_s1, prepared_by_x2, s1_acked, x2_acked, with_s1_ack, with_x2_ack, change_text, key_renewed, record_does}
-use Rattle.lte_machine.specs.StationChoice.{record_row}
+use Rattle.lte_machine.specs.StationRecords.{context_given, with_pair, source_release, pair_taken, admitted_prep, admitted_made, with_admitted, prepared_by_s1, prepared_by_x2, answered, with_answer, order_text, change_order, key_renewed, record_does}
+use Rattle.lte_machine.specs.StationChoice.{star_ncc, record_row}
 use Rattle.lte_machine.specs.StationStep.{plain_station}
-use Rattle.lte_machine.proofs.RecordFacts.{Takes, Admits, AnswersS1, AnswersX2, Renews, RecordHas, record_has}
+use Rattle.lte_machine.proofs.RecordFacts.{Takes, Admits, AnswerSays, Answers, Renews, RecordHas, record_has}
 use Rattle.lte_machine.proofs.Routing.{address_on}
 use Rattle.lte_machine.proofs.StationCases.{RecordCases, record_case}
 use Rattle.lte_machine.proofs.Tests.{by_some}
@@ -34,7 +35,7 @@ use Rattle.lte_properties.specs.ChainAbove.{AnswerOk, InFlight}
 use Rattle.lte_properties.specs.Agreement.{made_at, HadTaken}
 use Rattle.lte_properties.specs.Chains.{chain_key}
 use Rattle.lte_properties.proofs.Agreement.Terms.{base_nh}
-use Rattle.lte_properties.proofs.Agreement.Ghost.{Ghost, is_tried_at, tried_at, chain_at, TermOk, PairOk, Leads, GivenFits, FromOk, MadeOk, TriedOk, GivenOk, AttemptOk, CtxOk, PrepOk, FreshFrom, SeenBy, StationOk, SaysOk, IsOther, StartIs, OrderIs, UnderKey, ChangeIs, AckIs, HasNcc, AnyMade, BetweenOk, OutOk}
+use Rattle.lte_properties.proofs.Agreement.Ghost.{Ghost, is_tried_at, tried_at, chain_at, TermOk, PairOk, Leads, GivenFits, FromOk, MadeOk, TriedOk, GivenOk, handover_by, HasStar, ProgressOk, ChangeOk, ViaOk, AttemptOk, CtxOk, PrepOk, FreshFrom, SeenBy, StationOk, SaysOk, IsOther, StartIs, OrderIs, IsOrder, UnderKey, ChangeIs, AckIs, HasNcc, AnyMade, BetweenOk, OutOk}
 use Rattle.lte_properties.proofs.Agreement.Later.{same_found, made_later, ctx_later, preps_later}
 use Rattle.lte_properties.proofs.ChainNumbers.Lists.{all_map}
 use Rattle.lte_properties.proofs.Agreement.PhoneWalk.{both_named}
@@ -42,6 +43,9 @@ use Rattle.lte_properties.proofs.Agreement.Seen.{NotBoth, setup_no_attempt, chan
 use Rattle.lte_properties.proofs.Agreement.StationContext.{CellFits, started_map, started_any, had_by, with_attempt_ok, with_both, mapped_at, with_ctx, ctx_at}
 use Rattle.lte_properties.proofs.Agreement.StationSends.{sends_down, change_says}
 use Rattle.lte_properties.proofs.Agreement.ToldIsFound.{all_found, found_holds, told, told_more, made_new, made_none, MadeBy, TriedBy, all_append, all_filter, reads_as, term_number, leads_up, star_term}
+
+not_commanded : {order : Order} → Open ≡ Commanded order → ⊥
+not_commanded e = cc
 
 -- what is told anew
 abbrev pub NewMade : Ghost → Ghost → Option (Made Term ℕ) → Type 0
@@ -281,20 +285,48 @@ module _ (same : Term → Term → Bool) (cells : List Site) (g : Ghost) (made_o
         record { tried = e; found = h.found; key = h.key; conn = h.conn },
       )
 
-  -- so the context has it
-  abbrev with_attempt : (Attempt Term ℕ → Attempt Term ℕ) → Context Term ℕ → Context Term ℕ
-  with_attempt f c = record c { attempt = option_map f c.attempt }
+  -- by what an answer says, on S1 and on X2
+  answer_orders : (t : Term) (conn : ℕ) (on : Interface) (fields : Fields) (key : Option (NumberedKey Term ℕ)) (a : Attempt Term ℕ) (order : Order)
+      → AnswerSays r on fields a order → BetweenOk g (address_on on s.id) fields key → ProgressOk g s.id conn t a Open → IsOrder g s.id t order × UnderKey g s.id conn t a.number
+  answer_orders t conn OnS1 (HandoverCommand held number cell ncc algs air) key a order says came h =
+      subst (λ o. IsOrder g s.id t o × UnderKey g s.id conn t a.number) (sym says.2)
+      (order_of t conn a.number a.station a.cell (handover_by a.keys) ncc algs air (HasNcc ncc) h.0
+      (subst (λ n. AckIs g s.id n algs air (HasNcc ncc)) (sym says.1) came) (λ fits n. n))
+  answer_orders t conn OnX2 (X2Ack held number cell algs air) key a order says came h =
+      subst (λ o. IsOrder g s.id t o × UnderKey g s.id conn t a.number) (sym says.2)
+      (order_of t conn a.number a.station a.cell (handover_by a.keys) (star_ncc (option_map (map_source_keys unseen ncc_of) a.keys)) algs air AnyMade h.0
+      (subst (λ n. AckIs g s.id n algs air AnyMade) (sym says.1) came) (λ fits so. by_keys a.keys (subst (λ v. HasStar v a.keys) says.0 h.1) _ fits))
+    where
+      by_keys : (o : Option (SourceKeys Term ℕ)) → HasStar OverX2 o → (n : ℕ) → GivenFits (handover_by o) n
+          → ncc_of n ≡ star_ncc (option_map (map_source_keys unseen ncc_of) o)
+      by_keys None has n fits = absurd has
+      by_keys (Some keys) has n fits = ap ncc_of (sym fits)
+  answer_orders t conn on fields key a order says came h = absurd says
 
-  acked_goes : (f : Attempt Term ℕ → Attempt Term ℕ) (c : Context Term ℕ) (first : Attempt Term ℕ) → s.context ≡ Some c → c.attempt ≡ Some first
-      → (AttemptOk g s.id c.conn c.key.kenb (Some first) → AttemptOk g s.id c.conn c.key.kenb (Some (f first)))
-      → StationOk cells g (record s { context = option_map (with_attempt f) s.context })
-  acked_goes f c first e trying keeps =
-      let h = ctx_at cells g s ok c e in
-      let attempt : AttemptOk g s.id c.conn c.key.kenb (option_map f c.attempt) =
-      subst (λ o. AttemptOk g s.id c.conn c.key.kenb (option_map f o)) (sym trying)
-      (keeps (subst (AttemptOk g s.id c.conn c.key.kenb) trying h.attempt)) in
-      mapped_at cells g s ok (with_attempt f) c e
-      (with_attempt_ok g s.id c h (option_map f c.attempt) attempt (started_map g s.id c.air c.key.kenb c.starting f c.attempt h.started))
+  -- so the context has it
+  answered_goes : (on : Interface) (fields : Fields) (key : Option (NumberedKey Term ℕ)) (order : Order) (f : Answers r s on fields order)
+      → BetweenOk g (address_on on s.id) fields key → StationOk cells g (record s { context = option_map (with_answer order) s.context })
+  answered_goes on fields key order f came =
+      let c = f.context in
+      let a = f.attempt in
+      let h = ctx_at cells g s ok c f.serving in
+      let of_attempt : AttemptOk g s.id c.conn c.key.kenb (Some a) = subst (AttemptOk g s.id c.conn c.key.kenb) f.trying h.attempt in
+      let via = answered_via c.key.kenb c.conn on fields key a a.via refl order f.waits f.says came of_attempt.1 in
+      let attempt : AttemptOk g s.id c.conn c.key.kenb (option_map (answered order) c.attempt) =
+      subst (λ o. AttemptOk g s.id c.conn c.key.kenb (option_map (answered order) o)) (sym f.trying) (of_attempt.0, via) in
+      mapped_at cells g s ok (with_answer order) c f.serving
+      (with_attempt_ok g s.id c h (option_map (answered order) c.attempt) attempt
+      (started_map g s.id c.air c.key.kenb c.starting (answered order) c.attempt h.started))
+    where
+      no_change : (t : Term) (a : Attempt Term ℕ) → a.progress ≡ Open → ChangeOk g s.id t a → ⊥
+      no_change t a waits k = not_commanded (sym waits ∙ k.commanded)
+
+      answered_via : (t : Term) (conn : ℕ) (on : Interface) (fields : Fields) (key : Option (NumberedKey Term ℕ)) (a : Attempt Term ℕ) (via : Via)
+          → a.via ≡ via → (order : Order) → a.progress ≡ Open → AnswerSays r on fields a order → BetweenOk g (address_on on s.id) fields key
+          → ViaOk g s.id conn t a via → ViaOk g s.id conn t (answered order a) via
+      answered_via t conn on fields key a Renewing e order waits says came h = absurd (no_change t a waits h)
+      answered_via t conn on fields key a other e order waits says came h =
+          answer_orders t conn on fields key a order says came (subst (ProgressOk g s.id conn t a) waits h)
 
   -- A KEY CHANGE
 
@@ -313,7 +345,7 @@ module _ (same : Term → Term → Bool) (cells : List Site) (g : Ghost) (made_o
         algs = c.algs;
         from = ByChange c.key.kenb;
       } in
-      let a : Renewal = record { number = number; cell = c.cell; algs = c.algs; air = air } in
+      let a = change_order 0 s.id air c in
       let k = told g (Some m) None in
       let l = told_more g (Some m) None in
       let low : 1 ≤ air = omega arith in
@@ -334,7 +366,7 @@ module _ (same : Term → Term → Bool) (cells : List Site) (g : Ghost) (made_o
       let all_made : AllOf (MadeOk k) k.made =
       all_append (MadeOk k) g.made m (all_map (MadeOk g) (MadeOk k) (made_later g k l) g.made made_ok) made_new_ok in (
         record {
-          context = with_attempt_ok k s.id c ctx _ change (started_any k s.id c.air c.key.kenb c.starting _ active taken);
+          context = with_attempt_ok k s.id c ctx _ (tt, record { order = a; commanded = refl; station = refl; change = change }) (started_any k s.id c.air c.key.kenb c.starting _ active taken);
           preps = (
             record {
               term = term;
@@ -356,7 +388,7 @@ module _ (same : Term → Term → Bool) (cells : List Site) (g : Ghost) (made_o
         },
         (made_new_ok, apart_always m (change_no_attempt m c.key.kenb refl) g.made),
         tt,
-        sends_down k s.id c.air c ctx refl Signalling1 count (change_text s.id a) (change_says k all_made c.key.kenb s.id a change) taken,
+        sends_down k s.id c.air c ctx refl Signalling1 count (order_text Renewing a) (change_says k all_made c.key.kenb s.id a change) taken,
         refl,
         refl,
         tt,
@@ -378,29 +410,12 @@ module _ (same : Term → Term → Bool) (cells : List Site) (g : Ghost) (made_o
     says x f key e k came = subst (λ y. BetweenOk g (address_on x s.id) y key) k (subst (λ y. BetweenOk g (address_on y s.id) fields key) e came.0)
 
     -- the pair of an answer is of the connection of the context
-    answered : (conn : ℕ) (origin : Option Origin) (pair : NumberedKey Term ℕ) (f : Takes s on fields conn origin) → Came (Some pair)
+    answer_fits : (conn : ℕ) (origin : Option Origin) (pair : NumberedKey Term ℕ) (f : Takes s on fields conn origin) → Came (Some pair)
         → PairOk g f.context.conn pair
-    answered conn origin pair f came =
+    answer_fits conn origin pair f came =
         let flies = subst (λ x. InFlight s (Between (Address.StationS1 s.id) x (Some pair))) f.fields_is (came.1 f.on_is).1 in
         let answer : AnswerOk (Some f.context) f.asked f.number pair.number = subst (λ o. AnswerOk o f.asked f.number pair.number) f.serving (flies refl).1 in
         subst (λ n. PairOk g n pair) (sym (answer f.outstanding).0) (says OnS1 _ (Some pair) f.on_is f.fields_is came)
-
-    acked_s1 : (ncc : ℕ) (algs : Algs) (air : ℕ) (key : Option (NumberedKey Term ℕ)) (f : AnswersS1 s on fields ncc algs air) → Came key
-        → StationOk cells g (record s { context = option_map (with_s1_ack ncc algs air) s.context })
-    acked_s1 ncc algs air key f came =
-        acked_goes (s1_acked ncc algs air) f.context (OverS1 (S1Open f.start)) f.serving f.opened
-        (λ h. order_of f.context.key.kenb f.context.conn f.start.number f.start.station f.start.cell ByTarget ncc algs air (HasNcc ncc) h
-        (says OnS1 _ key f.on_is f.fields_is came) (λ fits n. n))
-
-    acked_x2 : (algs : Algs) (air : ℕ) (key : Option (NumberedKey Term ℕ)) (f : AnswersX2 s on fields algs air) → Came key
-        → StationOk cells g (record s { context = option_map (with_x2_ack algs air) s.context })
-    acked_x2 algs air key f came =
-        acked_goes (x2_acked algs air) f.context (OverX2 (X2Open f.start)) f.serving f.opened
-        (λ h.
-        let star = f.start.star in
-        let o = order_of f.context.key.kenb f.context.conn f.start.number f.start.station f.start.cell (BySource star) (ncc_of star.number) algs air AnyMade
-        h.0 (says OnX2 _ key f.on_is f.fields_is came) (λ fits n. ap ncc_of (sym fits)) in
-        (o.0, h.1, o.1))
 
     -- of a key change
     renewed : (conn number air count : ℕ) (c : Context Term ℕ) → s.context ≡ Some c → (kenb : NumberedKey Term ℕ)
@@ -418,11 +433,10 @@ module _ (same : Term → Term → Bool) (cells : List Site) (g : Ghost) (made_o
           let b = says OnS1 _ (Some kenb) k.0.on_is k.0.fields_is k.1 in
           given_goes conn cell caps algs air kenb k.0.air_is (drawn s.next air k.0.air_is k.0.left) b.0 b.1;
       released = λ key k. (with_both cells g s ok None tt [] tt, tt, tt, tt, refl, tt, tt);
-      taken = λ conn origin pair k. taken_goes conn origin pair k.0.context k.0.serving (answered conn origin pair k.0 k.1);
+      taken = λ conn origin pair k. taken_goes conn origin pair k.0.context k.0.serving (answer_fits conn origin pair k.0 k.1);
       by_s1 = λ w pair k. by_s1_goes w pair k.0.admits (says OnS1 _ (Some pair) k.0.on_is k.0.fields_is k.1);
       by_x2 = λ w star k. by_x2_goes w star k.0.admits (says OnX2 _ (Some star) k.0.on_is k.0.fields_is k.1);
-      acked_s1 = λ ncc algs air key k. (acked_s1 ncc algs air key k.0 k.1, tt, tt, tt, refl, tt, tt);
-      acked_x2 = λ algs air key k. (acked_x2 algs air key k.0 k.1, tt, tt, tt, refl, tt, tt);
+      answered = λ order key k. (answered_goes on fields key order k.0 k.1.0, tt, tt, tt, refl, tt, tt);
       cancelled = λ from key k. (with_both cells g s ok s.context ok.context _ (all_filter _ _ s.preps ok.preps), tt, tt, tt, refl, tt, tt);
       left = λ key k. (with_ctx cells g s ok None tt, tt, tt, tt, refl, tt, tt);
       renewed = λ conn number air count c e kenb k. renewed conn number air count c e kenb k.0 k.1;

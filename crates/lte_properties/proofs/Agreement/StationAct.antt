@@ -19,12 +19,11 @@ use Rattle.lte_machine.specs.Bearers.{Srb, Signalling1}
 use Rattle.lte_events.specs.Ranges.{IsStationAct}
 use Rattle.lte_machine.specs.Reply.{Origin, ByAttempt, Made, Tried, Handover, BySource, ByTarget, Reply, only}
 use Rattle.lte_machine.specs.Wire.{Outgoing}
-use Rattle.lte_machine.specs.StationState.{Station, Context, Attempt, OverX2, OverS1, Within, Renewal, Renewing, X2Open, X2Ready, S1Open}
-use Rattle.lte_machine.specs.StationKeys.{started_by_x2, started_by_s1, started_within, commanded, commands, commands_change, spent_in, given_up, sends_rrc, with_skipped, act_does}
+use Rattle.lte_machine.specs.StationState.{Station, Context, Via, Renewing, Progress, Open, Ready, Commanded, Attempt}
+use Rattle.lte_machine.specs.StationKeys.{started_by_x2, started_by_s1, started_within, commanded, commands, spent_in, given_up, sends_rrc, with_skipped, act_does}
 use Rattle.lte_machine.specs.StationChoice.{act_row}
-use Rattle.lte_machine.specs.StationRecords.{order_text, change_text}
+use Rattle.lte_machine.specs.StationRecords.{order_text}
 use Rattle.lte_machine.specs.StationStep.{plain_station}
-use Rattle.lte_machine.proofs.AttemptSteps.{commanded_so}
 use Rattle.lte_machine.proofs.StationActFacts.{Orders, SendsText, StationActHas, station_act_has}
 use Rattle.lte_machine.proofs.StationCases.{ActCases, act_case}
 use Rattle.lte_machine.proofs.Tests.{by_some}
@@ -32,7 +31,7 @@ use Rattle.lte_properties.specs.ChainBelow.{AllOf, OfPair, IsAbove}
 use Rattle.lte_properties.specs.ChainAbove.{ContextAbove}
 use Rattle.lte_properties.specs.Agreement.{made_at, HadTaken}
 use Rattle.lte_properties.proofs.Agreement.Terms.{lands}
-use Rattle.lte_properties.proofs.Agreement.Ghost.{Ghost, tried_at, TermOk, PairOk, PairsOk, MadeOk, TriedOk, GivenOk, IsOrder, AttemptOk, StartedOk, CtxOk, FreshFrom, SeenBy, StationOk, SaysOk, OutOk}
+use Rattle.lte_properties.proofs.Agreement.Ghost.{Ghost, tried_at, TermOk, PairOk, PairsOk, MadeOk, TriedOk, GivenOk, IsOrder, UnderKey, ProgressOk, ChangeOk, ViaOk, AttemptOk, StartedOk, CtxOk, FreshFrom, SeenBy, StationOk, SaysOk, TextOk, OutOk}
 use Rattle.lte_properties.proofs.Agreement.Later.{term_later, ctx_later, preps_later}
 use Rattle.lte_properties.proofs.Agreement.ToldIsFound.{told, told_more, made_new, made_none, tried_new, tried_none, all_append, all_filter, SiteOk, reads_as, term_number, leads_up, leads_level, star_term}
 use Rattle.lte_properties.proofs.Agreement.Station.{StationGoes}
@@ -50,15 +49,6 @@ had_with : (g : Ghost) (id air : ℕ) (t : Term) (starting : Bool) (o : Option (
     → StartedOk g id air t starting o → HadTaken g.took id air t
 had_with g id air t true o a e h = absurd cc
 had_with g id air t false o a e h = h
-
--- what an attempt orders
-orders_ok : (same : Term → Term → Bool) (g : Ghost) (id conn : ℕ) (t : Term) (attempt : Attempt Term ℕ) (order : Order)
-    → Orders (term_reading_by same) attempt order → AttemptOk g id conn t (Some attempt) → IsOrder g id t order
-orders_ok same g id conn t (OverX2 (X2Open start)) order o h = absurd o
-orders_ok same g id conn t (OverS1 (S1Open start)) order o h = absurd o
-orders_ok same g id conn t (Within (X2Open start)) order o h = absurd o
-orders_ok same g id conn t (Renewing renewal) order o h = absurd o
-orders_ok same g id conn t other order o h = subst (IsOrder g id t) (sym o) h.0
 
 module _ (same : Term → Term → Bool) (cells : List Site) (cells_ok : AllOf SiteOk cells) (g : Ghost) (made_ok : AllOf (MadeOk g) g.made)
     (tried_ok : AllOf (TriedOk cells g) g.tried) (s : Station Term ℕ) (ok : StationOk cells g s) where
@@ -143,7 +133,7 @@ module _ (same : Term → Term → Bool) (cells : List Site) (cells_ok : AllOf S
           pair = tt;
           keys = k.keys;
           entry = k.entry;
-          attempt = (record { tried = e; found = here; key = refl; cell = refl; target = refl; conn = refl; kind = refl }, k.pair);
+          attempt = (k.pair, (record { tried = e; found = here; key = refl; cell = refl; target = refl; conn = refl; kind = refl }, tt));
           started = started_any x s.id c.air c.key.kenb c.starting _ active taken;
         },
         (term, (ok_star.1, ok_star.2)),
@@ -158,7 +148,7 @@ module _ (same : Term → Term → Bool) (cells : List Site) (cells_ok : AllOf S
       let done : Station Term ℕ × Reply Term ℕ = started_by_s1 number target cell (Some c) s in
       begins number target cell c done.0.context ByTarget done.1.sent at draws site (λ here k. (
         with_attempt_ok (told g None (Some e)) s.id c k _
-            (record { tried = e; found = here; key = refl; cell = refl; target = refl; conn = refl; kind = refl })
+            (tt, (record { tried = e; found = here; key = refl; cell = refl; target = refl; conn = refl; kind = refl }, tt))
             (started_any (told g None (Some e)) s.id c.air c.key.kenb c.starting _ active taken),
         tt,
         record { tried = e; found = here; conn = refl; cell = refl; kind = refl; so = other },
@@ -203,7 +193,7 @@ module _ (same : Term → Term → Bool) (cells : List Site) (cells_ok : AllOf S
             pair = tt;
             keys = ctx.keys;
             entry = ctx.entry;
-            attempt = (
+            attempt = (ctx.pair, (
               record {
                 made = m;
                 origin = origin;
@@ -217,9 +207,8 @@ module _ (same : Term → Term → Bool) (cells : List Site) (cells_ok : AllOf S
                 algs = refl;
                 source = refl;
               },
-              ctx.pair,
               record { tried = e; found = tried_here; key = refl; conn = refl },
-            );
+            ));
             started = started_any x s.id c.air c.key.kenb c.starting _ active taken;
           };
           preps = all_append _ _ _ (preps_later g x l s.id s.preps ok.preps)
@@ -268,43 +257,51 @@ module _ (same : Term → Term → Bool) (cells : List Site) (cells_ok : AllOf S
 
   -- THE COMMAND
 
-  commands_goes : (order : Order) (count : ℕ) (c : Context Term ℕ) (attempt : Attempt Term ℕ) → s.context ≡ Some c → c.attempt ≡ Some attempt
-      → Orders r attempt order → Goes (commands order count (Some c) s)
-  commands_goes order count c attempt at trying orders =
+  -- what an attempt orders is the order of the attempt that was opened
+  progress_orders : (conn : ℕ) (t : Term) (a : Attempt Term ℕ) (p : Progress) (order : Order) → Orders p order → ProgressOk g s.id conn t a p
+      → IsOrder g s.id t order × UnderKey g s.id conn t a.number
+  progress_orders conn t a Open order o h = absurd o
+  progress_orders conn t a (Ready known) order o h = (subst (IsOrder g s.id t) (sym o) h.0, h.1)
+  progress_orders conn t a (Commanded known) order o h = (subst (IsOrder g s.id t) (sym o) h.0, h.1)
+
+  change_orders : (t : Term) (a : Attempt Term ℕ) (order : Order) → Orders a.progress order → (h : ChangeOk g s.id t a) → order ≡ h.order
+  change_orders t a order o h = subst (λ p. Orders p order) h.commanded o
+
+  -- its text reads as it, and so the attempt is left
+  order_reads : (conn : ℕ) (t : Term) (a : Attempt Term ℕ) (via : Via) (order : Order) → Orders a.progress order → ViaOk g s.id conn t a via
+      → TextOk g s.id t (order_text via order) × ViaOk g s.id conn t (commanded order a) via
+  order_reads conn t a Renewing order o h =
+      subst (λ x. TextOk g s.id t (order_text Renewing x) × ChangeOk g s.id t (commanded x a)) (sym (change_orders t a order o h)) (
+        change_says g made_ok t s.id h.order h.change,
+        record { order = h.order; commanded = refl; station = h.station; change = h.change },
+      )
+  order_reads conn t a other order o h =
+      let k = progress_orders conn t a a.progress order o h in (order_says cells cells_ok g made_ok tried_ok s.id t order k.0, k)
+
+  commands_goes : (order : Order) (count : ℕ) (c : Context Term ℕ) (a : Attempt Term ℕ) → s.context ≡ Some c → c.attempt ≡ Some a
+      → Orders a.progress order → Goes (commands a.via order count (Some c) s)
+  commands_goes order count c a at trying orders =
       let k = ctx_at cells g s ok c at in
-      let is_order : IsOrder g s.id c.key.kenb order =
-      orders_ok same g s.id c.conn c.key.kenb attempt order orders (subst (AttemptOk g s.id c.conn c.key.kenb) trying k.attempt) in
-      let sent =
-      commanded_so (AttemptOk g s.id c.conn c.key.kenb) order (λ a h. (is_order, h.2)) (λ a h. (is_order, h.1)) (λ a h. (is_order, h.2))
-      c.attempt k.attempt in
-      let says = order_says cells cells_ok g made_ok tried_ok s.id c.key.kenb order is_order in
-      let taken = had_with g s.id c.air c.key.kenb c.starting c.attempt attempt trying k.started in (
-        with_ctx cells g s ok (commands order count (Some c) s).0.context
+      let of_attempt : AttemptOk g s.id c.conn c.key.kenb (Some a) = subst (AttemptOk g s.id c.conn c.key.kenb) trying k.attempt in
+      let reads = order_reads c.conn c.key.kenb a a.via order orders of_attempt.1 in
+      let sent : AttemptOk g s.id c.conn c.key.kenb (option_map (commanded order) c.attempt) =
+      subst (λ o. AttemptOk g s.id c.conn c.key.kenb (option_map (commanded order) o)) (sym trying) (tt, reads.1) in
+      let taken = had_with g s.id c.air c.key.kenb c.starting c.attempt a trying k.started in (
+        with_ctx cells g s ok (commands a.via order count (Some c) s).0.context
             (with_attempt_ok g s.id c k _ sent (started_map g s.id c.air c.key.kenb c.starting (commanded order) c.attempt k.started)),
         tt,
         tt,
-        sends_down g s.id c.air c k refl Signalling1 count (order_text order) says taken,
+        sends_down g s.id c.air c k refl Signalling1 count (order_text a.via order) reads.0 taken,
         refl,
         tt,
         tt,
       )
 
-  commands_change_goes : (a : Renewal) (count : ℕ) (c : Context Term ℕ) → s.context ≡ Some c → c.attempt ≡ Some (Renewing a)
-      → Goes (commands_change a count (Some c) s)
-  commands_change_goes a count c at trying =
-      let k = ctx_at cells g s ok c at in
-      let says = change_says g made_ok c.key.kenb s.id a (subst (AttemptOk g s.id c.conn c.key.kenb) trying k.attempt) in
-      let taken = had_with g s.id c.air c.key.kenb c.starting c.attempt (Renewing a) trying k.started in
-      (with_ctx cells g s ok (Some c) k, tt, tt, sends_down g s.id c.air c k refl Signalling1 count (change_text s.id a) says taken, refl, tt, tt)
-
   -- GIVING UP
 
   spent_ok : (id conn : ℕ) (t : Term) (o : Option (Attempt Term ℕ)) → AttemptOk g id conn t o → PairsOk g conn (spent_in o)
-  spent_ok id conn t (Some (OverX2 (X2Open start))) h = h.1
-  spent_ok id conn t (Some (OverX2 (X2Ready acked))) h = h.1
-  spent_ok id conn t (Some (Within (X2Open start))) h = h.1
-  spent_ok id conn t (Some (Within (X2Ready acked))) h = h.1
-  spent_ok id conn t other h = tt
+  spent_ok id conn t None h = tt
+  spent_ok id conn t (Some a) h = h.0
 
   restored_pair : (conn : ℕ) (o : Option (NumberedKey Term ℕ)) (back : NumberedKey Term ℕ) → PairsOk g conn o → PairOk g conn back
       → PairsOk g conn (pair_after o back)
@@ -358,10 +355,9 @@ module _ (same : Term → Term → Bool) (cells : List Site) (cells_ok : AllOf S
           let b = k.starts in
           within_goes number air cell c e (above_at c e) (had cells g s ok b.context c b.serving e b.active)
           (is_active b.context c b.serving e b.active) b.number_is k.air_is k.left b.site;
-      commanded = λ order count k c e.
-          commands_goes order count c k.attempt e (subst (λ x. x.attempt ≡ Some k.attempt) (one_context k.context c k.serving e) k.trying) k.orders;
-      changed = λ renewal count k c e.
-          commands_change_goes renewal count c e (subst (λ x. x.attempt ≡ Some (Renewing renewal)) (one_context k.context c k.serving e) k.trying);
+      commanded = λ via order count k c e.
+          subst (λ v. Goes (commands v order count (Some c) s)) (sym k.via_is)
+          (commands_goes order count c k.attempt e (subst (λ x. x.attempt ≡ Some k.attempt) (one_context k.context c k.serving e) k.trying) k.orders);
       cancelled_x2 = λ conn number target k. (gives_up, tt, tt, tt, refl, tt, tt);
       cancelled_s1 = λ conn number cell k. (gives_up, tt, tt, tt, refl, tt, tt);
       cancelled_within = λ number k. (with_both cells g s ok _ gives_up.context _ (all_filter _ _ s.preps ok.preps), tt, tt, tt, refl, tt, tt);

@@ -8,8 +8,8 @@ use Rattle.rrc_rec.specs.declared.records.RrcRecord.TheVariants.{Reconfiguration
 use Rattle.x2_handover.specs.declared.orders.Order.{Order}
 use Rattle.lte_machine.specs.Bearers.{Srb}
 use Rattle.lte_machine.specs.Reply.{ByChange}
-use Rattle.lte_machine.specs.StationRecords.{signalling_sent, order_text, change_text}
-use Rattle.lte_machine.specs.StationState.{Context, Renewal}
+use Rattle.lte_machine.specs.StationRecords.{signalling_sent, order_text}
+use Rattle.lte_machine.specs.StationState.{Context, OverX2, Renewing}
 use Rattle.lte_machine.specs.Wire.{srb_use, srb_ciphering}
 use Rattle.lte_properties.specs.ChainBelow.{AllOf}
 use Rattle.lte_properties.specs.Agreement.{HadTaken}
@@ -38,13 +38,13 @@ module _ (g : Ghost) where
       }
 
   -- the text of a key change reads as it
-  pub change_says : (made_ok : AllOf (MadeOk g) g.made) (t : Term) (id : ℕ) (a : Renewal)
-      → ChangeIs g t a.cell a.algs id a.air
-      → TextOk g id t (change_text id a)
-  change_says made_ok t id a h =
+  pub change_says : (made_ok : AllOf (MadeOk g) g.made) (t : Term) (id : ℕ) (o : Order)
+      → ChangeIs g t o.cell o.algs o.station o.air
+      → TextOk g id t (order_text Renewing o)
+  change_says made_ok t id o h =
       let m = h.made in
       let ok = all_found (MadeOk g) _ g.made m made_ok h.found in
-      let there = made_there g.made id a.air m h.found in
+      let there = made_there g.made o.station o.air m h.found in
       let of_change : FromOk g m (ByChange t) = subst (FromOk g m) h.from ok.from in
       let is_cell = subst IsCell h.cell of_change.is_cell in
       let low_air = ok.low in
@@ -52,11 +52,11 @@ module _ (g : Ghost) where
       let low_id = ok.station in
       let is_station = there.0 in
       let is_air = there.1 in
-      reads_as (SaysOk g id t) (KeyChange a.cell a.algs id a.air) (is_cell, omega arith, (omega arith, omega arith)) h
+      reads_as (SaysOk g id t) (KeyChange o.cell o.algs o.station o.air) (is_cell, omega arith, (omega arith, omega arith)) h
 
 module _ (cells : List Site) (cells_ok : AllOf SiteOk cells) (g : Ghost) (made_ok : AllOf (MadeOk g) g.made) (tried_ok : AllOf (TriedOk cells g) g.tried) where
   -- the text of an order reads as it
-  pub order_says : (id : ℕ) (t : Term) (order : Order) → IsOrder g id t order → TextOk g id t (order_text order)
+  pub order_says : (id : ℕ) (t : Term) (order : Order) → IsOrder g id t order → TextOk g id t (order_text OverX2 order)
   order_says id t order h =
       let m = h.made in
       let e = h.tried in

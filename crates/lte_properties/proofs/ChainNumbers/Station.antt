@@ -14,17 +14,16 @@ use Rattle.lte_machine.specs.Wire.{Outgoing, Between}
 use Rattle.lte_machine.specs.Reply.{Origin, Reply}
 use Rattle.lte_machine.specs.StationState.{Interface, Station, Context}
 use Rattle.lte_machine.specs.StationRows.{Admitted, OfRecord}
-use Rattle.lte_machine.specs.StationKeys.{spent_in, given_up, with_security, with_rrc_taken, with_packet_taken, with_skipped, arrived, started_by_x2, started_by_s1, started_within, commands, asks_again, sends_packet, sends_rrc, commands_change}
-use Rattle.lte_machine.specs.StationRecords.{with_pair, with_s1_ack, with_x2_ack, with_admitted, source_release, key_renewed}
+use Rattle.lte_machine.specs.StationKeys.{spent_in, given_up, with_security, with_rrc_taken, with_packet_taken, with_skipped, arrived, started_by_x2, started_by_s1, started_within, commands, asks_again, sends_packet, sends_rrc}
+use Rattle.lte_machine.specs.StationRecords.{with_pair, with_answer, with_admitted, source_release, key_renewed}
 use Rattle.lte_properties.specs.ChainBelow.{star_in, AllOf, OfPair, EachNumber, AtMost, IsUnder, IsAbove, ContextBelow, PrepBelow, StationBelow, RecordBelow}
 use Rattle.lte_properties.specs.ChainAbove.{ContextAbove, HasNoPair, StationAbove, InFlight}
 use Rattle.lte_properties.proofs.ChainNumbers.RowFacts.{PairNeeds, RowNeeds}
-use Rattle.lte_machine.proofs.Tests.{none_some, by_some}
+use Rattle.lte_machine.proofs.Tests.{none_some, by_some, changed_so}
 use Rattle.lte_machine.proofs.StationCases.{RecordCases, AirCases, ActCases}
 use Rattle.lte_machine.proofs.RecordFacts.{RecordHas}
 use Rattle.lte_machine.proofs.AirFacts.{AirHas}
 use Rattle.lte_machine.proofs.StationActFacts.{StationActHas}
-use Rattle.lte_machine.proofs.AttemptSteps.{s1_acked_so, x2_acked_so, commanded_so}
 use Rattle.lte_properties.proofs.ChainNumbers.Lists.{OfSome, all_append, all_filter, all_find}
 use Rattle.lte_properties.proofs.ChainNumbers.Moves.{Stands, Moves, Stays, Renewed}
 
@@ -233,22 +232,14 @@ module _ (top : ℕ → ℕ) (same : Term → Term → Bool) (s : Station Term �
         taken = λ conn origin pair k. pair_taken_some conn origin pair s.context k.1 h a;
         by_s1 = λ w pair k. prepared_kept w _ _ k.0.admits.air_is k.1 refl (tt, tt, tt);
         by_x2 = λ w star k. prepared_kept w _ _ k.0.admits.air_is k.1 refl (tt, tt, tt);
-        acked_s1 = λ ncc algs air key k. mapped top s (with_s1_ack ncc algs air) s.preps None (λ c. refl) (λ c. refl)
+        answered = λ order key k. mapped top s (with_answer order) s.preps None (λ c. refl) (λ c. refl)
             (λ c P k. (
               k.0,
               k.1,
-              s1_acked_so (λ o. OfPair P (star_in o)) ncc algs air (λ start m. m) c.attempt k.2,
-              s1_acked_so (λ o. OfPair P (spent_in o)) ncc algs air (λ start m. m) c.attempt k.3,
+              changed_so (λ o. OfPair P (star_in o)) _ (λ a m. m) c.attempt k.2,
+              changed_so (λ o. OfPair P (spent_in o)) _ (λ a m. m) c.attempt k.3,
             ))
-            (λ c k. (k.0, s1_acked_so (λ o. OfPair (IsAbove c.key.number) (spent_in o)) ncc algs air (λ start m. m) c.attempt k.1)) pb pa s.context tt h a;
-        acked_x2 = λ algs air key k. mapped top s (with_x2_ack algs air) s.preps None (λ c. refl) (λ c. refl)
-            (λ c P k. (
-              k.0,
-              k.1,
-              x2_acked_so (λ o. OfPair P (star_in o)) algs air (λ start m. m) c.attempt k.2,
-              x2_acked_so (λ o. OfPair P (spent_in o)) algs air (λ start m. m) c.attempt k.3,
-            ))
-            (λ c k. (k.0, x2_acked_so (λ o. OfPair (IsAbove c.key.number) (spent_in o)) algs air (λ start m. m) c.attempt k.1)) pb pa s.context tt h a;
+            (λ c k. (k.0, changed_so (λ o. OfPair (IsAbove c.key.number) (spent_in o)) _ (λ a m. m) c.attempt k.1)) pb pa s.context tt h a;
         cancelled = λ from key k.
             same_context top s s.next s.last s.seen (without from.source from.attempt s.preps) None (omega arith)
             (all_filter (PrepBelow top) (λ p. not (is_of from.source from.attempt p)) s.preps pb)
@@ -332,23 +323,16 @@ module _ (top : ℕ → ℕ) (same : Term → Term → Bool) (s : Station Term �
             (λ P k. (k.0, tt, base_number P c.key.pair c.key.kenb c.key.number k.0 k.1, k.1)) (λ k. (tt, k.0))
             (above_next air k.air_is) (all_append (PrepBelow top) s.preps _ pb (star, tt))
             (all_append HasNoPair s.preps _ pa (refl, tt)) tt h a);
-        commanded = λ order count k c e. of_context c e (commands order count (Some c) s) (λ h a. changed top s c _
+        commanded = λ via order count k c e. of_context c e (commands via order count (Some c) s) (λ h a. changed top s c _
             (s.next) (s.preps) _ refl refl
             (λ P k. (
               k.0,
               k.1,
-              commanded_so (λ o. OfPair P (star_in o)) order (λ a m. tt) (λ a m. m) (λ a m. tt) c.attempt k.2,
-              commanded_so (λ o. OfPair P (spent_in o)) order (λ a m. tt) (λ a m. m) (λ a m. tt) c.attempt k.3,
+              changed_so (λ o. OfPair P (star_in o)) _ (λ a m. tt) c.attempt k.2,
+              changed_so (λ o. OfPair P (spent_in o)) _ (λ a m. tt) c.attempt k.3,
             ))
-            (λ k. (
-              k.0,
-              commanded_so (λ o. OfPair (IsAbove c.key.number) (spent_in o)) order (λ a m. tt) (λ a m. m)
-                  (λ a m. tt) c.attempt k.1,
-            ))
+            (λ k. (k.0, changed_so (λ o. OfPair (IsAbove c.key.number) (spent_in o)) _ (λ a m. tt) c.attempt k.1))
             (omega arith) (pb) (pa) (tt, tt, tt) h a);
-        changed = λ renewal count k c e.
-            of_context c e (commands_change renewal count (Some c) s) (λ h a. changed top s c _ (s.next) (s.preps) _
-            refl refl (λ P k. k) (λ k. k) (omega arith) (pb) (pa) (tt, tt, tt) h a);
         cancelled_x2 = λ conn number target k. given_up_kept (s.preps) _ (pb) (pa) (tt, tt, tt);
         cancelled_s1 = λ conn number cell k. given_up_kept (s.preps) _ (pb) (pa) (tt, tt, tt);
         cancelled_within = λ number k.

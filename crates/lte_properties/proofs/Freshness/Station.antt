@@ -24,9 +24,9 @@ use Rattle.lte_machine.specs.Bearers.{Which, Srb, Signalling1, Drb, Bearers, of_
 use Rattle.lte_machine.specs.Wire.{KeyUse, Outgoing, uses_of, drb_use}
 use Rattle.lte_machine.specs.Reply.{Origin, Reply}
 use Rattle.lte_machine.specs.StationState.{Station, Context, Attempt}
-use Rattle.lte_machine.specs.StationRows.{Admitted, RecordRow, RecordRefused, ContextGiven, ContextReleased, PairTaken, PreparedByS1, PreparedByX2, AckedByS1, AckedByX2, PreparationCancelled, SourceReleased, AirRow, ActRow, KeyRenewed}
-use Rattle.lte_machine.specs.StationKeys.{with_security, with_rrc_taken, with_packet_taken, arrived, air_does, started_by_x2, started_by_s1, started_within, commands, commanded, given_up, spent_in, asks_again, sends_packet, sends_rrc, with_skipped, act_does, commands_change}
-use Rattle.lte_machine.specs.StationRecords.{signalling_sent, packet_sent, initial_context, context_given, with_pair, pair_taken, admitted_prep, prepared_by_s1, prepared_by_x2, with_admitted, with_s1_ack, with_x2_ack, record_does, own_prep, order_text, key_renewed, change_text}
+use Rattle.lte_machine.specs.StationRows.{Admitted, RecordRow, RecordRefused, ContextGiven, ContextReleased, PairTaken, PreparedByS1, PreparedByX2, AttemptAnswered, PreparationCancelled, SourceReleased, AirRow, ActRow, KeyRenewed}
+use Rattle.lte_machine.specs.StationKeys.{with_security, with_rrc_taken, with_packet_taken, arrived, air_does, started_by_x2, started_by_s1, started_within, commands, commanded, given_up, spent_in, asks_again, sends_packet, sends_rrc, with_skipped, act_does}
+use Rattle.lte_machine.specs.StationRecords.{signalling_sent, packet_sent, initial_context, context_given, with_pair, pair_taken, admitted_prep, prepared_by_s1, prepared_by_x2, with_admitted, with_answer, record_does, own_prep, order_text, key_renewed}
 use Rattle.lte_machine.specs.World.{uses_in}
 use Rattle.lte_properties.specs.ChainBelow.{AllOf}
 use Rattle.lte_machine.proofs.AirFacts.{AirHas}
@@ -331,8 +331,7 @@ module _ (taken given : Homes) where
   record_keeps same (PairTaken conn origin) key s n h = pair_keeps conn origin key s h
   record_keeps same (PreparedByS1 w) key s n h = by_s1_keeps same w key s n h
   record_keeps same (PreparedByX2 w) key s n h = by_x2_keeps same w key s n h
-  record_keeps same (AckedByS1 ncc algs air) key s n h = mapped s (with_s1_ack ncc algs air) (λ c. (refl, refl, rise_same c.bearers)) h
-  record_keeps same (AckedByX2 algs air) key s n h = mapped s (with_x2_ack algs air) (λ c. (refl, refl, rise_same c.bearers)) h
+  record_keeps same (AttemptAnswered order) key s n h = mapped s (with_answer order) (λ c. (refl, refl, rise_same c.bearers)) h
   record_keeps same (PreparationCancelled o) key s n h = filtered s s.context o.source o.attempt (stays_same s.context) h
   record_keeps same (KeyRenewed conn number air count) key s n h = renewed_keeps same conn number air count s s.context key n h
   record_keeps same SourceReleased key s n h = changes s s.next None None (omega arith) tt h tt tt tt
@@ -456,20 +455,13 @@ module _ (taken given : Homes) where
           within = λ number air cell k c e.
               of_context c e (started_within (term_reading_by same) number air cell (Some c))
               (λ h. within_start_keeps number air cell c k.starts.number_is k.air_is h);
-          commanded = λ order count k c e. of_context c e (commands order count (Some c)) (λ h. subst
+          commanded = λ via order count k c e. of_context c e (commands via order count (Some c)) (λ h. subst
               (λ n.
-              let d = commands order n (Some c) (record s { context = Some c }) in
+              let d = commands via order n (Some c) (record s { context = Some c }) in
               StationKeeps taken given (record s { context = Some c }) d.0 d.1.sent)
               (sym (k.count_is ∙ ap (λ x. x.bearers.srb1.send) (one_context k.context c k.serving e)))
               (rrc_keeps s c (srb_sent Signalling1 c.bearers) (option_map (commanded order) c.attempt) Signalling1
-              (order_text order) refl h));
-          changed = λ renewal count k c e.
-              of_context c e (commands_change renewal count (Some c)) (λ h. subst
-              (λ n.
-              let d = commands_change renewal n (Some c) (record s { context = Some c }) in
-              StationKeeps taken given (record s { context = Some c }) d.0 d.1.sent)
-              (sym (k.count_is ∙ ap (λ x. x.bearers.srb1.send) (one_context k.context c k.serving e)))
-              (rrc_keeps s c (srb_sent Signalling1 c.bearers) c.attempt Signalling1 (change_text s.id renewal) refl h));
+              (order_text via order) refl h));
           cancelled_x2 = λ conn number target k. changes s s.next (option_map given_up s.context) _ (omega arith) (stays_map given_up gives_up s.context) h tt tt tt;
           cancelled_s1 = λ conn number cell k. changes s s.next (option_map given_up s.context) _ (omega arith) (stays_map given_up gives_up s.context) h tt tt tt;
           cancelled_within = λ number k. filtered s (option_map given_up s.context) s.id number (stays_map given_up gives_up s.context) h;

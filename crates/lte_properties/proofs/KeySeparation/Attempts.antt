@@ -70,8 +70,7 @@ module _ (same : Term → Term → Bool) (s : Station Term ℕ) where
         taken = λ conn origin pair k. quiet _ _ refl refl refl;
         by_s1 = λ w pair k. drawn _ _ refl (one_on w.air k.admits.air_is) refl;
         by_x2 = λ w star k. drawn _ _ refl (one_on w.air k.admits.air_is) refl;
-        acked_s1 = λ ncc algs air key k. quiet _ _ refl refl refl;
-        acked_x2 = λ algs air key k. quiet _ _ refl refl refl;
+        answered = λ order key k. quiet _ _ refl refl refl;
         cancelled = λ from key k. quiet _ _ refl refl refl;
         left = λ key k. quiet _ _ refl refl refl;
         renewed = λ conn number air count c e kenb k. drawn _ _ refl (two_on air k.air_is) refl;
@@ -104,8 +103,7 @@ module _ (same : Term → Term → Bool) (s : Station Term ℕ) where
             let f : number ≡ s.next = k.starts.number_is in
             let x : air ≡ s.next + 1 = k.air_is in
             record { same = refl; rises = two_on air x; draws = (refl, omega arith, omega arith) };
-        commanded = λ order count k c e. quiet _ _ refl refl refl;
-        changed = λ renewal count k c e. quiet _ _ refl refl refl;
+        commanded = λ via order count k c e. quiet _ _ refl refl refl;
         cancelled_x2 = λ conn number target k. quiet _ _ refl refl refl;
         cancelled_s1 = λ conn number cell k. quiet _ _ refl refl refl;
         cancelled_within = λ number k. quiet _ _ refl refl refl;

@@ -15,11 +15,11 @@ use Rattle.lte_machine.specs.Reply.{Origin, Made, Tried, Reply, ByAttempt, Hando
 use Rattle.lte_machine.specs.StationState.{Station, Context}
 use Rattle.lte_machine.specs.StationRows.{Admitted, RecordRow, ContextGiven, PairTaken, PreparedByS1, PreparedByX2, AirRow, ActRow, KeyRenewed}
 use Rattle.lte_machine.specs.StationKeys.{spent_in, given_up, with_security, with_rrc_taken, with_packet_taken, with_skipped, started_by_x2, started_within, air_does, act_does}
-use Rattle.lte_machine.specs.StationRecords.{with_pair, with_s1_ack, with_x2_ack, source_release, admitted_made, prepared_by_s1, prepared_by_x2, record_does, key_renewed}
+use Rattle.lte_machine.specs.StationRecords.{with_pair, with_answer, source_release, admitted_made, prepared_by_s1, prepared_by_x2, record_does, key_renewed}
 use Rattle.lte_properties.specs.Separation.{AnyOf}
 use Rattle.lte_machine.proofs.StationCases.{Any, RecordCases, AirCases, ActCases, record_case, air_case, act_case}
 use Rattle.lte_machine.proofs.StationActFacts.{StationActHas}
-use Rattle.lte_machine.proofs.AttemptSteps.{s1_acked_so, x2_acked_so, commanded_so}
+use Rattle.lte_machine.proofs.Tests.{changed_so}
 use Rattle.lte_properties.proofs.ChainNumbers.Lists.{OfSome, all_append, all_filter, all_find}
 use Rattle.lte_properties.proofs.KeySeparation.Keys.{any_map, any_this, GivesIn, Gifts, May, MayHold, may_star, may_go, OfPairKey, ContextHas, PrepHas, StationHas, BaseGiven, TriedOk, HasTried, IsKenb, OwnCell, FlyOk, MadeBy, MadeOk, OutsAre, OwnPlace}
 
@@ -241,14 +241,9 @@ module _ (G : Gifts) (sites : List Site) (tried : List (Tried Term ℕ)) (same :
             });
         by_s1 = λ w pair k. prepared_s1_kept w pair k h;
         by_x2 = λ w star k. prepared_x2_kept w star k h;
-        acked_s1 = λ ncc algs air key k.
-            mapped (with_s1_ack ncc algs air)
-            (λ c k.
-            (k.0, k.1, s1_acked_so (λ o. OfPairKey P (spent_in o)) ncc algs air (λ start m. m) c.attempt k.2, k.3))
-            h;
-        acked_x2 = λ algs air key k.
-            mapped (with_x2_ack algs air)
-            (λ c k. (k.0, k.1, x2_acked_so (λ o. OfPairKey P (spent_in o)) algs air (λ start m. m) c.attempt k.2, k.3))
+        answered = λ order key k.
+            mapped (with_answer order)
+            (λ c k. (k.0, k.1, changed_so (λ o. OfPairKey P (spent_in o)) _ (λ a m. m) c.attempt k.2, k.3))
             h;
         cancelled = λ from key k.
             quiet (record s { preps = without from.source from.attempt s.preps }) refl refl (record {
@@ -354,18 +349,17 @@ module _ (G : Gifts) (sites : List Site) (tried : List (Tried Term ℕ)) (same :
           makes = λ is. tt;
         };
         within = λ number air cell k c e. started_within_kept number air cell c (goes cell s.id k.starts.site) (here h c e) h;
-        commanded = λ order count k c e.
+        commanded = λ via order count k c e.
             let m = here h c e in
             calm _ _ refl refl tt (λ u a g. g) (record {
               context = (
                 m.0,
                 m.1,
-                commanded_so (λ o. OfPairKey P (spent_in o)) order (λ a m. tt) (λ a m. m) (λ a m. tt) c.attempt m.2,
+                changed_so (λ o. OfPairKey P (spent_in o)) _ (λ a m. tt) c.attempt m.2,
                 m.3,
               );
               preps = h.preps;
             });
-        changed = λ renewal count k c e. calm _ _ refl refl tt (λ u a g. g) (record { context = here h c e; preps = h.preps });
         cancelled_x2 = λ conn number target k. calm _ _ refl refl (tt, tt) (λ u a g. g)
             (record { context = context_map_has P C given_up (given_up_has P C) s.context h.context; preps = h.preps });
         cancelled_s1 = λ conn number cell k. calm _ _ refl refl (tt, tt) (λ u a g. g)

@@ -9,7 +9,7 @@ use Rattle.s1x2_rec.specs.Content.{Content}
 use Rattle.s1x2_rec.specs.Fields.{Fields, PathSwitchRequest, HandoverRequired, HandoverRequest, HandoverRequestAck, HandoverNotify, X2Request}
 use Rattle.lte_machine.specs.Reply.{Origin}
 use Rattle.lte_machine.specs.Wire.{Outgoing, Between}
-use Rattle.lte_machine.specs.StationState.{Station, Context, Attempt, OverX2, X2State, X2Open, X2Ready, X2Commanded, StationInput, StationRecord}
+use Rattle.lte_machine.specs.StationState.{Station, Context, Via, OverX2, Attempt, StationInput, StationRecord}
 use Rattle.lte_machine.specs.CoreState.{Core, CoreLink, CoreInput, CoreRecord}
 use Rattle.lte_properties.specs.ChainBelow.{AllOf}
 use Rattle.lte_properties.specs.Reach.{IsAmong}
@@ -27,15 +27,14 @@ module _ (P : ℕ → Type 0) where
   abbrev pub PrepNamed : {K C : Type 0} → Prep K C → Type 0
   PrepNamed p = P p.source × ByNamed p.by
 
-  -- the target of an attempt over X2 that may be given up
-  abbrev pub X2Named : {K C : Type 0} → X2State K C → Type 0
-  X2Named (X2Open start) = P start.station
-  X2Named (X2Ready acked) = P acked.start.station
-  X2Named (X2Commanded sent) = ⊤
+  -- the target of an attempt over X2
+  abbrev pub TargetNamed : Via → ℕ → Type 0
+  TargetNamed OverX2 station = P station
+  TargetNamed other station = ⊤
 
   abbrev pub AttemptNamed : {K C : Type 0} → Option (Attempt K C) → Type 0
-  AttemptNamed (Some (OverX2 state)) = X2Named state
-  AttemptNamed other = ⊤
+  AttemptNamed None = ⊤
+  AttemptNamed (Some a) = TargetNamed a.via a.station
 
   abbrev pub ContextNamed : {K C : Type 0} → Option (Context K C) → Type 0
   ContextNamed None = ⊤

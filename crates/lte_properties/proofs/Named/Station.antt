@@ -8,44 +8,28 @@ use Rattle.s1x2_rec.specs.Content.{map_content}
 use Rattle.s1x2_rec.specs.Fields.{Fields}
 use Rattle.ho_prep.specs.declared.origins.By.{By}
 use Rattle.ho_prep.specs.Prep.{Prep, at_air, is_of, is_at}
-use Rattle.x2_handover.specs.Attempt.{X2Start}
 use Rattle.lte_events.specs.declared.acts.StationAct.{StationAct}
 use Rattle.lte_machine.specs.Bearers.{Which, which}
 use Rattle.lte_machine.specs.Opening.{Outcome}
 use Rattle.lte_machine.specs.Reply.{Origin, Reply, unseen, Made}
-use Rattle.lte_machine.specs.StationState.{Station, Context, X2State, X2Open, X2Ready, X2Commanded, Interface, StationInput, StationActs, AirPdu, StationRecord}
+use Rattle.lte_machine.specs.StationState.{Station, Context, Interface, StationInput, StationActs, AirPdu, StationRecord}
 use Rattle.lte_machine.specs.StationRows.{Admitted}
 use Rattle.lte_machine.specs.StationKeys.{given_up, with_security, with_rrc_taken, with_packet_taken, with_skipped}
-use Rattle.lte_machine.specs.StationRecords.{with_pair, with_s1_ack, with_x2_ack, source_release}
+use Rattle.lte_machine.specs.StationRecords.{with_pair, with_answer, source_release}
 use Rattle.lte_machine.specs.StationStep.{plain_station, station_step}
 use Rattle.lte_machine.specs.StationChoice.{record_row, air_front, air_row, act_row}
 use Rattle.lte_events.specs.Site.{Site, station_of}
 use Rattle.lte_properties.specs.ChainBelow.{AllOf}
 use Rattle.lte_properties.proofs.ChainNumbers.Lists.{OfSome, all_append, all_filter, all_find}
-use Rattle.lte_properties.proofs.Named.Facts.{OriginNamed, ByNamed, PrepNamed, X2Named, AttemptNamed, ContextNamed, StationNamed, FieldsNamed, SentNamed, InputNamed}
-use Rattle.lte_machine.proofs.AttemptSteps.{s1_acked_so, x2_acked_so, commanded_so}
+use Rattle.lte_properties.proofs.Named.Facts.{OriginNamed, ByNamed, PrepNamed, TargetNamed, AttemptNamed, ContextNamed, StationNamed, FieldsNamed, SentNamed, InputNamed}
+use Rattle.lte_machine.proofs.Tests.{changed_so}
 use Rattle.lte_machine.proofs.StationCases.{RecordCases, AirCases, ActCases, record_case, air_case, act_case}
 use Rattle.lte_machine.proofs.RecordFacts.{RecordHas, record_has}
 use Rattle.lte_machine.proofs.AirFacts.{AtPrepared, AirHas, air_has}
-use Rattle.lte_machine.proofs.StationActFacts.{X2Began, CancelsX2, StationActHas, station_act_has}
+use Rattle.lte_machine.proofs.StationActFacts.{CancelsX2, StationActHas, station_act_has}
 
 module _ (P : ℕ → Type 0) (cells : List Site) (sites : (cell : Place) (id : ℕ) → station_of cell cells ≡ Some id → P id) where
-  -- PARTS OF A STATION
-
-  -- an attempt that may be given up
-  began_named : {K C : Type 0} (state : X2State K C) (start : X2Start K C) → X2Began state start → X2Named P state → P start.station
-  began_named (X2Open first) start e h = subst (λ x. P x.station) e h
-  began_named (X2Ready acked) start e h = subst (λ x. P x.station) e h
-  began_named (X2Commanded sent) start e h = absurd e
-
   -- CONTEXTS
-
-  with_named : (f : Context Term ℕ → Context Term ℕ)
-      → ((c : Context Term ℕ) → ContextNamed P (Some c) → ContextNamed P (Some (f c)))
-      → (o : Option (Context Term ℕ))
-      → ContextNamed P o → ContextNamed P (option_map f o)
-  with_named f k None h = tt
-  with_named f k (Some c) h = k c h
 
   origin_within : (o : Option Origin) → OriginNamed P o
       → OriginNamed P (option_map (λ (p : ℕ × ℕ). record { source = p.0; attempt = p.1 }) (option_map (λ a. (a.source, a.attempt)) o))
@@ -80,7 +64,7 @@ module _ (P : ℕ → Type 0) (cells : List Site) (sites : (cell : Place) (id : 
 
       mapped : (f : Context Term ℕ → Context Term ℕ) → ((c : Context Term ℕ) → ContextNamed P (Some c) → ContextNamed P (Some (f c)))
           → StationNamed P cells (record s { context = option_map f s.context })
-      mapped f k = with_context (option_map f s.context) (with_named f k s.context h.2)
+      mapped f k = with_context (option_map f s.context) (changed_so (λ o. ContextNamed P o) f k s.context h.2)
 
       gives_up : StationNamed P cells (record s { context = option_map given_up s.context })
       gives_up = mapped given_up (λ c k. (tt, k.1))
@@ -115,14 +99,8 @@ module _ (P : ℕ → Type 0) (cells : List Site) (sites : (cell : Place) (id : 
             by_x2 = λ w star k.
                 let f : P w.from.source = subst (FieldsNamed P) k.fields_is i in
                 ((h.0, h.1, h.2, admitted_preps w _ (f, tt)), (f, tt), h.0, refl);
-            acked_s1 = λ ncc algs air key k. (
-              mapped (with_s1_ack ncc algs air) (λ c k. (s1_acked_so (λ o. AttemptNamed P o) ncc algs air (λ start m. tt) c.attempt k.0, k.1)),
-              tt,
-              tt,
-              refl,
-            );
-            acked_x2 = λ algs air key k. (
-              mapped (with_x2_ack algs air) (λ c k. (x2_acked_so (λ o. AttemptNamed P o) algs air (λ start m. m) c.attempt k.0, k.1)),
+            answered = λ order key k. (
+              mapped (with_answer order) (λ c k. (changed_so (λ o. AttemptNamed P o) _ (λ a m. m) c.attempt k.0, k.1)),
               tt,
               tt,
               refl,
@@ -166,7 +144,9 @@ module _ (P : ℕ → Type 0) (cells : List Site) (sites : (cell : Place) (id : 
       -- the target of an attempt over X2 that is given up
       cancels_named : (act : StationAct) (conn number target : ℕ) → CancelsX2 s act conn number target → P target
       cancels_named act conn number target f =
-          subst P (sym f.target_is) (began_named f.state f.start f.began (subst (λ o. AttemptNamed P o) f.trying (here f.context f.serving).0))
+          let g = f.gives_up in
+          let target : TargetNamed P g.attempt.via g.attempt.station = subst (λ o. AttemptNamed P o) g.trying (here g.context g.serving).0 in
+          subst P (sym f.target_is) (subst (λ v. TargetNamed P v g.attempt.station) g.via_is target)
 
       act_named : (act : StationAct) → ActCases r s (StationActHas r s act) (Done s)
       act_named act =
@@ -184,19 +164,18 @@ module _ (P : ℕ → Type 0) (cells : List Site) (sites : (cell : Place) (id : 
                   h.0,
                   refl,
                 );
-            commanded = λ order count k c e.
+            commanded = λ via order count k c e.
                 let d = here c e in (
                   (
                     h.0,
                     h.1,
-                    (commanded_so (λ o. AttemptNamed P o) order (λ a m. tt) (λ a m. tt) (λ a m. tt) c.attempt d.0, d.1),
+                    (changed_so (λ o. AttemptNamed P o) _ (λ a m. m) c.attempt d.0, d.1),
                     preps,
                   ),
                   tt,
                   tt,
                   refl,
                 );
-            changed = λ renewal count k c e. (with_context (Some c) (here c e), tt, tt, refl);
             cancelled_x2 = λ conn number target k. (gives_up, (cancels_named act conn number target k, tt), tt, refl);
             cancelled_s1 = λ conn number cell k. (gives_up, (tt, tt), tt, refl);
             cancelled_within = λ number k. (

@@ -22,7 +22,9 @@ use Rattle.lte_machine.specs.PhoneRows as phone
 use Rattle.lte_machine.specs.PhoneRows.{PhoneRow}
 use Rattle.lte_machine.specs.PhoneKeys as phone_keys
 use Rattle.lte_machine.specs.PhoneKeys.{PhoneDone, phone_does}
-use Rattle.lte_machine.specs.StationState.{Station, Context}
+use Rattle.lte_machine.specs.StationState.{Station, Context, Via, Renewing}
+use Rattle.x2_handover.specs.declared.orders.Order.{Order}
+use Rattle.lte_machine.specs.StationRecords.{order_record}
 use Rattle.lte_machine.specs.StationRows as station
 use Rattle.lte_machine.specs.StationRows.{StationRow}
 use Rattle.lte_machine.specs.StationRecords as station_records
@@ -137,6 +139,10 @@ no_data ReconfigurationComplete h sent e = let kind : 4 ≡ 5 = ap first e in ab
 no_data (KeyChange cell algs id air) h sent e = let kind : 6 ≡ 5 = ap first e in absurd (omega (arith, kind))
 no_data (RrcData text) h sent e = absurd h
 
+order_no_data : (via : Via) (order : Order) → NoData (order_record via order)
+order_no_data Renewing order = tt
+order_no_data other order = tt
+
 -- WHAT A STATION SENDS
 
 -- nothing on NAS, and on the air what is sealed under the keys of its context
@@ -178,8 +184,7 @@ module _ (same : Term → Term → Bool) (g : Ghost) where
           taken = λ conn origin pair k. source_sends conn origin;
           by_s1 = λ w pair k. tt;
           by_x2 = λ w star k. tt;
-          acked_s1 = λ ncc algs air key k. tt;
-          acked_x2 = λ algs air key k. tt;
+          answered = λ order key k. tt;
           cancelled = λ from key k. tt;
           left = λ key k. tt;
           renewed = λ conn number air count c e kenb k. λ sent x. absurd (no_data (KeyChange c.cell c.algs s.id air) tt sent x);
@@ -204,8 +209,7 @@ module _ (same : Term → Term → Bool) (g : Ghost) where
           by_x2 = λ number target cell k c e. tt;
           by_s1 = λ number target cell k c e. tt;
           within = λ number air cell k c e. tt;
-          commanded = λ order count k c e. λ sent x. absurd (no_data (Reconfiguration order.cell order.ncc order.algs order.station order.air) tt sent x);
-          changed = λ renewal count k c e. λ sent x. absurd (no_data (KeyChange renewal.cell renewal.algs s.id renewal.air) tt sent x);
+          commanded = λ via order count k c e. λ sent x. absurd (no_data (order_record via order) (order_no_data via order) sent x);
           cancelled_x2 = λ conn number target k. tt;
           cancelled_s1 = λ conn number cell k. tt;
           cancelled_within = λ number k. tt;

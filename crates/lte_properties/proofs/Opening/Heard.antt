@@ -13,7 +13,7 @@ use Rattle.lte_machine.specs.Bearers.{Signalling1}
 use Rattle.lte_machine.specs.Wire.{Outgoing}
 use Rattle.lte_machine.specs.StationState.{Station, Context, StationInput}
 use Rattle.lte_machine.specs.StationRows.{StationRow}
-use Rattle.lte_machine.specs.StationRecords.{with_pair, with_s1_ack, with_x2_ack}
+use Rattle.lte_machine.specs.StationRecords.{with_pair, with_answer}
 use Rattle.lte_machine.specs.StationKeys.{with_security, with_rrc_taken, with_packet_taken, given_up, with_skipped, station_does}
 use Rattle.lte_machine.specs.StationStep.{station_row_of, station_key, station_opens, station_pdu_in}
 use Rattle.lte_machine.specs.World.{Machine, World, turn_of, happens}
@@ -53,8 +53,7 @@ station_heard r row key s h =
       taken = λ conn origin pair k. heard_with (with_pair pair) (λ c k. k) s.context h;
       by_s1 = λ w pair k. h;
       by_x2 = λ w star k. h;
-      acked_s1 = λ ncc algs air key k. heard_with (with_s1_ack ncc algs air) (λ c k. k) s.context h;
-      acked_x2 = λ algs air key k. heard_with (with_x2_ack algs air) (λ c k. k) s.context h;
+      answered = λ order key k. heard_with (with_answer order) (λ c k. k) s.context h;
       cancelled = λ from key k. h;
       left = λ key k. tt;
       renewed = λ conn number air count c e kenb k. λ x. heard_sent Signalling1 c.bearers (subst Heard e h x);
@@ -73,8 +72,7 @@ station_heard r row key s h =
       by_x2 = λ number target cell k c e. subst Heard e h;
       by_s1 = λ number target cell k c e. subst Heard e h;
       within = λ number air cell k c e. subst Heard e h;
-      commanded = λ order count k c e. λ x. heard_sent Signalling1 c.bearers (subst Heard e h x);
-      changed = λ renewal count k c e. λ x. heard_sent Signalling1 c.bearers (subst Heard e h x);
+      commanded = λ via order count k c e. λ x. heard_sent Signalling1 c.bearers (subst Heard e h x);
       cancelled_x2 = λ conn number target k. heard_with given_up (λ c k. k) s.context h;
       cancelled_s1 = λ conn number cell k. heard_with given_up (λ c k. k) s.context h;
       cancelled_within = λ number k. heard_with given_up (λ c k. k) s.context h;
