@@ -10,7 +10,7 @@ use Rattle.lte_events.specs.declared.setups.Setup.{Setup}
 use Rattle.lte_machine.specs.Ciphers.{annex_b}
 use Rattle.lte_machine.specs.BothRuns.{written_run}
 use Rattle.lte_machine.specs.Carried.{run_value}
-use Rattle.lte_machine.proofs.RangeStation.{all_append}
+use Rattle.lte_machine.proofs.KnownLists.{all_append}
 use Rattle.lte_machine.specs.Run.{GoesOn}
 use Rattle.lte_world.specs.Whole.{Whole, run_of, told_of}
 use Rattle.core_relocation.specs.declared.cores.Held.{Held}

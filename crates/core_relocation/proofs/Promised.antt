@@ -7,7 +7,7 @@ use Rattle.lte_events.specs.declared.events.Event.{Event}
 use Rattle.lte_events.specs.declared.lines.Line.{Line}
 use Rattle.lte_events.specs.declared.lines.Who.{Who}
 use Rattle.lte_events.specs.declared.setups.Setup.{Setup}
-use Rattle.lte_machine.proofs.RangeStation.{all_append}
+use Rattle.lte_machine.proofs.KnownLists.{all_append}
 use Rattle.lte_properties.proofs.HeadlineHolds.{headline}
 use Rattle.lte_world.specs.declared.faults.WorldFault.{WorldFault}
 use Rattle.s1x2_rec.specs.Fields.{Fields}

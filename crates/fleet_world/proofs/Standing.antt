@@ -5,6 +5,7 @@ use Rattle.std.proofs.Math.ListN.{length-set}
 use Rattle.std.proofs.lemmas.List.{get_or-set_same, length-map, map-set}
 use Rattle.std.proofs.lemmas.Option.{slice_get-get_or}
 use Rattle.std.specs.List.{AllByRecursion as AllOf}
+use Rattle.lte_machine.proofs.KnownLists.{one_more}
 use Rattle.lte_events.specs.Ranges.{IsEvent, IsSetup}
 use Rattle.lte_events.specs.Scenario.{most_events, CanHappen}
 use Rattle.lte_events.specs.declared.events.Event.{Event}
@@ -36,10 +37,6 @@ use Rattle.fleet_world.proofs.Separating.{goes_more}
 use Rattle.fleet_world.proofs.Together.{octets_are}
 
 -- WHAT IS TOLD OF ONE EVENT MORE
-
-all_more : (own : List Event) (e : Event) → AllOf IsEvent own → IsEvent e → AllOf IsEvent (own ++ e ∷ [])
-all_more [] e are is = (is, tt)
-all_more (x ∷ own) e are is = (are.0, all_more own e are.1 is)
 
 -- in octets it is what the written machine tells, in values
 pub told_is : (setup : Setup) (own : List Event) (e : Event) → IsSetup setup → AllOf IsEvent own → IsEvent e
@@ -90,10 +87,6 @@ answered_more : (setup : Setup) (owns : List (List Event)) (journal : List (ℕ 
     → answer setup (owns_from setup owns journal) p e ≡ Ok told → AllAnswered setup owns (journal ++ (p, e) ∷ [])
 answered_more setup owns [] p e told all is = (ap is_ok is, tt)
 answered_more setup owns (x ∷ xs) p e told all is = (all.0, answered_more setup (owns_after setup owns x.0 x.1) xs p e told all.1 is)
-
-all_append : {A : Type 0} (P : A → Type 0) (xs : List A) (x : A) → AllOf P xs → P x → AllOf P (xs ++ x ∷ [])
-all_append P [] x all one = (one, tt)
-all_append P (y ∷ xs) x all one = (all.0, all_append P xs x all.1 one)
 
 -- A FLEET THAT STANDS
 
@@ -182,7 +175,7 @@ module _ (setup : Setup) (worlds : List Whole) (journal : List (ℕ × Event)) (
         worlds = h.worlds ∙ ap (map (world_of setup)) (sym (later (Some q) taken));
         owns = subst (AllOf (IsOwn setup (length (journal ++ (p, e) ∷ [])))) (sym (later (Some q) taken))
             (all_weaker (IsOwn setup (length journal)) (IsOwn setup (length (journal ++ (p, e) ∷ []))) longer owns h.owns);
-        events = all_append (IsEventOf (length worlds)) journal (p, e) h.events (low, good);
+        events = one_more (IsEventOf (length worlds)) journal (p, e) h.events (low, good);
         answered = answered_more setup (no_events (length worlds)) journal p e (line.Taken q) h.answered answer_taken;
       }
 
@@ -235,7 +228,7 @@ module _ (setup : Setup) (worlds : List Whole) (journal : List (ℕ × Event)) (
       more_own =
           let shorter = length_one own e in
           let longer_by = length_one journal (p, e) in
-          record { in_range = all_more own e is_own.in_range good; few = omega (arith, is_own.few, shorter, longer_by); goes = more_goes }
+          record { in_range = one_more IsEvent own e is_own.in_range good; few = omega (arith, is_own.few, shorter, longer_by); goes = more_goes }
 
       next_owns : AllOf (IsOwn setup (length (journal ++ (p, e) ∷ []))) (set owns p more)
       next_owns =
@@ -297,7 +290,7 @@ module _ (setup : Setup) (worlds : List Whole) (journal : List (ℕ × Event)) (
             owns = subst (AllOf (IsOwn setup (length (journal ++ (p, e) ∷ [])))) (sym owned) next_owns;
             events =
                 subst (λ n. AllOf (IsEventOf n) (journal ++ (p, e) ∷ [])) (sym same_many)
-                (all_append (IsEventOf (length worlds)) journal (p, e) h.events (low, good));
+                (one_more (IsEventOf (length worlds)) journal (p, e) h.events (low, good));
             answered = subst (λ n. AllAnswered setup (no_events n) (journal ++ (p, e) ∷ [])) (sym same_many)
                 (answered_more setup (no_events (length worlds)) journal p e (line.Of p r.1) h.answered (answer_of_line alone));
           }

@@ -1,6 +1,6 @@
 -- Lists each of whose items is so, derivations each from known keys, and what is known to more.
 use Rattle.std.proofs.Common.{◌≡◌, refl, ℕ, zero, suc, ◌-◌, Bool, true, false, cond, nat_lt, List, [], ◌∷◌, ◌++◌, length, Option, Some, None, inl, inr}
-use Rattle.std.specs.Prelude.{◌⊎◌, ℤ, pos, negsuc, filter, find, slice_get}
+use Rattle.std.specs.Prelude.{IfSome, ◌⊎◌, ℤ, pos, negsuc, filter, find, slice_get}
 use Rattle.std.specs.List.{AllByRecursion as AllOf}
 use Rattle.alg_choice.specs.declared.algs.Algs.{Algs}
 use Rattle.key_model.specs.Derivation.{Derivation, star_made}
@@ -20,17 +20,19 @@ use Rattle.lte_machine.proofs.Rows.{From, from_more}
 
 -- a value is so, if there is one
 abbrev pub OfSome : {A : Type 0} → (A → Type 0) → Option A → Type 0
-OfSome P None = Unit {0}
-OfSome P (Some x) = P x
+OfSome P o = IfSome o P
 
 module _ {A : Type 0} (P : A → Type 0) where
   pub all_append : (xs ys : List A) → AllOf P xs → AllOf P ys → AllOf P (xs ++ ys)
   all_append [] ys h k = k
   all_append (x ∷ xs) ys h k = (h.0, all_append xs ys h.1 k)
 
+  pub one_more : (xs : List A) (y : A) → AllOf P xs → P y → AllOf P (xs ++ y ∷ [])
+  one_more xs y h k = all_append xs (y ∷ []) h (k, tt)
+
   pub all_one : (o : Option A) (xs : List A) → AllOf P xs → OfSome P o → AllOf P (with_one o xs)
   all_one None xs h k = h
-  all_one (Some x) xs h k = all_append xs (x ∷ []) h (k, tt)
+  all_one (Some x) xs h k = one_more xs x h k
 
   kept_if : (b : Bool) (x : A) (xs : List A) → P x → AllOf P xs → AllOf P (cond b (x ∷ xs) xs)
   kept_if true x xs p h = (p, h)

@@ -27,17 +27,11 @@ use Rattle.lte_machine.specs.StationStep.{plain_station, station_step}
 use Rattle.lte_machine.specs.StationChoice.{record_row, air_front, air_row, act_row}
 use Rattle.lte_machine.proofs.RangeHolds.{SentRanged, OriginRanged, ByRanged, AttemptRanged, ContextRanged, PrepRanged, StationRanged, StationInputRanged}
 use Rattle.lte_machine.proofs.Tests.{changed_so}
-use Rattle.lte_machine.proofs.KnownLists.{OfSome, all_filter, all_find}
+use Rattle.lte_machine.proofs.KnownLists.{OfSome, all_append, all_filter, all_find}
 use Rattle.lte_machine.proofs.StationCases.{RecordCases, AirCases, ActCases, record_case, air_case, act_case}
 use Rattle.lte_machine.proofs.RecordFacts.{Admits, RecordHas, record_has}
 use Rattle.lte_machine.proofs.AirFacts.{AtPrepared, AirHas, air_has}
 use Rattle.lte_machine.proofs.StationActFacts.{Starts, GivesUp, StationActHas, station_act_has}
-
--- LISTS
-
-pub all_append : {A : Type 0} (P : A → Type 0) (xs ys : List A) → AllOf P xs → AllOf P ys → AllOf P (xs ++ ys)
-all_append P [] ys h k = k
-all_append P (x ∷ xs) ys h k = (h.0, all_append P xs ys h.1 k)
 
 -- NUMBERS
 

@@ -16,7 +16,7 @@ use Rattle.lte_machine.specs.Run.{RunState, Running, Stopped, after, event_repor
 use Rattle.lte_machine.specs.Step.{StepResult, Continues, Stops, next}
 use Rattle.lte_machine.proofs.AnnexB.{annex_b_ciphers}
 use Rattle.lte_machine.proofs.EventByEvent.{tale_snoc}
-use Rattle.lte_machine.proofs.RangeStation.{all_append}
+use Rattle.lte_machine.proofs.KnownLists.{all_append}
 use Rattle.lte_machine.proofs.WholeRun.{tale_is_value}
 use Rattle.lte_world.specs.Whole.{Whole, answer_of, run_of, told_of, turned, unless_over}
 

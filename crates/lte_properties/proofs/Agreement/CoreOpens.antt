@@ -9,7 +9,7 @@ use Rattle.lte_machine.specs.CoreChoice.{core_header}
 use Rattle.lte_machine.specs.CoreKeys.{opens_by_procedure, core_nas_expects}
 use Rattle.lte_machine.specs.CoreState.{Core}
 use Rattle.lte_machine.specs.Opening.{Outcome, Opened}
-use Rattle.lte_machine.specs.Wire.{Outgoing, SealedNas, PlainNas, SealedRrc, UserPacket, Between}
+use Rattle.lte_machine.specs.Wire.{Outgoing, SealedNas, SealedRrc}
 use Rattle.lte_machine.proofs.NasFacts.{Completes, nas_front}
 use Rattle.lte_properties.proofs.Agreement.Openings.{WasCounted, IsHonest}
 

@@ -12,7 +12,8 @@ use Rattle.lte_properties.specs.ChainBelow.{AllOf}
 use Rattle.lte_properties.proofs.ChainNumbers.Lists.{all_map, all_both}
 use Rattle.lte_properties.proofs.Agreement.Ghost.{Ghost, tried_at, SeenBy, FromOk, MadeOk}
 use Rattle.lte_properties.proofs.Agreement.Later.{same_found}
-use Rattle.lte_properties.proofs.Agreement.ToldIsFound.{MadeBy, all_append}
+use Rattle.lte_properties.proofs.Agreement.ToldIsFound.{MadeBy}
+use Rattle.lte_machine.proofs.KnownLists.{one_more}
 
 -- two things that were made did not come of one attempt
 abbrev pub NotBoth : Made Term ℕ → Made Term ℕ → Type 0
@@ -129,7 +130,7 @@ pub seen_beside : (made : List (Made Term ℕ)) (o : Option (Made Term ℕ)) (id
     → AllOf (SeenBy other seen) made
     → AllOf (SeenBy other seen) (with_one o made)
 seen_beside made None id other seen by differs h = h
-seen_beside made (Some m) id other seen by differs h = all_append (SeenBy other seen) made m h (other_seen id other seen m by differs)
+seen_beside made (Some m) id other seen by differs h = one_more (SeenBy other seen) made m h (other_seen id other seen m by differs)
 
 -- so each attempt gives one thing at most
 once_old : (m : Made Term ℕ) (made : List (Made Term ℕ))
@@ -138,10 +139,10 @@ once_old : (m : Made Term ℕ) (made : List (Made Term ℕ))
     → AllOf (λ n. AllOf (OneOf n) (with_one (Some m) made)) made
 once_old m made apart h =
     all_both (NotBoth m) (λ n. AllOf (OneOf n) made) (λ n. AllOf (OneOf n) (with_one (Some m) made))
-    (λ n k one. all_append (OneOf n) made m one (λ o e f. absurd (k o f e))) made apart h
+    (λ n k one. one_more (OneOf n) made m one (λ o e f. absurd (k o f e))) made apart h
 
 pub once_more : (m : Made Term ℕ) (made : List (Made Term ℕ)) → AllOf (NotBoth m) made → AllOf (λ n. AllOf (OneOf n) made) made
     → AllOf (λ n. AllOf (OneOf n) (with_one (Some m) made)) (with_one (Some m) made)
 once_more m made apart h =
-    all_append (λ n. AllOf (OneOf n) (with_one (Some m) made)) made m (once_old m made apart h)
-    (all_append (OneOf m) made m (all_map (NotBoth m) (OneOf m) (λ n k o e f. absurd (k o e f)) made apart) (λ o e f. refl))
+    one_more (λ n. AllOf (OneOf n) (with_one (Some m) made)) made m (once_old m made apart h)
+    (one_more (OneOf m) made m (all_map (NotBoth m) (OneOf m) (λ n k o e f. absurd (k o e f)) made apart) (λ o e f. refl))

@@ -19,9 +19,9 @@ use Rattle.s1x2_rec.specs.Content.{Content, map_content}
 use Rattle.s1x2_rec.specs.Fields.{Fields, HandoverRequest, HandoverCommand, X2Request, X2Ack, ContextModification}
 use Rattle.ho_prep.specs.declared.origins.By.{By}
 use Rattle.lte_machine.specs.Bearers.{Signalling1}
-use Rattle.lte_machine.specs.Reply.{Origin, BySetup, ByAttempt, ByChange, Made, Tried, Reply, Handover, BySource, ByTarget, only, unseen}
+use Rattle.lte_machine.specs.Reply.{Origin, BySetup, ByAttempt, ByChange, Made, Tried, Reply, Handover, BySource, only, unseen}
 use Rattle.lte_machine.specs.Wire.{Outgoing, Between}
-use Rattle.lte_machine.specs.StationState.{Station, Context, Via, OverX2, Renewing, Progress, Open, Commanded, SourceKeys, Attempt, Interface, OnS1, OnX2, map_source_keys}
+use Rattle.lte_machine.specs.StationState.{Station, Context, Via, OverX2, Renewing, Open, Commanded, SourceKeys, Attempt, Interface, OnS1, OnX2, map_source_keys}
 use Rattle.lte_machine.specs.StationRows.{Admitted, RecordRow}
 use Rattle.lte_machine.specs.StationRecords.{context_given, with_pair, source_release, pair_taken, admitted_prep, admitted_made, with_admitted, prepared_by_s1, prepared_by_x2, answered, with_answer, order_text, change_order, key_renewed, record_does}
 use Rattle.lte_machine.specs.StationChoice.{star_ncc, record_row}
@@ -29,6 +29,7 @@ use Rattle.lte_machine.specs.StationStep.{plain_station}
 use Rattle.lte_machine.proofs.RecordFacts.{Takes, Admits, AnswerSays, Answers, Renews, RecordHas, record_has}
 use Rattle.lte_machine.proofs.Routing.{address_on}
 use Rattle.lte_machine.proofs.StationCases.{RecordCases, record_case}
+use Rattle.lte_machine.proofs.KnownLists.{one_more, all_filter}
 use Rattle.lte_machine.proofs.Tests.{by_some}
 use Rattle.lte_properties.specs.ChainBelow.{AllOf}
 use Rattle.lte_properties.specs.ChainAbove.{AnswerOk, InFlight}
@@ -42,7 +43,7 @@ use Rattle.lte_properties.proofs.Agreement.PhoneWalk.{both_named}
 use Rattle.lte_properties.proofs.Agreement.Seen.{NotBoth, setup_no_attempt, change_no_attempt, change_no_setup, apart_always, apart_unseen, seen_more, seen_there}
 use Rattle.lte_properties.proofs.Agreement.StationContext.{CellFits, started_map, started_any, had_by, with_attempt_ok, with_both, mapped_at, with_ctx, ctx_at}
 use Rattle.lte_properties.proofs.Agreement.StationSends.{sends_down, change_says}
-use Rattle.lte_properties.proofs.Agreement.ToldIsFound.{all_found, found_holds, told, told_more, made_new, made_none, MadeBy, TriedBy, all_append, all_filter, reads_as, term_number, leads_up, star_term}
+use Rattle.lte_properties.proofs.Agreement.ToldIsFound.{all_found, found_holds, told, told_more, made_new, made_none, MadeBy, TriedBy, reads_as, term_number, leads_up, star_term}
 
 not_commanded : {order : Order} → Open ≡ Commanded order → ⊥
 not_commanded e = cc
@@ -120,7 +121,7 @@ module _ (same : Term → Term → Bool) (cells : List Site) (g : Ghost) (made_o
           id = ok.id;
           next = omega arith;
           ring = ok.ring;
-          seen = all_append (SeenBy s.id s.seen) g.made m ok.seen (λ at o e other. absurd (setup_no_attempt m refl o e));
+          seen = one_more (SeenBy s.id s.seen) g.made m ok.seen (λ at o e other. absurd (setup_no_attempt m refl o e));
         },
         (
           record { low = low; high = small; station = ok.id; from = (refl, of_conn, key_is); found = here; term = term },
@@ -163,7 +164,7 @@ module _ (same : Term → Term → Bool) (cells : List Site) (g : Ghost) (made_o
       let own = own_try w.from.source w.from.attempt e found in
       let low : w.from.source ≤ 7 = subst (λ n. n ≤ 7) at.0 own.station in (
         length-set s.seen w.from.source w.from.attempt ∙ ok.ring,
-        all_append (SeenBy s.id (slice_set s.seen w.from.source w.from.attempt)) g.made m
+        one_more (SeenBy s.id (slice_set s.seen w.from.source w.from.attempt)) g.made m
             (seen_more s.id w.from.source w.from.attempt s.seen ok.ring low news g.made ok.seen) (seen_there s.id s.seen m w.from is ok.ring low),
         apart_unseen g s.id s.seen m w.from is e found target (λ own_source. other (target ∙ sym own_source ∙ sym at.0)) news g.made made_ok ok.seen,
       )
@@ -205,7 +206,7 @@ module _ (same : Term → Term → Bool) (cells : List Site) (g : Ghost) (made_o
       let once = taken_once w m refl a.new e found (sym target) other in (
         record {
           context = ctx_later g k l s.id s.context ok.context;
-          preps = all_append _ _ _ (all_filter _ _ s.preps (preps_later g k l s.id s.preps ok.preps)) prep;
+          preps = one_more _ _ _ (all_filter _ _ s.preps (preps_later g k l s.id s.preps ok.preps)) prep;
           fresh = fresh_above m (omega arith);
           cells = ok.cells;
           id = ok.id;
@@ -364,7 +365,7 @@ module _ (same : Term → Term → Bool) (cells : List Site) (g : Ghost) (made_o
       let made_new_ok : MadeOk k m = record { low = low; high = small; station = ok.id; from = from; found = here; term = term } in
       let change : ChangeIs k c.key.kenb c.cell c.algs s.id air = record { made = m; found = here; from = refl; cell = refl; algs = refl } in
       let all_made : AllOf (MadeOk k) k.made =
-      all_append (MadeOk k) g.made m (all_map (MadeOk g) (MadeOk k) (made_later g k l) g.made made_ok) made_new_ok in (
+      one_more (MadeOk k) g.made m (all_map (MadeOk g) (MadeOk k) (made_later g k l) g.made made_ok) made_new_ok in (
         record {
           context = with_attempt_ok k s.id c ctx _ (tt, record { order = a; commanded = refl; station = refl; change = change }) (started_any k s.id c.air c.key.kenb c.starting _ active taken);
           preps = (
@@ -384,7 +385,7 @@ module _ (same : Term → Term → Bool) (cells : List Site) (g : Ghost) (made_o
           id = ok.id;
           next = omega arith;
           ring = ok.ring;
-          seen = all_append (SeenBy s.id s.seen) g.made m ok.seen (λ at o e other. absurd (change_no_attempt m c.key.kenb refl o e));
+          seen = one_more (SeenBy s.id s.seen) g.made m ok.seen (λ at o e other. absurd (change_no_attempt m c.key.kenb refl o e));
         },
         (made_new_ok, apart_always m (change_no_attempt m c.key.kenb refl) g.made),
         tt,

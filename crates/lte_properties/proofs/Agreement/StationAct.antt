@@ -26,6 +26,7 @@ use Rattle.lte_machine.specs.StationRecords.{order_text}
 use Rattle.lte_machine.specs.StationStep.{plain_station}
 use Rattle.lte_machine.proofs.StationActFacts.{Orders, SendsText, StationActHas, station_act_has}
 use Rattle.lte_machine.proofs.StationCases.{ActCases, act_case}
+use Rattle.lte_machine.proofs.KnownLists.{one_more, all_filter}
 use Rattle.lte_machine.proofs.Tests.{by_some}
 use Rattle.lte_properties.specs.ChainBelow.{AllOf, OfPair, IsAbove}
 use Rattle.lte_properties.specs.ChainAbove.{ContextAbove}
@@ -33,7 +34,7 @@ use Rattle.lte_properties.specs.Agreement.{made_at, HadTaken}
 use Rattle.lte_properties.proofs.Agreement.Terms.{lands}
 use Rattle.lte_properties.proofs.Agreement.Ghost.{Ghost, tried_at, TermOk, PairOk, PairsOk, MadeOk, TriedOk, GivenOk, IsOrder, UnderKey, ProgressOk, ChangeOk, ViaOk, AttemptOk, StartedOk, CtxOk, FreshFrom, SeenBy, StationOk, SaysOk, TextOk, OutOk}
 use Rattle.lte_properties.proofs.Agreement.Later.{term_later, ctx_later, preps_later}
-use Rattle.lte_properties.proofs.Agreement.ToldIsFound.{told, told_more, made_new, made_none, tried_new, tried_none, all_append, all_filter, SiteOk, reads_as, term_number, leads_up, leads_level, star_term}
+use Rattle.lte_properties.proofs.Agreement.ToldIsFound.{told, told_more, made_new, made_none, tried_new, tried_none, SiteOk, reads_as, term_number, leads_up, leads_level, star_term}
 use Rattle.lte_properties.proofs.Agreement.Station.{StationGoes}
 use Rattle.lte_properties.proofs.Agreement.StationContext.{started_map, started_any, with_attempt_ok, with_both, next_drawn, with_ctx, mapped, ctx_at, had}
 use Rattle.lte_properties.proofs.Agreement.Seen.{setup_no_attempt, one_origin, apart_new}
@@ -193,25 +194,28 @@ module _ (same : Term → Term → Bool) (cells : List Site) (cells_ok : AllOf S
             pair = tt;
             keys = ctx.keys;
             entry = ctx.entry;
-            attempt = (ctx.pair, (
-              record {
-                made = m;
-                origin = origin;
-                tried = e;
-                made_is = made_here;
-                from = refl;
-                tried_is = tried_here;
-                key = refl;
-                cell = refl;
-                ncc = refl;
-                algs = refl;
-                source = refl;
-              },
-              record { tried = e; found = tried_here; key = refl; conn = refl },
-            ));
+            attempt = (
+              ctx.pair,
+              (
+                record {
+                  made = m;
+                  origin = origin;
+                  tried = e;
+                  made_is = made_here;
+                  from = refl;
+                  tried_is = tried_here;
+                  key = refl;
+                  cell = refl;
+                  ncc = refl;
+                  algs = refl;
+                  source = refl;
+                },
+                record { tried = e; found = tried_here; key = refl; conn = refl },
+              ),
+            );
             started = started_any x s.id c.air c.key.kenb c.starting _ active taken;
           };
-          preps = all_append _ _ _ (preps_later g x l s.id s.preps ok.preps)
+          preps = one_more _ _ _ (preps_later g x l s.id s.preps ok.preps)
               (record {
                 term = term;
                 pair = tt;
@@ -226,7 +230,7 @@ module _ (same : Term → Term → Bool) (cells : List Site) (cells_ok : AllOf S
           id = ok.id;
           next = omega arith;
           ring = ok.ring;
-          seen = all_append (SeenBy s.id s.seen) g.made m ok.seen (λ at o e other. absurd (other (sym (ap (λ p. p.source) (one_origin m.from origin o refl e)))));
+          seen = one_more (SeenBy s.id s.seen) g.made m ok.seen (λ at o e other. absurd (other (sym (ap (λ p. p.source) (one_origin m.from origin o refl e)))));
         },
         (
           record {

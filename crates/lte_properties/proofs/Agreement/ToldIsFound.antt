@@ -137,19 +137,6 @@ all_found P p (z ∷ zs) x h e = found_step P (p z) z x (find p zs) h.0 (all_fou
 pub made_there : (made : List (Made Term ℕ)) (id air : ℕ) (m : Made Term ℕ) → made_at made id air ≡ Some m → (m.station ≡ id) × (m.air ≡ air)
 made_there made id air m e = let t = found_holds (is_made_at id air) made m e in grind (arith, nat_tests)
 
--- lists of what is so
-pub all_append : {A : Type 0} (P : A → Type 0) (xs : List A) (y : A) → AllOf P xs → P y → AllOf P (xs ++ y ∷ [])
-all_append P [] y h k = (k, tt)
-all_append P (x ∷ xs) y h k = (h.0, all_append P xs y h.1 k)
-
-pub all_filter : {A : Type 0} (P : A → Type 0) (f : A → Bool) (xs : List A) → AllOf P xs → AllOf P (filter f xs)
-all_filter P f [] h = tt
-all_filter P f (x ∷ xs) h = kept_if (f x) (all_filter P f xs h.1)
-  where
-    kept_if : (b : Bool) → AllOf P (filter f xs) → AllOf P (cond b (x ∷ filter f xs) (filter f xs))
-    kept_if true rest = (h.0, rest)
-    kept_if false rest = rest
-
 -- the cells of a table: each with its station
 abbrev pub SiteOk : Site → Type 0
 SiteOk site = (site.station ≤ 7) × IsCell site.cell

@@ -13,7 +13,7 @@ use Rattle.nh_chain.specs.Chain.{stepped}
 use Rattle.s1x2_rec.specs.Fields.{Fields}
 use Rattle.lte_machine.specs.Machines.{content_of}
 use Rattle.lte_machine.specs.Opening.{Outcome}
-use Rattle.lte_machine.specs.Wire.{Outgoing, SealedNas, PlainNas, SealedRrc, UserPacket, Between}
+use Rattle.lte_machine.specs.Wire.{Outgoing, Between}
 use Rattle.lte_machine.specs.StationKeys.{spent_in}
 use Rattle.lte_machine.specs.StationState.{Station, Context}
 use Rattle.lte_machine.specs.CoreState.{Core, CoreLink, CoreInput, CoreAuth, CoreActs, CoreNasPdu, CoreRecord}

@@ -3,9 +3,9 @@ use Rattle.std.proofs.Common.{◌≡◌, sym, ◌∙◌, ℕ, ◌≤◌, ◌<◌
 use Rattle.std.specs.Prelude.{⊤}
 use Rattle.key_model.specs.Term.{Term}
 use Rattle.lte_events.specs.declared.addresses.Address.{Address}
-use Rattle.lte_events.specs.declared.addresses.Address.TheVariants.{Phone, PhoneNas, CoreNas, CoreS1, StationAir, StationS1, StationX2}
-use Rattle.s1x2_rec.specs.Fields.{InitialContext, ContextRelease, PathSwitchRequest, PathSwitchAnswer, HandoverRequired, HandoverRequest, HandoverRequestAck, HandoverCommand, HandoverNotify, HandoverCancel, X2Request, X2Ack, X2Cancel, X2Release, ContextModification}
-use Rattle.lte_machine.specs.Wire.{Outgoing, SealedNas, PlainNas, SealedRrc, UserPacket, Between}
+use Rattle.lte_events.specs.declared.addresses.Address.TheVariants.{StationS1}
+use Rattle.s1x2_rec.specs.Fields.{PathSwitchRequest, PathSwitchAnswer}
+use Rattle.lte_machine.specs.Wire.{Outgoing, Between}
 use Rattle.lte_machine.specs.StationState.{Station, Context}
 use Rattle.lte_properties.specs.ChainBelow.{EachNumber, IsUnder}
 use Rattle.lte_properties.specs.ChainAbove.{RequestOk, AnswerOk, AnswerTo, InFlight}

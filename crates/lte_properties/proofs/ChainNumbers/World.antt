@@ -14,8 +14,8 @@ use Rattle.lte_events.specs.Site.{Site}
 use Rattle.key_model.specs.Term.{Term, Root}
 use Rattle.key_model.specs.HandoverTable.{NumberedKey}
 use Rattle.key_model.specs.Reading.{term_reading_by}
-use Rattle.s1x2_rec.specs.Fields.{Fields, InitialContext, ContextRelease, PathSwitchRequest, PathSwitchAnswer, HandoverRequired, HandoverRequest, HandoverRequestAck, HandoverCommand, HandoverNotify, HandoverCancel, X2Request, X2Ack, X2Cancel, X2Release, ContextModification}
-use Rattle.lte_machine.specs.Wire.{KeyUse, Outgoing, SealedNas, PlainNas, SealedRrc, UserPacket, Between, address_of}
+use Rattle.s1x2_rec.specs.Fields.{Fields, PathSwitchRequest, PathSwitchAnswer}
+use Rattle.lte_machine.specs.Wire.{KeyUse, Outgoing, Between, address_of}
 use Rattle.lte_machine.specs.Ciphers.{Ciphers, octets_of}
 use Rattle.lte_machine.specs.Opening.{Opening, Outcome, Opened, open_octets, open_by_uses}
 use Rattle.lte_machine.specs.Reply.{Reply}

@@ -2,7 +2,7 @@
 use Rattle.std.proofs.Common.{◌≡◌, refl, sym, ap, ◌∙◌, ℕ, zero, suc, ◌+◌, ◌<◌, ◌≤◌, ◌⊎◌, inl, inr, Bool, true, false, if◌then◌else◌, Option, Some, None, arith}
 use Rattle.std.specs.Prelude.{IfSome}
 use Rattle.annex_a_keys.specs.Cell.{Place}
-use Rattle.key_model.specs.Term.{Term, Root, Kenb, Nh, Star, Alg, same_term}
+use Rattle.key_model.specs.Term.{Term, Kenb, Alg, same_term}
 use Rattle.key_model.specs.Number.{chain_number}
 use Rattle.key_model.specs.Reading.{term_reading_by}
 use Rattle.key_model.specs.HandoverLines.{nh_after}

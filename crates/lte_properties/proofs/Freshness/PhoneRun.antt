@@ -27,7 +27,6 @@ use Rattle.lte_properties.proofs.Freshness.PhoneUses.{TookInOrder, NeverTook, Ra
 use Rattle.lte_machine.proofs.Tests.{none_some}
 use Rattle.lte_properties.proofs.ChainNumbers.Lists.{all_append, all_one, all_map, roots_kept, one_root_more}
 use Rattle.lte_properties.proofs.Freshness.Order.{not_before_itself}
-use Rattle.lte_properties.proofs.Freshness.World.{some_of}
 use Rattle.lte_properties.proofs.Freshness.Run.{turn_keeps, phone_more}
 use Rattle.lte_properties.proofs.SameKeys.{IsReflexive}
 
@@ -94,7 +93,7 @@ module _ (same : Term → Term → Bool) (itself : IsReflexive same) (octets : O
           took = all_one (λ x. k.new x.key ≡ Some (home_at x.station x.air)) d.1.took w.took
               (all_map (λ (x : Took Term ℕ). h.taken x.key ≡ Some (home_at x.station x.air)) (λ x. k.new x.key ≡ Some (home_at x.station x.air))
               (λ x e. k.grows x.key (home_at x.station x.air) e) w.took h.took)
-              (some_of (λ x. k.new x.key ≡ Some (home_at x.station x.air)) d.1.took k.takes);
+              k.takes;
           order = order_one d.1.took w.took h.order (after_all h.taken w.took h.took d.1.took k.rises);
         }
 

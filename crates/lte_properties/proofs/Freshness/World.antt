@@ -36,11 +36,6 @@ is_up Down = false
 pub up_is_not_down : {d : Dir} → d ≡ Up → d ≡ Down → ⊥
 up_is_not_down e f = let g = ap is_up (sym e ∙ f) in cc
 
--- what is so of a value that may be there
-pub some_of : {A : Type 0} (P : A → Type 0) (o : Option A) → IfSome o P → OfSome P o
-some_of P None h = h
-some_of P (Some x) h = h
-
 -- AS HOMES GROW
 
 module _ (taken taken' given given' : Homes) (f : HomesStay taken taken') (g : HomesStay given given') where
@@ -121,11 +116,11 @@ module _ (m : Machine Term ℕ (Outgoing Term ℕ)) (w : World Term ℕ (Outgoin
       sent = subst (λ o. AllOf (RecordStands k.new h.given) (with_one o w.sent)) (sym (keep d.1.sent))
           (all_one (RecordStands k.new h.given) d.1.sent w.sent
           (all_map (RecordStands h.taken h.given) (RecordStands k.new h.given) (record_grows h.taken k.new h.given h.given k.grows (λ t x e. e)) w.sent h.sent)
-          (some_of (RecordStands k.new h.given) d.1.sent (k.sends h.given)));
+          (k.sends h.given));
       took = all_one (λ x. k.new x.key ≡ Some (home_at x.station x.air)) d.1.took w.took
           (all_map (λ (x : Took Term ℕ). h.taken x.key ≡ Some (home_at x.station x.air)) (λ x. k.new x.key ≡ Some (home_at x.station x.air))
           (λ x e. k.grows x.key (home_at x.station x.air) e) w.took h.took)
-          (some_of (λ x. k.new x.key ≡ Some (home_at x.station x.air)) d.1.took k.takes);
+          k.takes;
       apart = apart_append w.uses (uses_in d.1.sent) h.apart k.apart
           (all_map (NewUp h.roots h.taken k.new w.phone d.0) (λ u. AllOf (λ v. v ≡ u → ⊥) w.uses)
           (λ u x. apart_by (λ v. v.dir ≡ Up → UpUse h.roots h.taken w.phone v) w.uses u h.up (λ y. x.2 (y x.0))) (uses_in d.1.sent) k.uses);
@@ -175,7 +170,7 @@ module _ (m : Machine Term ℕ (Outgoing Term ℕ)) (w : World Term ℕ (Outgoin
       sent = subst (λ o. AllOf (RecordStands h.taken k.new) (with_one o w.sent)) (sym (keep d.1.sent))
           (all_one (RecordStands h.taken k.new) d.1.sent w.sent
           (all_map (RecordStands h.taken h.given) (RecordStands h.taken k.new) (record_grows h.taken h.taken h.given k.new (λ t x e. e) k.grows) w.sent h.sent)
-          (some_of (RecordStands h.taken k.new) d.1.sent (k.sends h.taken)));
+          (k.sends h.taken));
       took = h.took;
       apart = apart_append w.uses (uses_in d.1.sent) h.apart k.apart
           (all_map (NewDown h.roots w.core d.0) (λ u. AllOf (λ v. v ≡ u → ⊥) w.uses)
@@ -258,7 +253,7 @@ module _ (m : Machine Term ℕ (Outgoing Term ℕ)) (w : World Term ℕ (Outgoin
           (λ t. AllOf (λ u. u.dir ≡ Down → StationUse h.taken h.given t u) w.uses) Both (λ t x y. (x, y)) w.stations
           h.stations h.down);
       sent = subst (λ o. AllOf (RecordStands h.taken h.given) (with_one o w.sent)) (sym (keep d.1.sent))
-          (all_one (RecordStands h.taken h.given) d.1.sent w.sent h.sent (some_of (RecordStands h.taken h.given) d.1.sent k.sends));
+          (all_one (RecordStands h.taken h.given) d.1.sent w.sent h.sent k.sends);
       took = h.took;
       apart = apart_append w.uses (uses_in d.1.sent) h.apart k.apart
           (all_map (NewAt h.taken h.given s d.0) (λ u. AllOf (λ v. v ≡ u → ⊥) w.uses)

@@ -2,13 +2,13 @@
 use Rattle.std.proofs.Common.{ℕ, zero, suc, Bool, List, Option, Some, None}
 use Rattle.std.specs.Prelude.{⊤}
 use Rattle.annex_a_keys.specs.Cell.{Place}
-use Rattle.key_model.specs.Term.{Term, Root, Kenb, Nh, Star, Alg, IsRoot, IsDerivationKey, IsWellFormed}
+use Rattle.key_model.specs.Term.{Term, Root, IsRoot, IsDerivationKey, IsWellFormed}
 use Rattle.key_model.specs.Derivation.{Derivation}
 use Rattle.key_model.specs.Reading.{term_reading_by}
 use Rattle.key_model.specs.HandoverLines.{nh_after, key_after}
 use Rattle.nh_chain.specs.Chain.{ChainState, nhs_made}
 use Rattle.nh_chain.specs.Reach.{phone_of, base_after}
-use Rattle.lte_machine.specs.Wire.{Outgoing, SealedNas, PlainNas, SealedRrc, UserPacket, Between}
+use Rattle.lte_machine.specs.Wire.{Outgoing, Between}
 use Rattle.lte_machine.specs.Reply.{Reply, Tried}
 use Rattle.lte_events.specs.Site.{Site}
 use Rattle.lte_machine.specs.PhoneState.{Radio, Idle, Connecting, Connected, Phone}

@@ -4,7 +4,7 @@ use Rattle.std.specs.Prelude.{not, nat_le, Bool, ⊤}
 use Rattle.annex_a_keys.specs.Cell.{Place}
 use Rattle.lte_events.specs.Site.{Site, station_of}
 use Rattle.lte_events.specs.declared.acts.StationAct.{StationAct}
-use Rattle.key_model.specs.Term.{Term, Root, Kenb, Nh, Star, Alg}
+use Rattle.key_model.specs.Term.{Term, Kenb, Nh, Star}
 use Rattle.key_model.specs.Derivation.{Derivation}
 use Rattle.key_model.specs.Reading.{term_reading_by}
 use Rattle.key_model.specs.HandoverTable.{NumberedKey}

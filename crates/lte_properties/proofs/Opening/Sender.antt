@@ -7,7 +7,7 @@ use Rattle.key_model.specs.Value.{same_value}
 use Rattle.s1x2_rec.specs.Fields.{Fields}
 use Rattle.lte_machine.specs.Wire.{KeyUse, Ciphering, Outgoing, SealedNas, PlainNas, SealedRrc, UserPacket, Between}
 use Rattle.lte_machine.specs.Ciphers.{Ciphers, octets_of}
-use Rattle.lte_machine.specs.Opening.{Opening, OpensNothing, OpensNas, OpensSrb, OpensDrb, Outcome, Opened, Differs, same_uses, same_ciphering, judged, nas_wanted, open_case, open_foreign}
+use Rattle.lte_machine.specs.Opening.{Opening, OpensNas, Outcome, Opened, Differs, same_uses, same_ciphering, judged, nas_wanted, open_case, open_foreign}
 use Rattle.nas_guard.specs.Open.{mac_in}
 use Rattle.lte_machine.specs.Ladder.{ladder_of}
 use Rattle.lte_machine.specs.PhoneState.{PhoneInput, PhoneAuth, PhoneActs, PhoneNasPdu, PhoneAirPdu}
