@@ -11,7 +11,7 @@ use crate::Station;
 use crate::context::Context;
 use crate::sends::sends;
 use lte_events::{ActorOut, Address, Answer};
-use rec_base::{Bearer, ShortText, UserText};
+use rec_base::{Bearer, Dir, ShortText, UserText};
 use rrc_rec::RrcRecord;
 use s1x2_rec::CoreRecord;
 
@@ -107,7 +107,10 @@ impl Context {
         if self.starting {
             return out.only(Answer::NotActive);
         }
-        if !self.packet(id, bearer, text, out) {
+        if !self
+            .bearers
+            .packet(&self.keys, Dir::Down, id, self.air, bearer, text, out)
+        {
             out.only(Answer::CountSpent);
         }
     }
@@ -122,7 +125,16 @@ impl Context {
             return out.only(Answer::NotActive);
         }
         let message = RrcRecord::RrcData(text.clone().unwrap()).write();
-        if !self.signal(id, bearer, true, message.as_slice(), out) {
+        if !self.bearers.signal(
+            &self.keys,
+            Dir::Down,
+            id,
+            self.air,
+            bearer,
+            true,
+            message.as_slice(),
+            out,
+        ) {
             out.only(Answer::CountSpent);
         }
     }

@@ -16,7 +16,7 @@ use crate::sends::heard;
 use annex_a_keys::Kenb;
 use ho_prep::Prep;
 use lte_events::{ActorOut, Answer, KeyNote};
-use rec_base::{Bearer, Way};
+use rec_base::{Bearer, Dir, Way};
 use x2_handover::Order;
 
 impl Station {
@@ -109,7 +109,16 @@ impl Context {
         };
         let renewal = Renewal { number, order };
         let text = renewal.text().write();
-        if !self.signal(id, Bearer::Srb1, true, text.as_slice(), out) {
+        if !self.bearers.signal(
+            &self.keys,
+            Dir::Down,
+            id,
+            self.air,
+            Bearer::Srb1,
+            true,
+            text.as_slice(),
+            out,
+        ) {
             return false;
         }
         self.begin(Attempt::Renewing(renewal));

@@ -15,7 +15,6 @@ mod prep_air;
 mod renewal;
 mod s1_records;
 mod sends;
-mod signals;
 mod station;
 mod step;
 mod x2_records;

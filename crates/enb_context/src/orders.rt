@@ -12,7 +12,7 @@ use crate::attempt::Cancel;
 use crate::context::Context;
 use crate::sends::sends;
 use lte_events::{ActorOut, Address, Answer};
-use rec_base::Bearer;
+use rec_base::{Bearer, Dir};
 use s1x2_rec::CoreRecord;
 
 impl Station {
@@ -105,7 +105,16 @@ impl Context {
         match attempt.command() {
             Ok((attempt, order)) => {
                 self.begin(attempt);
-                if !self.signal(id, Bearer::Srb1, true, order.write().as_slice(), out) {
+                if !self.bearers.signal(
+                    &self.keys,
+                    Dir::Down,
+                    id,
+                    self.air,
+                    Bearer::Srb1,
+                    true,
+                    order.write().as_slice(),
+                    out,
+                ) {
                     unreachable!()
                 }
             }

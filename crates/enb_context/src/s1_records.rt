@@ -20,7 +20,7 @@ use lte_events::{ActorOut, Address, Answer, KeyNote};
 use nh_chain::{NhPair, StationKey};
 use pdcp_guard::AsKeys;
 use radio_bearers::Bearers;
-use rec_base::{Bearer, Way};
+use rec_base::{Bearer, Dir, Way};
 use rrc_rec::RrcRecord;
 use s1x2_rec::CoreRecord;
 
@@ -64,7 +64,16 @@ impl Station {
             air,
         };
         let text = command.write();
-        if !context.signal(self.id, Bearer::Srb1, false, text.as_slice(), out) {
+        if !context.bearers.signal(
+            &context.keys,
+            Dir::Down,
+            self.id,
+            air,
+            Bearer::Srb1,
+            false,
+            text.as_slice(),
+            out,
+        ) {
             unreachable!()
         }
         out.received = Some(key);

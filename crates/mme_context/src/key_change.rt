@@ -4,7 +4,6 @@ ghost use Rattle.nas_smc.specs.CoreNas.{changed, completes};
 
 use crate::Core;
 use crate::link::{Link, begin};
-use crate::sends::told;
 use annex_a_keys::Kasme;
 use lte_events::{ActorOut, Address, KeyNote, Record};
 use nas_smc::NasOut;
@@ -25,7 +24,7 @@ impl Core {
             return self.trigger_by(said, count, out);
         };
         let Some(root) = self.nas.root() else {
-            return told(said, out);
+            return said.tell(Address::PhoneNas, None, out);
         };
         self.change_key(said, &root, count, conn, station, next, out)
     }
@@ -58,7 +57,7 @@ impl Core {
             way: Way::Initial,
             key: begun.kenb.octets(),
         };
-        told(said, out);
+        said.tell(Address::PhoneNas, None, out);
         out.sent = Some(Record {
             to: Address::StationS1(station),
             octets: message.write(),

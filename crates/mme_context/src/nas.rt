@@ -7,10 +7,9 @@ ghost use Rattle.nas_smc.specs.CoreNas.{core_after, is_for_new_context, triggers
 ghost use Rattle.mme_context.specs.Step.{answered};
 
 use crate::Core;
-use crate::sends::told;
 use alg_choice::Caps;
 use annex_a_keys::Kasme;
-use lte_events::{ActorOut, Answer};
+use lte_events::{ActorOut, Address, Answer};
 use nas_smc::NasOut;
 use rec_base::ShortText;
 
@@ -65,7 +64,7 @@ impl Core {
         ensures { (self.new, out.new) ≡ core_after self.old said new_context }
     {
         let Some(count) = said.trigger else {
-            return told(said, out);
+            return said.tell(Address::PhoneNas, None, out);
         };
         if new_context {
             return self.complete(said, count, out);
@@ -78,7 +77,7 @@ impl Core {
         ensures { (self.new, out.new) ≡ triggers self.old said count }
     {
         self.trigger = Some(count);
-        told(said, out)
+        said.tell(Address::PhoneNas, None, out)
     }
 }
 

@@ -1,13 +1,11 @@
 -- The NAS part of a core, and the whole core around it (TS 24.301 4.4, TS 33.401 7.2.6.2 and 7.2.9.2).
-use Rattle.std.specs.Prelude.{ℕ, ◌+◌, ◌==◌, nat_le, Bool, true, false, if◌then◌else◌, List, ◌∷◌, map, replicate, Option, Some, None, option_map}
+use Rattle.std.specs.Prelude.{ℕ, ◌+◌, ◌==◌, nat_le, Bool, true, false, if◌then◌else◌, List, ◌∷◌, map, replicate, Option, Some, None}
 use Rattle.alg_choice.specs.declared.algs.Eea.{Eea}
 use Rattle.alg_choice.specs.declared.caps.Caps.{Caps}
 use Rattle.key_model.specs.Derivation.{derived_of, kenb_made}
 use Rattle.key_model.specs.Reading.{octet_reading}
 use Rattle.lte_events.specs.Site.{Site}
-use Rattle.lte_events.specs.declared.addresses.Address.TheVariants.{PhoneNas}
 use Rattle.lte_events.specs.declared.replies.ActorOut.{ActorOut}
-use Rattle.lte_events.specs.declared.replies.Record.{Record}
 use Rattle.lte_events.specs.declared.setups.FirstNcc.{FirstNcc}
 use Rattle.lte_machine.specs.Calls.{note_out, record_out}
 use Rattle.lte_machine.specs.CoreChoice.{NUMBERS}
@@ -18,7 +16,7 @@ use Rattle.nas_guard.specs.Open.{header_in}
 use Rattle.rec_base.specs.declared.ways.Way.TheVariants.{Initial}
 use Rattle.s1x2_rec.specs.Fields.{ContextModification}
 use Rattle.nas_smc.specs.declared.reply.NasOut.{NasOut}
-use Rattle.nas_smc.specs.NasOut.{phone_reply}
+use Rattle.nas_smc.specs.NasOut.{core_reply}
 
 -- what an authentication left, and the keys of the procedure that is open for it
 pub record CoreLeft : Type 0 where
@@ -92,14 +90,6 @@ core_of s rest = record {
   attempts = rest.attempts;
   requests = rest.requests;
 }
-
--- a message of the core to the phone
-abbrev pub to_phone : List ℕ → Record
-to_phone octets = record { to = PhoneNas; octets = octets }
-
--- the core's reply
-abbrev pub core_reply : NasOut → ActorOut
-core_reply out = record (phone_reply out out.derived) { sent = option_map to_phone out.pdu }
 
 -- the header type of a message with a new context, which at a core is a SECURITY MODE COMPLETE (TS 24.301 9.3.1)
 abbrev pub is_for_new_context : List ℕ → Bool

@@ -2,10 +2,10 @@
 use Rattle.std.specs.Prelude.{ℕ, false, List, [], ◌∷◌, map, Option, Some, None, option_map}
 use Rattle.annex_a_keys.specs.declared.derived.Derived.{Derived}
 use Rattle.rec_base.specs.declared.uses.Use.{Use}
-use Rattle.lte_events.specs.declared.addresses.Address.TheVariants.{CoreNas}
+use Rattle.lte_events.specs.declared.addresses.Address.{Address}
+use Rattle.lte_events.specs.declared.addresses.Address.TheVariants.{CoreNas, PhoneNas}
 use Rattle.lte_events.specs.declared.answers.Answer.{Answer}
 use Rattle.lte_events.specs.declared.replies.ActorOut.{ActorOut}
-use Rattle.lte_events.specs.declared.replies.Record.{Record}
 use Rattle.lte_machine.specs.Calls.{use_out}
 use Rattle.lte_machine.specs.Ciphers.{annex_b, octets_of, written}
 use Rattle.lte_machine.specs.Wire.{Outgoing, uses_of}
@@ -33,15 +33,16 @@ tuple_in [] = None
 tuple_in (integrity ∷ []) = Some integrity
 tuple_in (ciphering ∷ integrity ∷ rest) = Some integrity
 
--- a message of the phone to the core
-abbrev pub to_core : List ℕ → Record
-to_core octets = record { to = CoreNas; octets = octets }
+-- the derivation that comes before those of a NAS part, if there is one
+abbrev pub listed : Option Derived → List Derived
+listed None = []
+listed (Some made) = made ∷ []
 
--- the phone's reply, which adds the derivations of all its parts
-abbrev pub phone_reply : NasOut → List Derived → ActorOut
-phone_reply out derived = record {
+-- the reply of an actor whose NAS part sends to this address, with the derivations of all its parts
+abbrev pub reply_to : Address → NasOut → List Derived → ActorOut
+reply_to to out derived = record {
   answer = out.answer;
-  sent = option_map to_core out.pdu;
+  sent = option_map (λ octets. record { to = to; octets = octets }) out.pdu;
   tuple = tuple_in out.used;
   opened = out.opened;
   derived = derived;
@@ -51,3 +52,10 @@ phone_reply out derived = record {
   note = None;
   alarm = false;
 }
+
+-- the phone's reply, and the core's
+abbrev pub phone_reply : NasOut → List Derived → ActorOut
+phone_reply out derived = reply_to CoreNas out derived
+
+abbrev pub core_reply : NasOut → ActorOut
+core_reply out = reply_to PhoneNas out out.derived

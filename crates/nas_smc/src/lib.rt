@@ -15,6 +15,7 @@ mod partial;
 mod phone;
 mod protection;
 mod reply;
+mod telling;
 
 pub use core_nas::CoreNas;
 pub use nas_rec::NasRecord;

@@ -1,6 +1,5 @@
 -- A phone by its parts.
-use Rattle.std.specs.Prelude.{ℕ, List, [], ◌∷◌, Option, None, Some}
-use Rattle.annex_a_keys.specs.declared.derived.Derived.{Derived}
+use Rattle.std.specs.Prelude.{ℕ, List, Option, None, Some}
 use Rattle.lte_machine.specs.PhoneState as machine
 use Rattle.lte_machine.specs.PhoneState.{Phone, Waiting, Link}
 use Rattle.nas_smc.specs.PhoneNas.{NasPart, phone_of}
@@ -29,8 +28,3 @@ linked n l = phone_of n (machine.Connected l)
 abbrev pub started : NasPart → Waiting (List ℕ) → Option (Link (List ℕ) ℕ) → Phone (List ℕ) ℕ
 started n w None = waiting n w
 started n w (Some l) = linked n l
-
--- a derivation, if there is one
-abbrev pub listed : Option Derived → List Derived
-listed None = []
-listed (Some made) = made ∷ []

@@ -12,7 +12,7 @@ use crate::Phone;
 use crate::link::Link;
 use crate::radio::Radio;
 use lte_events::{ActorOut, Answer};
-use rec_base::{Bearer, ShortText, UserText};
+use rec_base::{Bearer, Dir, ShortText, UserText};
 use rrc_rec::RrcRecord;
 
 impl Phone {
@@ -82,7 +82,16 @@ impl Link {
             return out.only(Answer::NothingToResend);
         }
         let complete = RrcRecord::ReconfigurationComplete.write();
-        if !self.signal(Bearer::Srb1, true, complete.as_slice(), out) {
+        if !self.bearers.signal(
+            &self.keys,
+            Dir::Up,
+            self.station,
+            self.air,
+            Bearer::Srb1,
+            true,
+            complete.as_slice(),
+            out,
+        ) {
             out.only(Answer::CountSpent);
         }
     }
@@ -92,7 +101,15 @@ impl Link {
         requires { IsDrb bearer }
         ensures { (n : NasPart) → (linked n self.new, out.new) ≡ phone_call (linked n self.old) (Act (SendUser bearer text.now)) }
     {
-        if !self.packet(bearer, text, out) {
+        if !self.bearers.packet(
+            &self.keys,
+            Dir::Up,
+            self.station,
+            self.air,
+            bearer,
+            text,
+            out,
+        ) {
             out.only(Answer::CountSpent);
         }
     }
@@ -103,7 +120,16 @@ impl Link {
         ensures { (n : NasPart) → (linked n self.new, out.new) ≡ phone_call (linked n self.old) (Act (SendRrc bearer text.now)) }
     {
         let message = RrcRecord::RrcData(text.clone().unwrap()).write();
-        if !self.signal(bearer, true, message.as_slice(), out) {
+        if !self.bearers.signal(
+            &self.keys,
+            Dir::Up,
+            self.station,
+            self.air,
+            bearer,
+            true,
+            message.as_slice(),
+            out,
+        ) {
             out.only(Answer::CountSpent);
         }
     }

@@ -23,7 +23,7 @@ use nas_smc::PhoneNas;
 use nh_chain::PhoneChain;
 use pdcp_guard::AsKeys;
 use radio_bearers::Bearers;
-use rec_base::{Bearer, Way};
+use rec_base::{Bearer, Dir, Way};
 use rrc_rec::RrcRecord;
 
 impl Link {
@@ -152,7 +152,16 @@ impl Link {
             key: kenb.octets(),
         };
         let complete = RrcRecord::ReconfigurationComplete.write();
-        if !self.signal(Bearer::Srb1, true, complete.as_slice(), out) {
+        if !self.bearers.signal(
+            &self.keys,
+            Dir::Up,
+            station,
+            air,
+            Bearer::Srb1,
+            true,
+            complete.as_slice(),
+            out,
+        ) {
             unreachable!()
         }
         out.derived.append(made);

@@ -9,7 +9,6 @@ mod link;
 mod nas;
 mod phone;
 mod radio;
-mod signals;
 mod starting;
 mod step;
 mod waiting;

@@ -1,23 +1,22 @@
 // NAS rows: an authentication, NAS messages, and what is sent to the core (TS 24.301 4.4 and 5.4.3).
-ghost use Rattle.std.specs.Prelude.{◌≡◌, ◌≤◌, ◌++◌, None, Some, length, option_map};
+ghost use Rattle.std.specs.Prelude.{◌≡◌, ◌≤◌, ◌++◌, None, Some, length};
 ghost use Rattle.rec_base.specs.Lengths.{longest_record};
 ghost use Rattle.lte_events.specs.declared.inputs.PhoneIn.TheVariants.{Act, Auth, Nas};
 ghost use Rattle.lte_events.specs.declared.acts.PhoneAct.TheVariants.{SendNas, ServiceRequest, Skip};
 ghost use Rattle.key_model.specs.Derivation.{derived_of, kenb_made};
 ghost use Rattle.key_model.specs.Reading.{octet_reading};
 ghost use Rattle.lte_machine.specs.Calls.{phone_call};
-ghost use Rattle.nas_smc.specs.NasOut.{phone_reply, to_core, tuple_in};
+ghost use Rattle.nas_smc.specs.NasOut.{phone_reply, listed};
 ghost use Rattle.nas_smc.specs.PhoneNas.{phone_after};
-ghost use Rattle.ue_context.specs.Parts.{nas_of, waiting, listed};
+ghost use Rattle.ue_context.specs.Parts.{nas_of, waiting};
 
 use crate::Phone;
 use crate::radio::Radio;
 use crate::waiting::Waiting;
-use annex_a_keys::{Derived, Kasme};
-use lte_events::{ActorOut, Address, Answer, Record};
-use nas_guard::NasPdu;
+use annex_a_keys::Kasme;
+use lte_events::{ActorOut, Address, Answer};
 use nas_smc::NasOut;
-use rec_base::{Octets, ShortText, Use, UserText};
+use rec_base::ShortText;
 
 impl Phone {
     // An authentication left a KSI and a KASME (TS 33.401 6.1.1).
@@ -73,13 +72,13 @@ impl Phone {
         ensures { (self.new, out.new) ≡ phone_after (nas_of self.old) said self.old.radio }
     {
         let Some(count) = said.trigger else {
-            return reply(said, None, out);
+            return said.tell(Address::CoreNas, None, out);
         };
         let Some(root) = self.nas.root() else {
-            return reply(said, None, out);
+            return said.tell(Address::CoreNas, None, out);
         };
         match &self.radio {
-            Radio::Connected(_) => reply(said, None, out),
+            Radio::Connected(_) => said.tell(Address::CoreNas, None, out),
             Radio::Idle | Radio::Connecting(_) => self.wait(root, count, said, out),
         }
     }
@@ -91,60 +90,6 @@ impl Phone {
     {
         let (kenb, made) = root.kenb(count);
         self.radio = Radio::Connecting(Waiting { root, kenb });
-        reply(said, Some(made), out)
+        said.tell(Address::CoreNas, Some(made), out)
     }
-}
-
-// The phone's reply by that of its NAS part, and the derivation of KeNB, if there is one.
-fn reply(said: NasOut, kenb: Option<Derived>, out: &mut ActorOut)
-    ensures { out.new ≡ phone_reply said (listed kenb ++ said.derived) }
-{
-    out.only(said.answer);
-    out.sent = sent(&said.pdu);
-    out.tuple = tuple(said.used.as_slice());
-    out.opened = opened(&said.opened);
-    if let Some(made) = kenb {
-        out.derived.push(made);
-    }
-    out.derived.append(said.derived.as_slice());
-    out.used = said.used;
-    out.accepted = said.accepted;
-}
-
-// A NAS message goes to the core.
-fn sent(pdu: &Option<NasPdu>) -> Option<Record>
-    ensures { result ≡ option_map to_core pdu.now }
-{
-    let Some(pdu) = pdu else {
-        return None;
-    };
-    let mut octets = Octets::new();
-    octets.append(pdu.as_slice());
-    Some(Record {
-        to: Address::CoreNas,
-        octets,
-    })
-}
-
-// The integrity use of a message is the last of its uses.
-fn tuple(used: &[Use]) -> Option<Use>
-    ensures { result ≡ tuple_in used.now }
-{
-    match used {
-        [] => None,
-        [integrity] => Some(*integrity),
-        [_, integrity, ..] => Some(*integrity),
-    }
-}
-
-// A NAS text as the phone hands it on.
-fn opened(text: &Option<ShortText>) -> Option<UserText>
-    ensures { result ≡ text.now }
-{
-    let Some(text) = text else {
-        return None;
-    };
-    let mut copy = UserText::new();
-    copy.append(text.as_slice());
-    Some(copy)
 }

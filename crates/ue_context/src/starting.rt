@@ -113,7 +113,16 @@ impl Waiting {
             by_handover: false,
         };
         let complete = RrcRecord::SecurityModeComplete.write();
-        if !link.signal(Bearer::Srb1, false, complete.as_slice(), out) {
+        if !link.bearers.signal(
+            &link.keys,
+            Dir::Up,
+            station,
+            air,
+            Bearer::Srb1,
+            false,
+            complete.as_slice(),
+            out,
+        ) {
             unreachable!()
         }
         out.derived.append(made.as_slice());
