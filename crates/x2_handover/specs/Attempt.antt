@@ -3,8 +3,6 @@ use Rattle.std.specs.Prelude.{ℕ, Option}
 use Rattle.annex_a_keys.specs.Cell.{Place}
 use Rattle.alg_choice.specs.declared.algs.Algs.{Algs}
 use Rattle.key_model.specs.HandoverTable.{NumberedKey}
-use Rattle.key_model.specs.HandoverLines.{map_numbered}
-use Rattle.nh_chain.specs.Station.{map_pair}
 use Rattle.x2_handover.specs.declared.orders.Order.{Order}
 
 -- an open attempt: its number, the target station and cell, KeNB* with its number for the target, and the pair of NH and
@@ -28,19 +26,6 @@ pub record Commanded : Type 0 where
   pub station : ℕ
   pub cell : Place
   pub order : Order
-
--- an attempt, each key and number read in another way
-abbrev pub map_x2_start : {K C L D : Type 0} → (K → L) → (C → D) → X2Start K C → X2Start L D
-map_x2_start f g s = record {
-  number = s.number;
-  station = s.station;
-  cell = s.cell;
-  star = map_numbered f g s.star;
-  spent = map_pair f g s.spent;
-}
-
-abbrev pub map_x2_acked : {K C L D : Type 0} → (K → L) → (C → D) → X2Acked K C → X2Acked L D
-map_x2_acked f g a = record { start = map_x2_start f g a.start; algs = a.algs; air = a.air }
 
 -- what the phone is ordered, where this gives a number's NCC (TS 36.331 5.3.5.4)
 abbrev pub x2_order : {K C : Type 0} → (C → ℕ) → X2Acked K C → Order
