@@ -2,8 +2,10 @@
 
 The chain runs down (KeNB, and each NH with the key above it as SYNC-input, dashed), and to the right the keys of cells.
 """
-from lte_sec.ladders import algorithm, rows_of, title_of
+from lte_sec.ladders import Row, algorithm, rows_of, title_of
 from lte_sec.picture import MONO, Picture
+
+from . import NotDrawn
 
 FILLS = {"root": "#e4e7eb", "kenb": "#cfe3ff", "nh": "#cdeed6", "star": "#ffe8c7"}
 
@@ -11,11 +13,11 @@ FILLS = {"root": "#e4e7eb", "kenb": "#cfe3ff", "nh": "#cdeed6", "star": "#ffe8c7
 BOX, STEP, GAP = 300, 344, 22  # the width of a box, of a column, and the space between boxes
 
 
-def height_of(row):
+def height_of(row: Row) -> int:
     return 44 + 15 * len(row.algs) + (6 if row.algs else 0)
 
 
-def draw_row(picture, row, x, y, number):
+def draw_row(picture: Picture, row: Row, x: int, y: int, number: int) -> None:
     picture.box(x, y, BOX, height_of(row), FILLS[row.word])
     picture.text(x + 9, y + 18, title_of(row, number), 12.5, weight="bold")
     picture.text(x + BOX - 9, y + 18, f"row {row.number}", 10.5, colour="#52606d", anchor="end")
@@ -28,7 +30,7 @@ def draw_row(picture, row, x, y, number):
         picture.text(x + BOX - 9, at, alg.holders, 9.5, MONO, anchor="end")
 
 
-def draw_from(picture, row, x, y, number):
+def draw_from(picture: Picture, row: Row, x: int, y: int, number: int) -> int:
     """The row and, to its right, the keys of cells that come of it; answers where the next may begin."""
     draw_row(picture, row, x, y, number)
     bottom, at = y + height_of(row) + GAP, y
@@ -42,15 +44,15 @@ def draw_from(picture, row, x, y, number):
     return max(bottom, at)
 
 
-def draw(text, name):
-    """The picture of a report, under a name, and why there is none."""
+def draw(text: str, name: str) -> str:
+    """The picture of a report, under a name."""
     report = text.splitlines()
     if not any(line.startswith("row ") for line in report):
-        return None, "it has no rows of keys"
-    return picture_of(report, name), None
+        raise NotDrawn("it has no rows of keys")
+    return picture_of(report, name)
 
 
-def picture_of(report, name):
+def picture_of(report: list[str], name: str) -> str:
     rows, picture = rows_of(report), Picture()
     picture.text(20, 26, name, 16, weight="bold")
     picture.text(20, 45, "Each key stands right of or below the key it is derived from; dashed: the SYNC-input of an NH (TS 33.401 A.3 to A.7).", 11, colour="#52606d")
@@ -59,7 +61,7 @@ def picture_of(report, name):
     for root in (row for row in rows.values() if row.word == "root"):
         chain = [row for row in rows.values() if row.word in ("kenb", "nh") and row.parent == root.number]
         draw_row(picture, root, 20, y, 0)
-        top, trunk, at, places = y + 28, 20 + BOX + 16, y, {}
+        top, trunk, at, places = y + 28, 20 + BOX + 16, y, dict[int, int]()
         below = y + height_of(root) + GAP
         for row in chain:
             places[row.number] = at

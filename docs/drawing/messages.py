@@ -3,14 +3,20 @@
 Each arrow is a delivery, at the step that brought it. A report does not say what a record is, so a message has its name by
 what made its sender send it.
 """
+from __future__ import annotations
+
 import re
 import textwrap
+from collections.abc import Mapping
+from typing import Any
 
-from lte_sec.charted import lanes_of, octets, said, steps_of
+from lte_sec.charted import Charted, lanes_of, octets, said, steps_of
 from lte_sec.ladders import names_of, rows_of
-from lte_sec.messages import LINE
+from lte_sec.messages import LINE, Note
 from lte_sec.picture import INK, MONO, PALE, RED, Picture
 from lte_sec.remarks import named
+
+from . import NotDrawn
 
 KEY_FILLS = ["#cfe3ff", "#ffe8c7", "#cdeed6", "#f6d5e6", "#e3d9f7", "#f3f0b5", "#c9eef0", "#f5cfc5", "#d9e8c4", "#d7dbe0"]
 
@@ -23,48 +29,43 @@ HEAD = (
 )
 
 
-def draw(text, scenario, name, frames):
-    """The picture of a report of this scenario, under its name and with the frames of its steps, and why there is none."""
+def draw(text: str, scenario: Mapping[str, Any], name: str, frames: Mapping[int, str]) -> str:
+    """The picture of a report of this scenario, under its name and with the frames of its steps."""
     report = text.splitlines()
     if not report or not LINE.match(report[0]):
-        return None, "it has no steps"
+        raise NotDrawn("it has no steps")
     ends = [line.split()[1] for line in report if re.fullmatch(r"end \d+ \d+ \d+", line)]
     steps = len(scenario.get("step", []))
     if ends and int(ends[0]) != steps:
-        return None, f"it has {ends[0]} steps, and the scenario {steps}"
-    return picture_of(report, scenario, name, frames), None
+        raise NotDrawn(f"it has {ends[0]} steps, and the scenario {steps}")
+    return picture_of(report, scenario, name, frames)
 
 
-def picture_of(report, scenario, name, frames):
-    names = names_of(rows_of(report).values())
+def picture_of(report: list[str], scenario: Mapping[str, Any], name: str, frames: Mapping[int, str]) -> str:
     steps = steps_of(report, scenario)
     lanes = lanes_of(scenario, steps)
     x_of = {lane: 150 + LANE * place for place, lane in enumerate(lanes)}
     right = x_of[lanes[-1]] + 150
-    picture, fills = Picture(), {}
-    delivered = {came[0] for _, _, came, _ in steps if came}
+    picture, drawn = Picture(), Steps(x_of, names_of(rows_of(report).values()))
+    delivered = {step.came.record for step in steps if step.came}
     picture.text(20, 26, textwrap.shorten(name, int(max(right, MARGIN) / LETTER / 16), placeholder=" .."), 16, weight="bold")
     for place, words in enumerate(HEAD):
         picture.text(20, 45 + 15 * place, words, 11, colour="#52606d")
     begin = y = screen = 78
-    later, heads = [], [begin]
+    heads = [begin]
     y += HEIGHT
-    for number, (line, event, came, sent) in enumerate(steps):
+    for number, step in enumerate(steps):
         if y - screen > SCREEN:
             heads.append(y - 14)
             screen, y = y, y + HEIGHT
-        at = [x_of["phone"], x_of[next(lane for lane in lanes if lane.startswith("core"))]] if line.who == "both" else [x_of.get(line.who, x_of["phone"])]
-        later.append(("step", 20, y, named(number, frames)))
-        later += brought(event, came, at, y, x_of)
-        is_lost = sent and sent[0] not in delivered
-        y = below_of(later, line, sent if is_lost else None, at[0], y, lambda key: (fills.setdefault(key, KEY_FILLS[len(fills) % len(KEY_FILLS)]), names.get(key, "")))
+        drawn.text(20, y + 4, named(number, frames), 11, MONO, "#52606d")
+        y = drawn.draw(step, y, step.sent is not None and step.sent.record not in delivered)
     for lane in lanes:
         picture.line([(x_of[lane], begin + 26), (x_of[lane], y)], PALE, arrow=False)
         for head in heads:
             picture.box(x_of[lane] - 52, head, 104, 26, "#e4e7eb")
             picture.text(x_of[lane], head + 17, lane, 12.5, weight="bold", anchor="middle")
-    for item in later:
-        draw_item(picture, *item)
+    picture.put(drawn)
     for text in report[len(steps):]:
         if " coincidence " in text:
             picture.text(20, y + 16, text.split(" coincidence ")[0] + " coincidence: the run ends here", 12, colour=RED, weight="bold")
@@ -72,56 +73,62 @@ def picture_of(report, scenario, name, frames):
     return picture.svg(name)
 
 
-def brought(event, came, at, y, x_of):
-    """What brings a step: a delivery, or what an actor does of its own."""
-    if came:
-        return [("arrow", x_of[came[1]], at[0], y, f"{came[0]} {came[2]}")]
-    if event["do"] == "inject":
-        return [("arrow", at[0] - 0.7 * LANE, at[0], y, "injected octets")]
-    words = said(event) if event["do"] != "deliver" else "no such record"
-    return [("act", x, y, words) for x in at]
+class Steps(Picture):
+    """The steps, which are put on the lanes of the actors; keys have names, and each a colour."""
 
+    def __init__(self, x_of: Mapping[str, int], names: Mapping[str, str]):
+        super().__init__()
+        self.x_of, self.names = x_of, names
+        self.fills: dict[str, str] = {}
 
-def below_of(later, line, lost, x, y, key_of):
-    """Puts what stands below a step into `later`: a refusal, a text, a key, what is not delivered; where the next step stands."""
-    below = y + 7
-    if line.answer != "done":
-        below += 14
-        later.append(("refusal", x, below, line.answer))
-    if line.text is not None:
-        below += 14
-        later.append(("opened", x, below, f"opens to {octets(line.text)}"))
-    if line.note:
-        fill, name = key_of(line.note.key)
-        later.append(("key", x, below + 4, (f"{name} {line.note.key[:8]}..".strip(), line.note.way, line.note.ncc), fill))
-        below += 24
-    if lost:
-        below += 16
-        later.append(("lost", x, below, f"{lost[0]} {lost[1]}, not delivered"))
-    return max(y + 30, below + (26 if line.text is not None else 20))
+    def draw(self, step: Charted, y: int, is_lost: bool) -> int:
+        """Draws a step; where the next one stands."""
+        line = step.line
+        if line.who == "both":
+            at = [self.x_of["phone"], next(x for lane, x in self.x_of.items() if lane.startswith("core"))]
+        else:
+            at = [self.x_of.get(line.who, self.x_of["phone"])]
+        self.draw_cause(step, at, y)
+        x, below = at[0], y + 7
+        if line.answer != "done":
+            below += 14
+            self.beside(x, below, line.answer, RED, "bold")
+        if line.text is not None:
+            below += 14
+            self.beside(x, below, f"opens to {octets(line.text)}")
+        if line.note:
+            self.draw_key(x, below + 4, line.note)
+            below += 24
+        if step.sent and is_lost:
+            below += 16
+            self.beside(x, below, f"{step.sent.record} {step.sent.name}, not delivered", PALE)
+        return max(y + 30, below + (26 if line.text is not None else 20))
 
+    def draw_cause(self, step: Charted, at: list[int], y: int) -> None:
+        """What brings a step: a delivery, or what an actor does of its own."""
+        if step.came:
+            self.arrow(self.x_of[step.came.sender], at[0], y, f"{step.came.record} {step.came.name}")
+        elif step.event["do"] == "inject":
+            self.arrow(at[0] - 0.7 * LANE, at[0], y, "injected octets")
+        else:
+            for x in at:
+                self.parts.append(f'<circle cx="{x}" cy="{y}" r="4" fill="{INK}"/>')
+                self.beside(x, y, said(step.event) if step.event["do"] != "deliver" else "no such record")
 
-def draw_item(picture, what, *values):
-    if what == "step":
-        x, y, number = values
-        picture.text(x, y + 4, number, 11, MONO, "#52606d")
-    elif what == "arrow":
-        source, target, y, words = values
+    def arrow(self, source: float, target: float, y: int, words: str) -> None:
         if source == target:
-            picture.line([(source, y), (source + 30, y), (source + 30, y + 8), (source, y + 8)])
-            picture.text(source + 38, y + 4, words, 11)
+            self.line([(source, y), (source + 30, y), (source + 30, y + 8), (source, y + 8)])
+            self.text(source + 38, y + 4, words, 11)
         else:
             inner = 1 if target > source else -1
-            picture.line([(source, y), (target - inner, y)])
-            picture.text((source + target) / 2, y - 5, words, 11, anchor="middle")
-    elif what == "key":
-        x, y, (key, way, ncc), fill = values
-        picture.box(x - 116, y, 232, 18, fill)
-        picture.text(x - 110, y + 13, key, 10.5, MONO)
-        picture.text(x + 110, y + 13, f"NCC {ncc}, {way}", 10.5, anchor="end")
-    else:
-        x, y, words = values
-        colour = {"refusal": RED, "lost": PALE, "act": INK, "opened": INK}[what]
-        if what == "act":
-            picture.parts.append(f'<circle cx="{x}" cy="{y}" r="4" fill="{INK}"/>')
-        picture.text(x + 9, y + 4, words, 11, colour=colour, weight="bold" if what == "refusal" else "normal")
+            self.line([(source, y), (target - inner, y)])
+            self.text((source + target) / 2, y - 5, words, 11, anchor="middle")
+
+    def beside(self, x: float, y: int, words: str, colour: str = INK, weight: str = "normal") -> None:
+        self.text(x + 9, y + 4, words, 11, colour=colour, weight=weight)
+
+    def draw_key(self, x: int, y: int, note: Note) -> None:
+        fill = self.fills.setdefault(note.key, KEY_FILLS[len(self.fills) % len(KEY_FILLS)])
+        self.box(x - 116, y, 232, 18, fill)
+        self.text(x - 110, y + 13, f"{self.names.get(note.key, '')} {note.key[:8]}..".strip(), 10.5, MONO)
+        self.text(x + 110, y + 13, f"NCC {note.ncc}, {note.way}", 10.5, anchor="end")

@@ -16,6 +16,11 @@ class Picture:
     def reach(self, x: float, y: float) -> None:
         self.width, self.height = max(self.width, x), max(self.height, y)
 
+    def put(self, other: Picture) -> None:
+        """Puts another picture on this one."""
+        self.reach(other.width, other.height)
+        self.parts += other.parts
+
     def box(self, x: float, y: float, width: float, height: float, fill: str, stroke: str = PALE) -> None:
         self.reach(x + width, y + height)
         self.parts.append(f'<rect x="{x}" y="{y}" width="{width}" height="{height}" rx="5" fill="{fill}" stroke="{stroke}"/>')
