@@ -268,9 +268,15 @@ class Installed(unittest.TestCase):
         of = {word.name: {name.split()[0] for name, _ in word.below if name.startswith("--")} for word in self.WORDS}
         for name, usage in re.findall(r'^    "([\w-]+)": "(.*)",$', (package / "words.py").read_text(), re.MULTILINE):
             self.assertEqual(set(re.findall(r"--[a-z-]+", usage)), of[name], name)
-        for name, files in (("what-if", ["what_if.py"]), ("drive", ["drive.py", "suite.py"])):
-            named = [line for file in files for line in re.findall(r"^(?:VALUED|FLAGS|OPTIONS) = (.*)$", (package / file).read_text(), re.MULTILINE)]
-            self.assertEqual(set(re.findall(r"--[a-z-]+", " ".join(named))) | {"--json"}, of[name], name)
+
+    def test_each_option_of_the_table_is_asked_for(self) -> None:
+        for name, files in (
+            ("check-trace", ["words"]), ("explain", ["words"]), ("wireshark", ["words"]), ("vectors", ["words"]), ("replay", ["words", "replay"]), ("what-if", ["what_if"]),
+            ("verdict", ["verdict"]), ("draw", ["ran"]), ("drive", ["drive", "suite"]),
+        ):
+            texts = "".join((TOP / "python" / "lte_sec" / f"{file}.py").read_text() for file in files)
+            asked = set(re.findall(r'"(--[a-z-]+)"', texts)) | {"--suite"}
+            self.assertLessEqual({option.split()[0] for word in self.WORDS if word.name == name for option, _ in word.below if option.startswith("--")}, asked, name)
 
     def test_they_name_every_word_and_option(self) -> None:
         page = pages.MAN.read_text().replace("\\-", "-")

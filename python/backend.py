@@ -55,6 +55,7 @@ def _contents(about: str, tag: str, version: str) -> dict[str, bytes]:
     """The files of the wheel, each by its name."""
     project = tomllib.loads((HERE / "pyproject.toml").read_text())["project"]
     files = {f"lte_sec/{path.name}": path.read_bytes() for part in PARTS for path in sorted((HERE / "lte_sec").glob(part))}
+    files["lte_sec/words.txt"] = (HERE.parent / "launcher/words").read_bytes()
     files["lte_sec/liblte_sec.so"] = LIBRARY.read_bytes()
     files[f"{about}/METADATA"] = _metadata(project, version).encode()
     files[f"{about}/WHEEL"] = f"Wheel-Version: 1.0\nGenerator: backend\nRoot-Is-Purelib: false\nTag: {tag}\n".encode()

@@ -24,6 +24,7 @@ from typing import IO
 
 from lte_sec import frames, mistakes, records, scenarios
 from lte_sec.ending import HEAD, READING, WRITING, InputFails, answers
+from lte_sec.options import Words, WrongWords
 from lte_sec.patient import TURN, Relays
 from lte_sec.peers import TO_SAY, PeerFault
 
@@ -42,12 +43,8 @@ REST = re.compile(rb"lte_sec: (?:phone|core|station [0-7]): it had still to say 
 DIFFERS = re.compile(rb"(setup|[0-9]+) differs ([0-9a-f]+) ([0-9a-f]+)\n")
 
 
-class WrongWords(Exception):
-    """The words are wrong, and why."""
-
-
 @dataclasses.dataclass
-class Options:
+class DriveOptions:
     """What the words ask for: the variables of commands, and for how long an actor may be silent where it is not the program that says so."""
 
     more: dict[str, str]
@@ -55,17 +52,9 @@ class Options:
     seconds: float | None = None
 
     @classmethod
-    def read(cls, words: list[str]) -> Options:
-        found, left = cls({}), list(words)
-        while left:
-            option = left.pop(0)
-            if option == "--json":
-                found.is_json = True
-            elif option == "--timeout":
-                found.seconds = seconds(left.pop(0))
-            else:
-                found.more |= variables([option, left.pop(0)])
-        return found
+    def read(cls, words: list[str]) -> DriveOptions:
+        given = Words.read("drive", words)
+        return cls(variables(given), given.has("--json"), seconds(given.last("--timeout")) if given.has("--timeout") else None)
 
 
 def seconds(word: str) -> float:
@@ -75,27 +64,29 @@ def seconds(word: str) -> float:
     return float(word)
 
 
-def variables(words: list[str]) -> dict[str, str]:
-    """The variables of options and commands."""
-    found = {}
-    for option, command in zip(words[0::2], words[1::2]):
-        name = OPTIONS[option]
-        station = re.fullmatch(r"(\d+)=(.*)", command, re.S) if option == "--station" else None
-        if station:
-            if station[1] not in STATIONS:
-                raise WrongWords(f"there is no station {station[1]}: --station N=CMD takes N {STATIONS[0]} to {STATIONS[-1]}")
-            name, command = f"{name}_{station[1]}", station[2]
-        try:
-            parts = shlex.split(command)
-        except ValueError as why:
-            raise WrongWords(f"{option} '{command}': {why}") from None
-        if not parts or "\n" in command:
-            raise WrongWords(f"{option} needs a command in one line")
-        path = shutil.which(parts[0])
-        if path is None:
-            raise WrongWords(f"{option}: there is no program {parts[0]} that can be run")
-        found[name] = "\n".join([os.path.abspath(path), *parts[1:]])
-    return found
+def variables(words: Words) -> dict[str, str]:
+    """The variables of the commands of actors."""
+    return dict(variable(option, command) for option in OPTIONS for command in words.options[option])
+
+
+def variable(option: str, command: str) -> tuple[str, str]:
+    """The variable of an actor's command, and its value."""
+    name = OPTIONS[option]
+    station = re.fullmatch(r"(\d+)=(.*)", command, re.S) if option == "--station" else None
+    if station:
+        if station[1] not in STATIONS:
+            raise WrongWords(f"there is no station {station[1]}: --station N=CMD takes N {STATIONS[0]} to {STATIONS[-1]}")
+        name, command = f"{name}_{station[1]}", station[2]
+    try:
+        parts = shlex.split(command)
+    except ValueError as why:
+        raise WrongWords(f"{option} '{command}': {why}") from None
+    if not parts or "\n" in command:
+        raise WrongWords(f"{option} needs a command in one line")
+    path = shutil.which(parts[0])
+    if path is None:
+        raise WrongWords(f"{option}: there is no program {parts[0]} that can be run")
+    return name, "\n".join([os.path.abspath(path), *parts[1:]])
 
 
 # A shell between the program, which stops an actor that failed at once, and the actor, which may still be writing why it did.
@@ -320,7 +311,7 @@ def commands(more: dict[str, str], octets: bytes) -> dict[str, list[str]]:
 class Run:
     """A run of the program over a scenario, or several where an actor takes longer than it waits; what was started is ended with it."""
 
-    def __init__(self, command: list[str], options: Options, scenario: bytes = b""):
+    def __init__(self, command: list[str], options: DriveOptions, scenario: bytes = b""):
         self.command, self.options, self.scenario = command, options, scenario
         self.driven: Driven | None = None
         self.relays: Relays | None = None
@@ -419,7 +410,7 @@ def listed(names: list[str]) -> str:
 def main() -> int:
     parts = sys.argv.index("--")
     try:
-        options = Options.read(sys.argv[1:parts])
+        options = DriveOptions.read(sys.argv[1:parts])
         scenario = sys.stdin.buffer.read(MOST + 1)
         has_stations(options.more, scenario)
         run = Run(sys.argv[parts + 1:], options, scenario)

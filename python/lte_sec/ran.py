@@ -17,6 +17,7 @@ from . import pages
 from .charted import lanes_of, name_of, stage, steps_of
 from .escaped import shown
 from .ladders import CLAUSES, names_of, rows_of, title_of
+from .options import Words
 from .remarks import frames_of
 from .scenarios import NoScenario, read
 from .terms import TraceError
@@ -141,9 +142,8 @@ def answered(words: list[str]) -> int:
 
 def drawn(words: list[str]) -> int:
     """The page of a report on standard input."""
-    options = dict(zip(words[:-1:2], words[1:-1:2]))
-    has_keys, scenario = pages.chosen(options.get("--html-keys", "yes")), Path(words[-1])
-    file = Path(options["--html"])
+    given = Words.read("draw", words)
+    has_keys, scenario, file = pages.chosen(given.last("--html-keys", "yes")), given.files[0], Path(given.last("--html"))
     pages.writable(file)
     try:
         octets = scenario.read_bytes()

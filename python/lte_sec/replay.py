@@ -15,7 +15,7 @@ from .script import CELLS, STATIONS, Script
 from .steps import Steps, triggers_of
 from .terms import TraceError
 from .told import NO_TEXTS, SECRETS, Answer, Part, scenario_of
-from .words import Words, traced
+from .words import TraceWords, traced
 
 WORDS, FAILS, STOPPED = 2, 6, 130
 USUAL_CAPS = "a020"  # EEA0, 128-EEA2 and 128-EIA2, which the profile has
@@ -98,27 +98,27 @@ def one_of(answer: Answer, number: str) -> str:
     return scenario_of(answer, found)
 
 
-def tell(answer: Answer, words: Words) -> int:
+def tell(answer: Answer, words: TraceWords) -> int:
     """Writes the answer as it is wanted; the status."""
-    for folder in words.options.get("--save", []):
+    for folder in words.options["--save"]:
         save(answer, Path(folder))
-    wanted = words.options.get("--phone", [])
+    wanted = words.last("--phone")
     if wanted:
-        sys.stdout.write(one_of(answer, wanted[-1]))
-    elif "--json" in words.options:
+        sys.stdout.write(one_of(answer, wanted))
+    elif words.has("--json"):
         print(json.dumps(answer.document(), indent=1))
     else:
         print(*answer.lines(), sep="\n")
     sys.stdout.flush()
-    if wanted or "--save" in words.options:
+    if wanted or words.has("--save"):
         print(f"lte_sec: {SECRETS}; --no-texts puts zeros in place of the texts" if answer.texts else f"lte_sec: {NO_TEXTS}", file=sys.stderr)
     return answer.status()
 
 
 def main(words: list[str]) -> int:
     try:
-        given = Words(words[1:], ("--cells", "--save", "--phone"), ("--json", "--no-texts"))
-        return tell(replayed(words[0], record(traced(given)), [file.name for file in given.files], "--no-texts" not in given.options), given)
+        given = TraceWords.read("replay", words[1:])
+        return tell(replayed(words[0], record(traced(given)), [file.name for file in given.files], not given.has("--no-texts")), given)
     except TraceError as fault:
         print(f"lte_sec: status 2: replay: {fault}", file=sys.stderr)
         return WORDS

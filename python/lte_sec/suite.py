@@ -14,22 +14,24 @@ from typing import Any, Iterable
 
 from lte_sec import drive, rows, scenarios
 from lte_sec.network import steps_of
+from lte_sec.options import Words, WrongWords
 from lte_sec.played import Case, Commands, Played, Result, play
 
 VERSION = 1  # of the document that --json prints
 SUITE = pathlib.Path(__file__).resolve().parents[2] / "examples" / "suite"
 OUTCOMES = ("passed", "differs", "allowed", "failed", "not compared", "not reached")
-FLAGS = {"--each": "is_each", "--long": "is_long", "--json": "is_json", "--suite": ""}  # each with the field that it sets
-VALUED = ("--allow", "--answers", "--scenario", "--timeout")  # and those of drive
 WORST = ("differs", "failed", "passed", "not compared")  # of a row that is visited more than once, what counts
 
 
-class WrongWords(Exception):
-    """The words are wrong, and why."""
+class SuiteWords(Words):
+    """The words of a call."""
+
+    UNKNOWN = "drive --suite takes no option {option}"
+    WANTS = "{option} needs a word behind it"
 
 
 @dataclasses.dataclass
-class Options:
+class SuiteOptions:
     """What the words ask for."""
 
     product: dict[str, list[str]] = dataclasses.field(default_factory=dict)
@@ -39,7 +41,7 @@ class Options:
     is_each: bool = False
     is_long: bool = False
     is_json: bool = False
-    seconds: float = 10
+    seconds: float = drive.PATIENCE
 
     @property
     def actors(self) -> list[str]:
@@ -56,50 +58,27 @@ def allowed_of(file: str) -> list[str]:
     return [" ".join(line.split("#")[0].split()) for line in lines if line.split("#")[0].strip()]
 
 
-def read_words(program: str, words: list[str]) -> Options:
+def read_words(program: str, words: list[str]) -> SuiteOptions:
     """The options of the words; without an actor, all are the program's own."""
-    found, left = Options(), list(words)
-    while left:
-        option = left.pop(0)
-        if option in FLAGS:
-            if FLAGS[option]:
-                setattr(found, FLAGS[option], True)
-            continue
-        if option not in (*drive.OPTIONS, *VALUED):
-            raise WrongWords(f"drive --suite takes no {'option' if option.startswith('-') else 'FILE, as'} {option}")
-        if not left:
-            raise WrongWords(f"{option} needs a word behind it")
-        take(found, option, left.pop(0))
-    if not found.product:
-        found.product = {actor: [program] for actor in rows.ACTORS}
-    return found
+    given = SuiteWords.read("drive", words)
+    if given.others:
+        raise WrongWords(f"drive --suite takes no FILE, as {given.others[0]}")
+    if given.last("--answers", "done") != "done":
+        raise WrongWords("--answers takes done: a refusal is then the right one whatever its cause")
+    product = {name.removeprefix("LTE_SEC_").lower().replace("_", " "): command.split("\n") for name, command in drive.variables(given).items()}
+    return SuiteOptions(
+        product=product or {actor: [program] for actor in rows.ACTORS},
+        allowed=[row for file in given.options["--allow"] for row in allowed_of(file)],
+        names=given.options["--scenario"],
+        by_answer=given.has("--answers"),
+        is_each=given.has("--each"),
+        is_long=given.has("--long"),
+        is_json=given.has("--json"),
+        seconds=drive.seconds(given.last("--timeout", str(drive.PATIENCE))),
+    )
 
 
-def take(found: Options, option: str, word: str) -> None:
-    """Takes an option with its word."""
-    if option in drive.OPTIONS:
-        try:
-            (name, command), = drive.variables([option, word]).items()
-        except drive.WrongWords as why:
-            raise WrongWords(str(why)) from None
-        actor = name.removeprefix("LTE_SEC_").lower().replace("_", " ")
-        found.product[actor] = command.split("\n")
-    elif option == "--allow":
-        found.allowed += allowed_of(word)
-    elif option == "--scenario":
-        found.names.append(word)
-    elif option == "--answers":
-        if word != "done":
-            raise WrongWords("--answers takes done: a refusal is then the right one whatever its cause")
-        found.by_answer = True
-    else:
-        try:
-            found.seconds = drive.seconds(word)
-        except drive.WrongWords as why:
-            raise WrongWords(str(why)) from None
-
-
-def cases_of(options: Options) -> list[Case]:
+def cases_of(options: SuiteOptions) -> list[Case]:
     """The scenarios of the suite, in the order of their names."""
     files = sorted((SUITE / "scenarios").glob("*.toml"))
     files += sorted((SUITE / "long").glob("*.toml")) if options.is_long else []
@@ -169,7 +148,7 @@ def entry_of(row: rows.Row | None, visit: rows.Visit, result: Result | None) -> 
     return entry | {"reason": f"{row.reached}: {row.why}" if row and not result and row.why else ""}
 
 
-def report_of(table: rows.Table, results: list[Result], options: Options) -> list[dict[str, Any]]:
+def report_of(table: rows.Table, results: list[Result], options: SuiteOptions) -> list[dict[str, Any]]:
     """An entry for each row of the actors that are driven, in the order of the table; first those that are no row, as a Setup."""
     found = told_by(results, options.allowed)
     known = {row.visit for row in table.rows}

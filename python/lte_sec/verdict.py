@@ -13,6 +13,7 @@ import re
 import sys
 from collections.abc import Iterator
 
+from .options import Words
 from .remarks import frames_of, with_frames
 
 STEP = re.compile(r"(\d+) (both|phone|core(?: [01])?|world|station ([0-7])) (\w+)(.*)")
@@ -345,8 +346,9 @@ def text_of(octets: bytes) -> str:
 
 
 def main(words: list[str]) -> int:
-    """Words: --json, and --scenario FILE, whose remarks name the frames of its steps."""
-    scenario = words[words.index("--scenario") + 1] if "--scenario" in words else ""
+    """Options: --json, and --scenario FILE, whose remarks name the frames of its steps."""
+    given = Words.read("verdict", words)
+    scenario = given.last("--scenario")
     try:
         frames = frames_of(pathlib.Path(scenario).read_text(encoding="utf-8")) if scenario else {}
     except (OSError, UnicodeDecodeError) as fault:
@@ -357,7 +359,7 @@ def main(words: list[str]) -> int:
     except NoReport as wrong:
         print(f"lte_sec: this is not a report of run: {wrong}", file=sys.stderr)
         return 3
-    print(json.dumps(verdict.document(), indent=1) if "--json" in words else "\n".join(verdict.lines()))
+    print(json.dumps(verdict.document(), indent=1) if given.has("--json") else "\n".join(verdict.lines()))
     return verdict.status
 
 

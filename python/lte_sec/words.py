@@ -5,6 +5,7 @@ import contextlib
 import json
 import sys
 from collections.abc import Callable
+from dataclasses import dataclass
 from pathlib import Path
 from typing import IO
 
@@ -15,6 +16,7 @@ from .derive import proved_calls
 from .dumps import HALF, KEY, blocks, has_hex
 from .explain import Explanation, told
 from .logged import cells_of
+from .options import Words, WrongWords
 from .repeats import bounded, first_repeat
 from .reading import Said, check
 from .report import status
@@ -36,40 +38,27 @@ BAD_WORDS, NOT_JUDGED = 2, 3
 LINKS = ("--covers", "--not-covered")  # what the user says of the links of a trace
 
 
-class Words:
-    """The words of a call: options with a value, flags, and the rest, which are KASMEs (64 hex digits) or files."""
+@dataclass
+class TraceWords(Words):
+    """The words of a call on a trace: those that are no options are KASMEs (64 hex digits) or files."""
 
-    def __init__(self, words: list[str], valued: tuple[str, ...] = (), flags: tuple[str, ...] = ()):
-        self.options: dict[str, list[str]] = {}
-        self.kasmes: list[str] = []
-        self.files: list[Path] = []
-        rest = iter(words)
-        for word in rest:
-            name, equals, value = word.partition("=")
-            if word in flags:
-                self.options[word] = [""]
-            elif name in valued:
-                value = value if equals else next(rest, "")
-                if not value:
-                    raise TraceError(f"{name} wants a value")
-                self.options.setdefault(name, []).append(value)
-            elif word.startswith("--"):
-                raise TraceError(f"there is no option {word}; there are: {' '.join([*valued, *flags])}")
-            elif is_kasme(word):
-                self.kasmes.append(word)
-            elif kasme_fault(word) and not Path(word).exists():
-                raise TraceError(kasme_fault(word))
-            else:
-                self.files.append(Path(word))
+    RANGE = "{option} is 1 to {most}: {text}"
 
-    def number(self, name: str, usual: int, most: int) -> int:
-        text = self.options.get(name, [str(usual)])[-1]
-        if not text.isdigit() or not 0 < int(text) <= most:
-            raise TraceError(f"{name} is 1 to {most}: {text}")
-        return int(text)
+    def __post_init__(self) -> None:
+        for word in self.others:
+            if not is_kasme(word) and kasme_fault(word) and not Path(word).exists():
+                raise WrongWords(kasme_fault(word))
+
+    @property
+    def kasmes(self) -> list[str]:
+        return [word for word in self.others if is_kasme(word)]
+
+    @property
+    def files(self) -> list[Path]:
+        return [Path(word) for word in self.others if not is_kasme(word)]
 
     def cells(self) -> Cells:
-        sites = [site for file in self.options.get("--cells", []) for site in read_cells(Path(file))]
+        sites = [site for file in self.options["--cells"] for site in read_cells(Path(file))]
         for place, text in enumerate(self.options.get("--cell", [])):
             pci, comma, earfcn = text.partition(",")
             if not (comma and pci.isdecimal() and earfcn.isdecimal() and is_cell(int(pci), int(earfcn))):
@@ -78,7 +67,7 @@ class Words:
         return Cells(sites)
 
 
-def traced(words: Words) -> Trace:
+def traced(words: TraceWords) -> Trace:
     if not words.files:
         raise TraceError("a capture and the KASMEs of its phones are wanted: CAPTURE KASME.., a KASME as 64 hex digits")
     messages = read_all(words.files)
@@ -90,39 +79,39 @@ def traced(words: Words) -> Trace:
 
 
 def check_trace(words: list[str]) -> int:
-    given = Words(words, ("--cells", "--annotate", "--html", "--html-keys", *LINKS), ("--plain", "--json"))
-    has_keys = pages.chosen(given.options.get("--html-keys", ["yes"])[-1])
-    html = [Path(file) for file in given.options.get("--html", [])]
+    given = TraceWords.read("check-trace", words)
+    has_keys = pages.chosen(given.last("--html-keys", "yes"))
+    html = [Path(file) for file in given.options["--html"]]
     for file in html:
         pages.writable(file)
     seen = traced(given).seen
-    for name in given.options.get("--annotate", []):
+    for name in given.options["--annotate"]:
         annotate(given.files[0], Path(name), seen)
-    found = trace_document(seen, about.trace(given.files, told_options(given))) if html or "--json" in given.options else {}
+    found = trace_document(seen, about.trace(given.files, told_options(given))) if html or given.has("--json") else {}
     for file in html:
         made = trace_page.page(found)
         pages.write(file, pages.html(made, trace_page.told(found, made), trace_page.of_note(found), has_keys))
-    if "--json" in given.options:
+    if given.has("--json"):
         print(json.dumps(found, indent=1))
     else:
-        for line in lines(seen, "--plain" in given.options):
+        for line in lines(seen, given.has("--plain")):
             print(line)
     if not judged_anything(seen):
         print("lte_sec: the capture has no key and no protected NAS message", file=sys.stderr)
     return status(value for _, value in seen.values())
 
 
-def told_options(given: Words) -> list[str]:
+def told_options(given: TraceWords) -> list[str]:
     """The options that a verdict depends on, as they were given."""
-    return [f"{name} {value}" for name in ("--cells", *LINKS) for value in given.options.get(name, [])]
+    return [f"{name} {value}" for name in ("--cells", *LINKS) for value in given.options[name]]
 
 
 def explain(words: list[str]) -> int:
-    given = Words(words, ("--cells", "--cell", "--counts", "--depth", "--keys"))
+    given = TraceWords.read("explain", words)
     if not given.kasmes or given.files:
         raise TraceError(f"a KASME is 64 hex digits: {given.files[0] if given.files else 'there is none'}")
     cells, counts, depth = given.cells(), given.number("--counts", 300, (1 << 24) - 1), given.number("--depth", 16, 4096)
-    files = given.options.get("--keys", [])
+    files = given.options["--keys"]
     text = [line for file in files for line in opened(Path(file))] if files else sys.stdin.readlines()
     keys = blocks(text)
     if not keys:
@@ -145,14 +134,14 @@ def explain(words: list[str]) -> int:
 
 
 def wireshark(words: list[str]) -> int:
-    trace = traced(Words(words, ("--cells",)))
+    trace = traced(TraceWords.read("wireshark", words))
     for row in rows(trace.seen, trace.derivations.calls):
         print(row)
     return 0
 
 
 def repeats(words: list[str]) -> int:
-    given = Words(words)
+    given = TraceWords.read("repeats", words)
     if len(given.files) > 1 or given.kasmes:
         raise TraceError("repeats takes one file of uses, or none to read standard input")
     try:
@@ -166,10 +155,10 @@ def repeats(words: list[str]) -> int:
 
 
 def vectors(words: list[str]) -> int:
-    given = Words(words, ("--seed", "--count"))
-    if given.files or given.kasmes:
+    given = TraceWords.read("vectors", words)
+    if given.others:
         raise TraceError("vectors takes --seed N and --count N")
-    seed, count = given.options.get("--seed", ["1"])[-1], given.number("--count", USUAL, MOST)
+    seed, count = given.last("--seed", "1"), given.number("--count", USUAL, MOST)
     if not seed.isdigit() or int(seed) >= SEEDS:
         raise TraceError(f"--seed is 0 to {SEEDS - 1}: {seed}")
     print(json.dumps(document(int(seed), count), indent=1))

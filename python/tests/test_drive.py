@@ -5,6 +5,7 @@ import unittest
 from unittest import mock
 
 from lte_sec import drive, ending, frames, patient
+from lte_sec.options import WrongWords
 
 DONE = "00088000000000000000"
 
@@ -52,7 +53,7 @@ class Drive(unittest.TestCase):
 
     def test_commands_become_variables_with_a_word_in_each_line(self) -> None:
         with mock.patch("shutil.which", lambda name: f"/bin/{name}"):
-            found = drive.variables(["--phone", "actor 'two words'", "--station", "3=actor", "--station", "any", "--core", "a b"])
+            found = drive.DriveOptions.read(["--phone", "actor 'two words'", "--station", "3=actor", "--station", "any", "--core", "a b"]).more
         self.assertEqual(found, {"LTE_SEC_PHONE": "/bin/actor\ntwo words", "LTE_SEC_STATION_3": "/bin/actor", "LTE_SEC_STATION": "/bin/any", "LTE_SEC_CORE": "/bin/a\nb"})
 
     def test_an_actor_that_failed_is_told_with_its_step_and_how(self) -> None:
@@ -74,7 +75,7 @@ class Drive(unittest.TestCase):
 
     def test_a_report_that_cannot_be_written_is_status_5_also_where_the_program_ended_before(self) -> None:
         for lines in ("0 both done", "0 both done\\n1 core done"):
-            run = drive.Run([sys.executable, "-c", f"print('{lines}')"], drive.Options({}))
+            run = drive.Run([sys.executable, "-c", f"print('{lines}')"], drive.DriveOptions({}))
             with mock.patch("lte_sec.drive.put", side_effect=OSError):
                 self.assertEqual(ending.WRITING, drive.answered(run))
             assert run.driven and run.driven.process.stderr
@@ -89,10 +90,10 @@ class Drive(unittest.TestCase):
         driven.process.stderr.close()
 
     def test_the_words_of_a_call(self) -> None:
-        found = drive.Options.read(["--timeout", "2.5", "--phone", sys.executable, "--json"])
+        found = drive.DriveOptions.read(["--timeout", "2.5", "--phone", sys.executable, "--json"])
         self.assertEqual((2.5, True, [sys.executable]), (found.seconds, found.is_json, found.more["LTE_SEC_PHONE"].split("\n")))
         for word in ("0", "-1", "soon"):
-            self.assertRaisesRegex(drive.WrongWords, "--timeout needs a number of seconds above 0", drive.Options.read, ["--timeout", word])
+            self.assertRaisesRegex(WrongWords, "--timeout needs a number of seconds above 0", drive.DriveOptions.read, ["--timeout", word])
 
     def test_frames_are_counted_as_they_come(self) -> None:
         frames_of = patient.Frames()
@@ -111,7 +112,7 @@ class Drive(unittest.TestCase):
     def test_a_command_for_a_station_that_the_scenario_lacks_is_told(self) -> None:
         octets = b'phone = { caps = "a020" }\nstation = [{ id = 1, cells = [[10, 100]] }, { id = 4, cells = [[11, 100]] }]\n'
         drive.has_stations({"LTE_SEC_STATION_4": "x", "LTE_SEC_STATION": "y", "LTE_SEC_PHONE": "z"}, octets)
-        with self.assertRaisesRegex(drive.WrongWords, "^--station 5=CMD: the scenario has no station 5, but 1 and 4$"):
+        with self.assertRaisesRegex(WrongWords, "^--station 5=CMD: the scenario has no station 5, but 1 and 4$"):
             drive.has_stations({"LTE_SEC_STATION_5": "x"}, octets)
         for text in (b"", b"station = 3", b"phone = ", b"station = [{ cells = [[10, 100]] }]", b"\xff"):  # the program says what is wrong
             drive.has_stations({"LTE_SEC_STATION_5": "x"}, text)
@@ -125,7 +126,7 @@ class Drive(unittest.TestCase):
         self.assertEqual({"error": "memory ran out", "status": 1, "report": []}, drive.no_answer(1, [], "a program", b""))
 
     def test_the_program_is_given_the_whole_scenario(self) -> None:
-        run = drive.Run([sys.executable, "-c", "import sys; print(len(sys.stdin.read()))"], drive.Options({}, True), b"x" * 100_000)
+        run = drive.Run([sys.executable, "-c", "import sys; print(len(sys.stdin.read()))"], drive.DriveOptions({}, True), b"x" * 100_000)
         with mock.patch("lte_sec.drive.put"):
             status, driven = run.run()
             driven.tell()
@@ -138,16 +139,16 @@ class Drive(unittest.TestCase):
 
     def test_wrong_commands_are_told(self) -> None:
         for command in ("", "'", "no-such-program-anywhere", "a\nb"):
-            with self.assertRaises(drive.WrongWords):
-                drive.variables(["--core", command])
+            with self.assertRaises(WrongWords):
+                drive.variable("--core", command)
 
     def test_a_station_that_cannot_be_is_told_with_those_that_can(self) -> None:
         for command in ("8=cat", "10=cat", "12=cat", "9=python3 actor.py"):
-            self.assertRaisesRegex(drive.WrongWords, "there is no station .*: --station N=CMD takes N 0 to 7", drive.variables, ["--station", command])
+            self.assertRaisesRegex(WrongWords, "there is no station .*: --station N=CMD takes N 0 to 7", drive.variable, "--station", command)
 
     def test_a_path_is_made_whole(self) -> None:
         with mock.patch("shutil.which", lambda name: name):
-            self.assertEqual(drive.variables(["--phone", "./a"])["LTE_SEC_PHONE"], os.path.abspath("a"))
+            self.assertEqual(drive.variable("--phone", "./a"), ("LTE_SEC_PHONE", os.path.abspath("a")))
 
 
 if __name__ == "__main__":

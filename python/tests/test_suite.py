@@ -9,6 +9,7 @@ import tempfile
 import unittest
 
 from lte_sec import frames, network, peers, played, rows, scenarios, suite, visits
+from lte_sec.options import WrongWords
 
 from .schemas import is_of, schema_of
 
@@ -106,11 +107,11 @@ class Outcomes(unittest.TestCase):
     def test_the_status_tells_a_failure_before_a_difference(self) -> None:
         for outcomes, status in ((("passed",), 0), (("passed", "differs"), 8), (("failed", "differs"), 6)):
             results = [result(outcome, row.visit) for row, outcome in zip(TABLE.rows, outcomes)]
-            entries = suite.report_of(TABLE, results, suite.Options({"phone": ["a"]}))
+            entries = suite.report_of(TABLE, results, suite.SuiteOptions({"phone": ["a"]}))
             self.assertEqual(status, suite.status_of(suite.counts_of(entries)))
 
     def test_only_the_actors_that_are_named_are_told(self) -> None:
-        entries = suite.report_of(TABLE, [], suite.Options({"station 3": ["a"]}))
+        entries = suite.report_of(TABLE, [], suite.SuiteOptions({"station 3": ["a"]}))
         self.assertEqual({"station"}, {entry["actor"] for entry in entries})
 
     def test_the_lines_name_the_place_and_the_clause(self) -> None:
@@ -120,7 +121,7 @@ class Outcomes(unittest.TestCase):
 
     def test_the_document_is_of_its_schema(self) -> None:
         schema = schema_of("drive-suite")
-        entries = suite.report_of(TABLE, [result("differs"), result("failed", rows.Visit("phone", "Setup", "any", "done", ""), None)], suite.Options({"phone": ["a"]}))
+        entries = suite.report_of(TABLE, [result("differs"), result("failed", rows.Visit("phone", "Setup", "any", "done", ""), None)], suite.SuiteOptions({"phone": ["a"]}))
         document = json.loads(suite.printed(entries, True))
         self.assertTrue(is_of(schema, schema, document))
         self.assertFalse(is_of(schema, schema, {**document, "status": 7}))
@@ -150,17 +151,17 @@ class Words(unittest.TestCase):
     def test_wrong_words_are_told(self) -> None:
         for words, told in ((["--phone"], "needs a word"), (["x.toml"], "takes no FILE"), (["--bad"], "takes no option --bad"), (["--answers", "all"], "takes done"), (["--timeout", "0"], "above 0"),
                             (["--allow", "/nowhere"], "cannot be read"), (["--core", "no-such-program"], "no program")):
-            with self.subTest(words), self.assertRaisesRegex(suite.WrongWords, re.escape(told)):
+            with self.subTest(words), self.assertRaisesRegex(WrongWords, re.escape(told)):
                 suite.read_words("own", words)
 
     def test_a_scenario_is_taken_by_its_name(self) -> None:
-        self.assertEqual(["nas-01"], [case.name for case in suite.cases_of(suite.Options(names=["nas-01"]))])
-        with self.assertRaisesRegex(suite.WrongWords, "no scenario nas"):
-            suite.cases_of(suite.Options(names=["nas"]))
+        self.assertEqual(["nas-01"], [case.name for case in suite.cases_of(suite.SuiteOptions(names=["nas-01"]))])
+        with self.assertRaisesRegex(WrongWords, "no scenario nas"):
+            suite.cases_of(suite.SuiteOptions(names=["nas"]))
 
     def test_a_station_that_no_scenario_has_is_told(self) -> None:
-        with self.assertRaisesRegex(suite.WrongWords, "^--station 7=CMD: no scenario that is driven has station 7, but 0"):
-            suite.cases_of(suite.Options({"station 7": ["x"]}, names=["nas-01"]))
+        with self.assertRaisesRegex(WrongWords, "^--station 7=CMD: no scenario that is driven has station 7, but 0"):
+            suite.cases_of(suite.SuiteOptions({"station 7": ["x"]}, names=["nas-01"]))
 
 
 class Peers(unittest.TestCase):
