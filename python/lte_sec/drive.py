@@ -54,7 +54,7 @@ class DriveOptions:
     @classmethod
     def read(cls, words: list[str]) -> DriveOptions:
         given = Words.read("drive", words)
-        return cls(variables(given), given.has("--json"), seconds(given.last("--timeout")) if given.has("--timeout") else None)
+        return cls(variables(given), given.has("--json"), [None, *map(seconds, given.options["--timeout"])][-1])
 
 
 def seconds(word: str) -> float:

@@ -24,7 +24,7 @@ WORST = ("differs", "failed", "passed", "not compared")  # of a row that is visi
 
 
 class SuiteWords(Words):
-    """The words of a call."""
+    """The words of a call, and what is said of wrong ones."""
 
     UNKNOWN = "drive --suite takes no option {option}"
     WANTS = "{option} needs a word behind it"
@@ -63,7 +63,7 @@ def read_words(program: str, words: list[str]) -> SuiteOptions:
     given = SuiteWords.read("drive", words)
     if given.others:
         raise WrongWords(f"drive --suite takes no FILE, as {given.others[0]}")
-    if given.last("--answers", "done") != "done":
+    if any(word != "done" for word in given.options["--answers"]):
         raise WrongWords("--answers takes done: a refusal is then the right one whatever its cause")
     product = {name.removeprefix("LTE_SEC_").lower().replace("_", " "): command.split("\n") for name, command in drive.variables(given).items()}
     return SuiteOptions(
@@ -74,7 +74,7 @@ def read_words(program: str, words: list[str]) -> SuiteOptions:
         is_each=given.has("--each"),
         is_long=given.has("--long"),
         is_json=given.has("--json"),
-        seconds=drive.seconds(given.last("--timeout", str(drive.PATIENCE))),
+        seconds=[drive.PATIENCE, *map(drive.seconds, given.options["--timeout"])][-1],
     )
 
 

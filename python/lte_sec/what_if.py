@@ -36,7 +36,7 @@ class Programs(NamedTuple):
 
 
 class WhatIfWords(Words):
-    """The words of a call."""
+    """The words of a call, and what stands in them."""
 
     def kinds(self) -> tuple[str, ...]:
         given = self.last("--kinds", ",".join(KINDS)).split(",")
