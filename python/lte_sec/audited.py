@@ -10,7 +10,7 @@ import subprocess
 import sys
 from pathlib import Path
 
-from .messages import Line
+from .messages import StepLine
 from .remarks import frames_of
 
 REASONS = Path(__file__).resolve().parents[2] / "launcher" / "reasons"
@@ -22,7 +22,7 @@ def frames_of_rows(report: str, frames: dict[int, str]) -> dict[str, str]:
     """The frame of each row of the ladder of a report: that of its key, else of the key above it."""
     lines = report.splitlines()
     first: dict[str, str] = {}
-    for number, line in enumerate(map(Line.read, lines)):
+    for number, line in enumerate(map(StepLine.read, lines)):
         if line is not None and line.note is not None and number in frames:
             first.setdefault(line.note.key, frames[number])
     found: dict[str, str] = {}

@@ -28,7 +28,7 @@ SECONDS = 60
 BEARERS = {name: octet for octet, name in frames.BEARERS.items()}
 INITIAL_CONTEXT = 0x20  # the first octet of that record on S1
 Name = str | int  # phone, core, or the number of a station
-Sent = tuple[int, Name, bytes, bytes, bool]
+SentMessage = tuple[int, Name, bytes, bytes, bool]
 KEYED = {3: "RRC encryption", 4: "RRC integrity", 5: "user plane encryption"}  # algorithm types (TS 33.401 A.7)
 
 
@@ -83,7 +83,7 @@ class System:
             priority = bytes(part.get("priority", [2, 0]))
             kind = b"\6" if name == "core" and part.get("first_ncc") == 2 else b"\0"
             self.actors[name].told(kind + number(len(priority), 1) + priority + number(part.get("first", 1), 4) + table)
-        self.sent: list[Sent] = []  # of each record: the step, the sender, its address, its octets, and whether it opens security
+        self.sent: list[SentMessage] = []  # of each record: the step, the sender, its address, its octets, and whether it opens security
         self.keys: dict[bytes, bytes] = {}  # the KeNB of each station and air address
 
     def stop(self) -> None:

@@ -7,10 +7,10 @@ from __future__ import annotations
 import re
 from dataclasses import dataclass, field
 
-from .nas_steps import NasSteps, Row
+from .nas_steps import NasSteps, ReplayedKey
 from .recorded import KeySeen, Met
 from .report import DIFFERS
-from .script import At, Block, Cell
+from .script import At, Cell, ItemBlock
 
 NUMBER = re.compile(r"nh\((\d+)\)")
 STAR = re.compile(r"star\((.*),(\d+),(\d+)\)")
@@ -40,9 +40,9 @@ class Ask:
     at: At
     of: str
     got: str
-    block: Block
+    block: ItemBlock
     station: str
-    behind: list[Block] = field(default_factory=list)  # what comes only where the core got it
+    behind: list[ItemBlock] = field(default_factory=list)  # what comes only where the core got it
 
 
 @dataclass
@@ -55,7 +55,7 @@ class Open:
     begin: str
     handover: int | None
     bases: set[str]  # what its KeNB* is made from
-    given: Block  # the delivery of the request at the target
+    given: ItemBlock  # the delivery of the request at the target
     request: str  # the item that is in it
     acked: str = ""  # the answer came to the source
     ask: Ask | None = None
@@ -64,7 +64,7 @@ class Open:
 
 
 @dataclass
-class Link:
+class ReplayedConnection:
     """The phone's connection as the run has it; derivations are those of the capture where the run's keys differ."""
 
     connection: int | None
@@ -87,7 +87,7 @@ class Link:
 class ChainSteps(NasSteps):
     """What the run has of the core's chain, too."""
 
-    link: Link | None = None
+    link: ReplayedConnection | None = None
     lost: str = ""  # why what the capture has of this connection is not replayed
     unanswered: list[tuple[Ask, int]] = field(default_factory=list)  # requests that the core got without an answer, with their numbers
 
@@ -97,7 +97,7 @@ class ChainSteps(NasSteps):
 
     def row(self, met: Met, item: str) -> None:
         if met.key is not None:
-            self.rows.append(Row(met, met.key, item))
+            self.rows.append(ReplayedKey(met, met.key, item))
 
     # -- requests
 

@@ -6,7 +6,7 @@ from collections.abc import Iterator
 
 from . import reasons
 from .decoding import Message
-from .histories import CHAIN, UNKNOWN_KEY, Chain, History, Pair, Phone
+from .histories import CHAIN, UNKNOWN_KEY, Chain, History, Pair, PhoneKeys
 from .kenbs import KenbJudge
 from .nas import NOT_GIVEN
 from .state import Connection, Undecided
@@ -18,7 +18,7 @@ LOST_CHANGE = "after a key change that the trace lacks"
 NEW_KASME = "KeNB of a new KASME: a handover goes on from the KASME in use, until the key is changed within a cell (TS 33.401 7.2.10)"
 FIRST = (2, 1)  # the number of the first NH that a core sends: 2 by TS 33.401 7.2.8.1.1 and 7.2.8.4.2, 1 of other cores
 
-Step = tuple[Chain, Chain]  # the core's chain before and after
+ChainStep = tuple[Chain, Chain]  # the core's chain before and after
 
 
 class ChainJudge(KenbJudge):
@@ -139,7 +139,7 @@ class ChainJudge(KenbJudge):
             for chain in self.due(connection, begun):
                 if chain.sync.value == message.nh and chain.ncc == message.ncc:
                     self.judged(message, "NH", chain.sync, chain.sync, (message.ncc, message.ncc), LOST_CHANGE)
-                    phone = Phone(UNKNOWN_KEY, 0, begun, True)
+                    phone = PhoneKeys(UNKNOWN_KEY, 0, begun, True)
                     self.changed_unseen(connection, kenb, [History(chain, one.held, phone) for one in connection.histories])
                     return [(chain.sync, message.ncc)]
         return None
@@ -158,7 +158,7 @@ class ChainJudge(KenbJudge):
 
     # -- what was sent
 
-    def other_nh(self, connection: Connection, message: Message, tried: list[Step]) -> list[Pair]:
+    def other_nh(self, connection: Connection, message: Message, tried: list[ChainStep]) -> list[Pair]:
         """An NH that no lawful history gives."""
         assert message.nh is not None and message.ncc is not None
         found = self.named(message.nh, connection, [after.sync for _, after in tried])
@@ -199,7 +199,7 @@ class ChainJudge(KenbJudge):
             yield chain.sync
             chain = chain.step(self.derivations)
 
-    def right_nh(self, connection: Connection, message: Message, steps: list[Step]) -> list[Pair]:
+    def right_nh(self, connection: Connection, message: Message, steps: list[ChainStep]) -> list[Pair]:
         """An NH that is due, with its NCC or another."""
         chain = steps[0][1]
         self.decided(connection, chain)
@@ -220,7 +220,7 @@ class ChainJudge(KenbJudge):
         pairs = [(chain.sync, message.ncc or 0)]
         return pairs if message.ncc == chain.ncc else [*pairs, (chain.sync, chain.ncc)]
 
-    def two_numbers(self, connection: Connection, message: Message, by_key: Step, by_ncc: Step) -> list[Pair]:
+    def two_numbers(self, connection: Connection, message: Message, by_key: ChainStep, by_ncc: ChainStep) -> list[Pair]:
         """An NH of one number that is due and the NCC of another: one of them is the fault, and the next answer tells which."""
         ncc, key, other = message.ncc or 0, by_key[1], by_ncc[1]
         lines = {

@@ -10,7 +10,7 @@ from dataclasses import dataclass, field
 from typing import Any, NamedTuple
 
 from .courses import Course
-from .messages import NAS_TEXT, Line, Names, nas_name
+from .messages import NAS_TEXT, Names, StepLine, nas_name
 from .probe import PROBE
 from .scenarios import Scenario, Step
 
@@ -43,7 +43,7 @@ class Sent(NamedTuple):
 class Charted(NamedTuple):
     """A step: its line, its event, what came in it and what it sent."""
 
-    line: Line
+    line: StepLine
     event: Step
     came: Came | None
     sent: Sent | None
@@ -54,7 +54,7 @@ def steps_of(report: list[str], scenario: Mapping[str, Any]) -> list[Charted]:
     records: list[tuple[str, str]] = []
     names, steps = Names(), []
     for event, text in zip(scenario.get("step", []), report):
-        line, came, sent = Line.read(text), None, None
+        line, came, sent = StepLine.read(text), None, None
         if line is None:
             break
         cause = event["do"]

@@ -8,14 +8,14 @@ from enum import Enum
 
 from .chain_steps import number_of
 from .courses import Course
-from .nas_steps import Row
+from .nas_steps import ReplayedKey
 from .report import DIFFERS
 from .script import Script
 
 ROW = re.compile(r"row \d+ (\w+)(?:\((\d+),([\d,]*)\))? ([0-9a-f]{64}) \S+")
 
 
-class Verdict(str, Enum):
+class ReplayVerdict(str, Enum):
     """What a key of the capture is beside the run."""
 
     SAME = "same"
@@ -24,13 +24,13 @@ class Verdict(str, Enum):
 
 
 @dataclass(frozen=True)
-class Told:
+class ComparedKey:
     """A key of the capture with its verdict: derivation and NCC of both, and the step of the run."""
 
     frame: str
     message: str
     what: str
-    verdict: Verdict
+    verdict: ReplayVerdict
     term: str
     ncc: int | None
     run_term: str = ""
@@ -42,17 +42,17 @@ class Told:
     @property
     def text(self) -> str:
         head = f"frame {self.frame} {self.message} {self.what} "
-        if self.verdict == Verdict.NOT_REPLAYED:
+        if self.verdict == ReplayVerdict.NOT_REPLAYED:
             return f"{head}not replayed: {self.reason}"
         here = self.term + (f" NCC {self.ncc}" if self.ncc is not None else "")
-        if self.verdict == Verdict.SAME:
+        if self.verdict == ReplayVerdict.SAME:
             return f"{head}same: {here} (step {self.step})"
         run = self.run_term + (f" NCC {self.run_ncc}" if self.ncc is not None else "")
         return f"{head}differs: the capture has {here}, the run {run} (step {self.step})" + (f"; it follows from frame {self.follows}" if self.follows else "")
 
 
 @dataclass(frozen=True)
-class Refused:
+class RefusedStep:
     """A step that the run refuses."""
 
     step: int
@@ -71,8 +71,8 @@ class Replayed:
 
     script: Script
     course: Course
-    told: list[Told] = field(default_factory=list)
-    refused: list[Refused] = field(default_factory=list)
+    told: list[ComparedKey] = field(default_factory=list)
+    refused: list[RefusedStep] = field(default_factory=list)
 
 
 @dataclass(frozen=True)
@@ -106,7 +106,7 @@ def terms_of(report: str) -> dict[str, Term]:
     return {line.split()[3]: term for line, term in zip(rows, found)}
 
 
-def compared(script: Script, course: Course, rows: list[Row], kasmes: dict[str, bytes]) -> Replayed:
+def compared(script: Script, course: Course, rows: list[ReplayedKey], kasmes: dict[str, bytes]) -> Replayed:
     """Each key of the capture beside the run."""
     done = Replayed(script, course)
     names = {value.hex(): name for name, value in kasmes.items()}
@@ -115,25 +115,25 @@ def compared(script: Script, course: Course, rows: list[Row], kasmes: dict[str, 
     root = ""
     for row in rows:
         one = beside(row, course, steps, terms, root, names)
-        if one.verdict == Verdict.DIFFERS and row.key.verdict == DIFFERS:
+        if one.verdict == ReplayVerdict.DIFFERS and row.key.verdict == DIFFERS:
             root = row.met.frame
         done.told.append(one)
     done.refused += refusals(script, course, steps)
     return done
 
 
-def beside(row: Row, course: Course, steps: dict[str, int], terms: dict[str, Term], root: str, names: dict[str, str]) -> Told:
+def beside(row: ReplayedKey, course: Course, steps: dict[str, int], terms: dict[str, Term], root: str, names: dict[str, str]) -> ComparedKey:
     key, met = row.key, row.met
     head = (met.frame, met.title, key.what)
     if not row.item:
-        return Told(*head, Verdict.NOT_REPLAYED, key.term, key.ncc, reason=row.reason)
+        return ComparedKey(*head, ReplayVerdict.NOT_REPLAYED, key.term, key.ncc, reason=row.reason)
     line = course.lines.get(row.item)
     if line is None or line.note is None:
         why = f"the run refuses its step: {line.answer}" if line is not None else "the run does not come to it"
-        return Told(*head, Verdict.NOT_REPLAYED, key.term, key.ncc, step=steps.get(row.item), reason=why)
+        return ComparedKey(*head, ReplayVerdict.NOT_REPLAYED, key.term, key.ncc, step=steps.get(row.item), reason=why)
     ncc, run = int(line.note.ncc), terms[line.note.key]
     if line.note.key == key.value.hex() and key.ncc in (None, ncc):
-        return Told(*head, Verdict.SAME, key.term if key.term != "none" else run.form, key.ncc, run.form, ncc, steps[row.item])
+        return ComparedKey(*head, ReplayVerdict.SAME, key.term if key.term != "none" else run.form, key.ncc, run.form, ncc, steps[row.item])
     own, other = key.term, run.form
     if key.term == run.form and line.note.key != key.value.hex():  # chains that begin at different KeNBs have like forms
         if key.base not in (run.base, key.term):
@@ -141,12 +141,12 @@ def beside(row: Row, course: Course, steps: dict[str, int], terms: dict[str, Ter
         if key.kasme != names.get(run.root):
             own, other = f"{own} of {key.kasme}", f"{other} of {names.get(run.root)}"
     follows = root if key.verdict != DIFFERS else ""
-    return Told(*head, Verdict.DIFFERS, own, key.ncc, other, ncc, steps[row.item], follows=follows)
+    return ComparedKey(*head, ReplayVerdict.DIFFERS, own, key.ncc, other, ncc, steps[row.item], follows=follows)
 
 
-def refusals(script: Script, course: Course, steps: dict[str, int]) -> Iterator[Refused]:
+def refusals(script: Script, course: Course, steps: dict[str, int]) -> Iterator[RefusedStep]:
     """The steps that the run refuses."""
     for item in course.items:
         line = course.lines.get(item.name)
         if line is not None and line.answer != "done":
-            yield Refused(steps[item.name], item.do, script.at[item.name].frame, line.answer)
+            yield RefusedStep(steps[item.name], item.do, script.at[item.name].frame, line.answer)

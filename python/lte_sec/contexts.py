@@ -24,7 +24,7 @@ FOREIGN = -1  # the place of a KASME that was not given
 
 
 @dataclass
-class NasContext:
+class EpsSecurityContext:
     """An EPS security context: KASME, algorithms, KSI, and the next COUNT of each direction."""
 
     kasme: int
@@ -46,7 +46,7 @@ class NasContext:
 class Trigger:
     """The uplink message that KeNB is made at: its context, the COUNTs that it may have, and whether its MAC is right."""
 
-    context: NasContext
+    context: EpsSecurityContext
     counts: tuple[int, ...]
     sure: bool
     used: bool = False  # a KeNB was made at it
@@ -60,8 +60,8 @@ class Trigger:
 class NasSide:
     """What a connection has of NAS: the context in use, the one that a Security Mode Command brought, and the trigger."""
 
-    current: NasContext | None = None
-    pending: NasContext | None = None
+    current: EpsSecurityContext | None = None
+    pending: EpsSecurityContext | None = None
     trigger: Trigger | None = None
     tmsi: int | None = None
     initial: bool = False  # the trace shows the first message of the connection

@@ -4,7 +4,7 @@ from __future__ import annotations
 from collections.abc import Callable, Iterator
 from typing import TypeVar
 
-from .contexts import NasContext
+from .contexts import EpsSecurityContext
 
 Place = TypeVar("Place")
 WRAP, SHORT_WRAP = 256, 32  # of a sequence number, and of that of a Service Request
@@ -18,7 +18,7 @@ def estimate(least: int, low: int, wrap: int = WRAP) -> int:
     return least + (low - least) % wrap
 
 
-def near(context: NasContext, direction: int, low: int, wrap: int = WRAP) -> list[int]:
+def near(context: EpsSecurityContext, direction: int, low: int, wrap: int = WRAP) -> list[int]:
     """The COUNTs to try first: the receiver's, then those of late messages, then those after messages that the trace lacks."""
     first = estimate(context.next[direction], low, wrap)
     late = [first - back * wrap for back in range(1, TRIES + 1) if first >= back * wrap]

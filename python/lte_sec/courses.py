@@ -11,7 +11,7 @@ import subprocess
 from collections.abc import Mapping
 from dataclasses import dataclass
 
-from .messages import Line
+from .messages import StepLine
 from .scenarios import Step, text, value
 
 GUESSES = 8  # so many runs take from a run all that seems sure; after that only what comes first
@@ -46,7 +46,7 @@ class Course:
     """The items that happened in order, the line of each, the report, and the steps with which `run` prints it."""
 
     items: list[Item]
-    lines: dict[str, Line]
+    lines: dict[str, StepLine]
     report: str
     steps: list[str]
     runs: int
@@ -70,7 +70,7 @@ class Course:
         return found
 
 
-def actors(line: Line) -> set[str]:
+def actors(line: StepLine) -> set[str]:
     """Who takes a step."""
     return {"phone", "core"} if line.who == "both" else set() if line.who == "world" else {line.who}
 
@@ -110,10 +110,10 @@ class Runs:
 
     def course(self, items: list[Item], usual: Mapping[str, bool], guess: Mapping[str, bool]) -> Course:
         """The course of these items, where the scenario's own send as `usual` says, by a first guess."""
-        return Search(items, usual, guess).course(self)
+        return GuessSearch(items, usual, guess).course(self)
 
 
-class Search:
+class GuessSearch:
     """The search for a guess that its run confirms."""
 
     def __init__(self, items: list[Item], usual: Mapping[str, bool], guess: Mapping[str, bool]):
@@ -155,12 +155,12 @@ class Search:
         while True:
             steps = self.place()
             report, count = runs.run(steps), count + 1
-            lines = [line for line in map(Line.read, report.split("\n", len(self.placed))[: len(self.placed)]) if line]
+            lines = [line for line in map(StepLine.read, report.split("\n", len(self.placed))[: len(self.placed)]) if line]
             if not self.learn(lines, count > GUESSES):
                 items = [item for item, _ in self.placed]
                 return Course(items, {item.name: line for item, line in zip(items, lines)}, report, steps, count)
 
-    def learn(self, lines: list[Line], strictly: bool) -> bool:
+    def learn(self, lines: list[StepLine], strictly: bool) -> bool:
         """Whether a run differs from the guess, which then takes in what is sure: what comes first, and, unless strictly, the lines
         of actors to whom nothing came by a wrong number. Where that was wrong, a later run differs there first."""
         walk, missing, differs = Walk(self), iter([*self.missing, (len(lines), None)]), False
@@ -182,10 +182,10 @@ class Search:
 class Walk:
     """A walk through the lines of a run: which records there are, and to whom something came by a wrong number."""
 
-    def __init__(self, search: Search):
+    def __init__(self, search: GuessSearch):
         self.search = search
         self.records: list[tuple[str, bool]] = []
-        self.sent: dict[str, Line] = {}
+        self.sent: dict[str, StepLine] = {}
         self.wrong: set[str] = set()
 
     def miss(self, item: Item) -> None:
@@ -193,7 +193,7 @@ class Walk:
         if item.of in self.sent:
             self.wrong |= receivers(self.sent[item.of])
 
-    def take(self, item: Item, number: int | None, line: Line) -> bool:
+    def take(self, item: Item, number: int | None, line: StepLine) -> bool:
         """Takes an item and its line; whether the line is sure."""
         who, wrong = actors(line), False
         if number is not None:
@@ -209,7 +209,7 @@ class Walk:
         return sure
 
 
-def receivers(line: Line) -> set[str]:
+def receivers(line: StepLine) -> set[str]:
     """To whom what this line sent may go."""
     stations = {f"station {number}" for number in range(8)}
     if line.kind == "nas":

@@ -17,7 +17,7 @@ NAMES = {"kenb": "KeNB", "nh": "NH", "star": "KeNB*", "alg": "KNASint"}
 
 
 @dataclass
-class Row:
+class DerivedKey:
     """A key: its octets, its name and form, the number of the key above it, its derivation and inputs, and the messages that have it."""
 
     value: bytes
@@ -34,11 +34,11 @@ class Keys:
 
     def __init__(self, derivations: Derivations):
         self.derivations = derivations
-        self.rows: list[Row] = []
+        self.rows: list[DerivedKey] = []
         self._places: dict[bytes, int] = {}
         self._terms: dict[tuple[int, Term], int] = {}
 
-    def add(self, value: bytes, row: Row) -> int:
+    def add(self, value: bytes, row: DerivedKey) -> int:
         found = self._places.get(value)
         if found is None:
             found = self._places[value] = len(self.rows)
@@ -51,7 +51,7 @@ class Keys:
             return None
         number = self.of(key.kasme, key.term) if key.kasme >= 0 and key.known else None
         if number is None or self.rows[number].value != key.value:
-            number = self.add(key.value, Row(key.value, NAMES.get(key.term.kind, what), "" if key.term == NONE else key.form))
+            number = self.add(key.value, DerivedKey(key.value, NAMES.get(key.term.kind, what), "" if key.term == NONE else key.form))
         row = self.rows[number]
         if not row.at or row.at[-1] != message:
             row.at.append(message)
@@ -92,26 +92,26 @@ class Keys:
             return Term("nh", (term.numbers[0] - 1,), term.above)
         return Term("kasme") if term.kind == "kenb" else term.above
 
-    def row(self, kasme: int, term: Term) -> Row | None:
+    def row(self, kasme: int, term: Term) -> DerivedKey | None:
         """The row of a term, whose key above has one."""
         calls, root, numbers = self.derivations.calls, self.derivations.kasmes[kasme], term.numbers
         if term.kind == "kasme":
-            return Row(root.value, shown(root.name), "kasme")
+            return DerivedKey(root.value, shown(root.name), "kasme")
         before = self.before(term)
         if before is None or before == NONE:
             return None
         above = self._terms[kasme, before]
         up, form, clause = self.rows[above], str(term), CLAUSES[term.kind]
         if term.kind == "kenb":
-            return Row(self.derivations.kenb(kasme, numbers[0]).value, "KeNB", form, above, clause, {"uplink NAS COUNT": str(numbers[0])})
+            return DerivedKey(self.derivations.kenb(kasme, numbers[0]).value, "KeNB", form, above, clause, {"uplink NAS COUNT": str(numbers[0])})
         if term.kind == "nh":
             given = {"key": shown(root.name), "SYNC-input": up.form or up.name}
-            return Row(calls.nh(root.value, up.value), f"NH {numbers[0]}", form, above, clause, given)
+            return DerivedKey(calls.nh(root.value, up.value), f"NH {numbers[0]}", form, above, clause, given)
         if term.kind == "star":
-            return Row(calls.kenb_star(up.value, *numbers), "KeNB*", form, above, clause, {"PCI": str(numbers[0]), "EARFCN-DL": str(numbers[1])})
+            return DerivedKey(calls.kenb_star(up.value, *numbers), "KeNB*", form, above, clause, {"PCI": str(numbers[0]), "EARFCN-DL": str(numbers[1])})
         name = NAMES["alg"] if numbers[0] == NAS_INTEGRITY else "key of an algorithm"
         given = {"algorithm type": str(numbers[0]), "identity": str(numbers[1])}
-        return Row(calls.algorithm_key(up.value, *numbers), name, form, above, clause, given)
+        return DerivedKey(calls.algorithm_key(up.value, *numbers), name, form, above, clause, given)
 
 
 def is_deep(term: Term) -> bool:
@@ -131,7 +131,7 @@ class Numbers:
     chain: int | None
 
 
-def numbered(seen: Account) -> tuple[list[Row], list[Numbers]]:
+def numbered(seen: Account) -> tuple[list[DerivedKey], list[Numbers]]:
     """The keys of a trace, and for each value in the order of the lines the numbers of its own."""
     if seen.derivations is None:
         return [], [Numbers(None, None, None) for _ in seen.values()]

@@ -8,8 +8,8 @@ from __future__ import annotations
 from dataclasses import dataclass
 
 from .courses import Course, Item
-from .messages import Line, Names, Note
-from .verdict import Item as Told
+from .messages import Names, NotedKey, StepLine
+from .verdict import KenbChange as Told
 from .verdict import Report
 
 ANSWER, REQUEST, COMPLETE = "Path Switch Request Acknowledge", "Path Switch Request", "RRC Reconfiguration Complete"
@@ -19,7 +19,7 @@ NUMBERS = 8  # of NCCs: a phone finds an NH that is fewer steps ahead
 
 
 @dataclass(slots=True)
-class Context:
+class StandardContext:
     """What of a station's context the standard has otherwise. A pair is told by the key of its NH."""
 
     within: str | None = None  # the key of a handover within that is on its way
@@ -29,7 +29,7 @@ class Context:
     request: str | None = None  # the item that sent the newest path switch request, until it is answered
     is_void: bool = False  # whether that request is outstanding in the standard, and not here
 
-    def begin(self, note: Note, is_within: bool) -> str | None:
+    def begin(self, note: NotedKey, is_within: bool) -> str | None:
         """An attempt begins; the pair that it would have in the standard, and has not here."""
         self.within, self.came = note.key if is_within else None, None
         self.moved, self.kept = (self.kept, None) if note.way == "horizontal" else (None, None)
@@ -62,7 +62,7 @@ class Dropped:
         self.course = course
         self.of = {item.name: item.of for item in course.items}
         self.instead: dict[str, str] = {}  # of the key of such a handover, NH that it would be derived from
-        self.contexts: dict[str, Context] = {}
+        self.contexts: dict[str, StandardContext] = {}
         names, sent = Names(), dict[str, str]()
         for item in course.items:
             line = course.lines.get(item.name)
@@ -77,9 +77,9 @@ class Dropped:
                 context = self.contexts[line.who]
                 context.request, context.is_void = item.name, False
 
-    def take(self, item: Item, line: Line, cause: str) -> None:
+    def take(self, item: Item, line: StepLine, cause: str) -> None:
         """A step of a station."""
-        context = self.contexts.setdefault(line.who, Context())
+        context = self.contexts.setdefault(line.who, StandardContext())
         if cause == ANSWER and item.of is not None:
             note = self.course.lines[item.of].note
             if note:
@@ -95,7 +95,7 @@ class Dropped:
         elif cause == COMPLETE and line.note and line.note.key == context.within:
             context.renew()
         elif cause in ANEW or cause == COMPLETE and line.note:
-            self.contexts[line.who] = Context()
+            self.contexts[line.who] = StandardContext()
 
     def brings(self, told: Told, report: Report) -> bool:
         """Whether phone and target would have one key in the standard, where they have different ones here: the target's NH is ahead of that

@@ -20,7 +20,7 @@ HEX = 4  # octets from which on a run is called hex
 
 
 @dataclass(frozen=True)
-class Row:
+class OctetRow:
     """A run of octets of a line; `offset` is the number before it in a hexdump, `label` whether a name stands before it."""
 
     line: int
@@ -30,10 +30,10 @@ class Row:
 
 
 @dataclass(frozen=True)
-class Block:
+class OctetBlock:
     """A key and its line, or rows of 16 octets that may be keys, or halves of keys of 32."""
 
-    rows: tuple[Row, ...]
+    rows: tuple[OctetRow, ...]
 
     @property
     def sure(self) -> bool:
@@ -57,7 +57,7 @@ def runs(text: str) -> Iterator[tuple[list[str], str]]:
         yield run, text[:begin]
 
 
-def row_of(run: list[str], before: str, line: int) -> Row | None:
+def row_of(run: list[str], before: str, line: int) -> OctetRow | None:
     """The row of a run: words that look like hex before it are left out."""
     width = len(run[0]) // 2
     offset = OFFSET.search(before)
@@ -66,13 +66,13 @@ def row_of(run: list[str], before: str, line: int) -> Row | None:
         place, run = int(run[0], 16), run[1:]
     value, has_label = bytes.fromhex("".join(run)), place is None and bool(LABEL.search(before))
     if len(value) % KEY == 0:
-        return Row(line, value, place, has_label)
+        return OctetRow(line, value, place, has_label)
     size = next((size for size in ROWS if len(value) >= size and size % width == 0), 0)
     whole = len(run) == 1 and len(value) != size
-    return Row(line, value[len(value) - size:], place, has_label) if size and not whole else None
+    return OctetRow(line, value[len(value) - size:], place, has_label) if size and not whole else None
 
 
-def rows_of(lines: Iterable[str]) -> Iterator[list[Row]]:
+def rows_of(lines: Iterable[str]) -> Iterator[list[OctetRow]]:
     """The rows of each line."""
     for number, text in enumerate(lines, 1):
         text = ESCAPE.sub(r" \1", text)
@@ -85,10 +85,10 @@ def has_hex(lines: Iterable[str]) -> bool:
     return any(sum(len(group) // 2 for group in run) >= HEX for text in lines for run, _ in runs(text))
 
 
-def blocks(lines: Iterable[str]) -> list[Block]:
+def blocks(lines: Iterable[str]) -> list[OctetBlock]:
     """The keys of a text in their order."""
-    found: list[Block] = []
-    open_rows: list[Row] = []
+    found: list[OctetBlock] = []
+    open_rows: list[OctetRow] = []
     for rows in rows_of(lines):
         parts = [row for row in rows if len(row.value) % KEY]
         if len(rows) == 1 and parts:
@@ -102,39 +102,39 @@ def blocks(lines: Iterable[str]) -> list[Block]:
         open_rows = []
         for row in rows:
             size = KEY if len(row.value) % KEY == 0 else HALF
-            found += [Block((Row(row.line, row.value[place:place + size], None, row.label),)) for place in range(0, len(row.value), size) if len(row.value) >= HALF]
+            found += [OctetBlock((OctetRow(row.line, row.value[place:place + size], None, row.label),)) for place in range(0, len(row.value), size) if len(row.value) >= HALF]
     return found + closed(open_rows)
 
 
-def follows(last: Row, row: Row) -> bool:
+def follows(last: OctetRow, row: OctetRow) -> bool:
     """Whether a row goes on with the dump of the row before it."""
     if row.line != last.line + 1 or len(row.value) != len(last.value) or row.label:
         return False
     return row.offset is None and last.offset is None or row.offset is not None and last.offset is not None and row.offset == last.offset + len(last.value)
 
 
-def closed(rows: list[Row]) -> list[Block]:
+def closed(rows: list[OctetRow]) -> list[OctetBlock]:
     """The keys of the rows of a dump."""
     if not rows:
         return []
     value, size = b"".join(row.value for row in rows), len(rows[0].value)
     if size == HALF and rows[0].offset is None and len(rows) > 1:
-        return [Block(tuple(rows))]
+        return [OctetBlock(tuple(rows))]
     if rows[0].offset is None and size < HALF and len(value) % KEY and len(value) % HALF == 0:
-        halves = [Row(rows[place // size].line, value[place:place + HALF], None, False) for place in range(0, len(value), HALF)]
-        return [Block(tuple(halves))]
+        halves = [OctetRow(rows[place // size].line, value[place:place + HALF], None, False) for place in range(0, len(value), HALF)]
+        return [OctetBlock(tuple(halves))]
     found = [(place, min(KEY, len(value) - place)) for place in range(0, len(value), KEY)]
-    return [Block((Row(rows[place // size].line, value[place:place + length], None, False),)) for place, length in found if length in (KEY, HALF)]
+    return [OctetBlock((OctetRow(rows[place // size].line, value[place:place + length], None, False),)) for place, length in found if length in (KEY, HALF)]
 
 
-def candidates(block: Block) -> list[bytes]:
+def candidates(block: OctetBlock) -> list[bytes]:
     """The values of a block that are sought first: of rows that may be halves, each pair."""
     if block.sure:
         return [block.rows[0].value]
     return [one.value + other.value for one, other in zip(block.rows, block.rows[1:])]
 
 
-def resolved(block: Block, known: Callable[[bytes], bool]) -> Iterator[tuple[int, bytes]]:
+def resolved(block: OctetBlock, known: Callable[[bytes], bool]) -> Iterator[tuple[int, bytes]]:
     """The keys of a block with their lines, once it is known which values are found."""
     rows, place = block.rows, 0
     while place < len(rows):

@@ -26,7 +26,7 @@ class OutputFails(Exception):
     """Standard output cannot be written; with no text where whoever read it has read enough."""
 
 
-class Input(io.RawIOBase):
+class StandardInput(io.RawIOBase):
     """Standard input, whose faults no handler takes for those of a file."""
 
     def readable(self) -> bool:
@@ -42,7 +42,7 @@ class Input(io.RawIOBase):
             raise InputFails(fault.strerror) from None
 
 
-class Output(io.RawIOBase):
+class StandardOutput(io.RawIOBase):
     """Standard output, whose faults no handler takes for those of a file."""
 
     def writable(self) -> bool:
@@ -64,7 +64,7 @@ class Output(io.RawIOBase):
             raise OutputFails(fault.strerror) from None
 
 
-class Told(io.TextIOBase):
+class StandardError(io.TextIOBase):
     """Standard error, and the last line of it that says something."""
 
     def __init__(self, stream: TextIO):
@@ -106,14 +106,14 @@ def guard() -> None:
     for descriptor in (0, 1, 2):
         if not is_open(descriptor):
             os.dup2(os.open(os.devnull, os.O_RDONLY if descriptor == 1 else os.O_WRONLY), descriptor)
-    sys.stdin = io.TextIOWrapper(io.BufferedReader(Input()), encoding="utf-8", errors="surrogateescape")
-    sys.stdout = io.TextIOWrapper(io.BufferedWriter(Output()), encoding="utf-8", errors="surrogateescape", line_buffering=os.isatty(1))
+    sys.stdin = io.TextIOWrapper(io.BufferedReader(StandardInput()), encoding="utf-8", errors="surrogateescape")
+    sys.stdout = io.TextIOWrapper(io.BufferedWriter(StandardOutput()), encoding="utf-8", errors="surrogateescape", line_buffering=os.isatty(1))
 
 
 def ends(word: str, run: Callable[[], object]) -> NoReturn:
     """Runs a word and ends with its status; `run` answers it or ends by `sys.exit`."""
     guard()
-    told = Told(sys.stderr)
+    told = StandardError(sys.stderr)
     sys.stderr = told  # type: ignore[assignment]
     try:
         status = tried(word, run)

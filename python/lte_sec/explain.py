@@ -12,9 +12,9 @@ from functools import partial
 
 from . import reasons
 from .cells import Cells
-from .dumps import Block, candidates, resolved
+from .dumps import OctetBlock, candidates, resolved
 from .quick import ready
-from .search import Cell, Made, Search
+from .search import Cell, DerivationSearch, MadeStar
 from .terms import Derivations, Key, Term, counted
 
 NAS_TYPES, STATION_TYPES, IDENTITIES = (1, 2), (3, 4, 5, 6), range(16)
@@ -37,7 +37,7 @@ class Mistake:
 
 
 @dataclass(frozen=True)
-class Found:
+class ExplainedKey:
     """A key of a text, the line that it begins in, and its derivation, or the mistake by which it was made."""
 
     line: int
@@ -51,19 +51,19 @@ class Explanation:
     """The search for many keys at once, from what is likely to what is far; it ends when all are found."""
 
     def __init__(self, derivations: Derivations, cells: Cells, counts: int, depth: int):
-        self.search = Search(derivations, cells, counts, depth)
+        self.search = DerivationSearch(derivations, cells, counts, depth)
         self.derivations, self.cells = derivations, cells
         self.found: dict[bytes, Key] = {}
         self.open: set[bytes] = set()
 
-    def find(self, text: list[Block]) -> list[Found]:
+    def find(self, text: list[OctetBlock]) -> list[ExplainedKey]:
         """The derivations of the keys of a text. Rows that may be halves of keys are sought by themselves where no whole key is found."""
         self.seek({value for block in text for value in candidates(block)})
         left = [block for block in text if not block.sure and not all(value in self.found for value in candidates(block)[::2])]
         self.seek({row.value for block in left for row in block.rows})
         found = [one for block in text for one in resolved(block, lambda value: value in self.found)]
         whys = self.mistakes({key for _, key in found} - set(self.found))
-        return [Found(line, key, self.found.get(key), self.is_mixed(self.found.get(key)), whys.get(key)) for line, key in found]
+        return [ExplainedKey(line, key, self.found.get(key), self.is_mixed(self.found.get(key)), whys.get(key)) for line, key in found]
 
     def mistakes(self, keys: set[bytes]) -> dict[bytes, Mistake]:
         """Of keys that nothing gives those that a mistake of an implementation gives (`reasons`)."""
@@ -123,7 +123,7 @@ class Explanation:
                 stage()
                 self.spread()
 
-    def stars_of_roots(self) -> Iterable[Made]:
+    def stars_of_roots(self) -> Iterable[MadeStar]:
         return self.search.made_stars(as_made(self.search.roots()), 1)
 
     def is_mixed(self, key: Key | None) -> bool:
@@ -161,7 +161,7 @@ class Explanation:
     def algorithms(self, parent: Key, types: Iterable[int], identities: Iterable[int]) -> Iterator[Key]:
         return (self.derivations.algorithm(parent, type, identity) for type in types for identity in identities)
 
-    def take_made(self, candidates: Iterable[Made]) -> None:
+    def take_made(self, candidates: Iterable[MadeStar]) -> None:
         """Takes those of KeNB*s that are sought, as the proved calls make them."""
         for value, key, cells in candidates if self.open else ():
             if value in self.open:
@@ -169,7 +169,7 @@ class Explanation:
                 if not self.open:
                     return
 
-    def take_algorithms(self, parents: Iterable[Made]) -> None:
+    def take_algorithms(self, parents: Iterable[MadeStar]) -> None:
         """The same with keys of a station's algorithms: from KeNBs with each identity, from KeNB*s with those that algorithms have."""
         for value, key, cells in parents if self.open else ():
             make = ready(value)
@@ -187,11 +187,11 @@ class Explanation:
         return key
 
 
-def as_made(keys: Iterable[Key]) -> Iterator[Made]:
+def as_made(keys: Iterable[Key]) -> Iterator[MadeStar]:
     return ((key.value, key, ()) for key in keys)
 
 
-def told(derivations: Derivations, found: Found) -> str:
+def told(derivations: Derivations, found: ExplainedKey) -> str:
     """The line of a key: where it stands, its octets, and the derivation with KeNB and KASME where they do not stand in it."""
     key, head = found.key, f"line {found.line}: {found.value.hex()}"
     if key is None and found.why is None:

@@ -8,7 +8,7 @@ from dataclasses import dataclass, field
 from .cells import Cells
 from .chain_steps import ChainSteps, Open, above, number_of, star
 from .escaped import shown
-from .nas_steps import Row
+from .nas_steps import ReplayedKey
 from .recorded import KeySeen, Met
 from .report import DIFFERS
 from .script import At, Cell
@@ -155,7 +155,7 @@ class HandoverSteps(ChainSteps):
             if link.open is not None:
                 link.open.given.clear()
             self.cancel(assumed)
-            self.rows.append(Row(met, key, begin))
+            self.rows.append(ReplayedKey(met, key, begin))
 
     def target(self, met: Met) -> str:
         return self.station_of(met.message.eci) or shown(met.message.target)

@@ -17,7 +17,7 @@ ANY_CORE = ""  # the end of a core that no message has told yet
 INTRA_LTE = 0  # TS 36.413 9.2.1.13
 
 Leg = tuple[str, int | None]
-Pair = tuple[Connection, Attempt]
+PreparedAttempt = tuple[Connection, Attempt]
 
 
 class Handovers:
@@ -38,11 +38,11 @@ class Handovers:
         self.owners: dict[int, Connection] = {}  # by the place of a message
         self.handovers: dict[int, Attempt] = {}
         self.sources: dict[bytes, list[Connection]] = {}  # that wait, by the container of a handover over S1
-        self.targets: dict[Leg, Pair] = {}  # by core's end and the target's MME-UE-S1AP-ID
-        self.answers: dict[bytes, list[Pair]] = {}  # by the container that comes back
-        self.x2: dict[tuple[str, str, int | None], Pair] = {}
+        self.targets: dict[Leg, PreparedAttempt] = {}  # by core's end and the target's MME-UE-S1AP-ID
+        self.answers: dict[bytes, list[PreparedAttempt]] = {}  # by the container that comes back
+        self.x2: dict[tuple[str, str, int | None], PreparedAttempt] = {}
         self.retrieved: dict[tuple[str, str, int | None], int | None] = {}  # cells that phones resume in, by the ends and the new station's identity
-        self.commands: list[Pair] = []  # RRC may still show their command
+        self.commands: list[PreparedAttempt] = []  # RRC may still show their command
 
     def new(self, station: str, eci: int | None = None) -> Connection:
         connection = Connection(station=station, eci=eci)
@@ -151,7 +151,7 @@ class Handovers:
         if pair[1].command is None:
             self.judge.undecoded(*pair, message, "its RRC message does not decode")
 
-    def commanded(self, pair: Pair, message: Message) -> None:
+    def commanded(self, pair: PreparedAttempt, message: Message) -> None:
         """The command of a handover is seen: what it tells, and what the phone makes of it."""
         connection, attempt = pair
         if message.command is not None and attempt.command is None:
@@ -290,7 +290,7 @@ class Handovers:
         connection.algorithms = message.algorithms or connection.algorithms
         self.x2[*way, message.old_x2] = (connection, attempt)
 
-    def x2_rest(self, message: Message, pair: Pair | None) -> None:
+    def x2_rest(self, message: Message, pair: PreparedAttempt | None) -> None:
         if pair is not None:
             self.belongs(*pair)
         if pair is None or pair[1].over:
@@ -343,7 +343,7 @@ class Handovers:
         waiting = [pair for pair in self.commands if not pair[1].aired]
         same = [pair for pair in waiting if pair[1].command is not None and pair[1].command.octets == told.octets and told.octets]
 
-        def alike(pair: Pair) -> int:
+        def alike(pair: PreparedAttempt) -> int:
             cell = pair[1].cell or (None, None)
             return 2 * (cell[0] == told.pci) + (told.earfcn in (None, cell[1])) + (told.ncc in pair[1].nccs) + 2 * (pair[1].change == told.key_change)
 

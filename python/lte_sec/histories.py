@@ -40,7 +40,7 @@ class Chain:
 
 
 @dataclass(frozen=True, slots=True)
-class Phone:
+class PhoneKeys:
     """The phone's key in use with its NCC, and its own chain. A key without octets is not known."""
 
     key: Key
@@ -48,16 +48,16 @@ class Phone:
     chain: Chain
     lost: bool = False  # a handover was not seen, so that NCC and key may be others
 
-    def takes(self, derivations: Derivations, ncc: int, cell: Radio) -> Phone:
+    def takes(self, derivations: Derivations, ncc: int, cell: Radio) -> PhoneKeys:
         """What the phone makes of a command with this NCC and cell (TS 33.401 7.2.8.4.4, TS 36.331 5.3.5.4)."""
         if ncc == self.ncc:
             return replace(self, key=derivations.star(self.key, *cell)) if self.key.value else self
         chain = self.chain.step(derivations)
         while chain.ncc != ncc % CHAIN:
             chain = chain.step(derivations)
-        return Phone(derivations.star(chain.sync, *cell), ncc, chain, self.lost)
+        return PhoneKeys(derivations.star(chain.sync, *cell), ncc, chain, self.lost)
 
-    def away(self) -> Phone:
+    def away(self) -> PhoneKeys:
         """The phone where the trace shows nothing of it: its key is not known."""
         return replace(self, key=UNKNOWN_KEY, lost=True)
 
@@ -85,7 +85,7 @@ class History:
 
     core: Chain | None = None
     held: Held = field(default_factory=Held)
-    phone: Phone | None = None
+    phone: PhoneKeys | None = None
     is_old: bool = False  # it goes on from before a key change that has no answer yet
 
     def refreshed(self, derivations: Derivations, cell: Radio) -> History:
@@ -107,6 +107,6 @@ def merged(found: Iterable[History]) -> list[History]:
     return list(islice(dict.fromkeys(found), MOST)) or [History()]
 
 
-def renewed(derivations: Derivations, kenb: Key, cell: Radio | None = None) -> Phone:
+def renewed(derivations: Derivations, kenb: Key, cell: Radio | None = None) -> PhoneKeys:
     """The phone that took a KeNB from its KASME: at a connection, or with a cell at a key change (TS 33.401 7.2.9.2)."""
-    return Phone(derivations.star(kenb, *cell) if cell else kenb, 0, Chain(kenb.kasme, kenb))
+    return PhoneKeys(derivations.star(kenb, *cell) if cell else kenb, 0, Chain(kenb.kasme, kenb))

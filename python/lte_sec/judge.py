@@ -5,7 +5,7 @@ from dataclasses import replace
 
 from .cells import RANGES, Site, is_cell
 from .decoding import Command, Message, title
-from .histories import Held, History, Pair, Phone, Radio, renewed
+from .histories import Held, History, Pair, PhoneKeys, Radio, renewed
 from .moves import ANYWHERE
 from .prepared import PreparedJudge
 from .report import DIFFERS, RIGHT, UNKNOWN, Line, unknown_line
@@ -143,7 +143,7 @@ class KeyJudge(PreparedJudge):
         attempt.doubt = attempt.doubt or "the command does not decode"
         self.agreement(connection, attempt)
 
-    def phone_behind(self, connection: Connection, one: History, attempt: Attempt, held: Held) -> Phone | None:
+    def phone_behind(self, connection: Connection, one: History, attempt: Attempt, held: Held) -> PhoneKeys | None:
         """What the phone of a history has behind a handover: it takes what its command said, or else what the target was given."""
         ncc, cell, key_change = attempt.heard or (held.ncc, attempt.cell, False)
         kenbs = self.wanted_kenbs(connection) if key_change else []
@@ -152,7 +152,7 @@ class KeyJudge(PreparedJudge):
         made = renewed(self.derivations, kenbs[0], cell) if kenbs else one.phone.takes(self.derivations, ncc, cell)
         return replace(made, lost=False) if made.lost and made.key.value == held.key.value else made
 
-    def agreement(self, connection: Connection, attempt: Attempt, taken: Phone | None = None) -> None:
+    def agreement(self, connection: Connection, attempt: Attempt, taken: PhoneKeys | None = None) -> None:
         """The line that says whether phone and target have one key: what was sent to the target, and what the phone takes of the likeliest
         history; `taken` is what it takes at a key change."""
         if attempt.told or not attempt.given:

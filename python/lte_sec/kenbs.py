@@ -2,10 +2,10 @@
 from __future__ import annotations
 
 from . import reasons
-from .contexts import NasContext, Trigger
+from .contexts import EpsSecurityContext, Trigger
 from .coverage import UP as FROM_STATION
 from .decoding import Message, title
-from .histories import Chain, Held, History, Phone, merged
+from .histories import Chain, Held, History, PhoneKeys, merged
 from .keylines import KeyLines
 from .nas import LOST_MODE, NOT_GIVEN
 from .report import DIFFERS
@@ -108,7 +108,7 @@ class KenbJudge(KeyLines):
             return None
         found = self.moves.of_kenb(connection, value)
         if found is not None:
-            context = self.book.contexts.setdefault(found.kasme, NasContext(found.kasme, guessed=True))
+            context = self.book.contexts.setdefault(found.kasme, EpsSecurityContext(found.kasme, guessed=True))
             self.book.follows(connection.side.current, context)
             connection.side.current, connection.side.pending, connection.side.away = context, None, False
         return found
@@ -134,7 +134,7 @@ class KenbJudge(KeyLines):
         for kasme in self.book.unused():
             for count in range(FEW):
                 if self.derivations.calls.kenb(self.derivations.kasmes[kasme].value, count) == value:
-                    context = NasContext(kasme, guessed=True)
+                    context = EpsSecurityContext(kasme, guessed=True)
                     self.book.follows(side.current, context)
                     self.book.contexts[kasme] = side.current = context
                     side.pending, side.authenticated, side.established = None, False, True
@@ -148,7 +148,7 @@ class KenbJudge(KeyLines):
         kasmes = [trigger.context.kasme] if trigger and trigger.context.given else []
         return [Chain(kasme, key) for kasme in dict.fromkeys([*kasmes, key.kasme]) if kasme >= 0]
 
-    def begun(self, connection: Connection, keys: list[Key], held: list[Held], phone: Phone | None) -> list[History]:
+    def begun(self, connection: Connection, keys: list[Key], held: list[Held], phone: PhoneKeys | None) -> list[History]:
         """The histories behind a KeNB that was one of these, and what the station makes of each: core and station go on from the same one,
         or from two where the message alone was wrong."""
         chains: dict[int, list[Chain | None]] = {place: [*self.chains(connection, key)] or [None] for place, key in enumerate(keys)}

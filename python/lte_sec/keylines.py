@@ -9,7 +9,7 @@ from .decoding import Command, Message, title
 from .histories import Radio
 from .moves import Moves
 from .report import Line, key_line, note_line, unknown_line
-from .search import Search
+from .search import DerivationSearch
 from .service import ServiceBook
 from .state import Connection
 from .terms import NONE, UP, Key, counted
@@ -21,7 +21,7 @@ OTHERS = 16  # contexts of other phones whose KeNBs are at hand for the search
 class KeyLines:
     """What judges of keys share: what is known of the trace, and the lines so far."""
 
-    def __init__(self, book: ServiceBook, cells: Cells, search: Search, firsts: dict[str, int], coverage: Coverage):
+    def __init__(self, book: ServiceBook, cells: Cells, search: DerivationSearch, firsts: dict[str, int], coverage: Coverage):
         self.book, self.cells, self.search, self.firsts, self.coverage = book, cells, search, firsts, coverage
         self.moves = Moves(book, cells, coverage)
         self.replies: dict[int, Command] = {}  # what the target of a handover over X2 answers, by its request

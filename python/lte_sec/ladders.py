@@ -13,7 +13,7 @@ HOLDERS = {"P": "phone", "C": "core", "S": "station "}
 
 
 @dataclass
-class Row:
+class LadderRow:
     """A row: its number, its word (root, kenb, nh, star, alg) with its values, the row that it is derived from, its octets and holders."""
 
     number: int
@@ -23,8 +23,8 @@ class Row:
     key: str
     holders: str
     chain: int = 0  # the number of an NH in its chain
-    algs: list[Row] = field(default_factory=list)
-    stars: list[Row] = field(default_factory=list)
+    algs: list[LadderRow] = field(default_factory=list)
+    stars: list[LadderRow] = field(default_factory=list)
 
     @property
     def above(self) -> int | None:
@@ -58,9 +58,9 @@ def algorithm(values: list[str]) -> str:
     return f"{NAMES[values[1]]}, {'EIA' if values[1] in '24' else 'EEA'}{values[2]}"
 
 
-def rows_of(report: Iterable[str]) -> dict[int, Row]:
+def rows_of(report: Iterable[str]) -> dict[int, LadderRow]:
     """The rows of a report by their numbers."""
-    rows: dict[int, Row] = {}
+    rows: dict[int, LadderRow] = {}
     for line in report:
         if not line.startswith("row "):
             continue
@@ -68,7 +68,7 @@ def rows_of(report: Iterable[str]) -> dict[int, Row]:
         if found is None:
             raise ValueError(f"this is not a row of a report: {line}")
         values = found[3].split(",") if found[3] else []
-        row = Row(int(found[1]), found[2], values, int(values[0]) if values else None, found[4], found[5])
+        row = LadderRow(int(found[1]), found[2], values, int(values[0]) if values else None, found[4], found[5])
         rows[row.number] = row
         if row.word == "alg" and row.parent is not None:
             rows[row.parent].algs.append(row)
@@ -79,7 +79,7 @@ def rows_of(report: Iterable[str]) -> dict[int, Row]:
     return rows
 
 
-def title_of(row: Row, chain: int) -> str:
+def title_of(row: LadderRow, chain: int) -> str:
     """A row in words; `chain` is the number of the NH that its key comes of."""
     if row.word == "root":
         return "KASME"
@@ -90,6 +90,6 @@ def title_of(row: Row, chain: int) -> str:
     return f"KeNB*, PCI {row.values[1]}, EARFCN {row.values[2]}"
 
 
-def names_of(rows: Iterable[Row]) -> dict[str, str]:
+def names_of(rows: Iterable[LadderRow]) -> dict[str, str]:
     """Of each key its kind and its row."""
     return {row.key: f"{KINDS.get(row.word, row.word)} {row.number}" for row in rows}

@@ -11,7 +11,7 @@ from ctypes import byref, c_size_t, c_uint32
 from dataclasses import dataclass
 from typing import Any
 
-from .native import DrbState, Found, NasState, PhoneState, ReachedState, SrbState, calls
+from .native import DrbState, FoundState, NasState, PhoneState, ReachedState, SrbState, calls
 from .refusals import MAC_FAILS, BadHeader, BeforeFirst, CountSpent, MacFails, OtherCount, OutOfRange, Refused, Short
 from .refusals import checked_key, checked_number, key_octets, raises
 
@@ -160,7 +160,7 @@ class _Context:
         return out.raw[: written.value]
 
     def _opens(self, call: str, numbers: tuple[int, ...], pdu: bytes) -> Opened:
-        out, found = ctypes.create_string_buffer(max(len(pdu), 1)), Found()
+        out, found = ctypes.create_string_buffer(max(len(pdu), 1)), FoundState()
         opens = getattr(calls, f"ltesec_{self._kind}_{call}")
         status = opens(byref(self._held), *map(checked_number, numbers), bytes(pdu), len(pdu), out, len(out), byref(found))
         raises(status, found)
@@ -238,7 +238,7 @@ class DrbContext(_Context):
         """Opens a PDU on RLC AM by the reordering window (5.1.2.1.2): `fate` says what becomes of it, and a new one moves the next COUNT.
 
         `last` is Last_Submitted_PDCP_RX_SN: the sequence number of the last text handed on, and at first the greatest one."""
-        out, found, fate = ctypes.create_string_buffer(max(len(pdu), 1)), Found(), c_uint32()
+        out, found, fate = ctypes.create_string_buffer(max(len(pdu), 1)), FoundState(), c_uint32()
         numbers = checked_number(last), checked_number(direction)
         raises(calls.ltesec_drb_receive_am(byref(self._held), *numbers, bytes(pdu), len(pdu), out, len(out), byref(found), byref(fate)), found)
         return Opened(out.raw[: found.length], found.count, 0, False, fate.value)
@@ -258,7 +258,7 @@ def check_service_request(int_key: bytes, next: int, request: bytes, eia: int = 
     """The COUNT of a Service Request: the least at or above `next` with its 5 bits, where its short MAC is right."""
     if len(request) != 4:
         raise Short("a Service Request has four octets")
-    found = Found()
+    found = FoundState()
     status = calls.ltesec_service_request_check(checked_number(eia), checked_key(int_key), checked_number(next), bytes(request), byref(found))
     if status == MAC_FAILS:
         raise MacFails(found.count, bytes(found.wanted)[:2], bytes(found.got)[:2])

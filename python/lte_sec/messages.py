@@ -55,7 +55,7 @@ def nas_name(text: str) -> str:
 
 
 @dataclass(frozen=True, slots=True)
-class Note:
+class NotedKey:
     """A key that an actor came by, or tells: its octets, how it was come by, and its NCC."""
 
     key: str
@@ -64,19 +64,19 @@ class Note:
 
 
 @dataclass(frozen=True, slots=True)
-class Line:
+class StepLine:
     """A line of a report: who took the step, the answer, the record sent and its kind, the note and the text."""
 
     who: str
     answer: str
     sent: int | None
     kind: str
-    note: Note | None
+    note: NotedKey | None
     text: str | None
     alarm: bool
 
     @classmethod
-    def read(cls, line: str) -> Line | None:
+    def read(cls, line: str) -> StepLine | None:
         """The line of a step, or None where it is another one."""
         found = LINE.match(line)
         if not found:
@@ -84,7 +84,7 @@ class Line:
         _, who, answer, rest = found.groups()
         sent, note, text = SENT.search(rest), NOTE.search(rest), TEXT.search(rest)
         return cls(
-            who, answer, int(sent[1]) if sent else None, sent[2] if sent else "", Note(note[3], note[2], note[1]) if note else None,
+            who, answer, int(sent[1]) if sent else None, sent[2] if sent else "", NotedKey(note[3], note[2], note[1]) if note else None,
             text[1] if text else None, rest.endswith(" alarm"),
         )
 
@@ -95,7 +95,7 @@ class Names:
     def __init__(self) -> None:
         self.origins: dict[tuple[str, str], str] = {}
 
-    def of(self, line: Line, cause: str) -> str:
+    def of(self, line: StepLine, cause: str) -> str:
         """What a step sends, by its line and by what brought it: an act, or the name of the message that came."""
         if line.note:
             self.origins.setdefault((line.who, line.note.key), cause)

@@ -6,7 +6,7 @@ from collections.abc import Iterator
 
 from lte_sec import frames, reasons, records, scenarios, unsealed
 from lte_sec.derive import Calc, proved_calls
-from lte_sec.ladders import Row, rows_of
+from lte_sec.ladders import LadderRow, rows_of
 from lte_sec.network import NoRecord
 from lte_sec.peers import PeerFault
 from lte_sec.terms import TraceError
@@ -14,13 +14,13 @@ from lte_sec.terms import TraceError
 STARRED = ("kenb", "nh", "star")  # rows of keys that a KeNB* is made of
 
 
-def rows_by_run(program: str, scenario: bytes) -> dict[int, Row]:
+def rows_by_run(program: str, scenario: bytes) -> dict[int, LadderRow]:
     """The rows of the ladder, by number, of the run of a scenario; none where it does not end."""
     ran = subprocess.run([program, "run"], input=scenario, stdout=subprocess.PIPE, stderr=subprocess.DEVNULL)
     return {row.number: row for row in rows_of(ran.stdout.decode(errors="replace").splitlines()).values()} if ran.returncode == 0 else {}
 
 
-def of_key(rows: dict[int, Row], row: Row, value: bytes) -> str:
+def of_key(rows: dict[int, LadderRow], row: LadderRow, value: bytes) -> str:
     """The mistake by which these octets stand in the place of this row's key, or nothing."""
     above = bytes.fromhex(rows[row.parent].key) if row.parent is not None else b""
     numbers = [int(number) for number in row.values[1:]]
@@ -35,7 +35,7 @@ def of_key(rows: dict[int, Row], row: Row, value: bytes) -> str:
     return found or next((told for told, made in of_another(rows, row) if made == value), "")
 
 
-def of_another(rows: dict[int, Row], row: Row) -> Iterator[tuple[str, bytes]]:
+def of_another(rows: dict[int, LadderRow], row: LadderRow) -> Iterator[tuple[str, bytes]]:
     """The same derivation of another key of the run; of a KeNB* also with another PCI or EARFCN-DL of the run."""
     stars = [one.values[1:] for one in rows.values() if one.word == "star"]
     inputs = list(dict.fromkeys((pci, earfcn) for pci, _ in stars for _, earfcn in stars)) if row.word == "star" else [(row.values[1], row.values[2])]
@@ -65,7 +65,7 @@ def of_reply(program: str, scenario: bytes, step: int | None, wanted: bytes, got
     return of_keys(rows, want, have, actor.split()[0]) if is_of_key else of_message(program, scenario, rows, step, want, have, actor)
 
 
-def of_keys(rows: dict[int, Row], want: frames.Reply, have: frames.Reply, role: str) -> list[str]:
+def of_keys(rows: dict[int, LadderRow], want: frames.Reply, have: frames.Reply, role: str) -> list[str]:
     """The mistake of the first key that differs, by the name of that key."""
     names = records.derivation_names(role, want)
     by_key = {row.key: row for row in rows.values()}
@@ -77,14 +77,14 @@ def of_keys(rows: dict[int, Row], want: frames.Reply, have: frames.Reply, role: 
     return []
 
 
-def of_message(program: str, scenario: bytes, rows: dict[int, Row], step: int | None, want: frames.Reply, have: frames.Reply, actor: str) -> list[str]:
+def of_message(program: str, scenario: bytes, rows: dict[int, LadderRow], step: int | None, want: frames.Reply, have: frames.Reply, actor: str) -> list[str]:
     """The mistake of a record, or of a refusal for its MAC."""
     if step is None or not rows or not unsealed.is_protected(want, have):
         return []
     calls = None
     try:
         whole, calls = scenarios.read(scenario), proved_calls()
-        return unsealed.mistakes(calls, unsealed.Step(program, rows, whole, step, actor), want, have)
+        return unsealed.mistakes(calls, unsealed.ActorStep(program, rows, whole, step, actor), want, have)
     except (scenarios.NoScenario, TraceError, PeerFault, NoRecord, frames.BadFrame, LookupError, TypeError, ValueError):
         return []  # without a mistake the difference is told all the same
     finally:

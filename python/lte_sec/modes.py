@@ -3,7 +3,7 @@ from __future__ import annotations
 
 from dataclasses import replace
 
-from .contexts import COMMAND, COMPLETE, FOREIGN, NasContext, NasSeen, NasSide
+from .contexts import COMMAND, COMPLETE, FOREIGN, EpsSecurityContext, NasSeen, NasSide
 from .nas import AHEAD, Later, NasBook, is_protected
 from .plain import EMM, MODE_COMMAND, NO_KEY, capability_fault, of_octets, replayed
 from .terms import COMPUTED, DOWN, UP
@@ -21,10 +21,10 @@ class ModeBook(NasBook):
         eea, eia = octet >> 4 & 7, octet & 7
         side.commands += 1
         if eia == 0:
-            side.pending = NasContext(FOREIGN, eea, 0, ksi)
+            side.pending = EpsSecurityContext(FOREIGN, eea, 0, ksi)
             right = pdu[1:5] == bytes(4)
             return self.found(side, side.pending, DOWN, pdu, seq) if right else self.refused(side.pending, DOWN, pdu, seq)
-        fresh = [NasContext(kasme, eea, eia, ksi) for kasme in self.kasmes()]
+        fresh = [EpsSecurityContext(kasme, eea, eia, ksi) for kasme in self.kasmes()]
         context = next((one for one in fresh if self.judged(one) and self.has_mac(one, DOWN, seq, pdu)), None)
         old = self.contexts.get(context.kasme) if context else side.current
         if old is not None and old.given and eia in COMPUTED:  # a context in use may go on under other algorithms: its COUNTs do too
@@ -44,12 +44,12 @@ class ModeBook(NasBook):
             seen.blame(f"COUNT differs: is {seen.count}, where a KASME begins at 0")
         return seen
 
-    def wrong_command(self, side: NasSide, pdu: bytes, fresh: list[NasContext], ksi: int | None, later: Later) -> NasSeen:
+    def wrong_command(self, side: NasSide, pdu: bytes, fresh: list[EpsSecurityContext], ksi: int | None, later: Later) -> NasSeen:
         """A Command under no KASME that was given, unless what follows it stands under one."""
         context = next((one for one in fresh if self.evidence(side, one, later)), None)
         side.authenticated = False
         if context is None:
-            side.pending = NasContext(FOREIGN, fresh[0].eea if fresh else 2, fresh[0].eia if fresh else 2, ksi)
+            side.pending = EpsSecurityContext(FOREIGN, fresh[0].eea if fresh else 2, fresh[0].eia if fresh else 2, ksi)
             return self.nothing(DOWN, pdu)
         side.pending = context
         context.next[DOWN] = pdu[5] + 1
@@ -58,7 +58,7 @@ class ModeBook(NasBook):
             context.ksi, context.guessed = None, True
         return seen
 
-    def evidence(self, side: NasSide, context: NasContext, later: Later) -> bool:
+    def evidence(self, side: NasSide, context: EpsSecurityContext, later: Later) -> bool:
         """Whether what comes later in the connection stands under this new context; a MAC that is right tells its algorithm.
 
         What stands under the context in use says nothing of a new one, and a KeNB of neither says that the Command brought another KASME.
@@ -82,7 +82,7 @@ class ModeBook(NasBook):
                 break  # the Complete of another KASME: what comes behind it stands under that
         return False
 
-    def commanded(self, side: NasSide, context: NasContext, plain: bytes, seen: NasSeen) -> None:
+    def commanded(self, side: NasSide, context: EpsSecurityContext, plain: bytes, seen: NasSeen) -> None:
         """What a Security Mode Command says beside its COUNT: algorithms, KSI and replayed capabilities."""
         back = replayed(plain)
         for fault in (capability_fault(side, plain), *algorithm_faults(side, context), ksi_fault(side, plain[3] & 7 if len(plain) > 3 else None)):
@@ -97,7 +97,7 @@ class ModeBook(NasBook):
             else:
                 seen.warning = "EIA0 outside an emergency call, which TS 33.401 5.1.4.2 does not allow"
 
-    def completed(self, side: NasSide, context: NasContext, count: int) -> list[str]:
+    def completed(self, side: NasSide, context: EpsSecurityContext, count: int) -> list[str]:
         """What is wrong with a Complete: it stands under the context that its Command brought, at one of its first COUNTs (5.4.3.3)."""
         brought, commands, begins = side.pending, side.commands, side.fresh
         side.commands, side.fresh = 0, False
@@ -109,7 +109,7 @@ class ModeBook(NasBook):
         return []
 
 
-def algorithm_faults(side: NasSide, context: NasContext) -> list[str]:
+def algorithm_faults(side: NasSide, context: EpsSecurityContext) -> list[str]:
     """Algorithms that the phone did not say it has (TS 33.401 7.2.4.4)."""
     told = side.told
     if told is None or len(told) < 2:

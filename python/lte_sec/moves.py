@@ -9,9 +9,9 @@ from collections.abc import Iterator
 from dataclasses import replace
 
 from .cells import Cells
-from .contexts import NasContext
+from .contexts import EpsSecurityContext
 from .coverage import Coverage
-from .histories import UNKNOWN_KEY, Chain, Held, History, Phone, Radio, renewed
+from .histories import UNKNOWN_KEY, Chain, Held, History, PhoneKeys, Radio, renewed
 from .service import ServiceBook
 from .state import Connection
 from .terms import Key
@@ -55,7 +55,7 @@ class Moves:
         """The KeNBs that a connection or key change may have brought that the trace does not show: none that was sent before."""
         side, book = connection.side, self.book
         at_hand = side.pending, side.current, side.trigger.context if side.trigger else None
-        contexts: list[NasContext] = [one for one in at_hand if one is not None and one.given]
+        contexts: list[EpsSecurityContext] = [one for one in at_hand if one is not None and one.given]
         in_use = dict.fromkeys([*(chain.kasme for chain in connection.cores()), *(one.kasme for one in contexts)])
         tried: dict[tuple[int, int], None] = {}
         for kasme in in_use:
@@ -76,11 +76,11 @@ class Moves:
         """One to eight steps of a chain, each NH stored, or in use for a cell."""
         for _ in range(STEPS):
             before, chain = chain, chain.step(self.derivations)
-            phone = Phone(UNKNOWN_KEY, before.ncc, before, True)
+            phone = PhoneKeys(UNKNOWN_KEY, before.ncc, before, True)
             yield History(chain, Held(UNKNOWN_KEY, before.ncc, (chain.sync, chain.ncc)), phone)
             for cell in cells:
                 key = self.derivations.star(chain.sync, *cell)
-                yield History(chain, Held(key, chain.ncc), Phone(key, chain.ncc, chain))
+                yield History(chain, Held(key, chain.ncc), PhoneKeys(key, chain.ncc, chain))
 
     def unseen(self, connection: Connection) -> Iterator[History]:
         """The histories of a phone that was where S1 is not covered."""
@@ -116,7 +116,7 @@ class Moves:
             for _ in range(STEPS + 1):
                 before, chain = chain, chain.step(self.derivations)
                 if chain.sync.value == nh and chain.ncc == ncc:
-                    return History(chain, Held(UNKNOWN_KEY, before.ncc), Phone(UNKNOWN_KEY, before.ncc, before, True))
+                    return History(chain, Held(UNKNOWN_KEY, before.ncc), PhoneKeys(UNKNOWN_KEY, before.ncc, before, True))
         return None
 
     def of_star(self, connection: Connection, key: bytes, ncc: int, cell: Radio) -> History | None:

@@ -10,7 +10,7 @@ from collections.abc import Callable, Iterable
 from dataclasses import replace
 
 from . import reasons
-from .contexts import CIPHERED, COMMAND, COMPLETE, FOREIGN, PARTLY, PLAIN, SERVICE_REQUEST, NasContext, NasSeen, NasSide, Trigger
+from .contexts import CIPHERED, COMMAND, COMPLETE, FOREIGN, PARTLY, PLAIN, SERVICE_REQUEST, EpsSecurityContext, NasSeen, NasSide, Trigger
 from .counts import WRAP, Effort, estimate, near
 from .plain import EMM, ESM, MODE_COMMAND, learn, plain_verdict
 from .report import DIFFERS, RIGHT, UNKNOWN
@@ -45,7 +45,7 @@ class NasBook:
         effort = 10 * derivations.calls.budget if effort is None else effort
         self.effort, self.cold = Effort(effort), Effort(effort, 4)  # for contexts that are known, and for those that began before the trace
         self.rare = Effort(effort // RARE, 4)  # for these under another algorithm than the usual one
-        self.contexts: dict[int, NasContext] = {}
+        self.contexts: dict[int, EpsSecurityContext] = {}
         self.phones: dict[int, int] = {}  # KASME by M-TMSI
         self.tmsis: dict[int, set[int]] = {}
         self.turn = 0  # KASMEs are mostly given in the order of their authentications, so the search goes on from the last
@@ -61,17 +61,17 @@ class NasBook:
 
     # -- MACs and texts
 
-    def mac(self, context: NasContext, direction: int, count: int, body: bytes) -> bytes:
+    def mac(self, context: EpsSecurityContext, direction: int, count: int, body: bytes) -> bytes:
         """The MAC of a message; EIA0 has zeros (TS 33.401 B.1)."""
         if context.eia == 0:
             return bytes(4)
         key = self.derivations.nas_key(context.kasme, NAS_INTEGRITY, context.eia)
         return self.derivations.macs[context.eia](key, count, 0, direction, body)
 
-    def has_mac(self, context: NasContext, direction: int, count: int, pdu: bytes) -> bool:
+    def has_mac(self, context: EpsSecurityContext, direction: int, count: int, pdu: bytes) -> bool:
         return self.mac(context, direction, count, pdu[5:]) == pdu[1:5]
 
-    def text(self, context: NasContext, direction: int, count: int, pdu: bytes) -> bytes | None:
+    def text(self, context: EpsSecurityContext, direction: int, count: int, pdu: bytes) -> bytes | None:
         """The text of a message, deciphered; None where that is not computed here."""
         header = pdu[0] >> 4
         if header in CIPHERED and context.guessed and context.given:
@@ -80,11 +80,11 @@ class NasBook:
             return pdu[6:]
         return self.deciphered(context, direction, count, pdu) if header != PARTLY and context.eea in COMPUTED and context.given else None
 
-    def deciphered(self, context: NasContext, direction: int, count: int, pdu: bytes) -> bytes:
+    def deciphered(self, context: EpsSecurityContext, direction: int, count: int, pdu: bytes) -> bytes:
         key = self.derivations.nas_key(context.kasme, NAS_ENCRYPTION, context.eea)
         return self.derivations.enciphers[context.eea](key, count, 0, direction, pdu[6:])
 
-    def guess(self, context: NasContext, direction: int, count: int, pdu: bytes) -> None:
+    def guess(self, context: EpsSecurityContext, direction: int, count: int, pdu: bytes) -> None:
         """The ciphering of a context whose Command the trace lacks: that under which the text reads as a NAS message (9.2)."""
         for reads in (is_emm, is_nas):
             for eea in (*COMPUTED, 0):
@@ -93,17 +93,17 @@ class NasBook:
                     return
         context.eea = COMPUTED[0]
 
-    def judged(self, context: NasContext) -> bool:
+    def judged(self, context: EpsSecurityContext) -> bool:
         """Whether the MACs of a context are computed here."""
         return context.eia in COMPUTED and context.given or context.eia == 0
 
-    def opens(self, context: NasContext, direction: int, pdu: bytes) -> int | None:
+    def opens(self, context: EpsSecurityContext, direction: int, pdu: bytes) -> int | None:
         """The COUNT near the next one under which the MAC is right, or None."""
         if not self.judged(context):
             return None
         return next((count for count in near(context, direction, pdu[5]) if self.has_mac(context, direction, count, pdu)), None)
 
-    def accept(self, side: NasSide, context: NasContext, direction: int, count: int, pdu: bytes, first: bool = False) -> str:
+    def accept(self, side: NasSide, context: EpsSecurityContext, direction: int, count: int, pdu: bytes, first: bool = False) -> str:
         """Takes a message whose MAC is right; answers a remark, which begins with `COUNT` where a COUNT was used twice.
 
         The same octets come again only at the newest COUNT, in their connection; a first message up also in another (TS 24.301 4.4.3.2).
@@ -149,10 +149,10 @@ class NasBook:
     def command(self, side: NasSide, pdu: bytes, later: Later) -> NasSeen:
         raise NotImplementedError  # this and the next two are of `ModeBook`
 
-    def commanded(self, side: NasSide, context: NasContext, plain: bytes, seen: NasSeen) -> None:
+    def commanded(self, side: NasSide, context: EpsSecurityContext, plain: bytes, seen: NasSeen) -> None:
         raise NotImplementedError
 
-    def completed(self, side: NasSide, context: NasContext, count: int) -> list[str]:
+    def completed(self, side: NasSide, context: EpsSecurityContext, count: int) -> list[str]:
         raise NotImplementedError
 
     def reserved(self, seen: NasSeen) -> None:
@@ -168,7 +168,7 @@ class NasBook:
         verdict, why = found
         return NasSeen(direction, PLAIN, verdict, plain=pdu, note=why if verdict == UNKNOWN else "", faults=[why] if verdict == DIFFERS else [])
 
-    def found(self, side: NasSide, context: NasContext, direction: int, pdu: bytes, count: int, note: str = "") -> NasSeen:
+    def found(self, side: NasSide, context: EpsSecurityContext, direction: int, pdu: bytes, count: int, note: str = "") -> NasSeen:
         """The finding for a message whose MAC is right under a context and COUNT."""
         header, is_first = pdu[0] >> 4, direction == UP and side.initial and side.messages == 1
         note = self.accept(side, context, direction, count, pdu, is_first) or note
@@ -191,7 +191,7 @@ class NasBook:
         seen.verdict = DIFFERS if seen.faults else RIGHT
         return seen
 
-    def header_wanted(self, side: NasSide, context: NasContext, direction: int, pdu: bytes, plain: bytes | None, is_first: bool) -> int:
+    def header_wanted(self, side: NasSide, context: EpsSecurityContext, direction: int, pdu: bytes, plain: bytes | None, is_first: bool) -> int:
         """The header type that a message must have (TS 24.301 4.4.5, 5.4.3); where several may stand, its own."""
         header, text = pdu[0] >> 4, pdu[6:8] if pdu[0] >> 4 == PARTLY else (plain or b"")[:2]
         kind = text[1] if len(text) == 2 and text[0] == EMM else None
@@ -206,13 +206,13 @@ class NasBook:
         told = context.eea and not context.guessed
         return 2 if header == 1 and not is_first and side.ciphered and told else header
 
-    def learn(self, side: NasSide, context: NasContext, direction: int, plain: bytes) -> None:
+    def learn(self, side: NasSide, context: EpsSecurityContext, direction: int, plain: bytes) -> None:
         learn(side, direction, plain)
         if direction == DOWN and plain[:2] in WITH_GUTI:
             for tmsi in GUTI.findall(plain):
                 self.knows(int.from_bytes(tmsi, "big"), context.kasme)
 
-    def refused(self, context: NasContext, direction: int, pdu: bytes, count: int, note: str = "") -> NasSeen:
+    def refused(self, context: EpsSecurityContext, direction: int, pdu: bytes, count: int, note: str = "") -> NasSeen:
         """The finding for a message whose MAC is wrong at the COUNT that its receiver takes."""
         header = pdu[0] >> 4
         if not self.judged(context):
@@ -226,7 +226,7 @@ class NasBook:
     def nothing(self, direction: int, pdu: bytes, why: str = NOT_GIVEN) -> NasSeen:
         return NasSeen(direction, pdu[0] >> 4, UNKNOWN, pdu[1:5].hex(), note=why)
 
-    def under(self, context: NasContext, direction: int, count: int, pdu: bytes) -> NasContext | None:
+    def under(self, context: EpsSecurityContext, direction: int, count: int, pdu: bytes) -> EpsSecurityContext | None:
         """The context with the integrity algorithm under which the MAC of a message is right: its own first, then the others."""
         order = sorted(COMPUTED, key=lambda eia: eia != context.eia)
         return next((one for one in (replace(context, eia=eia) for eia in order) if self.has_mac(one, direction, count, pdu)), None)
@@ -263,7 +263,7 @@ class NasBook:
             return self.refused(context, direction, pdu, count)
         return self.unopened(side, context, direction, pdu, complete, later)
 
-    def fewer(self, side: NasSide, context: NasContext, direction: int, pdu: bytes, count: int, later: Later) -> int | None:
+    def fewer(self, side: NasSide, context: EpsSecurityContext, direction: int, pdu: bytes, count: int, later: Later) -> int | None:
         """The COUNT that is due, where a message with a wrong MAC there has no more faults than one at the COUNT that its MAC has.
 
         At its own COUNT a message may have been used with other octets, its text may not read, and KeNB may be of another COUNT; at the one
@@ -281,7 +281,7 @@ class NasBook:
 
         return due if 1 + faults(due) <= (before is not None) + faults(count) else None
 
-    def settled(self, side: NasSide, context: NasContext, direction: int, pdu: bytes, count: int, note: str = "") -> NasSeen:
+    def settled(self, side: NasSide, context: EpsSecurityContext, direction: int, pdu: bytes, count: int, note: str = "") -> NasSeen:
         """The finding for a right message, which may establish the secure exchange (TS 24.301 4.4.2.3)."""
         seen = self.found(side, context, direction, pdu, count, note)
         if direction == DOWN or pdu[0] >> 4 == COMPLETE:
@@ -289,7 +289,7 @@ class NasBook:
             side.ciphered |= pdu[0] >> 4 in CIPHERED
         return seen
 
-    def foreign(self, side: NasSide, context: NasContext, direction: int, pdu: bytes, complete: bool) -> NasSeen:
+    def foreign(self, side: NasSide, context: EpsSecurityContext, direction: int, pdu: bytes, complete: bool) -> NasSeen:
         """A message under a KASME that was not given."""
         self.takes(side, context, complete, direction, (), complete)
         side.completed |= complete
@@ -304,14 +304,14 @@ class NasBook:
         side.missed += 1
         return self.nothing(direction, pdu)
 
-    def lost_mode(self, direction: int, pdu: bytes) -> tuple[NasContext, int] | None:
+    def lost_mode(self, direction: int, pdu: bytes) -> tuple[EpsSecurityContext, int] | None:
         """The new context of a message whose Security Mode exchange the trace lacks, and its COUNT: those of an authentication begin at 0."""
         if pdu[5] >= NEW:
             return None
-        found = (self.under(NasContext(kasme, guessed=True), direction, pdu[5], pdu) for kasme in self.unused())
+        found = (self.under(EpsSecurityContext(kasme, guessed=True), direction, pdu[5], pdu) for kasme in self.unused())
         return next(((one, pdu[5]) for one in found if one is not None), None)
 
-    def renewed(self, side: NasSide, context: NasContext, count: int, direction: int, pdu: bytes) -> NasSeen:
+    def renewed(self, side: NasSide, context: EpsSecurityContext, count: int, direction: int, pdu: bytes) -> NasSeen:
         """A message under a context whose Security Mode exchange the trace lacks, or only its Command."""
         complete = direction == UP and pdu[0] >> 4 == COMPLETE
         self.follows(side.current, context)
@@ -321,7 +321,7 @@ class NasBook:
         side.established = True
         return self.settled(side, context, direction, pdu, count, "" if complete else LOST_MODE)
 
-    def unopened(self, side: NasSide, context: NasContext, direction: int, pdu: bytes, complete: bool, later: Later) -> NasSeen:
+    def unopened(self, side: NasSide, context: EpsSecurityContext, direction: int, pdu: bytes, complete: bool, later: Later) -> NasSeen:
         """A message that does not open near the COUNTs of the context in use: a fault, a gap in the trace, or another context."""
         count = estimate(context.next[direction], pdu[5])
         same, other, failing = self.ahead(context, direction, pdu, later)
@@ -345,23 +345,23 @@ class NasBook:
         self.takes(side, context, complete, direction, (count,), False)
         return self.refused(context, direction, pdu, count, self.whose(context, direction, pdu, count))
 
-    def came_back(self, side: NasSide, context: NasContext, direction: int, pdu: bytes) -> NasSeen:
+    def came_back(self, side: NasSide, context: EpsSecurityContext, direction: int, pdu: bytes) -> NasSeen:
         """A message of a phone that was where the trace shows nothing: it may stand under another KASME by now."""
         for kasme in self.kasmes():
-            other = self.contexts.get(kasme) or NasContext(kasme, guessed=True)
+            other = self.contexts.get(kasme) or EpsSecurityContext(kasme, guessed=True)
             count = self.opens(other, direction, pdu) if kasme != context.kasme else None
             if count is not None:
                 return self.renewed(side, other, count, direction, pdu)
         self.leaves(side, context)
         return self.nothing(direction, pdu, AWAY)
 
-    def leaves(self, side: NasSide, context: NasContext) -> None:
+    def leaves(self, side: NasSide, context: EpsSecurityContext) -> None:
         """The connection goes on under a KASME that was not given, until one that is known is in use again."""
-        unknown = NasContext(FOREIGN)
+        unknown = EpsSecurityContext(FOREIGN)
         self.follows(context, unknown)
         side.current, side.trigger, side.authenticated = unknown, None, False
 
-    def ahead(self, context: NasContext, direction: int, pdu: bytes, later: Later) -> tuple[bool, bool, set[int]]:
+    def ahead(self, context: EpsSecurityContext, direction: int, pdu: bytes, later: Later) -> tuple[bool, bool, set[int]]:
         """What comes later in the connection under a context: whether a message of the same direction is right, one of the other, and
         the directions of those that are not, this one too."""
         failing, tried = {direction}, 0
@@ -381,7 +381,7 @@ class NasBook:
                 other = True
         return False, other, failing
 
-    def takes(self, side: NasSide, context: NasContext, complete: bool, direction: int, counts: tuple[int, ...], sure: bool) -> None:
+    def takes(self, side: NasSide, context: EpsSecurityContext, complete: bool, direction: int, counts: tuple[int, ...], sure: bool) -> None:
         """What a message changes: a Complete, or a right message under the pending context, puts that in use."""
         was_pending = context is side.pending
         if was_pending and (complete or sure):
@@ -398,7 +398,7 @@ class NasBook:
 
     # -- a connection that has no context so far
 
-    def likely(self, side: NasSide, direction: int, pdu: bytes, later: Later) -> list[NasContext]:
+    def likely(self, side: NasSide, direction: int, pdu: bytes, later: Later) -> list[EpsSecurityContext]:
         """The contexts of a connection that has none yet: by identity, else by the MAC; at last as one that began before the trace."""
         place = self.phones.get(side.tmsi) if side.tmsi is not None else None
         known = self.contexts.get(place) if place is not None else None
@@ -417,12 +417,12 @@ class NasBook:
         """The KSI that a first message tells: Attach Request, Tracking Area Update Request (TS 24.301 9.9.3.21)."""
         return pdu[8] >> 4 & 7 if len(pdu) > 8 and pdu[0] >> 4 == 1 and pdu[6:8] in (b"\x07\x41", b"\x07\x48") else None
 
-    def began_before(self, direction: int, pdu: bytes) -> list[NasContext]:
+    def began_before(self, direction: int, pdu: bytes) -> list[EpsSecurityContext]:
         """A context that began before the trace."""
-        def fits(context: NasContext, count: int) -> bool:
+        def fits(context: EpsSecurityContext, count: int) -> bool:
             return self.has_mac(context, direction, count, pdu)
 
-        usual, others = ([NasContext(kasme, eia=eia, guessed=True) for eia in eias for kasme in self.unused()] for eias in (COMPUTED[:1], COMPUTED[1:]))
+        usual, others = ([EpsSecurityContext(kasme, eia=eia, guessed=True) for eia in eias for kasme in self.unused()] for eias in (COMPUTED[:1], COMPUTED[1:]))
         found = (self.cold.find(usual, pdu[5], WRAP, fits) or self.rare.find(others, pdu[5], WRAP, fits)) if usual else None
         if found is None:
             return []
@@ -437,11 +437,11 @@ class NasBook:
             side.current, side.pending = side.pending, None
             self.contexts[side.current.kasme] = side.current
 
-    def whose(self, context: NasContext, direction: int, pdu: bytes, count: int) -> str:
+    def whose(self, context: EpsSecurityContext, direction: int, pdu: bytes, count: int) -> str:
         """The mistake behind a wrong MAC, or nothing."""
         kasmes = self.derivations.kasmes
         others = ((one.name, one.value) for place, one in enumerate(kasmes) if place != context.kasme)
-        return reasons.mac(self.derivations.calls, reasons.Nas(kasmes[context.kasme].value, context.eea, context.eia, direction, count, pdu), others)
+        return reasons.mac(self.derivations.calls, reasons.ProtectedNas(kasmes[context.kasme].value, context.eea, context.eia, direction, count, pdu), others)
 
     # -- identities
 
@@ -452,7 +452,7 @@ class NasBook:
         self.phones[tmsi] = kasme
         self.tmsis.setdefault(kasme, set()).add(tmsi)
 
-    def follows(self, old: NasContext | None, new: NasContext) -> None:
+    def follows(self, old: EpsSecurityContext | None, new: EpsSecurityContext) -> None:
         """The phone of the old context has a new one: its identities go with it."""
         if old is not None and old.kasme != new.kasme and old.given:
             for tmsi in self.tmsis.pop(old.kasme, set()):

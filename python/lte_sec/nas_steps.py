@@ -10,7 +10,7 @@ from dataclasses import dataclass, field
 
 from .contexts import COMMAND, COMPLETE, SERVICE_REQUEST
 from .plain import replayed
-from .recorded import KeySeen, Met, Nas
+from .recorded import CapturedNas, KeySeen, Met
 from .script import At, Script
 
 AT_ONCE = 250  # COUNTs that are skipped before a text: at 256 the receiver's estimate fails (TS 24.301 4.4.3.1)
@@ -21,7 +21,7 @@ UNREPLAYED_AGAIN = "a KASME that comes back into use, which the profile does not
 
 
 @dataclass
-class Row:
+class ReplayedKey:
     """A key of the capture: the item whose line has it in the run, or why it is not replayed."""
 
     met: Met
@@ -31,7 +31,7 @@ class Row:
 
 
 @dataclass
-class Context:
+class ReplayedNasContext:
     """A NAS context as phone and core have it in the run: the next COUNTs."""
 
     kasme: str
@@ -48,9 +48,9 @@ class NasSteps:
     kasmes: dict[str, bytes]
     texts: bool  # whether NAS texts are as in the capture, or zeros
     triggers: set[tuple[str, int]]  # KASME and COUNT of each KeNB of a connection
-    rows: list[Row] = field(default_factory=list)
-    context: Context | None = None  # in use at the phone
-    commanded: Context | None = None  # by a Security Mode Command
+    rows: list[ReplayedKey] = field(default_factory=list)
+    context: ReplayedNasContext | None = None  # in use at the phone
+    commanded: ReplayedNasContext | None = None  # by a Security Mode Command
     mode: str = ""  # the item that sends it
     held: list[Callable[[], object]] | None = None  # what waits for a key change
     trigger: tuple[str, int] | None = None  # KASME and COUNT at which the core makes the next KeNB
@@ -70,7 +70,7 @@ class NasSteps:
     def not_replayed(self, met: Met, reason: str, key: KeySeen | None = None) -> None:
         seen = key or met.key
         if seen is not None:
-            self.rows.append(Row(met, seen, "", reason))
+            self.rows.append(ReplayedKey(met, seen, "", reason))
 
     # -- messages
 
@@ -78,7 +78,7 @@ class NasSteps:
         for one in met.nas:
             self.message(met, one)
 
-    def message(self, met: Met, one: Nas) -> None:
+    def message(self, met: Met, one: CapturedNas) -> None:
         """One protected message whose MAC is right, or whose KeNB tells that it was taken."""
         at = At(met.frame, f"{met.title}: {one.name}" if one.name else met.title)
         asks = one.is_up and (one.kasme, one.count) in self.triggers
@@ -93,7 +93,7 @@ class NasSteps:
         elif self.context is not None and self.context.kasme == one.kasme and one.header not in (COMMAND, COMPLETE):
             self.later(lambda: self.text(one, at))
 
-    def mode_command(self, met: Met, one: Nas, at: At) -> None:
+    def mode_command(self, met: Met, one: CapturedNas, at: At) -> None:
         plain = one.plain or b""
         ksi = plain[3] & 7 if len(plain) > 3 else NO_KSI
         known = (self.commanded, self.context)
@@ -118,7 +118,7 @@ class NasSteps:
         self.ksi = ksi if ksi < NO_KSI else (self.ksi + 1) % NO_KSI
         self.script.act({"do": "auth", "ksi": self.ksi, "kasme": self.kasmes[kasme].hex()}, at)
         self.mode = self.script.act({"do": "smc"}, at)
-        self.commanded = Context(kasme, 0, 1)
+        self.commanded = ReplayedNasContext(kasme, 0, 1)
         self.used.append(kasme)
 
     def mode_complete(self, at: At) -> None:
@@ -208,7 +208,7 @@ class NasSteps:
         self.trigger = (self.context.kasme, count)
         return True
 
-    def text(self, one: Nas, at: At) -> None:
+    def text(self, one: CapturedNas, at: At) -> None:
         if self.context is None or self.context.kasme != one.kasme or not self.skip(one.is_up, one.count, at):
             return
         octets = (one.plain or b"")[:LONGEST]

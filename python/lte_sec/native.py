@@ -8,7 +8,7 @@ from pathlib import Path
 from typing import Any
 
 
-class Found(Structure):
+class FoundState(Structure):
     _fields_ = [
         ("length", c_size_t),
         ("count", c_uint32),
@@ -64,7 +64,7 @@ class ReachedState(Structure):
 OCTETS, OUT = ctypes.c_char_p, ctypes.c_void_p
 CIPHER = [OCTETS, c_uint32, c_uint32, c_uint32, OUT, c_size_t]
 MAC = [OCTETS, c_uint32, c_uint32, c_uint32, OCTETS, c_size_t, OUT]
-OPEN = [c_uint32, OCTETS, c_size_t, OUT, c_size_t, POINTER(Found)]
+OPEN = [c_uint32, OCTETS, c_size_t, OUT, c_size_t, POINTER(FoundState)]
 SEND = [c_uint32, OCTETS, c_size_t, OUT, c_size_t, POINTER(c_size_t)]
 TAKES: dict[str, list[Any]] = {
     "version": [],
@@ -81,7 +81,7 @@ TAKES: dict[str, list[Any]] = {
     "nas_open_at": [POINTER(NasState), c_uint32, *OPEN],
     "nas_accept": [POINTER(NasState), c_uint32],
     "service_request": [c_uint32, OCTETS, c_uint32, c_uint32, OUT],
-    "service_request_check": [c_uint32, OCTETS, c_uint32, OCTETS, POINTER(Found)],
+    "service_request_check": [c_uint32, OCTETS, c_uint32, OCTETS, POINTER(FoundState)],
     "short_mac_i": [c_uint32, OCTETS, OCTETS, c_size_t, OUT],
     "srb_send": [POINTER(SrbState), *SEND],
     "srb_open": [POINTER(SrbState), *OPEN],

@@ -21,7 +21,7 @@ class NoRecord(Exception):
     """A step delivers a record that nobody sent."""
 
 
-class Record(NamedTuple):
+class SentRecord(NamedTuple):
     """A record that was sent: its address, its octets, and the name of the input on which it was sent."""
 
     to: bytes
@@ -60,7 +60,7 @@ class Network:
 
     def __init__(self, scenario: scenarios.Scenario):
         self.setup, self.steps = scenario.setup, scenario.steps
-        self.records: list[Record] = []
+        self.records: list[SentRecord] = []
 
     def setup_of(self, actor: str) -> bytes:
         """The Setup of an actor."""
@@ -132,7 +132,7 @@ class Network:
             for told in self.told(step):
                 reply: frames.Reply = tell(place, told, step)
                 if reply.record is not None:
-                    self.records.append(Record(reply.to, reply.record, made_by_of(told)))
+                    self.records.append(SentRecord(reply.to, reply.record, made_by_of(told)))
 
 
 def made_by_of(told: Told) -> str:

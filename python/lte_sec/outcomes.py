@@ -9,7 +9,7 @@ from typing import Protocol
 from . import probe
 from .courses import Course, Item
 from .dropped import Dropped
-from .messages import Line, Names
+from .messages import Names, StepLine
 from .probe import named
 from .scenarios import Scenario
 from .variants import Fault
@@ -27,7 +27,7 @@ ROW = re.compile(r"row \d+ (\w+)(?:\((\d+),([\d,]+)\))? ([0-9a-f]{64}) (\S+)")
 
 
 @dataclass(frozen=True, slots=True)
-class Row:
+class HeldKey:
     """A key: its octets, its form, the row above it, the row or cell behind that, and its holders."""
 
     key: str
@@ -135,20 +135,20 @@ def different(report: str, dropped: Dropped) -> list[tuple[str, bool]]:
     return [*found, *([("phone and station have different keys of a connection", True)] if connected(told) is False else [])]
 
 
-def rows_of(report: str) -> tuple[list[Row], dict[str, int]]:
+def rows_of(report: str) -> tuple[list[HeldKey], dict[str, int]]:
     """The ladder of a report, and the row of each key."""
-    rows: list[Row] = []
+    rows: list[HeldKey] = []
     keys: dict[str, int] = {}
     for line in report[report.find("\nend ") :].splitlines():
         found = ROW.fullmatch(line)
         if found:
             form, parent, more, key, holders = found.groups()
             keys[key] = len(rows)
-            rows.append(Row(key, form, int(parent) if parent else None, more or "", frozenset(holders.split(","))))
+            rows.append(HeldKey(key, form, int(parent) if parent else None, more or "", frozenset(holders.split(","))))
     return rows, keys
 
 
-def signature(line: Line | None) -> tuple[str, str, str | None, str | None] | None:
+def signature(line: StepLine | None) -> tuple[str, str, str | None, str | None] | None:
     """What of a line is compared: who, the answer, the text and the way. Numbers and NCCs shift in harmless ways."""
     return (line.who, line.answer, line.text, line.note.way if line.note else None) if line else None
 
@@ -263,7 +263,7 @@ def at(station: int | None) -> str:
     return "no station" if station is None else f"station {station}"
 
 
-class Judged(Protocol):
+class HasOutcomes(Protocol):
     """A variant with its outcomes."""
 
     @property
@@ -273,7 +273,7 @@ class Judged(Protocol):
     def outcomes(self) -> dict[str, str]: ...
 
 
-def limit(variant: Judged, word: str, messages: dict[str, str]) -> str | None:
+def limit(variant: HasOutcomes, word: str, messages: dict[str, str]) -> str | None:
     """What a product does where an outcome is a limit of this profile and not of LTE."""
     what = variant.outcomes[word]
     if word == "cut off":

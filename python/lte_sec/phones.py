@@ -3,14 +3,14 @@ from __future__ import annotations
 
 from dataclasses import dataclass, field
 
-from .recorded import Met, Record
+from .recorded import Met, RecordedTrace
 from .report import DIFFERS
 
 ASKS = ("PathSwitchRequest", "HandoverRequired")
 
 
 @dataclass
-class Phone:
+class CapturedPhone:
     """A phone of a capture: its KASMEs, by name, and its messages in order."""
 
     kasmes: list[str] = field(default_factory=list)
@@ -29,7 +29,7 @@ def kasmes_of(connections: dict[int, list[Met]]) -> dict[int, list[str]]:
     return found
 
 
-def phones_of(record: Record) -> tuple[list[Phone], list[Met]]:
+def phones_of(record: RecordedTrace) -> tuple[list[CapturedPhone], list[Met]]:
     """The phones of a capture, and the messages with a key that are of none."""
     group: dict[object, object] = {}
 
@@ -46,10 +46,10 @@ def phones_of(record: Record) -> tuple[list[Phone], list[Met]]:
     for number, names in kasmes.items():
         for name in names:
             group[first(("KASME", name))] = first(number)
-    found: dict[object, Phone] = {}
+    found: dict[object, CapturedPhone] = {}
     for met in record.met:
         if met.connection is not None and kasmes[met.connection]:
-            phone = found.setdefault(first(met.connection), Phone())
+            phone = found.setdefault(first(met.connection), CapturedPhone())
             phone.met.append(met)
             phone.kasmes += [name for name in kasmes[met.connection] if name not in phone.kasmes]
     kept = {id(met) for phone in found.values() for met in phone.met}

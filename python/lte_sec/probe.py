@@ -19,7 +19,7 @@ def named(name: str) -> str:
     return PROBE + name
 
 
-class Chain:
+class ProbeItems:
     """Items of the probe, in order."""
 
     def __init__(self) -> None:
@@ -36,7 +36,7 @@ class Chain:
 
 def probe(scenario: Scenario, serving: int) -> list[Item]:
     """The items of the probe, where this station serves the phone."""
-    chain, stations = Chain(), scenario.stations
+    chain, stations = ProbeItems(), scenario.stations
     chain.act("up", {"do": "user", "from": "phone", "bearer": "drb1", "text": UP}, "up arrives")
     for station in stations:
         step = {"do": "user", "from": "station", "station": station, "bearer": "drb1", "text": DOWN}

@@ -5,19 +5,19 @@ from collections.abc import Iterator
 from dataclasses import dataclass
 
 from lte_sec import frames
-from lte_sec.ladders import Row
-from lte_sec.reasons import Ciphered, Nas, Pdu, cipher, key_of, macs
+from lte_sec.ladders import LadderRow
+from lte_sec.reasons import Ciphered, Pdu, ProtectedNas, cipher, key_of, macs
 from lte_sec.scenarios import Step
 from lte_sec.terms import NAS_ENCRYPTION, NAS_INTEGRITY, RRC_ENCRYPTION, UP_ENCRYPTION, Calls
 
 EIA = 2  # the one integrity algorithm of scenarios
 CIPHERED = (2, 4)  # security header types of NAS messages
 PACKET = 2  # octets of a packet that tell by which key it was ciphered
-Rows = dict[int, Row]
+Rows = dict[int, LadderRow]
 
 
 @dataclass(frozen=True)
-class Course:
+class BearerHistory:
     """The rows of the run's ladder, and its steps up to a message; the direction of this, 0 up or 1 down, and its bearer's name."""
 
     rows: Rows
@@ -47,17 +47,17 @@ class Course:
         return 0 if self.bearer == "nas" else (octet & 0x7F) - 1
 
 
-def nas(calls: Calls, course: Course, octets: bytes) -> Nas | None:
+def nas(calls: Calls, course: BearerHistory, octets: bytes) -> ProtectedNas | None:
     """A NAS message with a right MAC; its encryption algorithm is EEA0 where it is not ciphered."""
     for kasme, eea in course.above(NAS_ENCRYPTION):
         for count in dict.fromkeys(course.counts(octets[5], 256)):
-            it = Nas(kasme, eea if octets[0] >> 4 in CIPHERED else 0, EIA, course.direction, count, octets)
+            it = ProtectedNas(kasme, eea if octets[0] >> 4 in CIPHERED else 0, EIA, course.direction, count, octets)
             if macs(calls)[EIA](key_of(calls, it, NAS_INTEGRITY)[16:], count, 0, course.direction, octets[5:]) == octets[1:5]:
                 return it
     return None
 
 
-def srb(calls: Calls, course: Course, octets: bytes) -> Pdu | None:
+def srb(calls: Calls, course: BearerHistory, octets: bytes) -> Pdu | None:
     """A PDU of an SRB with a right MAC; its encryption algorithm is EEA0 where it is not ciphered."""
     for kenb, identity in course.above(RRC_ENCRYPTION):
         for count in dict.fromkeys(course.counts(octets[0] & 31, 32)):
@@ -68,7 +68,7 @@ def srb(calls: Calls, course: Course, octets: bytes) -> Pdu | None:
     return None
 
 
-def drb(calls: Calls, course: Course, octets: bytes, packet: bytes) -> Ciphered | None:
+def drb(calls: Calls, course: BearerHistory, octets: bytes, packet: bytes) -> Ciphered | None:
     """A PDU of a DRB that is this packet."""
     for kenb, eea in course.above(UP_ENCRYPTION) if len(packet) >= PACKET else ():
         key = calls.algorithm_key(kenb, UP_ENCRYPTION, eea)[16:]

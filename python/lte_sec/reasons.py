@@ -148,7 +148,7 @@ def algorithm_mistakes(key: bytes, type: int, identity: int, size: int = 32) -> 
 
 
 @dataclass(frozen=True)
-class Nas:
+class ProtectedNas:
     """A protected NAS message, and the context and COUNT that it should stand under."""
 
     kasme: bytes
@@ -163,7 +163,7 @@ class Nas:
         return Ciphered(self.kasme, NAS_ENCRYPTION, self.eea, (NAS_INTEGRITY, self.eia), self.direction, self.count, 0, self.pdu[6:])
 
 
-def key_of(calls: Calls, nas: Nas, type: int) -> bytes:
+def key_of(calls: Calls, nas: ProtectedNas, type: int) -> bytes:
     return calls.algorithm_key(nas.kasme, type, nas.eia if type == NAS_INTEGRITY else nas.eea)
 
 
@@ -171,7 +171,7 @@ def macs(calls: Calls) -> dict[int, Callable[[bytes, int, int, int, bytes], byte
     return {1: calls.eia1, 2: calls.eia2, 3: calls.eia3}
 
 
-def mac(calls: Calls, nas: Nas, others: Iterator[tuple[str, bytes]] = iter(()), tag: slice = slice(0, 4)) -> str:
+def mac(calls: Calls, nas: ProtectedNas, others: Iterator[tuple[str, bytes]] = iter(()), tag: slice = slice(0, 4)) -> str:
     """The mistake by which this message has the MAC that it has, or `nas` as a Service Request its short MAC (then `tag` is its place in the MAC).
 
     `others` are other KASMEs with their names.
@@ -203,7 +203,7 @@ def mac(calls: Calls, nas: Nas, others: Iterator[tuple[str, bytes]] = iter(()), 
     return found or other_mac(calls, nas, value, body, tag, others)
 
 
-def other_mac(calls: Calls, nas: Nas, value: bytes, body: bytes, tag: slice, others: Iterator[tuple[str, bytes]]) -> str:
+def other_mac(calls: Calls, nas: ProtectedNas, value: bytes, body: bytes, tag: slice, others: Iterator[tuple[str, bytes]]) -> str:
     """Another algorithm, COUNT or KASME."""
     for eia in COMPUTED:
         if eia != nas.eia and macs(calls)[eia](calls.algorithm_key(nas.kasme, NAS_INTEGRITY, eia)[16:], nas.count, 0, nas.direction, body)[tag] == value:
@@ -269,7 +269,7 @@ def cipher(calls: Calls, eea: int, key: bytes, count: int, bearer: int, directio
     return made[eea](key, count, bearer, direction, text) if eea in made else text
 
 
-def deciphered(calls: Calls, nas: Nas) -> bytes:
+def deciphered(calls: Calls, nas: ProtectedNas) -> bytes:
     return cipher(calls, nas.eea, key_of(calls, nas, NAS_ENCRYPTION)[16:], nas.count, 0, nas.direction, nas.pdu[6:])
 
 
@@ -320,7 +320,7 @@ def near(count: int) -> Iterator[int]:
     return (other for far in range(1, 17) for other in (count - far, count + far) if other >= 0)
 
 
-def text(calls: Calls, nas: Nas, reads: Callable[[bytes], bool]) -> tuple[str, bytes]:
+def text(calls: Calls, nas: ProtectedNas, reads: Callable[[bytes], bool]) -> tuple[str, bytes]:
     """The mistake by which the text of this message was ciphered, and the text; `reads` says whether octets are a NAS message."""
     it = nas.ciphered()
     for name, plain in ciphers(calls, it, (1, 2, 3, 31), (nas.count & 255, *near(nas.count), *range(300))):

@@ -17,7 +17,7 @@ KEYS = ("KeNB", "KeNB*", "NH", "key")
 
 
 @dataclass(frozen=True)
-class Nas:
+class CapturedNas:
     """A protected NAS message of a KASME that was given."""
 
     is_up: bool
@@ -55,14 +55,14 @@ class Met:
     station: str = ""  # of S1 the station, of X2 the sender
     connection: int | None = None
     handover: int | None = None
-    nas: list[Nas] = field(default_factory=list)
+    nas: list[CapturedNas] = field(default_factory=list)
     key: KeySeen | None = None
     more: list[KeySeen] = field(default_factory=list)  # of cells for re-establishment
     within: tuple[int, int] | None = None  # the cell that a command within the station names
 
 
 @dataclass
-class Record:
+class RecordedTrace:
     """What a trace has for `replay`."""
 
     met: list[Met]
@@ -70,13 +70,13 @@ class Record:
     kasmes: dict[str, bytes]
 
 
-def nas_of(value: Value) -> Nas | None:
+def nas_of(value: Value) -> CapturedNas | None:
     """The NAS message of a value, where it stands under a KASME that was given and does not come again."""
     part = value.nas
     if part is None or part.header == PLAIN or value.count is None or not value.kasme or any(word in value.reason for word in AGAIN):
         return None
     right = value.verdict != UNKNOWN and value.wanted in ("", value.got)
-    return Nas(part.is_up, part.header, value.count, value.kasme, value.plain, right, part.name)
+    return CapturedNas(part.is_up, part.header, value.count, value.kasme, value.plain, right, part.name)
 
 
 def key_of(value: Value, message: Message) -> KeySeen:
@@ -103,11 +103,11 @@ def met_of(place: int, seen: Seen, begun: set[int], cells: Cells) -> Met:
     return met
 
 
-def record(trace: Trace) -> Record:
+def record(trace: Trace) -> RecordedTrace:
     """What was seen of a trace, for `replay`."""
     met: list[Met] = []
     begun: set[int] = set()
     for place, seen in enumerate(trace.seen.messages):
         met.append(met_of(place, seen, begun, trace.cells))
         begun |= {seen.handover} if seen.handover is not None else set()
-    return Record(met, trace.cells, {shown(one.name): one.value for one in trace.derivations.kasmes})
+    return RecordedTrace(met, trace.cells, {shown(one.name): one.value for one in trace.derivations.kasmes})

@@ -4,7 +4,7 @@ from __future__ import annotations
 from ctypes import c_uint8
 from typing import Any
 
-from .native import Found
+from .native import FoundState
 
 
 class Refused(Exception):
@@ -68,7 +68,7 @@ def checked_number(number: int, bits: int = 32) -> int:
     return number
 
 
-def raises(status: int, found: Found | None = None) -> None:
+def raises(status: int, found: FoundState | None = None) -> None:
     """Raises the refusal of a status."""
     if status == MAC_FAILS and found is not None:
         raise MacFails(found.count, bytes(found.wanted), bytes(found.got))

@@ -18,7 +18,7 @@ NUMBER = 10  # the most digits of a number: what is longer is a key
 COUNTS = 1 << 32
 LONGEST, MOST = 65_536, 4_000_000  # characters of a line, and uses, that are read
 
-Use = tuple[str, str, str, int]
+UsedCount = tuple[str, str, str, int]
 
 
 class TooMuch(TraceError):
@@ -87,7 +87,7 @@ def bounded(text: IO[str]) -> Iterator[str]:
         yield line
 
 
-def uses(lines: Iterable[str], result: Repeats) -> Iterator[tuple[int, Use, str]]:
+def uses(lines: Iterable[str], result: Repeats) -> Iterator[tuple[int, UsedCount, str]]:
     """Each use with its line and the octets of its PDU."""
     for place, line in enumerate(lines, 1):
         if not line.strip() or line.lstrip().startswith("#"):
@@ -106,7 +106,7 @@ def uses(lines: Iterable[str], result: Repeats) -> Iterator[tuple[int, Use, str]
 
 def first_repeat(lines: Iterable[str]) -> Repeats:
     """The first use that comes twice. A use without octets that comes again counts as a second use."""
-    seen: dict[Use, tuple[int, str]] = {}
+    seen: dict[UsedCount, tuple[int, str]] = {}
     result = Repeats()
     for place, use, octets in uses(lines, result):
         if len(seen) == MOST:

@@ -6,15 +6,15 @@ import os
 import sys
 from pathlib import Path
 
-from .compared import Told, Verdict, compared
+from .compared import ComparedKey, ReplayVerdict, compared
 from .courses import ProgramFails
 from .nas import NOT_GIVEN
-from .phones import Phone, first_ncc, phones_of
-from .recorded import Met, Record, record
+from .phones import CapturedPhone, first_ncc, phones_of
+from .recorded import Met, RecordedTrace, record
 from .script import CELLS, STATIONS, Script
 from .steps import Steps, triggers_of
 from .terms import TraceError
-from .told import NO_TEXTS, SECRETS, Answer, Part, scenario_of
+from .told import NO_TEXTS, SECRETS, Part, ReplayedCapture, scenario_of
 from .words import TraceWords, traced
 
 WORDS, FAILS, STOPPED = 2, 6, 130
@@ -22,7 +22,7 @@ USUAL_CAPS = "a020"  # EEA0, 128-EEA2 and 128-EIA2, which the profile has
 NO_CONNECTION = "it belongs to no connection of a phone that is known"
 
 
-def walked(found: Record, phone: Phone, met: list[Met], texts: bool, whole: str) -> tuple[Steps, int | None]:
+def walked(found: RecordedTrace, phone: CapturedPhone, met: list[Met], texts: bool, whole: str) -> tuple[Steps, int | None]:
     """The steps of these messages, and the place at which their scenario is full."""
     script = Script(first_ncc=first_ncc(phone.met))
     own = {name: value for name, value in found.kasmes.items() if name in phone.kasmes}
@@ -30,7 +30,7 @@ def walked(found: Record, phone: Phone, met: list[Met], texts: bool, whole: str)
     return steps, steps.walk()
 
 
-def scenarios_of(found: Record, phone: Phone, texts: bool) -> list[Steps]:
+def scenarios_of(found: RecordedTrace, phone: CapturedPhone, texts: bool) -> list[Steps]:
     """The steps of a phone: one scenario, or several where one has no room for its stations."""
     done: list[Steps] = []
     met, whole = phone.met, "the capture"
@@ -52,7 +52,7 @@ def scenarios_of(found: Record, phone: Phone, texts: bool) -> list[Steps]:
     return done
 
 
-def capabilities(steps: Steps, phone: Phone) -> None:
+def capabilities(steps: Steps, phone: CapturedPhone) -> None:
     """The capabilities that the phone told, with the algorithms that the profile has."""
     told = next((met.message.capabilities for met in phone.met if met.message.capabilities is not None), None)
     octets = bytes.fromhex(steps.script.caps) if steps.script.caps else bytes([told[0] << 4, told[1] << 4]) if told else bytes(2)
@@ -60,9 +60,9 @@ def capabilities(steps: Steps, phone: Phone) -> None:
     steps.script.caps = bytes(one | other for one, other in zip(octets, usual)).hex()
 
 
-def replayed(program: str, found: Record, captures: list[str], texts: bool) -> Answer:
+def replayed(program: str, found: RecordedTrace, captures: list[str], texts: bool) -> ReplayedCapture:
     """Each phone of a capture, replayed."""
-    answer = Answer(captures, texts=texts)
+    answer = ReplayedCapture(captures, texts=texts)
     phones, others = phones_of(found)
     for number, phone in enumerate(phones, 1):
         scenarios = scenarios_of(found, phone, texts)
@@ -73,11 +73,11 @@ def replayed(program: str, found: Record, captures: list[str], texts: bool) -> A
     for met in others:
         if met.key is not None:
             why = NO_CONNECTION if met.connection is None else NOT_GIVEN
-            answer.others.append(Told(met.frame, met.title, met.key.what, Verdict.NOT_REPLAYED, met.key.term, met.key.ncc, reason=why))
+            answer.others.append(ComparedKey(met.frame, met.title, met.key.what, ReplayVerdict.NOT_REPLAYED, met.key.term, met.key.ncc, reason=why))
     return answer
 
 
-def save(answer: Answer, folder: Path) -> None:
+def save(answer: ReplayedCapture, folder: Path) -> None:
     """Writes each scenario, which nobody else may read: it has KASME in it."""
     try:
         folder.mkdir(parents=True, exist_ok=True)
@@ -90,7 +90,7 @@ def save(answer: Answer, folder: Path) -> None:
         raise TraceError(f"the scenarios cannot be written to {folder}: {fault.strerror}") from None
 
 
-def one_of(answer: Answer, number: str) -> str:
+def one_of(answer: ReplayedCapture, number: str) -> str:
     """The scenario of one phone."""
     found = next((part for part in answer.parts if part.number == number), None)
     if found is None:
@@ -98,7 +98,7 @@ def one_of(answer: Answer, number: str) -> str:
     return scenario_of(answer, found)
 
 
-def tell(answer: Answer, words: TraceWords) -> int:
+def tell(answer: ReplayedCapture, words: TraceWords) -> int:
     """Writes the answer as it is wanted; the status."""
     for folder in words.options["--save"]:
         save(answer, Path(folder))

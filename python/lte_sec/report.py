@@ -66,14 +66,14 @@ class Line:
         return self.text
 
 
-class Judged(Protocol):
+class HasVerdict(Protocol):
     """What has a verdict."""
 
     @property
     def verdict(self) -> Verdict: ...
 
 
-def status(lines: Iterable[Judged]) -> int:
+def status(lines: Iterable[HasVerdict]) -> int:
     """0: all agree. 1: something differs. 3: something could not be judged, or there is nothing to judge."""
     verdicts = {line.verdict for line in lines}
     if not verdicts - {NOTE}:
@@ -81,13 +81,13 @@ def status(lines: Iterable[Judged]) -> int:
     return 1 if DIFFERS in verdicts else 3 if UNKNOWN in verdicts else 0
 
 
-def counts(lines: Iterable[Judged]) -> dict[str, int]:
+def counts(lines: Iterable[HasVerdict]) -> dict[str, int]:
     """How many lines have each verdict."""
     found = Counter(line.verdict for line in lines)
     return {verdict.value: found[verdict] for verdict in (RIGHT, DIFFERS, UNKNOWN)}
 
 
-def summary(lines: Iterable[Judged]) -> str:
+def summary(lines: Iterable[HasVerdict]) -> str:
     """The last line of a report."""
     return ", ".join(f"{number} {verdict}" for verdict, number in counts(lines).items())
 

@@ -34,7 +34,7 @@ class At:
 
 
 @dataclass
-class Block:
+class ItemBlock:
     """Items that stand together."""
 
     items: list[Item] = field(default_factory=list)
@@ -51,7 +51,7 @@ class Script:
     null_ciphering: bool = False
     first_ncc: int = 2
     stations: dict[str, list[Cell]] = field(default_factory=dict)
-    blocks: list[Block] = field(default_factory=lambda: [Block()])
+    blocks: list[ItemBlock] = field(default_factory=lambda: [ItemBlock()])
     at: dict[str, At] = field(default_factory=dict)  # by item
     sends: dict[str, bool] = field(default_factory=dict)
     assumed: list[At] = field(default_factory=list)
@@ -92,21 +92,21 @@ class Script:
         self.count += 1
         return str(self.count - 1)
 
-    def block(self) -> Block:
+    def block(self) -> ItemBlock:
         """A block here, which may be filled later; what comes after it stands behind it."""
-        made = Block()
-        self.blocks += [made, Block()]
+        made = ItemBlock()
+        self.blocks += [made, ItemBlock()]
         return made
 
-    def act(self, step: Step, at: At, block: Block | None = None) -> str:
+    def act(self, step: Step, at: At, block: ItemBlock | None = None) -> str:
         item = act(self.name(), step)
         return self.put(item, at, step["do"] not in SILENT, block)
 
-    def deliver(self, of: str, at: At, sends: bool = True, block: Block | None = None, name: str = "") -> str:
+    def deliver(self, of: str, at: At, sends: bool = True, block: ItemBlock | None = None, name: str = "") -> str:
         """The delivery of what an item sent; `sends` is a guess of whether something is sent on it."""
         return self.put(delivery(name or self.name(), of), at, sends, block)
 
-    def put(self, item: Item, at: At, sends: bool, block: Block | None) -> str:
+    def put(self, item: Item, at: At, sends: bool, block: ItemBlock | None) -> str:
         (block or self.blocks[-1]).items.append(item)
         self.at[item.name], self.sends[item.name] = at, sends
         return item.name

@@ -19,7 +19,7 @@ FEW = 6  # of the keys at hand, so many are taken further
 
 
 Cell = tuple[int, int]
-Made = tuple[bytes, Key, tuple[Cell, ...]]  # octets, and of which key and for which cells, one after the other, they are KeNB*; of none the key itself
+MadeStar = tuple[bytes, Key, tuple[Cell, ...]]  # octets, and of which key and for which cells, one after the other, they are KeNB*; of none the key itself
 
 
 def star_text(pci: int, earfcn: int) -> bytes:
@@ -28,7 +28,7 @@ def star_text(pci: int, earfcn: int) -> bytes:
     return b"\x13" + pci.to_bytes(2, "big") + b"\0\2" + earfcn.to_bytes(size, "big") + bytes([0, size])
 
 
-def stepped(keys: Iterable[Made], cells: list[tuple[Cell, bytes]]) -> Iterator[Made]:
+def stepped(keys: Iterable[MadeStar], cells: list[tuple[Cell, bytes]]) -> Iterator[MadeStar]:
     """KeNB*s of keys for each of these cells."""
     for value, key, path in keys if cells else ():
         make = ready(value)
@@ -43,7 +43,7 @@ class Budget:
     left: int
 
 
-class Search:
+class DerivationSearch:
     """Bounds: COUNTs up to `counts`, chains up to `depth`, KeNB* of KeNB* up to `deep`."""
 
     def __init__(self, derivations: Derivations, cells: Cells, counts: int = 300, depth: int = 16, deep: int = 3, budget: int = 0):
@@ -95,9 +95,9 @@ class Search:
             yield from next_odd
             plain, odd = next_plain, next_odd
 
-    def made_stars(self, keys: Iterable[Made], deep: int) -> Iterator[Made]:
+    def made_stars(self, keys: Iterable[MadeStar], deep: int) -> Iterator[MadeStar]:
         """As `stars`, in their order, but made by `quick`."""
-        plain, odd = list(keys), list[Made]()
+        plain, odd = list(keys), list[MadeStar]()
         real, mixed = ([(cell, star_text(*cell)) for cell in sorted(cells)] for cells in (self.cells.pairs(), self.mixed()))
         for _ in range(deep):
             next_plain = list(stepped(plain, real))

@@ -8,7 +8,7 @@ from __future__ import annotations
 from collections.abc import Callable
 from dataclasses import dataclass
 
-from .contexts import FOREIGN, NasContext, NasSeen, NasSide, Trigger
+from .contexts import FOREIGN, EpsSecurityContext, NasSeen, NasSide, Trigger
 from .counts import SHORT_WRAP, near
 from .modes import ModeBook
 from .nas import NEW, NOT_GIVEN, Later
@@ -23,7 +23,7 @@ REJECT = b"\x07\x4e"  # a plain Service Reject
 class Owner:
     """The context and COUNT of a Service Request, and whether its KeNB proves them."""
 
-    context: NasContext
+    context: EpsSecurityContext
     count: int
     proved: bool = False
 
@@ -31,7 +31,7 @@ class Owner:
 class ServiceBook(ModeBook):
     """The NAS contexts of a trace, for Service Requests too."""
 
-    def short_mac(self, context: NasContext, count: int, pdu: bytes) -> bytes:
+    def short_mac(self, context: EpsSecurityContext, count: int, pdu: bytes) -> bytes:
         """The short MAC of a Service Request: the last two octets of the MAC over its first two (TS 24.301 9.9.3.28)."""
         return self.mac(context, UP, count, pdu[:2])[2:4]
 
@@ -99,22 +99,22 @@ class ServiceBook(ModeBook):
         right = self.right_near(context, pdu, low)
         return proved if right is None or not (wrong or used) else Owner(context, right)
 
-    def may_be(self, context: NasContext, ksi: int, place: int | None) -> bool:
+    def may_be(self, context: EpsSecurityContext, ksi: int, place: int | None) -> bool:
         """Whether S-TMSI and KSI of a request allow a context: its phone has no other S-TMSI, and this S-TMSI is of no other phone."""
         return context.ksi in (None, ksi) and (place is None and not self.tmsis.get(context.kasme) or place == context.kasme)
 
-    def right_near(self, context: NasContext, pdu: bytes, low: int) -> int | None:
+    def right_near(self, context: EpsSecurityContext, pdu: bytes, low: int) -> int | None:
         """The COUNT near the next one under which the short MAC is right."""
         counts = near(context, UP, low, SHORT_WRAP) if self.judged(context) else []
         return next((count for count in counts if self.short_mac(context, count, pdu) == pdu[2:4]), None)
 
-    def proved(self, contexts: list[NasContext], low: int, key: bytes) -> Owner | None:
+    def proved(self, contexts: list[EpsSecurityContext], low: int, key: bytes) -> Owner | None:
         """The context and COUNT whose KeNB follows."""
         kenb, kasmes = self.derivations.calls.kenb, self.derivations.kasmes
         tried = ((one, count) for one in contexts for count in near(one, UP, low, SHORT_WRAP))
         return next((Owner(one, count, True) for one, count in tried if kenb(kasmes[one.kasme].value, count) == key), None)
 
-    def known_owner(self, known: NasContext, pdu: bytes, low: int, key: bytes | None, later: Later) -> Owner | None:
+    def known_owner(self, known: EpsSecurityContext, pdu: bytes, low: int, key: bytes | None, later: Later) -> Owner | None:
         """A request of a phone that S-TMSI and KSI name, whose KeNB does not follow or does not fit."""
         due, right = near(known, UP, low, SHORT_WRAP)[0], self.right_near(known, pdu, low)
         if right is not None or not self.judged(known):
@@ -126,7 +126,7 @@ class ServiceBook(ModeBook):
         far = self.effort.find([known.kasme], low, SHORT_WRAP, self.kenb_is(key))
         return Owner(known, far[1], True) if far is not None else None
 
-    def by_short_mac(self, allowed: list[NasContext], pdu: bytes, low: int) -> Owner | None:
+    def by_short_mac(self, allowed: list[EpsSecurityContext], pdu: bytes, low: int) -> Owner | None:
         """A request that no KeNB follows: the short MAC at the COUNT that is due."""
         due = [(one, near(one, UP, low, SHORT_WRAP)[0]) for one in allowed if self.judged(one)]
         return next((Owner(one, count) for one, count in due if self.short_mac(one, count, pdu) == pdu[2:4]), None)
@@ -141,10 +141,10 @@ class ServiceBook(ModeBook):
         found = self.cold.find(unused, low, SHORT_WRAP, self.kenb_is(key)) if unused else None
         return None if found is None else self.explained(Owner(self.begun_at(found[0], found[1]), found[1], True), pdu, low, [])
 
-    def begun_at(self, kasme: int, count: int) -> NasContext:
-        return NasContext(kasme, next={UP: count, DOWN: 0}, guessed=True)
+    def begun_at(self, kasme: int, count: int) -> EpsSecurityContext:
+        return EpsSecurityContext(kasme, next={UP: count, DOWN: 0}, guessed=True)
 
-    def explained(self, owner: Owner, pdu: bytes, low: int, allowed: list[NasContext]) -> Owner:
+    def explained(self, owner: Owner, pdu: bytes, low: int, allowed: list[EpsSecurityContext]) -> Owner:
         """KeNB proves a COUNT, and the short MAC is wrong there: where it is right at a COUNT near that, under another KASME at that COUNT, or
         under a context that is allowed, KeNB is what is wrong. By chance a short MAC fits once in 65,536."""
         context, count = owner.context, owner.count

@@ -12,7 +12,7 @@ from . import reasons
 from .cells import is_cell
 from .chains import LOST_CHANGE, ChainJudge
 from .decoding import Message
-from .histories import CHAIN, Chain, Held, History, Pair, Phone, Radio, renewed
+from .histories import CHAIN, Chain, Held, History, Pair, PhoneKeys, Radio, renewed
 from .state import Attempt, Connection, Given
 from .terms import NONE, Key, unknown
 
@@ -235,7 +235,7 @@ class StarJudge(ChainJudge):
             starts += [(histories, chain, LOST_ANSWER) for chain, histories in self.unseen_chains(connection, ncc)]
         for kenb in self.unseen_changes(connection):
             begun = Chain(kenb.kasme, kenb)
-            starts.append(([History(begun, Held(kenb), Phone(kenb, 0, begun))], begun, LOST_CHANGE))
+            starts.append(([History(begun, Held(kenb), PhoneKeys(kenb, 0, begun))], begun, LOST_CHANGE))
         for histories, chain, also in starts:
             for one, path in self.refreshes(connection, distinct(histories)):
                 made = self.derivations.star(one.held.key, *cell)

@@ -6,7 +6,7 @@ from dataclasses import dataclass, field, replace
 
 from .contexts import NasSide
 from .decoding import Command
-from .histories import Chain, Held, History, Pair, Phone, Radio, merged
+from .histories import Chain, Held, History, Pair, PhoneKeys, Radio, merged
 from .report import Line
 from .terms import Key
 
@@ -90,7 +90,7 @@ class Connection:
         return list(dict.fromkeys(one.held for one in self.histories if one.held.known))
 
     @property
-    def phone(self) -> Phone | None:
+    def phone(self) -> PhoneKeys | None:
         """The phone of the likeliest history."""
         return self.histories[0].phone
 

@@ -5,7 +5,7 @@ import re
 from collections.abc import Callable, Iterator
 from dataclasses import dataclass, field
 
-from .chain_steps import Link, above, number_of
+from .chain_steps import ReplayedConnection, above, number_of
 from .handover_steps import HandoverSteps
 from .nas import NOT_GIVEN
 from .nas_steps import UNREPLAYED_AGAIN
@@ -171,7 +171,7 @@ class Steps(HandoverSteps):
         self.row(met, item)
         self.trigger, form = None, f"kenb({count})"
         forms = {form} | ({met.key.term} if met.key is not None else set())
-        self.link = Link(met.connection, station, cell, form, kasme, forms)
+        self.link = ReplayedConnection(met.connection, station, cell, form, kasme, forms)
         self.begun.add(met.connection)
         command = self.script.deliver(item, at)
         if not any(one.message.name == "InitialContextSetupFailure" for one in self.answers(met)):
@@ -353,7 +353,7 @@ class Steps(HandoverSteps):
         item = self.script.act({"do": "connect", "cell": self.script.cell(ways[0], cells[ways[0]])}, at)
         self.script.deliver(self.script.deliver(self.script.deliver(item, at), at), at, False)
         self.trigger = None
-        self.link = link = Link(met.connection, ways[0], cells[ways[0]], f"kenb({count})", kasme, {f"kenb({count})"})
+        self.link = link = ReplayedConnection(met.connection, ways[0], cells[ways[0]], f"kenb({count})", kasme, {f"kenb({count})"})
         for turn, name in enumerate(ways[1:], 1):
             bases = link.pairs or link.uses
             self.begin_x2(name, cells[name], set(bases), at, None)

@@ -51,7 +51,7 @@ def mistake(calls: Calls, words: list[str], answer: bytes) -> str:
     identities, count, key = (int(eea), int(eia or "2")), int(found[1]), bytes.fromhex(words[1])
     direction, pdu = int(words[-2] == "downlink"), bytes.fromhex(words[-1])
     if words[0] == "nas":
-        why = reasons.mac(calls, reasons.Nas(key, *identities, direction, count, pdu))
+        why = reasons.mac(calls, reasons.ProtectedNas(key, *identities, direction, count, pdu))
         return f"the MAC is wrong: {why}" if why else ""
     what, _, why = reasons.pdu(calls, reasons.Pdu(key, *identities, direction, count, int(words[4]), pdu)).replace("MAC-I", "MAC", 1).partition(": ")
     return f"{what} are wrong: {why}" if " and " in what else f"the {what} is wrong: {why}" if why else ""

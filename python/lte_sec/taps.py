@@ -87,33 +87,33 @@ class Bounds:
 
 
 @dataclass
-class Course:
+class ExchangeTimes:
     """The times of one handover over X2, or of one path switch: the first message and the last."""
 
     begin: float
     end: float | None = None
 
 
-Phone = tuple[int | None, int | None]  # the core's identity for a phone, and the cell that it goes to
+PhoneAndCell = tuple[int | None, int | None]  # the core's identity for a phone, and the cell that it goes to
 
 
-def courses(messages: list[Message]) -> tuple[dict[Phone, list[Course]], dict[Phone, list[Course]]]:
+def courses(messages: list[Message]) -> tuple[dict[PhoneAndCell, list[ExchangeTimes]], dict[PhoneAndCell, list[ExchangeTimes]]]:
     """The handovers over X2 (answer, release) and the path switches (request, answer) of each phone to each cell."""
-    asked: dict[tuple[str, str, int | None], Phone] = {}
-    handovers: dict[Phone, list[Course]] = {}
-    switches: dict[Phone, list[Course]] = {}
-    last: dict[int, Course] = {}
+    asked: dict[tuple[str, str, int | None], PhoneAndCell] = {}
+    handovers: dict[PhoneAndCell, list[ExchangeTimes]] = {}
+    switches: dict[PhoneAndCell, list[ExchangeTimes]] = {}
+    last: dict[int, ExchangeTimes] = {}
     for message in messages:
         if message.link == "X2" and message.name == "HandoverRequest":
             asked[message.source, message.target, message.old_x2] = message.mme_id, message.eci
         elif message.link == "X2":
             phone = asked.get((message.target, message.source, message.old_x2))
             if phone is not None and message.name == "HandoverRequestAcknowledge":
-                handovers.setdefault(phone, []).append(Course(message.time))
+                handovers.setdefault(phone, []).append(ExchangeTimes(message.time))
             elif phone is not None and message.name == "UEContextRelease" and handovers.get(phone):
                 handovers[phone][-1].end = message.time
         elif message.name == "PathSwitchRequest" and message.mme_id is not None:
-            last[message.mme_id] = Course(message.time)
+            last[message.mme_id] = ExchangeTimes(message.time)
             switches.setdefault((message.mme_id, message.eci), []).append(last[message.mme_id])
         elif message.name == "PathSwitchRequestAcknowledge" and message.mme_id in last:
             last.pop(message.mme_id).end = message.time

@@ -1,9 +1,9 @@
 """Whether octets read as a NAS message, and so whether a ciphered text was ciphered as it must be (TS 24.301 4.4.5, 9.2, 9.8)."""
 from __future__ import annotations
 
-from .contexts import CIPHERED, NAMES, NasContext
+from .contexts import CIPHERED, NAMES, EpsSecurityContext
 from .plain import ATTACH_REQUEST, EMM, ESM, TRACKING_REQUEST
-from .reasons import Nas
+from .reasons import ProtectedNas
 from .reasons import text as mistake
 from .terms import COMPUTED, Derivations
 
@@ -26,10 +26,10 @@ def is_nas(text: bytes) -> bool:
     return is_emm(text)
 
 
-def text_fault(derivations: Derivations, context: NasContext, direction: int, count: int, pdu: bytes, plain: bytes | None) -> tuple[str, bytes]:
+def text_fault(derivations: Derivations, context: EpsSecurityContext, direction: int, count: int, pdu: bytes, plain: bytes | None) -> tuple[str, bytes]:
     """How the text of a message with a right MAC differs from what it must be, or nothing; and the text as it was meant."""
     if pdu[0] >> 4 not in CIPHERED or plain is None or is_nas(plain) or not context.given or context.guessed:
         return "", plain or b""
-    nas = Nas(derivations.kasmes[context.kasme].value, context.eea, context.eia, direction, count, pdu)
+    nas = ProtectedNas(derivations.kasmes[context.kasme].value, context.eea, context.eia, direction, count, pdu)
     name, meant = mistake(derivations.calls, nas, is_nas) if context.eia in COMPUTED else ("", b"")
     return f"text differs: {name or 'it is no NAS message'}", meant or plain

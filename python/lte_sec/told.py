@@ -4,10 +4,10 @@ from __future__ import annotations
 from collections.abc import Iterator
 from dataclasses import dataclass, field
 
-from .compared import Replayed, Told, Verdict
+from .compared import ComparedKey, ReplayVerdict, Replayed
 
 VERSION = 1  # of the document that --json prints; it changes where a field goes or changes its meaning
-WORDS = {Verdict.SAME: "same", Verdict.DIFFERS: "differ", Verdict.NOT_REPLAYED: "not replayed"}
+WORDS = {ReplayVerdict.SAME: "same", ReplayVerdict.DIFFERS: "differ", ReplayVerdict.NOT_REPLAYED: "not replayed"}
 SECRETS = "A scenario of a capture has KASME in it, and the NAS texts of its phone: identities, APN"
 NO_TEXTS = "A scenario of a capture has KASME in it; its NAS texts are zeros"
 
@@ -23,15 +23,15 @@ class Part:
 
 
 @dataclass
-class Answer:
+class ReplayedCapture:
     """All that was replayed of a capture, and the keys that are of no phone."""
 
     captures: list[str]
     parts: list[Part] = field(default_factory=list)
-    others: list[Told] = field(default_factory=list)
+    others: list[ComparedKey] = field(default_factory=list)
     texts: bool = True
 
-    def told(self) -> list[Told]:
+    def told(self) -> list[ComparedKey]:
         return [*(told for part in self.parts for told in part.done.told), *self.others]
 
     def counts(self) -> dict[str, int]:
@@ -41,7 +41,7 @@ class Answer:
     def status(self) -> int:
         """0: each key is the same. 1: one differs. 3: none differs, and one is not replayed, or there is none."""
         verdicts = {one.verdict for one in self.told()}
-        return 1 if Verdict.DIFFERS in verdicts else 0 if verdicts == {Verdict.SAME} else 3
+        return 1 if ReplayVerdict.DIFFERS in verdicts else 0 if verdicts == {ReplayVerdict.SAME} else 3
 
     def lines(self) -> Iterator[str]:
         for part in self.parts:
@@ -62,7 +62,7 @@ class Answer:
         }
 
 
-def key_of(one: Told) -> dict[str, object]:
+def key_of(one: ComparedKey) -> dict[str, object]:
     return {
         "frame": one.frame, "message": one.message, "what": one.what, "verdict": one.verdict.value, "is": one.term, "ncc": one.ncc,
         "run": one.run_term, "run_ncc": one.run_ncc, "step": one.step, "reason": one.reason, "follows": one.follows or None, "text": one.text,
@@ -79,7 +79,7 @@ def document_of(part: Part) -> dict[str, object]:
     }
 
 
-def scenario_of(answer: Answer, part: Part) -> str:
+def scenario_of(answer: ReplayedCapture, part: Part) -> str:
     """The scenario as a text: above the steps of a message a remark with its frame."""
     script, course = part.done.script, part.done.course
     lines = [

@@ -14,7 +14,7 @@ from .handovers import ANY_CORE, WAITING, Handovers, Leg
 from .progress import told
 from .judge import KeyJudge
 from .report import DIFFERS, UNKNOWN, Line, NasPart, note_line, unknown_line
-from .search import Search
+from .search import DerivationSearch
 from .seen import Account, Membership, Use, account
 from .service import ServiceBook
 from .stations import FROM_STATION, TELLS_CELL, Stations, station_end
@@ -41,7 +41,7 @@ class Trace(Handovers):
         self.stations, self.gummeis, self.coverage = stations, stations.gummeis, coverage
         self.cells, self.derivations = cells, derivations
         self.book = ServiceBook(derivations, 10 * budget)
-        self.judge = KeyJudge(self.book, cells, Search(derivations, cells, budget=budget), firsts, coverage)
+        self.judge = KeyJudge(self.book, cells, DerivationSearch(derivations, cells, budget=budget), firsts, coverage)
         self.lines = self.judge.lines
         self.legs = {}
         self.mmes = {}

@@ -4,10 +4,10 @@ from __future__ import annotations
 import dataclasses
 
 from lte_sec import frames, protected, reasons
-from lte_sec.ladders import Row
+from lte_sec.ladders import LadderRow
 from lte_sec.network import Network, Told
 from lte_sec.peers import Peer
-from lte_sec.protected import Course
+from lte_sec.protected import BearerHistory
 from lte_sec.scenarios import Scenario
 from lte_sec.terms import RRC_ENCRYPTION, RRC_INTEGRITY, Calls
 
@@ -15,7 +15,7 @@ MAC_FAILS = next(number for number, (name, _) in frames.ANSWERS.items() if name 
 SECONDS = 60  # that an actor of the program itself may take
 
 
-class Reached(Exception):
+class StepReached(Exception):
     """The step is reached."""
 
 
@@ -26,7 +26,7 @@ def body_at(program: str, scenario: Scenario, place: int, actor: str) -> bytes |
     def tell(step: int, told: Told, _: object) -> frames.Reply:
         if step == place and told.actor == actor:
             found.append(told.body)
-            raise Reached
+            raise StepReached
         if told.actor not in peers:
             peer = peers[told.actor] = Peer([program], told.actor, SECONDS)
             peer.connect()
@@ -37,7 +37,7 @@ def body_at(program: str, scenario: Scenario, place: int, actor: str) -> bytes |
 
     try:
         network.run(tell)
-    except Reached:
+    except StepReached:
         pass
     finally:
         for peer in peers.values():
@@ -46,11 +46,11 @@ def body_at(program: str, scenario: Scenario, place: int, actor: str) -> bytes |
 
 
 @dataclasses.dataclass(frozen=True)
-class Step:
+class ActorStep:
     """A step of a scenario at an actor, and the rows of the scenario's run by the program."""
 
     program: str
-    rows: dict[int, Row]
+    rows: dict[int, LadderRow]
     scenario: Scenario
     place: int
     actor: str
@@ -63,11 +63,11 @@ class Step:
         """What the actor is told."""
         return body_at(self.program, self.scenario, self.place, self.actor)
 
-    def course(self, direction: int, bearer: str) -> Course:
-        return Course(self.rows, self.scenario.steps[: self.place + 1], direction, bearer)
+    def course(self, direction: int, bearer: str) -> BearerHistory:
+        return BearerHistory(self.rows, self.scenario.steps[: self.place + 1], direction, bearer)
 
 
-def mistakes(calls: Calls, step: Step, wanted: frames.Reply, got: frames.Reply) -> list[str]:
+def mistakes(calls: Calls, step: ActorStep, wanted: frames.Reply, got: frames.Reply) -> list[str]:
     """The mistake by which a message that was sent is another, or one that came is refused or opened to another text."""
     if not is_protected(wanted, got):
         return []
@@ -93,7 +93,7 @@ def bearer_of(reply: frames.Reply) -> str:
     return "nas" if words[1] == "nas" else words[-1].removeprefix("bearer=") if "bearer=" in words[-1] else ""
 
 
-def sent(calls: Calls, step: Step, wanted: frames.Reply, record: bytes) -> list[str]:
+def sent(calls: Calls, step: ActorStep, wanted: frames.Reply, record: bytes) -> list[str]:
     """Of a record that an actor sent in place of the wanted one."""
     bearer, direction = bearer_of(wanted), int(step.role != "phone")
     assert wanted.record is not None
@@ -106,7 +106,7 @@ def sent(calls: Calls, step: Step, wanted: frames.Reply, record: bytes) -> list[
     return sent_packet(calls, step, direction, bearer, wanted.record, record) if bearer else []
 
 
-def sent_nas(calls: Calls, it: reasons.Nas | None, record: bytes) -> list[str]:
+def sent_nas(calls: Calls, it: reasons.ProtectedNas | None, record: bytes) -> list[str]:
     if it is None or len(record) < 6:
         return []
     plain, own = reasons.deciphered(calls, it), dataclasses.replace(it, pdu=record)
@@ -115,7 +115,7 @@ def sent_nas(calls: Calls, it: reasons.Nas | None, record: bytes) -> list[str]:
     return [f"{name}: {why}" for name, why in (("text", of_text if reasons.is_sure(of_text, plain) else ""), ("MAC", of_mac)) if why]
 
 
-def sent_packet(calls: Calls, step: Step, direction: int, bearer: str, wanted: bytes, record: bytes) -> list[str]:
+def sent_packet(calls: Calls, step: ActorStep, direction: int, bearer: str, wanted: bytes, record: bytes) -> list[str]:
     act = step.scenario.steps[step.place]
     packet = bytes.fromhex(act["text"]) if act["do"] == "user" else b""
     it = protected.drb(calls, step.course(direction, bearer), wanted, packet)
@@ -123,7 +123,7 @@ def sent_packet(calls: Calls, step: Step, direction: int, bearer: str, wanted: b
     return [f"packet: {why}"] if reasons.is_sure(why, packet) else []
 
 
-def came(step: Step) -> tuple[str, bytes]:
+def came(step: ActorStep) -> tuple[str, bytes]:
     """The bearer and the octets of the message that came to the actor; nothing where none did over NAS or the air."""
     body = step.body()
     told = frames.read_input(step.role, False, body) if body else None
@@ -134,7 +134,7 @@ def came(step: Step) -> tuple[str, bytes]:
     return frames.BEARERS[int(str(told.fields["bearer"]))] if told.name == "Air" else "nas", octets
 
 
-def opened(calls: Calls, step: Step, wanted: bytes, got: bytes) -> list[str]:
+def opened(calls: Calls, step: ActorStep, wanted: bytes, got: bytes) -> list[str]:
     """Of a packet that is right, and that an actor deciphers otherwise."""
     bearer, octets = came(step)
     it = protected.drb(calls, step.course(int(step.role == "phone"), bearer), octets, wanted) if bearer.startswith("drb") else None
@@ -142,7 +142,7 @@ def opened(calls: Calls, step: Step, wanted: bytes, got: bytes) -> list[str]:
     return [f"text: {why.replace('ciphered', 'deciphered', 1)}"] if reasons.is_sure(why, got) else []
 
 
-def refused(calls: Calls, step: Step, computed: bytes, received: bytes) -> list[str]:
+def refused(calls: Calls, step: ActorStep, computed: bytes, received: bytes) -> list[str]:
     """Of a message that is right, and whose MAC an actor computes or deciphers otherwise."""
     (bearer, octets), direction = came(step), int(step.role == "phone")
     if bearer == "nas":

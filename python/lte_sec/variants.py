@@ -5,7 +5,7 @@ from collections.abc import Iterator, Mapping
 from dataclasses import dataclass
 
 from .courses import Item, Runs, act, delivery
-from .messages import Line, Names, nas_name
+from .messages import Names, StepLine, nas_name
 from .scenarios import Scenario, Step, value
 
 KINDS = ("lost", "late", "twice", "again")
@@ -33,12 +33,12 @@ class Original:
     def __init__(self, scenario: Scenario, runs: Runs):
         self.scenario = scenario
         report = runs.run([value(step) for step in scenario.steps])
-        lines = [line for line in map(Line.read, report.splitlines()[: len(scenario.steps)]) if line]
+        lines = [line for line in map(StepLine.read, report.splitlines()[: len(scenario.steps)]) if line]
         self.lines = {str(number): line for number, line in enumerate(lines)}
         self.messages: dict[str, str] = {}  # of each delivery, what it brings
         self.items = list(self.read(lines))
 
-    def read(self, lines: list[Line]) -> Iterator[Item]:
+    def read(self, lines: list[StepLine]) -> Iterator[Item]:
         """The items of the steps, each act with the delivery that makes it happen."""
         records: list[str] = []
         names = Names()

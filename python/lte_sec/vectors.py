@@ -27,7 +27,7 @@ FLAGS = {
 
 
 @dataclasses.dataclass
-class Case:
+class DrawnCase:
     """A test before it is answered: the line of calc and its fields; why it is invalid; how a message is made first, and spoilt."""
 
     word: str
@@ -85,46 +85,46 @@ class Draws:
         return bytes(spoilt)
 
 
-def kasme(draws: Draws) -> Iterator[Case]:
+def kasme(draws: Draws) -> Iterator[DrawnCase]:
     while True:
         fields = {"ck": draws.octets(16), "ik": draws.octets(16), "plmn": draws.octets(3), "sqn-xor-ak": draws.octets(6)}
-        yield Case("kasme", fields, f"KASME in the network with the PLMN identity {fields['plmn']}")
+        yield DrawnCase("kasme", fields, f"KASME in the network with the PLMN identity {fields['plmn']}")
 
 
-def kenb(draws: Draws) -> Iterator[Case]:
+def kenb(draws: Draws) -> Iterator[DrawnCase]:
     while True:
         count = draws.number(2**24 - 1, 256, 2**16)
-        yield Case("kenb", {"kasme": draws.octets(32), "count": str(count)}, f"KeNB at uplink NAS COUNT {count}")
+        yield DrawnCase("kenb", {"kasme": draws.octets(32), "count": str(count)}, f"KeNB at uplink NAS COUNT {count}")
 
 
-def nh(draws: Draws) -> Iterator[Case]:
+def nh(draws: Draws) -> Iterator[DrawnCase]:
     while True:
-        yield Case("nh", {"kasme": draws.octets(32), "sync": draws.octets(32)}, "NH")
+        yield DrawnCase("nh", {"kasme": draws.octets(32), "sync": draws.octets(32)}, "NH")
 
 
-def star(draws: Draws) -> Iterator[Case]:
+def star(draws: Draws) -> Iterator[DrawnCase]:
     while True:
         pci, earfcn = draws.number(503), draws.number(262143, 2**16)
         wide = ", an EARFCN-DL of three octets" if earfcn > 0xFFFF else ""
-        yield Case("star", {"key": draws.octets(32), "pci": str(pci), "earfcn": str(earfcn)}, f"KeNB* for PCI {pci} and EARFCN-DL {earfcn}{wide}")
+        yield DrawnCase("star", {"key": draws.octets(32), "pci": str(pci), "earfcn": str(earfcn)}, f"KeNB* for PCI {pci} and EARFCN-DL {earfcn}{wide}")
 
 
-def alg(draws: Draws) -> Iterator[Case]:
+def alg(draws: Draws) -> Iterator[DrawnCase]:
     names = ["NAS-enc", "NAS-int", "RRC-enc", "RRC-int", "UP-enc", "UP-int"]
     for kind, identity in itertools.cycle((kind, identity) for kind in range(1, 7) for identity in range(4)):
-        yield Case("alg", {"key": draws.octets(32), "type": str(kind), "id": str(identity)}, f"{names[kind - 1]}-alg, algorithm {identity}")
+        yield DrawnCase("alg", {"key": draws.octets(32), "type": str(kind), "id": str(identity)}, f"{names[kind - 1]}-alg, algorithm {identity}")
 
 
-def cipher(word: str) -> Callable[[Draws], Iterator[Case]]:
+def cipher(word: str) -> Callable[[Draws], Iterator[DrawnCase]]:
     """Texts under a cipher or a MAC."""
-    def cases(draws: Draws) -> Iterator[Case]:
+    def cases(draws: Draws) -> Iterator[DrawnCase]:
         while True:
             fields = {"key": draws.octets(16), "count": str(draws.number(2**32 - 1)), "bearer": str(draws.number(31)), "direction": draws.direction(), "text": draws.text(80)}
-            yield Case(word, fields, f"a text of {len(fields['text']) // 2} octets")
+            yield DrawnCase(word, fields, f"a text of {len(fields['text']) // 2} octets")
     return cases
 
 
-def opened(draws: Draws, case: Case, header: tuple[int, ...], whole: int, count: int, high: int) -> Case:
+def opened(draws: Draws, case: DrawnCase, header: tuple[int, ...], whole: int, count: int, high: int) -> DrawnCase:
     """A case of opening a message, right or spoilt: at these places stand type and sequence number; `whole` octets are header and MAC."""
     how = draws.one("right", "right", "MacBit", "WrongCount", "CountSpent", "Cut")
     if how == "right":
@@ -141,40 +141,40 @@ def opened(draws: Draws, case: Case, header: tuple[int, ...], whole: int, count:
     return case
 
 
-def earlier(draws: Draws, case: Case, count: int) -> Case:
+def earlier(draws: Draws, case: DrawnCase, count: int) -> DrawnCase:
     """The case with a least COUNT that may be below that of the message, by less than a turn of its sequence number."""
     least = count - min(count, draws.random.choice([0, 1, window(case) - 1, draws.random.randrange(window(case))]))
     return dataclasses.replace(case, fields=case.fields | {"count": str(least)}, comment=f"{case.comment}, from COUNT {least} on")
 
 
-def window(case: Case) -> int:
+def window(case: DrawnCase) -> int:
     """How many COUNTs the sequence number of a message tells apart."""
     return {"nas": 256, "srb": 32, "service-request": 32}.get(case.word) or 2 ** int(case.fields["bits"])
 
 
-def nas(draws: Draws) -> Iterator[Case]:
+def nas(draws: Draws) -> Iterator[DrawnCase]:
     while True:
         count, kind, text = draws.number(2**24 - 1, 256, 2**16), draws.one("1", "2", "3", "4"), draws.text(60)
         begun = {"kasme": draws.octets(32), "eea": draws.algorithms(), "count": str(count), "direction": draws.direction()}
-        case = Case("nas", begun, f"NAS message of type {kind} at COUNT {count}", seal=("seal-nas", begun | {"type": kind, "text": text}))
+        case = DrawnCase("nas", begun, f"NAS message of type {kind} at COUNT {count}", seal=("seal-nas", begun | {"type": kind, "text": text}))
         yield opened(draws, case, (0, 5), 6, count, 2**24 - 1)
 
 
-def srb(draws: Draws) -> Iterator[Case]:
+def srb(draws: Draws) -> Iterator[DrawnCase]:
     while True:
         count = draws.number(2**32 - 1, 32)
         begun = {"key": draws.octets(32), "eea": draws.algorithms(), "count": str(count), "bearer": draws.one("0", "1"), "direction": draws.direction()}
-        case = Case("srb", begun, f"PDU of SRB{int(begun['bearer']) + 1} at COUNT {count}", seal=("seal-srb", begun | {"text": draws.text(60)}))
+        case = DrawnCase("srb", begun, f"PDU of SRB{int(begun['bearer']) + 1} at COUNT {count}", seal=("seal-srb", begun | {"text": draws.text(60)}))
         yield opened(draws, case, (0,), 5, count, 2**32 - 1)
 
 
-def drb(draws: Draws) -> Iterator[Case]:
+def drb(draws: Draws) -> Iterator[DrawnCase]:
     """A DRB has no MAC: a PDU is cut, or its COUNTs are spent."""
     while True:
         bits = draws.one("7", "12", "15", "18")
         count = draws.number(2**32 - 1, 2 ** int(bits))
         begun = {"key": draws.octets(32), "eea": draws.one("0", "1", "2", "3"), "count": str(count), "bearer": str(draws.number(31)), "direction": draws.direction(), "bits": bits}
-        case = Case("drb", begun, f"PDU of a DRB with {bits} bits at COUNT {count}", seal=("seal-drb", begun | {"text": draws.text(60)}))
+        case = DrawnCase("drb", begun, f"PDU of a DRB with {bits} bits at COUNT {count}", seal=("seal-drb", begun | {"text": draws.text(60)}))
         how = draws.one("right", "right", "right", "CountSpent", "Cut")
         if how == "CountSpent" and count % window(case) != window(case) - 1:
             case = dataclasses.replace(case, fields=begun | {"count": str(2**32 - 1)}, flag=how, comment=f"{case.comment}, opened at the last COUNT")
@@ -183,12 +183,12 @@ def drb(draws: Draws) -> Iterator[Case]:
         yield case if case.flag else earlier(draws, case, count)
 
 
-def reach(draws: Draws) -> Iterator[Case]:
+def reach(draws: Draws) -> Iterator[DrawnCase]:
     """A phone's chain, for each pair of NCCs."""
     for used, ncc in itertools.cycle((used, ncc) for used in range(8) for ncc in range(8)):
         steps = (ncc - used) % 8
         fields = {"kasme": draws.octets(32), "key": draws.octets(32), "ncc-in-use": str(used), "sync": draws.octets(32), "ncc": str(ncc), "pci": str(draws.number(503)), "earfcn": str(draws.number(262143, 2**16))}
-        yield Case("reach", fields, f"from NCC {used} to NCC {ncc}: {f'{steps} steps of NH' if steps else 'horizontal'}")
+        yield DrawnCase("reach", fields, f"from NCC {used} to NCC {ncc}: {f'{steps} steps of NH' if steps else 'horizontal'}")
 
 
 @dataclasses.dataclass(frozen=True)
@@ -198,7 +198,7 @@ class Group:
     what: str
     clause: str
     outputs: tuple[str, ...]
-    cases: Callable[[Draws], Iterator[Case]]
+    cases: Callable[[Draws], Iterator[DrawnCase]]
 
 
 GROUPS: dict[str, Group] = {
@@ -221,13 +221,13 @@ GROUPS: dict[str, Group] = {
 REFUSED = {"MacBit": "mac fails", "WrongCount": "mac fails", "CountSpent": "count spent", "Cut": "short"}
 
 
-def drawn(seed: int, count: int) -> list[Case]:
+def drawn(seed: int, count: int) -> list[DrawnCase]:
     """So many cases, of each group in turn."""
     sources = [group.cases(Draws(seed * len(GROUPS) + place)) for place, group in enumerate(GROUPS.values())]
     return [next(sources[place % len(sources)]) for place in range(count)]
 
 
-def made(cases: list[Case]) -> list[Case]:
+def made(cases: list[DrawnCase]) -> list[DrawnCase]:
     """The cases with their messages, which calc protects, and which are spoilt after that."""
     sealed = [case for case in cases if case.seal]
     pdus = answers([line_of(*case.seal) for case in sealed if case.seal])
@@ -242,7 +242,7 @@ def value(name: str, text: str) -> int | str:
     return int(text) if is_number else "" if text == "-" else text
 
 
-def test(number: int, case: Case, answer: str) -> dict[str, object]:
+def test(number: int, case: DrawnCase, answer: str) -> dict[str, object]:
     """A test of the document. One that must be refused and is not, or for another reason, is a fault of this program."""
     if case.flag and not answer.startswith(REFUSED[case.flag]):
         raise TraceError(f"calc answers '{answer[:40]}' to a test with the flag {case.flag}: {line_of(case.word, case.fields)[:60]}")

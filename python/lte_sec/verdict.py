@@ -44,7 +44,7 @@ NOT_MADE = (Outcome.NOT_PREPARED, Outcome.NOT_COMMANDED, Outcome.NOT_OBEYED, Out
 
 
 @dataclasses.dataclass(frozen=True)
-class Row:
+class ChainedKey:
     """A row of the ladder: its place, its form, the rows of its root and of the key above it, the step of its chain that it comes from,
     its cell if it has one, and the row with which its chain begins."""
 
@@ -58,7 +58,7 @@ class Row:
 
 
 @dataclasses.dataclass(frozen=True)
-class Step:
+class ReportedStep:
     """A line of the report: who answered, the class of the record sent, and of a key that was come by or told the way and the octets."""
 
     number: int
@@ -72,21 +72,21 @@ class Step:
 
 @dataclasses.dataclass
 class Report:
-    steps: list[Step]
-    rows: dict[str, Row]
+    steps: list[ReportedStep]
+    rows: dict[str, ChainedKey]
 
-    def notes(self) -> list[Step]:
+    def notes(self) -> list[ReportedStep]:
         """The steps at which an actor came by a key, or tells it."""
         return [step for step in self.steps if step.way]
 
-    def row(self, step: Step) -> Row:
+    def row(self, step: ReportedStep) -> ChainedKey:
         return self.rows[step.key]
 
 
-def rows_of(lines: list[str]) -> dict[str, Row]:
+def rows_of(lines: list[str]) -> dict[str, ChainedKey]:
     """The rows by their keys."""
-    rows: list[Row] = []
-    keys: dict[str, Row] = {}
+    rows: list[ChainedKey] = []
+    keys: dict[str, ChainedKey] = {}
     for line in lines:
         found = ROW.fullmatch(line)
         if not found or int(found[1]) != len(rows):
@@ -96,19 +96,19 @@ def rows_of(lines: list[str]) -> dict[str, Row]:
         root = above.root if above else len(rows)
         chain = rows[int(more)].chain + 1 if form == "nh" else above.chain if above and form == "star" else 0
         first = rows[int(more)].first if form == "nh" else above.first if above and form == "star" else len(rows)
-        rows.append(Row(len(rows), form, root, int(parent or len(rows)), chain, more if form == "star" else "", first))
+        rows.append(ChainedKey(len(rows), form, root, int(parent or len(rows)), chain, more if form == "star" else "", first))
         keys[key] = rows[-1]
     return keys
 
 
-def step_of(number: int, line: str) -> Step:
+def step_of(number: int, line: str) -> ReportedStep:
     """The line of the step of this number."""
     found = STEP.fullmatch(line)
     if not found or int(found[1]) != number:
         raise NoReport(f"line {number + 1} is not a line of step {number}")
     sent, note = SENT.search(found[5]), NOTE.search(found[5])
     station = int(found[3]) if found[3] else None
-    return Step(number, station, found[2], found[4] == "done", sent[1] if sent else None, note[1] if note else None, note[2] if note else "")
+    return ReportedStep(number, station, found[2], found[4] == "done", sent[1] if sent else None, note[1] if note else None, note[2] if note else "")
 
 
 def read(text: str) -> Report:
@@ -129,7 +129,7 @@ def read(text: str) -> Report:
     return report
 
 
-def is_prepared(report: Report, note: Step) -> bool:
+def is_prepared(report: Report, note: ReportedStep) -> bool:
     """Whether a station came by the key of a cell of its own, at which the phone is to arrive: of another station's record
     (given over X2, derived over S1), for a handover within itself, or at a key change."""
     if note.station is None or report.row(note).form != "star":
@@ -138,7 +138,7 @@ def is_prepared(report: Report, note: Step) -> bool:
     return note.way in ways.get(note.sent, [])
 
 
-def is_asked(note: Step) -> bool:
+def is_asked(note: ReportedStep) -> bool:
     """Whether a station derived the key of another's cell, to ask it over X2 for a handover."""
     return note.station is not None and note.sent == "x2" and note.way in ("horizontal", "vertical")
 
@@ -147,11 +147,11 @@ def is_asked(note: Step) -> bool:
 class Obeyed:
     """A handover or key change that the phone obeyed: its key, and the steps at which stations prepared its cell and completed it."""
 
-    phone: Step
-    prepared: list[Step]
-    completed: Step | None = None
+    phone: ReportedStep
+    prepared: list[ReportedStep]
+    completed: ReportedStep | None = None
 
-    def target(self) -> Step | None:
+    def target(self) -> ReportedStep | None:
         """The step at which the target came by its key: the last before the phone's, for a station has one attempt at a time. None where
         the report does not tell it: where that one has another key, and one before has the phone's."""
         same = [note for note in self.prepared if note.key == self.phone.key]
@@ -163,7 +163,7 @@ class Obeyed:
 def obeyed(report: Report) -> list[Obeyed]:
     """Each handover and key change that the phone obeyed."""
     found: list[Obeyed] = []
-    prepared: dict[int, list[Step]] = {}
+    prepared: dict[int, list[ReportedStep]] = {}
     for note in report.notes():
         row = report.row(note)
         if note.who == "phone" and row.form == "star":
@@ -184,7 +184,7 @@ def obeyed(report: Report) -> list[Obeyed]:
 
 
 @dataclasses.dataclass(frozen=True)
-class Item:
+class KenbChange:
     """What became of one handover or key change: its first and last step, the target, the cell, and how far apart the keys are."""
 
     kind: str
@@ -221,21 +221,21 @@ def ahead(report: Report, phone: str, target: str) -> str:
     return f"{count} ahead" if steps > 0 else f"{count} behind" if steps < 0 else "no step apart"
 
 
-def of_obeyed(report: Report, made: Obeyed) -> Item:
+def of_obeyed(report: Report, made: Obeyed) -> KenbChange:
     """Whether phone and target have one key."""
     target, phone = made.target(), made.phone
     cell = report.row(phone).cell
     if target is None:
         why = "several keys were prepared for its cell" if made.prepared else "no station prepared its cell"
-        return Item("handover or key change", phone.number, phone.number, None, cell, Outcome.NOT_TOLD, why)
+        return KenbChange("handover or key change", phone.number, phone.number, None, cell, Outcome.NOT_TOLD, why)
     last = max(phone.number, made.completed.number if made.completed else 0)
     place = (KINDS[target.sent], target.number, last, target.station, cell)
     if target.key != phone.key:
-        return Item(*place, Outcome.DIFFER, ahead(report, phone.key, target.key))
-    return Item(*place, Outcome.AGREED if made.completed else Outcome.NOT_COMPLETED)
+        return KenbChange(*place, Outcome.DIFFER, ahead(report, phone.key, target.key))
+    return KenbChange(*place, Outcome.AGREED if made.completed else Outcome.NOT_COMPLETED)
 
 
-def until(report: Report, begun: Step) -> Iterator[Step]:
+def until(report: Report, begun: ReportedStep) -> Iterator[ReportedStep]:
     """The steps after one at which an attempt began, up to the next attempt of that station, or of any at a key of another station."""
     for step in report.steps[begun.number + 1:]:
         if step.station == begun.station and step.way and (is_asked(step) or is_prepared(report, step)):
@@ -243,23 +243,23 @@ def until(report: Report, begun: Step) -> Iterator[Step]:
         yield step
 
 
-def of_begun(report: Report, begun: Step, prepared: Step | None) -> Item:
+def of_begun(report: Report, begun: ReportedStep, prepared: ReportedStep | None) -> KenbChange:
     """What became of an attempt that the phone did not obey: begun where a source derived the key, or else where a target did."""
     cell, kind = report.row(begun).cell, KINDS[begun.sent]
     if prepared is None:
-        return Item(kind, begun.number, begun.number, None, cell, Outcome.NOT_PREPARED)
+        return KenbChange(kind, begun.number, begun.number, None, cell, Outcome.NOT_PREPARED)
     place = (kind, begun.number, prepared.number, prepared.station, cell)
     if kind == KEY_CHANGE:
-        return Item(*place, Outcome.NOT_OBEYED)
+        return KenbChange(*place, Outcome.NOT_OBEYED)
     after = [step for step in until(report, begun) if step.number > prepared.number]
     sources = [step for step in after if (step.station != prepared.station if begun.sent == "s1" else step.station == begun.station)]
     is_silent = not any(step.station is not None and step.sent == "air" and not step.way for step in sources)
-    return Item(*place, Outcome.NOT_COMMANDED if is_silent else Outcome.NOT_TAKEN)
+    return KenbChange(*place, Outcome.NOT_COMMANDED if is_silent else Outcome.NOT_TAKEN)
 
 
-def attempts(report: Report) -> list[tuple[Step, Step | None]]:
+def attempts(report: Report) -> list[tuple[ReportedStep, ReportedStep | None]]:
     """Each handover and key change that began: the step at which its key was derived, and that at which its target had it."""
-    found: list[tuple[Step, Step | None]] = []
+    found: list[tuple[ReportedStep, ReportedStep | None]] = []
     for note in report.notes():
         if is_asked(note):
             found.append((note, None))
@@ -272,14 +272,14 @@ def attempts(report: Report) -> list[tuple[Step, Step | None]]:
     return found
 
 
-def not_taken(report: Report) -> list[Item]:
+def not_taken(report: Report) -> list[KenbChange]:
     """Each connection or key change of the core whose KeNB no station took."""
     taken = {place for note in report.notes() if note.station is not None for row in [report.row(note)] for place in (row.place, row.above)}
     begun = [note for note in report.notes() if note.who.startswith("core") and note.way == "initial"]
-    return [Item(SET_UP, note.number, note.number, None, "", Outcome.NOT_PREPARED) for note in begun if report.row(note).place not in taken]
+    return [KenbChange(SET_UP, note.number, note.number, None, "", Outcome.NOT_PREPARED) for note in begun if report.row(note).place not in taken]
 
 
-def items(report: Report) -> list[Item]:
+def items(report: Report) -> list[KenbChange]:
     """What became of each handover and key change, in the order of its first step."""
     made = obeyed(report)
     targets = [target for it in made if (target := it.target())]
@@ -299,10 +299,10 @@ def connected(report: Report) -> bool | None:
 
 
 @dataclasses.dataclass(frozen=True)
-class Verdict:
+class JudgedReport:
     """All that is told of a report: each handover and key change, the last line, and the status."""
 
-    items: list[Item]
+    items: list[KenbChange]
     last: str
     status: int
     frames: dict[int, str] = dataclasses.field(default_factory=dict)  # of the steps, where the scenario has them
@@ -321,19 +321,19 @@ class Verdict:
         return {"version": VERSION, "items": told, "verdict": self.last, "status": self.status}
 
 
-def judged(text: str) -> Verdict:
+def judged(text: str) -> JudgedReport:
     """What is told of the text of a report."""
     report = read(text)
     found, is_set_up = items(report), connected(report)
     outcomes = [item.outcome for item in found]
     if Outcome.DIFFER in outcomes or is_set_up is False:
-        return Verdict(found, "keys differ", 1)
+        return JudgedReport(found, "keys differ", 1)
     if Outcome.NOT_TOLD in outcomes:
-        return Verdict(found, "not all is told", 3)
+        return JudgedReport(found, "not all is told", 3)
     if is_set_up is None:
-        return Verdict(found, "nothing to judge", 3)
+        return JudgedReport(found, "nothing to judge", 3)
     count = sum(outcome in NOT_MADE for outcome in outcomes)
-    return Verdict(found, f"all agree; {count} of {len(found)} not made" if count else "all agree", 0)
+    return JudgedReport(found, f"all agree; {count} of {len(found)} not made" if count else "all agree", 0)
 
 
 def text_of(octets: bytes) -> str:

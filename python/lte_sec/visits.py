@@ -50,10 +50,10 @@ class Watch:
         return Visit(self.actor, came, state, answer, way)
 
 
-Seen = tuple[str, str, str]
+RowParts = tuple[str, str, str]
 
 
-class Phone(Watch):
+class PhoneWatch(Watch):
     """A phone: idle, connecting or connected."""
 
     actor = "phone"
@@ -61,19 +61,19 @@ class Phone(Watch):
     def __init__(self) -> None:
         self.radio = "idle"
 
-    def on_ServiceRequest(self, told: frames.Input, reply: frames.Reply, answer: str, made_by: str) -> Seen:
+    def on_ServiceRequest(self, told: frames.Input, reply: frames.Reply, answer: str, made_by: str) -> RowParts:
         if answer == "done":
             self.radio = "connecting"
         return told.name, "any", ""
 
-    def on_GoIdle(self, told: frames.Input, reply: frames.Reply, answer: str, made_by: str) -> Seen:
+    def on_GoIdle(self, told: frames.Input, reply: frames.Reply, answer: str, made_by: str) -> RowParts:
         self.radio = "idle"
         return told.name, "any", ""
 
-    def on_Skip(self, told: frames.Input, reply: frames.Reply, answer: str, made_by: str) -> Seen:
+    def on_Skip(self, told: frames.Input, reply: frames.Reply, answer: str, made_by: str) -> RowParts:
         return "Skip, NAS" if told.fields["bearer"] == 0 else "Skip, bearer", "any", ""
 
-    def on_Nas(self, told: frames.Input, reply: frames.Reply, answer: str, made_by: str) -> Seen:
+    def on_Nas(self, told: frames.Input, reply: frames.Reply, answer: str, made_by: str) -> RowParts:
         if answer in ("Short", "BadHeader"):
             return "Nas, first octet", "any", ""
         if octets_of(told)[0] >> 4 != 3:
@@ -86,7 +86,7 @@ class Phone(Watch):
             self.radio = "connected" if self.radio == "connected" else "connecting"
         return "Nas, header 3", "any", way
 
-    def on_Air(self, told: frames.Input, reply: frames.Reply, answer: str, made_by: str) -> Seen:
+    def on_Air(self, told: frames.Input, reply: frames.Reply, answer: str, made_by: str) -> RowParts:
         if self.radio != "connected":
             before, self.radio = self.radio, "connected" if answer == "done" else self.radio
             return "Air", before, ""
@@ -98,7 +98,7 @@ class Phone(Watch):
         return "Air, SRB", "connected", way
 
 
-class Station(Watch):
+class StationWatch(Watch):
     """A station: its context's air address and whether its security starts, and its attempt, by kind and stage."""
 
     actor = "station"
@@ -111,13 +111,13 @@ class Station(Watch):
     def drop(self) -> None:
         self.air, self.is_starting, self.attempt = None, False, ""
 
-    def on_S1(self, told: frames.Input, reply: frames.Reply, answer: str, made_by: str) -> Seen:
+    def on_S1(self, told: frames.Input, reply: frames.Reply, answer: str, made_by: str) -> RowParts:
         return self.record("S1", records.S1, told, reply, answer)
 
-    def on_X2(self, told: frames.Input, reply: frames.Reply, answer: str, made_by: str) -> Seen:
+    def on_X2(self, told: frames.Input, reply: frames.Reply, answer: str, made_by: str) -> RowParts:
         return self.record("X2", records.X2, told, reply, answer)
 
-    def record(self, interface: str, forms: dict[int, records.Form], told: frames.Input, reply: frames.Reply, answer: str) -> Seen:
+    def record(self, interface: str, forms: dict[int, records.Form], told: frames.Input, reply: frames.Reply, answer: str) -> RowParts:
         octets = octets_of(told)
         if answer in ("BadRecord", "WrongKind"):
             return interface, "any", ""
@@ -139,7 +139,7 @@ class Station(Watch):
         elif kind == 0x34:
             self.attempt, self.stage = "key change", "commanded"
 
-    def on_Air(self, told: frames.Input, reply: frames.Reply, answer: str, made_by: str) -> Seen:
+    def on_Air(self, told: frames.Input, reply: frames.Reply, answer: str, made_by: str) -> RowParts:
         if answer == "NotAddressed":
             return "Air", "no such address", ""
         if told.fields["air"] != self.air:
@@ -162,7 +162,7 @@ class Station(Watch):
         self.air = int(str(told.fields["air"]))
         return way
 
-    def on_Start(self, told: frames.Input, reply: frames.Reply, answer: str, made_by: str) -> Seen:
+    def on_Start(self, told: frames.Input, reply: frames.Reply, answer: str, made_by: str) -> RowParts:
         kind = KINDS[int(str(told.fields["way"]))]
         way = ""
         if answer == "done":
@@ -170,21 +170,21 @@ class Station(Watch):
             way = frames.WAYS[reply.note.way] if reply.note else ""
         return f"Start {kind}", "any", way
 
-    def on_Command(self, told: frames.Input, reply: frames.Reply, answer: str, made_by: str) -> Seen:
+    def on_Command(self, told: frames.Input, reply: frames.Reply, answer: str, made_by: str) -> RowParts:
         if answer != "done":
             return told.name, "any", ""
         way = self.attempt + (", again" if self.stage == "commanded" else "")
         self.stage = "commanded"
         return told.name, "any", way
 
-    def on_Cancel(self, told: frames.Input, reply: frames.Reply, answer: str, made_by: str) -> Seen:
+    def on_Cancel(self, told: frames.Input, reply: frames.Reply, answer: str, made_by: str) -> RowParts:
         if answer != "done":
             return told.name, "any", ""
         way, self.attempt = f"{self.attempt}, {self.stage}", ""
         return told.name, "any", way
 
 
-class Core(Watch):
+class CoreWatch(Watch):
     """The core: whether a connection stands."""
 
     actor = "core"
@@ -192,15 +192,15 @@ class Core(Watch):
     def __init__(self) -> None:
         self.is_linked = False
 
-    def on_Connect(self, told: frames.Input, reply: frames.Reply, answer: str, made_by: str) -> Seen:
+    def on_Connect(self, told: frames.Input, reply: frames.Reply, answer: str, made_by: str) -> RowParts:
         self.is_linked = self.is_linked or answer == "done"
         return told.name, "any", ""
 
-    def on_Release(self, told: frames.Input, reply: frames.Reply, answer: str, made_by: str) -> Seen:
+    def on_Release(self, told: frames.Input, reply: frames.Reply, answer: str, made_by: str) -> RowParts:
         self.is_linked = False
         return told.name, "any", ""
 
-    def on_Nas(self, told: frames.Input, reply: frames.Reply, answer: str, made_by: str) -> Seen:
+    def on_Nas(self, told: frames.Input, reply: frames.Reply, answer: str, made_by: str) -> RowParts:
         octets = octets_of(told)
         if not octets or answer == "BadHeader" and octets[0] != 0x07:
             return "Nas, first octet", "any", ""
@@ -211,7 +211,7 @@ class Core(Watch):
             way = "text" if reply.text is not None else "Service Request" if made_by == "ServiceRequest" else "Security Mode Reject"
         return f"Nas, header {'1 or 2' if header in (1, 2) else header}", "any", way
 
-    def on_S1(self, told: frames.Input, reply: frames.Reply, answer: str, made_by: str) -> Seen:
+    def on_S1(self, told: frames.Input, reply: frames.Reply, answer: str, made_by: str) -> RowParts:
         if answer in ("BadRecord", "WrongKind"):
             return "S1", "any", ""
         way = "alarm" if reply.alarm else ""
@@ -221,4 +221,4 @@ class Core(Watch):
 
 
 def watch(actor: str) -> Watch:
-    return {"phone": Phone, "station": Station, "core": Core}[actor]()
+    return {"phone": PhoneWatch, "station": StationWatch, "core": CoreWatch}[actor]()

@@ -8,7 +8,7 @@ import tempfile
 from collections.abc import Iterator, Mapping
 from pathlib import Path
 
-from .derived import Numbers, Row, numbered
+from .derived import DerivedKey, Numbers, numbered
 from .report import NOTE, counts, status, summary
 from .seen import Account, Seen, Value
 from .terms import TraceError
@@ -50,7 +50,7 @@ def message(seen: Seen) -> dict[str, object]:
     }
 
 
-def derived(row: Row) -> dict[str, object]:
+def derived(row: DerivedKey) -> dict[str, object]:
     """The fields of a key."""
     return {"hex": row.value.hex(), "name": row.name, "form": row.form, "from": row.above, "by": row.by, "in": row.given, "at": row.at}
 

@@ -9,8 +9,8 @@ from pathlib import Path
 from lte_sec import quick, reasons
 from lte_sec.cells import Cells, Site
 from lte_sec.dumps import blocks, candidates
-from lte_sec.explain import CONSTANT, OTHER_COUNT, Explanation, Found, told
-from lte_sec.search import Search
+from lte_sec.explain import CONSTANT, OTHER_COUNT, ExplainedKey, Explanation, told
+from lte_sec.search import DerivationSearch
 from lte_sec.terms import Derivations, Kasme
 
 from .standin import StandIn
@@ -20,7 +20,7 @@ ROW = re.compile(r"row (\d+) (\S+) ([0-9a-f]{64}) ")
 LOG_KASME = "6f1d9a0c55e2473bb8a4c07e12f3d96a80bc4e7719d2053fe6a1b8c4d7720e95"
 
 
-def explained(text: str, kasme: str, cells: list[tuple[int, int]]) -> tuple[Derivations, list[Found]]:
+def explained(text: str, kasme: str, cells: list[tuple[int, int]]) -> tuple[Derivations, list[ExplainedKey]]:
     derivations = Derivations(StandIn(), [Kasme("KASME 1", bytes.fromhex(kasme))])
     sites = Cells(Site(place, pci, earfcn) for place, (pci, earfcn) in enumerate(cells))
     return derivations, Explanation(derivations, sites, 300, 16).find(blocks(text.splitlines()))
@@ -54,7 +54,7 @@ class Quick(unittest.TestCase):
 
     def test_stars_are_those_of_the_proved_calls_in_their_order(self) -> None:
         derivations = Derivations(StandIn(), [Kasme("KASME 1", bytes(32))])
-        search = Search(derivations, Cells([Site(0, 301, 1575), Site(1, 87, 70000)]))
+        search = DerivationSearch(derivations, Cells([Site(0, 301, 1575), Site(1, 87, 70000)]))
         keys = [derivations.kenb(0, 0), derivations.next_nh(0, derivations.kenb(0, 0))]
         for deep in (1, 2, 3):
             wanted = list(search.stars(keys, deep))

@@ -4,10 +4,10 @@ import pathlib
 import re
 import unittest
 
-from lte_sec.messages import NAMES, Line, Names, Note
+from lte_sec.messages import NAMES, Names, NotedKey, StepLine
 
 CRATES = pathlib.Path(__file__).resolve().parent.parent.parent / "crates"
-NOTE = Note("00" * 32, "vertical", "1")
+NOTE = NotedKey("00" * 32, "vertical", "1")
 ACTORS = ("phone", "station 1", "core")
 COMMAND, COMPLETE, REQUEST = "NAS Security Mode Command", "RRC Reconfiguration Complete", "Handover Request"
 
@@ -26,7 +26,7 @@ def rows(words: str, came: str) -> dict[tuple[str, str], str]:
 
 def name(who: str, cause: str, kind: str = "s1", answer: str = "done", first: str = "") -> str:
     """What a step sends, behind one that told the same key at the message `first`."""
-    names, line = Names(), Line(who, answer, 0, kind, NOTE, None, False)
+    names, line = Names(), StepLine(who, answer, 0, kind, NOTE, None, False)
     if first:
         names.of(line, first)
     return names.of(line, cause)

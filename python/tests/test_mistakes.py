@@ -7,7 +7,7 @@ from pathlib import Path
 from unittest import mock
 
 from lte_sec import frames, mistakes, reasons
-from lte_sec.ladders import Row, rows_of
+from lte_sec.ladders import LadderRow, rows_of
 
 from .standin import StandIn
 
@@ -15,11 +15,11 @@ REPORT = (Path(__file__).resolve().parents[2] / "examples/run/ordinary.out").rea
 ROWS = {row.number: row for row in rows_of(REPORT).values()}
 
 
-def octets(row: Row) -> bytes:
+def octets(row: LadderRow) -> bytes:
     return bytes.fromhex(row.key)
 
 
-def first(word: str) -> Row:
+def first(word: str) -> LadderRow:
     return next(row for row in ROWS.values() if row.word == word)
 
 

@@ -8,7 +8,7 @@ import unittest
 from unittest import mock
 
 from lte_sec import reasons, strict
-from lte_sec.reasons import Nas
+from lte_sec.reasons import ProtectedNas
 
 from .standin import StandIn
 
@@ -199,8 +199,8 @@ def ciphered(count: int = COUNT, bearer: int = 0, direction: int = 0, of: bytes 
     return CALLS.eea2(of, count, bearer, direction, TEXT)
 
 
-def message(mac: bytes, text: bytes | None = None) -> Nas:
-    return Nas(KASME, 2, 2, 0, COUNT, b"\x27" + mac + bytes([COUNT & 255]) + (ciphered() if text is None else text))
+def message(mac: bytes, text: bytes | None = None) -> ProtectedNas:
+    return ProtectedNas(KASME, 2, 2, 0, COUNT, b"\x27" + mac + bytes([COUNT & 255]) + (ciphered() if text is None else text))
 
 
 class NasReasons(unittest.TestCase):
@@ -222,9 +222,9 @@ class NasReasons(unittest.TestCase):
     def test_short_macs(self) -> None:
         head = bytes([0xC7, 0x02])
         other = CALLS.eia2(key(2)[16:], COUNT, 0, 1, head)
-        nas = Nas(KASME, 2, 2, 0, COUNT, head + other[2:4])
+        nas = ProtectedNas(KASME, 2, 2, 0, COUNT, head + other[2:4])
         self.assertEqual(reasons.mac(CALLS, nas, tag=slice(2, 4)), "it is that of the other direction")
-        self.assertEqual(reasons.mac(CALLS, Nas(KASME, 2, 2, 0, COUNT, head + bytes(2)), tag=slice(2, 4)), "it is zeros")
+        self.assertEqual(reasons.mac(CALLS, ProtectedNas(KASME, 2, 2, 0, COUNT, head + bytes(2)), tag=slice(2, 4)), "it is zeros")
 
     def test_texts(self) -> None:
         def reads(text: bytes) -> bool:

@@ -18,13 +18,13 @@ from unittest import mock
 from lte_sec import replay, words
 from lte_sec.captures import read
 from lte_sec.cells import Cells, Site, read_cells
-from lte_sec.compared import Verdict
+from lte_sec.compared import ReplayVerdict
 from lte_sec.decoding import Message
 from lte_sec.reading import check
 from lte_sec.recorded import record
 from lte_sec.remarks import frames_of
 from lte_sec.terms import Derivations, Kasme
-from lte_sec.told import Answer, scenario_of
+from lte_sec.told import ReplayedCapture, scenario_of
 
 from . import simulated
 from .lost_answers import made
@@ -67,7 +67,7 @@ def setUpModule() -> None:
     PROGRAM = told.stdout.split()[1]
 
 
-def answer_of(messages: list[Message], kasmes: list[Kasme], cells: list[Site], budget: int = 4_000, texts: bool = True) -> Answer:
+def answer_of(messages: list[Message], kasmes: list[Kasme], cells: list[Site], budget: int = 4_000, texts: bool = True) -> ReplayedCapture:
     return replay.replayed(PROGRAM, record(check(Derivations(CALLS, kasmes), Cells(cells), copy.deepcopy(messages), budget)), ["capture"], texts)
 
 
@@ -83,8 +83,8 @@ def named(kasmes: list[bytes]) -> list[Kasme]:
     return [Kasme(f"k{place}", kasme) for place, kasme in enumerate(kasmes)]
 
 
-def differing(answer: Answer) -> list[str]:
-    return [one.frame for one in answer.told() if one.verdict == Verdict.DIFFERS]
+def differing(answer: ReplayedCapture) -> list[str]:
+    return [one.frame for one in answer.told() if one.verdict == ReplayVerdict.DIFFERS]
 
 
 def called(*given: object) -> tuple[int, str, str]:

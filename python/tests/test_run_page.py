@@ -10,7 +10,7 @@ from typing import Any
 
 from lte_sec import pages, ran
 from lte_sec.ladders import rows_of
-from lte_sec.messages import Line
+from lte_sec.messages import StepLine
 
 from . import test_what_if
 from .browser import found
@@ -46,11 +46,11 @@ class Run(unittest.TestCase):
     def test_its_steps_and_keys_are_those_of_the_report(self) -> None:
         for file in sorted(RUNS.glob("*.out")):
             name, report = file.stem, file.read_text().splitlines()
-            if not (RUNS / f"{name}.toml").exists() or Line.read(report[0]) is None:
+            if not (RUNS / f"{name}.toml").exists() or StepLine.read(report[0]) is None:
                 continue
             with self.subTest(name=name):
                 page, rows = ran.page(told(name)), rows_of(report)
-                lines = [line for line in map(Line.read, report) if line is not None]
+                lines = [line for line in map(StepLine.read, report) if line is not None]
                 steps = [event for event in page["events"] if not event.get("lost")]
                 self.assertEqual([step.get("answer", "done") for step in steps], [line.answer for line in lines])
                 self.assertEqual([page["keys"][step["key"]]["hex"] if "key" in step else None for step in steps], [line.note.key if line.note and rows else None for line in lines])

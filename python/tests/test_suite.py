@@ -86,7 +86,7 @@ class Networks(unittest.TestCase):
         addresses = {"00030000000101": ("phone", "03030000000101ff"), "01": ("phone", "02ff"), "02": ("core", "02ff"), "03": ("core", "04ff"),
                      "04030000000181": ("station 3", "030000000181ff"), "0503": ("station 3", "04ff"), "0603": ("station 3", "05ff")}
         for address, (actor, body) in addresses.items():
-            net.records.append(network.Record(bytes.fromhex(address), b"\xff", "Nas"))
+            net.records.append(network.SentRecord(bytes.fromhex(address), b"\xff", "Nas"))
             self.assertEqual([network.Told(actor, bytes.fromhex(body), "Nas")], net.told({"do": "deliver", "record": -1}))
         with self.assertRaises(network.NoRecord):
             net.told({"do": "deliver", "record": 7})

@@ -31,8 +31,8 @@ def told() -> dict[int, tuple[bytes, Reply]]:
 TOLD = told()
 
 
-def step(place: int) -> unsealed.Step:
-    return unsealed.Step("a program", ROWS, SCENARIO, place, "phone")
+def step(place: int) -> unsealed.ActorStep:
+    return unsealed.ActorStep("a program", ROWS, SCENARIO, place, "phone")
 
 
 def mistakes(place: int, got: Reply) -> list[str]:
@@ -148,9 +148,9 @@ class Came(unittest.TestCase):
 class Courses(unittest.TestCase):
     def test_counts_are_those_behind_what_was_skipped(self) -> None:
         steps: list[scenarios.Step] = [{"do": "skip", "who": "phone", "bearer": "srb1", "n": 1000}, {"do": "idle"}, {"do": "skip", "who": "station", "station": 0, "bearer": "srb1", "n": 90}]
-        up, down = (protected.Course({}, steps, way, "srb1") for way in (UP, DOWN))
+        up, down = (protected.BearerHistory({}, steps, way, "srb1") for way in (UP, DOWN))
         self.assertEqual(([1001], [92]), ([count for count in up.counts(1001 & 31, 32) if count > 99], [count for count in down.counts(92 & 31, 32) if count > 9]))
-        self.assertEqual([0, 1, 2], [protected.Course({}, [], UP, name).number for name in ("srb1", "srb2", "drb3")])
+        self.assertEqual([0, 1, 2], [protected.BearerHistory({}, [], UP, name).number for name in ("srb1", "srb2", "drb3")])
 
 
 if __name__ == "__main__":

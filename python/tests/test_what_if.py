@@ -19,7 +19,7 @@ from lte_sec import scenarios, what_if
 from lte_sec.answers import from_json, merged, ranges, to_json
 from lte_sec.courses import Course, Item, ProgramFails, act, delivery
 from lte_sec.listed import Listed, Lists, order, variant_of
-from lte_sec.messages import Line
+from lte_sec.messages import StepLine
 from lte_sec.outcomes import RANK, WORDS, Comparison, Standing, limit, signature
 from lte_sec.probe import PROBE
 from lte_sec.saving import save
@@ -250,7 +250,7 @@ class Outcomes(unittest.TestCase):
             variant, course, serving = whole.tried(each.faults)
             places = [place for place, item in enumerate(course.items) if item.name == PROBE + "up"]
             steps = [*course.steps[: places[0]], '{ do = "release" }', '{ do = "deliver", record = -1 }']
-            lines = [Line.read(line) for line in whole.runs.run(steps).splitlines()[places[0] : places[0] + 2]]
+            lines = [StepLine.read(line) for line in whole.runs.run(steps).splitlines()[places[0] : places[0] + 2]]
             view = Standing(whole.scenario, course, serving).view
             if lines[0] and lines[1] and lines[0].answer == "done" and lines[0].sent is not None:
                 self.assertEqual(f"station {view}", lines[1].who, str(variant.faults))
