@@ -32,7 +32,7 @@ class Partial:
 
 
 @dataclasses.dataclass
-class Link:
+class CoreLink:
     """A connection: its number, the chain of NH, and the station where the phone is."""
 
     number: int
@@ -56,7 +56,7 @@ class Core:
         self.context: Security | None = None
         self.caps = bytes(2)  # of the context in use
         self.trigger: int | None = None
-        self.link: Link | None = None
+        self.link: CoreLink | None = None
         self.requests, self.attempts = [0] * 8, [0] * 8
 
     def __call__(self, told: Input) -> Reply:
@@ -134,7 +134,7 @@ class Core:
             return Reply()
         return self.changed(self.link, self.context.root, count)
 
-    def changed(self, link: Link, root: bytes, count: int) -> Reply:
+    def changed(self, link: CoreLink, root: bytes, count: int) -> Reply:
         """A new KeNB, a new number and a new chain (TS 33.401 7.2.9.2)."""
         kenb = CALLS.kenb(root, count)
         record = b"\x34" + octets(link.number) + octets(self.next) + kenb
@@ -144,7 +144,7 @@ class Core:
     def begun(self, record: bytes, root: bytes, kenb: bytes, station: int) -> Reply:
         """A chain begins, at NCC 0 or one step on (TS 33.401 7.2.8.1.1)."""
         sync = CALLS.nh(root, kenb) if self.is_ahead else kenb
-        self.link = Link(self.next, root, 1 if self.is_ahead else 0, sync, station)
+        self.link = CoreLink(self.next, root, 1 if self.is_ahead else 0, sync, station)
         self.next += 1
         return Reply(to=bytes([5, station]), record=record, derived=(kenb, sync) if self.is_ahead else (kenb,), note=Note(0, INITIAL, kenb))
 
@@ -199,7 +199,7 @@ class Core:
         reply: Reply = {0x22: self.switched, 0x24: self.required, 0x26: self.ordered, 0x28: self.notified, 0x29: self.cancelled}[told["kind"]](self.link, told)
         return reply
 
-    def stepped(self, link: Link) -> Note:
+    def stepped(self, link: CoreLink) -> Note:
         """The next pair of the chain (A.4)."""
         link.sync, link.ncc = CALLS.nh(link.root, link.sync), (link.ncc + 1) % 8
         return Note(link.ncc, CHAINED, link.sync)
@@ -216,7 +216,7 @@ class Core:
         station: int = self.sites[place]
         return station
 
-    def switched(self, link: Link, told: dict[str, Any]) -> Reply:
+    def switched(self, link: CoreLink, told: dict[str, Any]) -> Reply:
         """A Path Switch Request (7.2.8.4.2); capabilities that differ raise an alarm (7.2.4.2.2)."""
         self.rising(self.requests, told["station"], told["number"])
         self.requests[told["station"]] = told["number"]
@@ -225,7 +225,7 @@ class Core:
         record = b"\x23" + octets(link.number) + octets(told["number"]) + bytes([note.ncc]) + note.key
         return Reply(to=bytes([5, link.station]), record=record, derived=(note.key,), note=note, alarm=told["capabilities"] != self.latest)
 
-    def required(self, link: Link, told: dict[str, Any]) -> Reply:
+    def required(self, link: CoreLink, told: dict[str, Any]) -> Reply:
         """A Handover Required goes on to the target with the next pair (7.2.8.4.3)."""
         self.rising(self.attempts, told["station"], told["attempt"])
         target = self.target(told["cell"])
@@ -234,16 +234,16 @@ class Core:
         record = b"\x25" + octets(link.number) + bytes([told["station"]]) + octets(told["attempt"]) + told["cell"] + self.caps + bytes([note.ncc]) + note.key
         return Reply(to=bytes([5, target]), record=record, derived=(note.key,), note=note)
 
-    def ordered(self, link: Link, told: dict[str, Any]) -> Reply:
+    def ordered(self, link: CoreLink, told: dict[str, Any]) -> Reply:
         """An acknowledgement goes on to the source as a Handover Command."""
         record = b"\x27" + octets(told["connection"]) + octets(told["attempt"]) + told["cell"] + bytes([told["NCC"], told["algorithms"]]) + octets(told["air"])
         return Reply(to=bytes([5, told["source"]]), record=record)
 
-    def notified(self, link: Link, told: dict[str, Any]) -> Reply:
+    def notified(self, link: CoreLink, told: dict[str, Any]) -> Reply:
         link.station = told["station"]
         return Reply()
 
-    def cancelled(self, link: Link, told: dict[str, Any]) -> Reply:
+    def cancelled(self, link: CoreLink, told: dict[str, Any]) -> Reply:
         """A Handover Cancel goes on to the target."""
         record = b"\x29" + octets(told["connection"]) + bytes([told["source"]]) + octets(told["attempt"]) + told["cell"]
         return Reply(to=bytes([5, self.target(told["cell"])]), record=record)

@@ -9,7 +9,7 @@ import dataclasses
 from typing import Any
 
 import texts
-from radio import SRB1, SRB2, Link
+from radio import SRB1, SRB2, RadioLink
 from texts import BEARER_LIMIT, CALLS, MISMATCH, NAS_LIMIT, UNSPECIFIED, Refused, Security, estimate, place_of
 
 import serving
@@ -28,7 +28,7 @@ class Phone:
         self.partial: tuple[int, bytes] | None = None
         self.context: Security | None = None
         self.waiting: tuple[bytes, bytes] | None = None  # KASME and KeNB of a connection that is asked for
-        self.link: Link | None = None
+        self.link: RadioLink | None = None
 
     def __call__(self, told: Input) -> Reply:
         try:
@@ -46,7 +46,7 @@ class Phone:
             raise Refused("NoContext")
         return self.context
 
-    def linked(self) -> Link:
+    def linked(self) -> RadioLink:
         if self.link is None:
             raise Refused("NotConnected")
         return self.link
@@ -146,7 +146,7 @@ class Phone:
             raise Refused("WrongKind", bytes([text["kind"]]))
         if not self.has(text["algorithms"] >> 4):
             raise Refused("AlgUnsupported", bytes([text["algorithms"]]))
-        link = Link(station, air, text["algorithms"] >> 4, kenb, root, (0, kenb), False)
+        link = RadioLink(station, air, text["algorithms"] >> 4, kenb, root, (0, kenb), False)
         _, count = link.opened(SRB1, pdu, 0)
         if (text["station"], text["air"]) != (station, air):
             raise Refused("NotAddressed")
@@ -154,7 +154,7 @@ class Phone:
         self.link, self.waiting = link, None
         return dataclasses.replace(link.signalled(SRB1, b"\2", 0), derived=link.derived, note=Note(0, INITIAL, kenb))
 
-    def signalled(self, link: Link, bearer: int, pdu: bytes) -> Reply:
+    def signalled(self, link: RadioLink, bearer: int, pdu: bytes) -> Reply:
         plain, count = link.opened(bearer, pdu, link.eea)
         text = texts.fields_of(records.RRC, plain)
         if text["kind"] == 5:
@@ -166,7 +166,7 @@ class Phone:
             raise Refused("AlgUnsupported", bytes([text["algorithms"]]))
         return self.handed_over(link, text) if text["kind"] == 3 else self.changed(link, text)
 
-    def handed_over(self, link: Link, text: dict[str, Any]) -> Reply:
+    def handed_over(self, link: RadioLink, text: dict[str, Any]) -> Reply:
         """A handover (TS 33.401 7.2.8): the chain goes to the NCC, and KeNB* is made for the cell."""
         steps: list[bytes] = []
         number, sync = link.number, link.sync
@@ -177,7 +177,7 @@ class Phone:
         star = CALLS.kenb_star(sync if steps else link.kenb, *place_of(text["cell"]))
         return self.arrived(text, star, link.root, (number, sync), tuple(steps), VERTICAL if steps else HORIZONTAL)
 
-    def changed(self, link: Link, text: dict[str, Any]) -> Reply:
+    def changed(self, link: RadioLink, text: dict[str, Any]) -> Reply:
         """A key change (TS 33.401 7.2.9.2): a new chain from KeNB of the KASME in use."""
         root = self.in_use().root
         if root == link.root:
@@ -188,11 +188,11 @@ class Phone:
 
     def arrived(self, text: dict[str, Any], star: bytes, root: bytes, chain: tuple[int, bytes], made: tuple[bytes, ...], way: int) -> Reply:
         """New keys, all bearers anew, and the Complete to the target."""
-        self.link = link = Link(text["station"], text["air"], text["algorithms"] >> 4, star, root, chain, True)
+        self.link = link = RadioLink(text["station"], text["air"], text["algorithms"] >> 4, star, root, chain, True)
         sent = link.signalled(SRB1, b"\4", link.eea)
         return dataclasses.replace(sent, derived=(*made, star, *link.derived), note=Note(chain[0] % 8, way, star))
 
-    def packet(self, link: Link, bearer: int, pdu: bytes) -> Reply:
+    def packet(self, link: RadioLink, bearer: int, pdu: bytes) -> Reply:
         return Reply(text=link.unpacked(bearer, pdu)[:1500])
 
     # Acts

@@ -30,7 +30,7 @@ def identity(bearer: int) -> int:
     return (bearer & 0x7F) - 1
 
 
-class Link:
+class RadioLink:
     """A connection: station, air address, keys and COUNTs; the chain of NH, and whether a Complete may be sent again."""
 
     sends, takes = UP, DOWN

@@ -10,7 +10,7 @@ import sys
 from typing import Any
 
 import texts
-from radio import SRB1, Link
+from radio import SRB1, RadioLink
 from texts import BEARER_LIMIT, CALLS, Refused, octets, place_of
 
 import serving
@@ -23,7 +23,7 @@ NUMBERS, MOST_PREPARATIONS = 1 << 32, 8
 Pair = tuple[int, bytes]  # NCC and NH
 
 
-class Radio(Link):
+class Radio(RadioLink):
     """The keys and COUNTs of an air address; a station sends down."""
 
     sends, takes = DOWN, UP
