@@ -4,33 +4,32 @@ A request has a block for its delivery to the core, which is filled or left empt
 """
 from __future__ import annotations
 
-import re
 from dataclasses import dataclass, field
 
 from .nas_steps import NasSteps, ReplayedKey
 from .recorded import KeySeen, Met
 from .report import DIFFERS
 from .script import At, Cell, ItemBlock
+from .terms import Term, numbered
 
-NUMBER = re.compile(r"nh\((\d+)\)")
-STAR = re.compile(r"star\((.*),(\d+),(\d+)\)")
 NO_ANSWER = "its answer is not in the capture, and is taken as lost"
 
 
-def number_of(term: str) -> int:
-    """The number of the NH in a derivation, 0 if it has none."""
-    found = NUMBER.search(term)
-    return int(found[1]) if found else 0
+def kenb(count: int) -> Term:
+    return Term("kenb", (count,))
 
 
-def above(term: str) -> tuple[str, Cell] | None:
+def nh(number: int) -> Term:
+    return Term("nh", (number,))
+
+
+def star(term: Term, cell: Cell) -> Term:
+    return Term("star", cell, term)
+
+
+def above(term: Term) -> tuple[Term, Cell] | None:
     """What a KeNB* is made from, and for which cell."""
-    found = STAR.fullmatch(term)
-    return (found[1], (int(found[2]), int(found[3]))) if found else None
-
-
-def star(term: str, cell: Cell) -> str:
-    return f"star({term},{cell[0]},{cell[1]})"
+    return (term.above, (term.numbers[0], term.numbers[1])) if term.kind == "star" and term.above is not None else None
 
 
 @dataclass
@@ -54,7 +53,7 @@ class Open:
     cell: Cell
     begin: str
     handover: int | None
-    bases: set[str]  # what its KeNB* is made from
+    bases: set[Term]  # what its KeNB* is made from
     given: ItemBlock  # the delivery of the request at the target
     request: str  # the item that is in it
     acked: str = ""  # the answer came to the source
@@ -70,10 +69,10 @@ class ReplayedConnection:
     connection: int | None
     station: str
     cell: Cell
-    base: str
+    base: Term
     kasme: str
-    uses: set[str]
-    pairs: set[str] = field(default_factory=set)
+    uses: set[Term]
+    pairs: set[Term] = field(default_factory=set)
     told: int = 0  # the number of the last NH that the core sent, by the capture
     asks: list[Ask] = field(default_factory=list)
     open: Open | None = None
@@ -126,17 +125,17 @@ class ChainSteps(NasSteps):
             return self.late(key)
         if not link.asks:
             return None
-        wanted = number_of(key.wanted if key.verdict == DIFFERS else key.term)
+        wanted = numbered(key.wanted if key.verdict == DIFFERS else key.term)
         self.settle_asks(link.asks[:-1], self.steps_to(wanted) - 1 if wanted else len(link.asks) - 1)
         asked = link.asks[-1]
         self.reach(asked)
         link.asks = []
-        link.told = number_of(key.term) or wanted or link.told + 1
+        link.told = numbered(key.term) or wanted or link.told + 1
         return asked
 
     def late(self, key: KeySeen) -> Ask | None:
         assert self.link is not None
-        number = number_of(key.term)
+        number = numbered(key.term)
         return next((asked for asked, its in self.unanswered if its == number), None)
 
     def settle_asks(self, asks: list[Ask], reached: int) -> None:
@@ -178,7 +177,7 @@ class ChainSteps(NasSteps):
             link.asks, link.told = [], number
         else:
             return False
-        self.give(asked, self.script.assume(asked.at.frame, "the answer to the path switch is not in the capture, and came: the next KeNB* is made from its NH"), {f"nh({number})"})
+        self.give(asked, self.script.assume(asked.at.frame, "the answer to the path switch is not in the capture, and came: the next KeNB* is made from its NH"), {nh(number)})
         return True
 
     def unseen_steps(self, count: int, at: At) -> None:
@@ -195,7 +194,7 @@ class ChainSteps(NasSteps):
         self.reach(asked)
         return asked
 
-    def give(self, asked: Ask, at: At, pairs: set[str]) -> None:
+    def give(self, asked: Ask, at: At, pairs: set[Term]) -> None:
         """The answer to a path switch comes to the station."""
         link = self.link
         assert link is not None

@@ -6,11 +6,11 @@ from collections.abc import Iterator
 from dataclasses import dataclass, field
 from enum import Enum
 
-from .chain_steps import number_of
 from .courses import Course
 from .nas_steps import ReplayedKey
 from .report import DIFFERS
 from .script import Script
+from .terms import NONE, Term, numbered
 
 ROW = re.compile(r"row \d+ (\w+)(?:\((\d+),([\d,]*)\))? ([0-9a-f]{64}) \S+")
 
@@ -76,34 +76,35 @@ class Replayed:
 
 
 @dataclass(frozen=True)
-class Term:
+class RunKey:
     """The derivation of a key of the run, with the KeNB that it begins at and its KASME."""
 
-    form: str
-    base: str
+    term: Term
+    base: Term
     root: str
 
 
-def terms_of(report: str) -> dict[str, Term]:
-    """The derivations of the keys of a report, as those of traces are written."""
+def run_keys(report: str) -> dict[str, RunKey]:
+    """The derivations of the keys of a report, as lines tell those of traces."""
     lines = report.splitlines()
     rows = lines[next((place for place, line in enumerate(lines) if line.startswith("end ")), len(lines)) + 1:]
-    found: list[Term] = []
+    found: list[RunKey] = []
     for line in rows:
         row = ROW.fullmatch(line)
         assert row is not None
         form, first, more, key = row.groups()
         above = found[int(first)] if first else None
         if above is None:
-            found.append(Term("root", "", key))
+            found.append(RunKey(Term("root"), NONE, key))
         elif form == "kenb":
-            found.append(Term(f"kenb({more})", f"kenb({more})", above.root))
+            begun = Term("kenb", (int(more),))
+            found.append(RunKey(begun, begun, above.root))
         elif form == "nh":
             sync = found[int(more)]
-            found.append(Term(f"nh({number_of(sync.form) + 1})", sync.base, above.root))
+            found.append(RunKey(Term("nh", (numbered(sync.term) + 1,)), sync.base, above.root))
         else:
-            found.append(Term(f"{form}({above.form},{more})", above.base, above.root))
-    return {line.split()[3]: term for line, term in zip(rows, found)}
+            found.append(RunKey(Term(form, tuple(map(int, more.split(","))), above.term), above.base, above.root))
+    return {line.split()[3]: key for line, key in zip(rows, found)}
 
 
 def compared(script: Script, course: Course, rows: list[ReplayedKey], kasmes: dict[str, bytes]) -> Replayed:
@@ -111,10 +112,10 @@ def compared(script: Script, course: Course, rows: list[ReplayedKey], kasmes: di
     done = Replayed(script, course)
     names = {value.hex(): name for name, value in kasmes.items()}
     steps = {item.name: number for number, item in enumerate(course.items)}
-    terms = terms_of(course.report)
+    keys = run_keys(course.report)
     root = ""
     for row in rows:
-        one = beside(row, course, steps, terms, root, names)
+        one = beside(row, course, steps, keys, root, names)
         if one.verdict == ReplayVerdict.DIFFERS and row.key.verdict == DIFFERS:
             root = row.met.frame
         done.told.append(one)
@@ -122,20 +123,20 @@ def compared(script: Script, course: Course, rows: list[ReplayedKey], kasmes: di
     return done
 
 
-def beside(row: ReplayedKey, course: Course, steps: dict[str, int], terms: dict[str, Term], root: str, names: dict[str, str]) -> ComparedKey:
+def beside(row: ReplayedKey, course: Course, steps: dict[str, int], keys: dict[str, RunKey], root: str, names: dict[str, str]) -> ComparedKey:
     key, met = row.key, row.met
     head = (met.frame, met.title, key.what)
     if not row.item:
-        return ComparedKey(*head, ReplayVerdict.NOT_REPLAYED, key.term, key.ncc, reason=row.reason)
+        return ComparedKey(*head, ReplayVerdict.NOT_REPLAYED, str(key.term), key.ncc, reason=row.reason)
     line = course.lines.get(row.item)
     if line is None or line.note is None:
         why = f"the run refuses its step: {line.answer}" if line is not None else "the run does not come to it"
-        return ComparedKey(*head, ReplayVerdict.NOT_REPLAYED, key.term, key.ncc, step=steps.get(row.item), reason=why)
-    ncc, run = int(line.note.ncc), terms[line.note.key]
+        return ComparedKey(*head, ReplayVerdict.NOT_REPLAYED, str(key.term), key.ncc, step=steps.get(row.item), reason=why)
+    ncc, run = int(line.note.ncc), keys[line.note.key]
     if line.note.key == key.value.hex() and key.ncc in (None, ncc):
-        return ComparedKey(*head, ReplayVerdict.SAME, key.term if key.term != "none" else run.form, key.ncc, run.form, ncc, steps[row.item])
-    own, other = key.term, run.form
-    if key.term == run.form and line.note.key != key.value.hex():  # chains that begin at different KeNBs have like forms
+        return ComparedKey(*head, ReplayVerdict.SAME, str(key.term if key.term != NONE else run.term), key.ncc, str(run.term), ncc, steps[row.item])
+    own, other = str(key.term), str(run.term)
+    if key.term == run.term and line.note.key != key.value.hex():  # chains that begin at different KeNBs have like forms
         if key.base not in (run.base, key.term):
             own, other = f"{own} on {key.base}", f"{other} on {run.base}"
         if key.kasme != names.get(run.root):

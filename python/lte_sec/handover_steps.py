@@ -6,12 +6,13 @@ from collections.abc import Iterator
 from dataclasses import dataclass, field
 
 from .cells import Cells
-from .chain_steps import ChainSteps, Open, above, number_of, star
+from .chain_steps import ChainSteps, Open, above, nh, star
 from .escaped import shown
 from .nas_steps import ReplayedKey
 from .recorded import KeySeen, Met
 from .report import DIFFERS
 from .script import At, Cell
+from .terms import NONE, Term, numbered
 
 UNKNOWN_CELL = "the target cell is not known; name it with --cells"
 NOT_SHOWN = "a handover that the capture does not show"
@@ -113,7 +114,7 @@ class HandoverSteps(ChainSteps):
 
     # -- over X2
 
-    def begin_x2(self, station: str, cell: Cell, bases: set[str], at: At, handover: int | None) -> str:
+    def begin_x2(self, station: str, cell: Cell, bases: set[Term], at: At, handover: int | None) -> str:
         link = self.link
         assert link is not None
         source = self.script.station(link.station)
@@ -169,14 +170,14 @@ class HandoverSteps(ChainSteps):
         rest, within = made[0], list[Cell]()
         own = self.own(link.station)
         for _ in range(DEEPEST):
-            if rest in link.uses | link.pairs or number_of(rest) and rest.startswith("nh("):
+            if rest in link.uses | link.pairs or rest.kind == "nh":
                 break
             inner = above(rest)
             if inner is None or inner[1] not in own:
                 return
             rest = inner[0]
             within.insert(0, inner[1])
-        if rest not in link.uses | link.pairs and not self.told_by_star(number_of(rest), at):
+        if rest not in link.uses | link.pairs and not self.told_by_star(numbered(rest), at):
             return
         for one in within:
             self.step_within(one, self.script.assume(at.frame, f"the phone was refreshed in cell ({one[0]},{one[1]}) of {link.station} before, which S1 and X2 do not show"))
@@ -266,12 +267,12 @@ class HandoverSteps(ChainSteps):
         asked = self.answered(met.key)
         if asked is None and link.came:
             asked = self.again(self.script.assume(met.frame, "the path switch is not in the capture and is taken as the standard has it"))
-            link.told = number_of(met.key.term) or link.told + 1
+            link.told = numbered(met.key.term) or link.told + 1
         if asked is None:
             return self.not_replayed(met, "no path switch of the run stands for it")
         self.row(met, asked.got)
         link.unasked = None
-        self.give(asked, at, {met.key.term} if met.key.term != "none" else {met.key.wanted})
+        self.give(asked, at, {met.key.term} if met.key.term != NONE else {met.key.wanted})
 
     # -- over S1
 
@@ -313,7 +314,7 @@ class HandoverSteps(ChainSteps):
         self.row(met, asked.got)
         made = link.open
         made.handover, made.frame = met.handover, met.frame
-        made.bases = {met.key.term, met.key.wanted} - {"none", ""}
+        made.bases = {met.key.term, met.key.wanted} - {NONE}
         made.request = self.script.deliver(asked.got, at, True, made.given)
 
     def came_to(self, met: Met, cell: Cell) -> Cell:
@@ -352,7 +353,7 @@ class HandoverSteps(ChainSteps):
         """A Handover Request that the capture lacks: NH is the next of the chain."""
         assert made.ask is not None and self.link is not None
         made.request = self.script.deliver(made.ask.got, at, True, made.given)
-        made.bases = {f"nh({self.link.told + 1 if self.link.told else self.script.first_ncc})"}
+        made.bases = {nh(self.link.told + 1 if self.link.told else self.script.first_ncc)}
 
     def refused(self, met: Met, at: At) -> None:
         """Handover Failure: the target keeps nothing. The Preparation Failure to the source follows."""

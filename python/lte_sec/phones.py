@@ -5,8 +5,10 @@ from dataclasses import dataclass, field
 
 from .recorded import Met, RecordedTrace
 from .report import DIFFERS
+from .terms import Term
 
 ASKS = ("PathSwitchRequest", "HandoverRequired")
+FIRST = (Term("nh", (1,)), Term("nh", (2,)))  # the first NH that a core may send
 
 
 @dataclass
@@ -67,6 +69,6 @@ def first_ncc(met: list[Met]) -> int:
             continue
         if one.key.what == "KeNB":
             begun[one.connection] = 0
-        elif one.key.what == "NH" and begun.pop(one.connection, 0) == 1 and one.key.term in ("nh(1)", "nh(2)"):
-            votes.append(int(one.key.term[3:-1]))
+        elif one.key.what == "NH" and begun.pop(one.connection, 0) == 1 and one.key.term in FIRST:
+            votes.append(one.key.term.numbers[0])
     return 1 if votes.count(1) > votes.count(2) else 2

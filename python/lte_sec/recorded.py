@@ -9,9 +9,9 @@ from .decoding import Message
 from .escaped import shown
 from .report import UNKNOWN, Verdict
 from .seen import Seen, Value
+from .terms import NONE, Term
 from .trace import Trace
 
-NO_TERM = "none"  # what nothing gives
 AGAIN = ("sent again", "COUNT used twice")
 KEYS = ("KeNB", "KeNB*", "NH", "key")
 
@@ -31,14 +31,15 @@ class CapturedNas:
 
 @dataclass(frozen=True)
 class KeySeen:
-    """A key of a message: what it is, its octets and NCC, the derivations that give it and that were wanted, and what was said of it."""
+    """A key of a message: what it is, its octets and NCC, the derivations that give it and that were wanted, as lines tell them, and what was
+    said of it."""
 
     what: str
     value: bytes
     ncc: int | None
-    term: str  # `none` where nothing gives it
-    wanted: str
-    base: str
+    term: Term  # NONE where nothing gives it
+    wanted: Term
+    base: Term  # the KeNB of its chain
     kasme: str
     verdict: Verdict
     reason: str
@@ -81,8 +82,10 @@ def nas_of(value: Value) -> CapturedNas | None:
 
 def key_of(value: Value, message: Message) -> KeySeen:
     octets = bytes.fromhex(value.got) if value.got else message.key or message.nh or b""
-    term = value.term or NO_TERM
-    return KeySeen(value.what, octets, message.ncc, term, value.wanted_term or term, value.base or term, value.kasme, value.verdict, value.reason)
+    term = value.key.term if value.key is not None else NONE
+    wanted = value.wanted_key.term if value.wanted_key is not None else term
+    base = term.base() or term
+    return KeySeen(value.what, octets, message.ncc, term.told(), wanted.told(), base.told(), value.kasme, value.verdict, value.reason)
 
 
 def met_of(place: int, seen: Seen, begun: set[int], cells: Cells) -> Met:

@@ -73,7 +73,7 @@ def replayed(program: str, found: RecordedTrace, captures: list[str], texts: boo
     for met in others:
         if met.key is not None:
             why = NO_CONNECTION if met.connection is None else NOT_GIVEN
-            answer.others.append(ComparedKey(met.frame, met.title, met.key.what, ReplayVerdict.NOT_REPLAYED, met.key.term, met.key.ncc, reason=why))
+            answer.others.append(ComparedKey(met.frame, met.title, met.key.what, ReplayVerdict.NOT_REPLAYED, str(met.key.term), met.key.ncc, reason=why))
     return answer
 
 

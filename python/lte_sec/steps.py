@@ -1,20 +1,19 @@
 """The messages of a phone as the steps of a scenario: its connections, key changes and handovers, in the order of the capture."""
 from __future__ import annotations
 
-import re
 from collections.abc import Callable, Iterator
 from dataclasses import dataclass, field
 
-from .chain_steps import ReplayedConnection, above, number_of
+from .chain_steps import ReplayedConnection, above, kenb, nh, star
 from .handover_steps import HandoverSteps
 from .nas import NOT_GIVEN
 from .nas_steps import UNREPLAYED_AGAIN
 from .recorded import KeySeen, Met
 from .report import DIFFERS, RIGHT
 from .script import At, Cell, Full
+from .terms import NONE, Term, counted, numbered
 
 FAR = 200  # messages of a connection that are looked at behind one
-KENB = re.compile(r"kenb\((\d+)\)")
 TELLS_CELL = ("InitialUEMessage", "UplinkNASTransport", "PathSwitchRequest", "HandoverNotify")
 SHOWS_STATION = ("UplinkNASTransport", "HandoverRequired", "PathSwitchRequestAcknowledge", "UEContextReleaseRequest")
 SUSPENDED = "suspension and resumption, which the profile does not have"
@@ -26,17 +25,13 @@ MADE_UP = "a KASME that is made up"
 Handler = Callable[["Steps", Met, At], None]
 
 
-def count_of(term: str) -> int | None:
-    """The COUNT of a KeNB."""
-    found = KENB.fullmatch(term)
-    return int(found[1]) if found else None
-
-
 def due(key: KeySeen | None) -> tuple[str, int] | None:
     """The KASME and COUNT of the KeNB that was due, where the KASME is told."""
-    term = "" if key is None else key.wanted if key.verdict == DIFFERS else key.term
-    count = count_of(term)
-    return None if key is None or count is None else (key.kasme if key.verdict != DIFFERS else "", count)
+    if key is None:
+        return None
+    differs = key.verdict == DIFFERS
+    count = counted(key.wanted if differs else key.term)
+    return None if count < 0 else ("" if differs else key.kasme, count)
 
 
 def triggers_of(met: list[Met]) -> set[tuple[str, int]]:
@@ -80,7 +75,7 @@ class Steps(HandoverSteps):
         if met.message.name in ("InitialUEMessage", "HandoverRequired"):
             return True
         made = above(met.key.term) if met.key is not None and met.message.link == "X2" and met.key.verdict == RIGHT else None
-        return made is not None and made[0].startswith("nh(")
+        return made is not None and made[0].kind == "nh"
 
     def one(self, met: Met) -> None:
         self.cells.now = met.place
@@ -140,7 +135,7 @@ class Steps(HandoverSteps):
         told = due(met.key)
         if told is None:
             self.end(at)
-            self.lost = NOT_GIVEN if met.key.term == "none" else met.key.reason or NO_ORIGIN
+            self.lost = NOT_GIVEN if met.key.term == NONE else met.key.reason or NO_ORIGIN
             return self.not_replayed(met, self.lost)
         kasme = told[0] or (self.context.kasme if self.context is not None else met.key.kasme)
         if self.link is not None:
@@ -169,9 +164,9 @@ class Steps(HandoverSteps):
         cell = self.known_cell(met.connection, station, met.frame)
         item = self.script.act({"do": "connect", "cell": self.script.cell(station, cell)}, at)
         self.row(met, item)
-        self.trigger, form = None, f"kenb({count})"
-        forms = {form} | ({met.key.term} if met.key is not None else set())
-        self.link = ReplayedConnection(met.connection, station, cell, form, kasme, forms)
+        self.trigger, base = None, kenb(count)
+        uses = {base} | ({met.key.term} if met.key is not None else set())
+        self.link = ReplayedConnection(met.connection, station, cell, base, kasme, uses)
         self.begun.add(met.connection)
         command = self.script.deliver(item, at)
         if not any(one.message.name == "InitialContextSetupFailure" for one in self.answers(met)):
@@ -240,8 +235,8 @@ class Steps(HandoverSteps):
         item = self.completed(at, True)
         self.script.deliver(self.script.deliver(self.script.deliver(item, at), at), at, False)
         self.trigger = None
-        link.base, link.kasme = "kenb(0)", self.context.kasme
-        link.uses, link.pairs, link.told = {f"star(kenb(0),{link.cell[0]},{link.cell[1]})"}, set(), 0
+        link.base, link.kasme = kenb(0), self.context.kasme
+        link.uses, link.pairs, link.told = {star(link.base, link.cell)}, set(), 0
         self.unanswered = []
         for each in waiting:
             each()
@@ -284,16 +279,16 @@ class Steps(HandoverSteps):
 
     def begun_before(self, met: Met, first: Met, key: KeySeen, at: At) -> str:
         """Makes the connection as it stands before the first key; answers why it cannot."""
-        count, kasme = count_of(key.base), key.kasme
+        count, kasme = counted(key.base), key.kasme
         if first.message.name == "UEContextModificationRequest":
             return self.begun_before_change(met, first, at)
-        if key.term == "none" or count is None or not kasme or key.verdict == DIFFERS:
-            return NOT_GIVEN if key.term == "none" else NO_ORIGIN
+        if key.term == NONE or count < 0 or not kasme or key.verdict == DIFFERS:
+            return NOT_GIVEN if key.term == NONE else NO_ORIGIN
         is_answer = first.message.name == "PathSwitchRequestAcknowledge"
         station = self.served_by(met, first)
         rest, within = self.origin(key.term, station) if key.what == "KeNB*" else (key.term, [])
-        number = number_of(rest)
-        if rest != f"nh({number})" and rest != key.base:
+        number = numbered(rest)
+        if rest.kind != "nh" and rest != key.base:
             return "a chain whose first key is a KeNB* of a KeNB*"
         handovers = max(0, number - self.script.first_ncc + (1 if key.what == "KeNB*" else 0)) if number else 0
         shows = any(one.message.name == "PathSwitchRequest" for one in self.between(met, first))
@@ -334,7 +329,7 @@ class Steps(HandoverSteps):
             return self.station_of(met.message.source_eci) or "a station before"
         return met.station
 
-    def origin(self, term: str, station: str) -> tuple[str, list[Cell]]:
+    def origin(self, term: Term, station: str) -> tuple[Term, list[Cell]]:
         """What the first key is made from, without the target's cell and steps in cells of the source."""
         made, within = above(term), list[Cell]()
         rest = made[0] if made is not None else term
@@ -353,7 +348,7 @@ class Steps(HandoverSteps):
         item = self.script.act({"do": "connect", "cell": self.script.cell(ways[0], cells[ways[0]])}, at)
         self.script.deliver(self.script.deliver(self.script.deliver(item, at), at), at, False)
         self.trigger = None
-        self.link = link = ReplayedConnection(met.connection, ways[0], cells[ways[0]], f"kenb({count})", kasme, {f"kenb({count})"})
+        self.link = link = ReplayedConnection(met.connection, ways[0], cells[ways[0]], kenb(count), kasme, {kenb(count)})
         for turn, name in enumerate(ways[1:], 1):
             bases = link.pairs or link.uses
             self.begin_x2(name, cells[name], set(bases), at, None)
@@ -364,7 +359,7 @@ class Steps(HandoverSteps):
             self.reach(asked)
             link.told = link.told + 1 if link.told else self.script.first_ncc
             link.unasked = None
-            self.give(asked, at, {f"nh({link.told})"})
+            self.give(asked, at, {nh(link.told)})
 
     # -- what the profile does not have
 

@@ -38,18 +38,38 @@ class Calls(Protocol):
     def eia3(self, key: bytes, count: int, bearer: int, direction: int, text: bytes) -> bytes: ...
 
 
-@dataclass(frozen=True, slots=True)
+@dataclass(frozen=True, slots=True, eq=False)
 class Term:
-    """A derivation as a tree: its kind, its numbers, and the key that it is made from. Above an NH stands the KeNB of its chain."""
+    """A derivation as a tree: its kind, its numbers, and the key that it is made from. Above an NH stands the KeNB of its chain.
 
-    kind: str  # kenb, nh, star, alg, kasme or none
+    A long connection without NHs makes KeNB* of KeNB* of .., so that nothing here goes up by a call for each.
+    """
+
+    kind: str  # kenb, nh, star, alg, kasme, root or none
     numbers: tuple[int, ...] = ()
     above: Term | None = None
+    mark: int = field(init=False, repr=False)  # its hash
+
+    def __post_init__(self) -> None:
+        object.__setattr__(self, "mark", hash((self.kind, self.numbers, self.above)))
+
+    def __hash__(self) -> int:
+        return self.mark
+
+    def __eq__(self, other: object) -> bool:
+        one, two = self, other
+        while one is not two:
+            if not isinstance(two, Term) or (one.mark, one.kind, one.numbers) != (two.mark, two.kind, two.numbers):
+                return False
+            if one.above is None or two.above is None:
+                return one.above is two.above
+            one, two = one.above, two.above
+        return True
 
     def __str__(self) -> str:
         before, after = "", ""
         term: Term | None = self
-        while term is not None:  # a long connection without NHs makes KeNB* of KeNB* of ..
+        while term is not None:
             inner = term.above if term.kind != "nh" else None
             numbers = ",".join(map(str, term.numbers))
             if inner is not None:
@@ -65,6 +85,17 @@ class Term:
         while term is not None and term.kind in ("star", "alg"):
             term = term.above
         return term if term is None or term.kind == "kenb" else term.above
+
+    def told(self) -> Term:
+        """The same as its text tells it: an NH by its number alone, whatever KeNB its chain begins at."""
+        below, term = [], self
+        while term.above is not None and term.kind != "nh":
+            below.append(term)
+            term = term.above
+        found = Term(term.kind, term.numbers)
+        for one in reversed(below):
+            found = Term(one.kind, one.numbers, found)
+        return found
 
     def cells(self) -> list[tuple[int, int]]:
         """The cells that it is for, the last one first."""
