@@ -6,7 +6,7 @@ from collections.abc import Iterator
 
 from . import reasons
 from .decoding import Message
-from .histories import CHAIN, UNKNOWN_KEY, Chain, History, Pair, PhoneKeys
+from .histories import CHAIN, UNKNOWN_KEY, Chain, History, Numbered, PhoneKeys
 from .kenbs import KenbJudge
 from .nas import NOT_GIVEN
 from .state import Connection, Undecided
@@ -41,7 +41,7 @@ class ChainJudge(KenbJudge):
                 found.append(found[-1].step(self.derivations))
             yield found[number]
 
-    def nh(self, connection: Connection, message: Message) -> list[Pair]:
+    def nh(self, connection: Connection, message: Message) -> list[Numbered]:
         """Judges NH and NCC, and keeps the histories that give them; answers the pairs that the receiver may have: as sent, then as wanted."""
         assert message.nh is not None and message.ncc is not None
         tried = [(chain, after) for chain in connection.cores() for after in self.due(connection, chain)]
@@ -58,7 +58,7 @@ class ChainJudge(KenbJudge):
 
     # -- on what a trace lacks
 
-    def nh_of_lost(self, connection: Connection, message: Message) -> list[Pair] | None:
+    def nh_of_lost(self, connection: Connection, message: Message) -> list[Numbered] | None:
         """An NH some steps on, where the capture lost frames since the last one: an exchange with the core may be among them."""
         behind = self.gaps[bisect_right(self.gaps, connection.certain, key=lambda gap: gap[1]):]
         lost = any(begin < self.cells.now for begin, _ in behind)
@@ -70,10 +70,10 @@ class ChainJudge(KenbJudge):
                     self.judged(message, "NH", chain.sync, chain.sync, (message.ncc, message.ncc), LOST_FRAMES)
                     connection.steps([(begun, chain)])
                     connection.asked, connection.certain = 0, self.cells.now
-                    return [(chain.sync, message.ncc)]
+                    return [Numbered(chain.sync, message.ncc)]
         return None
 
-    def nh_of_elsewhere(self, connection: Connection, message: Message) -> list[Pair] | None:
+    def nh_of_elsewhere(self, connection: Connection, message: Message) -> list[Numbered] | None:
         """An NH of a phone that was where the trace has no S1."""
         if not connection.away or not connection.cores():
             return None
@@ -83,25 +83,25 @@ class ChainJudge(KenbJudge):
             return self.nh_of_nobody(connection, message)
         self.judged(message, "NH", found.core.sync, found.core.sync, (message.ncc, message.ncc), self.moves.remark(connection))
         self.moves.takes(connection, found)
-        return [(found.core.sync, message.ncc)]
+        return [Numbered(found.core.sync, message.ncc)]
 
-    def nh_of_nobody(self, connection: Connection, message: Message) -> list[Pair] | None:
+    def nh_of_nobody(self, connection: Connection, message: Message) -> list[Numbered] | None:
         """An NH that no lawful course of a phone without S1 gives: one under a KASME that was not given would."""
         value, ncc = message.nh or b"", message.ncc or 0
         if self.named(value, connection, [chain.sync for chain in connection.cores()]).known:
             return None
         self.unjudged(message, "NH", self.moves.why(connection))
         self.moves.lost(connection)
-        return [(Key(value, NONE), ncc)]
+        return [Numbered(Key(value, NONE), ncc)]
 
-    def overdue(self, connection: Connection, message: Message) -> list[Pair] | None:
+    def overdue(self, connection: Connection, message: Message) -> list[Numbered] | None:
         """An answer that comes after the answer to a later request: its number was left out then."""
         late = self.late(connection, message)
         if late is None:
             return None
         connection.missed.discard(late.number)
         self.judged(message, "NH", late.sync, late.sync, (message.ncc or 0, late.ncc), "late")
-        return [(late.sync, message.ncc or 0)]
+        return [Numbered(late.sync, message.ncc or 0)]
 
     def late(self, connection: Connection, message: Message) -> Chain | None:
         """The chain at the number of an answer that is overdue."""
@@ -132,7 +132,7 @@ class ChainJudge(KenbJudge):
         connection.asked, connection.missed = 0, set()
         connection.keeps(histories)
 
-    def nh_of_change(self, connection: Connection, message: Message) -> list[Pair] | None:
+    def nh_of_change(self, connection: Connection, message: Message) -> list[Numbered] | None:
         """An NH of the chain that a key change began."""
         for kenb in self.unseen_changes(connection):
             begun = Chain(kenb.kasme, kenb)
@@ -141,7 +141,7 @@ class ChainJudge(KenbJudge):
                     self.judged(message, "NH", chain.sync, chain.sync, (message.ncc, message.ncc), LOST_CHANGE)
                     phone = PhoneKeys(UNKNOWN_KEY, 0, begun, True)
                     self.changed_unseen(connection, kenb, [History(chain, one.held, phone) for one in connection.histories])
-                    return [(chain.sync, message.ncc)]
+                    return [Numbered(chain.sync, message.ncc)]
         return None
 
     def is_foreign(self, connection: Connection) -> bool:
@@ -158,7 +158,7 @@ class ChainJudge(KenbJudge):
 
     # -- what was sent
 
-    def other_nh(self, connection: Connection, message: Message, tried: list[ChainStep]) -> list[Pair]:
+    def other_nh(self, connection: Connection, message: Message, tried: list[ChainStep]) -> list[Numbered]:
         """An NH that no lawful history gives."""
         assert message.nh is not None and message.ncc is not None
         found = self.named(message.nh, connection, [after.sync for _, after in tried])
@@ -167,11 +167,11 @@ class ChainJudge(KenbJudge):
         if self.is_foreign(connection):
             self.unjudged(message, "NH", NOT_GIVEN, found)
             connection.keeps(History(None, one.held) for one in connection.histories)
-            return [(found, message.ncc)]
+            return [Numbered(found, message.ncc)]
         if not tried:
             self.unjudged(message, "NH", "the trace does not show where the chain begins" if found.known else NOT_GIVEN, found)
             connection.goes_on([Chain(found.kasme, found, number)] if number else [])
-            return [(found, message.ncc)]
+            return [Numbered(found, message.ncc)]
         # Several numbers may be due where requests have no answer. A key that nothing explains leaves NCC to tell.
         chains = [after for _, after in tried]
         likely = [chain for chain in chains if not found.known and chain.ncc == message.ncc] + chains
@@ -183,7 +183,7 @@ class ChainJudge(KenbJudge):
         self.judged(message, "NH", found, wanted.sync, (message.ncc, wanted.ncc), why)
         self.decided(connection, wanted)
         connection.goes_on(self.sent_or_wanted(connection, found, number, wanted))
-        return [(found, message.ncc), (wanted.sync, wanted.ncc)]
+        return [Numbered(found, message.ncc), Numbered(wanted.sync, wanted.ncc)]
 
     def sent_or_wanted(self, connection: Connection, found: Key, number: int, wanted: Chain) -> list[Chain]:
         """The chains that the core may go on with behind an NH that differs: from that, from the wanted one, or from what was before."""
@@ -199,7 +199,7 @@ class ChainJudge(KenbJudge):
             yield chain.sync
             chain = chain.step(self.derivations)
 
-    def right_nh(self, connection: Connection, message: Message, steps: list[ChainStep]) -> list[Pair]:
+    def right_nh(self, connection: Connection, message: Message, steps: list[ChainStep]) -> list[Numbered]:
         """An NH that is due, with its NCC or another."""
         chain = steps[0][1]
         self.decided(connection, chain)
@@ -217,10 +217,10 @@ class ChainJudge(KenbJudge):
         if connection.phone and chain.number - connection.phone.chain.number >= FAR:
             ahead = chain.number - connection.phone.chain.number
             self.note(message.frame, f"warning: the core is {ahead} steps of the chain ahead of the phone; at eight they come apart")
-        pairs = [(chain.sync, message.ncc or 0)]
-        return pairs if message.ncc == chain.ncc else [*pairs, (chain.sync, chain.ncc)]
+        pairs = [Numbered(chain.sync, message.ncc or 0)]
+        return pairs if message.ncc == chain.ncc else [*pairs, Numbered(chain.sync, chain.ncc)]
 
-    def two_numbers(self, connection: Connection, message: Message, by_key: ChainStep, by_ncc: ChainStep) -> list[Pair]:
+    def two_numbers(self, connection: Connection, message: Message, by_key: ChainStep, by_ncc: ChainStep) -> list[Numbered]:
         """An NH of one number that is due and the NCC of another: one of them is the fault, and the next answer tells which."""
         ncc, key, other = message.ncc or 0, by_key[1], by_ncc[1]
         lines = {
@@ -232,7 +232,7 @@ class ChainJudge(KenbJudge):
         connection.undecided = Undecided(lines[likely[0][1].number], lines[likely[1][1].number], likely[1][1].number)
         connection.steps(likely)
         connection.asked = 0
-        return [(key.sync, ncc), (key.sync, key.ncc), (other.sync, ncc)]
+        return [Numbered(key.sync, ncc), Numbered(key.sync, key.ncc), Numbered(other.sync, ncc)]
 
     def decided(self, connection: Connection, chain: Chain) -> None:
         """The next answer stands: which of two numbers it goes on from decides what the fault before it was."""

@@ -5,11 +5,12 @@ from dataclasses import replace
 
 from .cells import Cells
 from .decoding import Command, Message, title
+from .histories import Numbered
 from .judge import KeyJudge
 from .report import DIFFERS, RIGHT, Line, unknown_line
 from .service import ServiceBook
 from .state import Attempt, Connection
-from .terms import Derivations, Key
+from .terms import Derivations
 
 FROM_TARGET = ("HandoverRequestAcknowledge", "HandoverPreparationFailure", "UEContextRelease")  # of X2AP
 WAITING, NEAREST = 64, 1024  # commands that RRC may still show; connections in which a handover without a container is sought
@@ -97,7 +98,7 @@ class Handovers:
         self.judge.capabilities(message, [connection.side.capabilities, connection.capabilities])
         connection.capabilities = message.capabilities or connection.capabilities
         station = self.cells.addresses.get(end) or self.cells.station(message.eci)
-        attempt = Attempt("S1", message.frame, station, message.eci, [], [ncc for _, ncc in pairs], self.judge.cell(message.eci))
+        attempt = Attempt("S1", message.frame, station, message.eci, [], [pair.ncc for pair in pairs], self.judge.cell(message.eci))
         attempt.pairs = pairs
         attempt.capabilities = message.capabilities
         self.judge.target_keys(attempt, attempt.cell)
@@ -211,12 +212,12 @@ class Handovers:
         else:
             self.lines.append(Line(message.frame, title(message), "KASME", DIFFERS, f"{head} is that of {name}; KSI differs: is {told}, wanted {wanted}", str(told), str(wanted), kasme=name))
 
-    def forwarded(self, connection: Connection, message: Message) -> list[tuple[Key, int]]:
+    def forwarded(self, connection: Connection, message: Message) -> list[Numbered]:
         """The Handover Request of the next core has the NH and NCC that it was handed."""
-        key, ncc = connection.forwarded[0]
-        found = key if key.value == message.nh else self.judge.named(message.nh or b"", connection, [key])
-        self.judge.judged(message, "NH", found, key, (message.ncc or 0, ncc), "as the core before handed it on")
-        return connection.forwarded if found is key else [(found, message.ncc or 0), *connection.forwarded]
+        first = connection.forwarded[0]
+        found = first.key if first.key.value == message.nh else self.judge.named(message.nh or b"", connection, [first.key])
+        self.judge.judged(message, "NH", found, first.key, (message.ncc or 0, first.ncc), "as the core before handed it on")
+        return connection.forwarded if found is first.key else [Numbered(found, message.ncc or 0), *connection.forwarded]
 
     # -- path switch
 
@@ -329,7 +330,7 @@ class Handovers:
         """Of connections that have the same identity at several cores, the one whose KeNB* this is; else the last."""
         cell = self.judge.cell(message.eci)
         for connection in connections if cell else []:
-            if cell and any(self.derivations.star(one.base()[0], *cell).value == message.key for one in connection.states()):
+            if cell and any(self.derivations.star(one.base().key, *cell).value == message.key for one in connection.states()):
                 return connection
         for connection in connections if cell else []:
             if cell and connection.away and self.judge.moves.of_star(connection, message.key or b"", message.ncc or 0, cell) is not None:

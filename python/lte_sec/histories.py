@@ -16,8 +16,15 @@ CHAIN = 8  # NCC has three bits
 MOST = 24  # histories of a connection
 UNKNOWN_KEY = Key(b"", NONE)
 
-Pair = tuple[Key, int]  # a key, or an NH, and its NCC
 Radio = tuple[int, int]  # PCI and EARFCN-DL of a cell
+
+
+@dataclass(frozen=True, slots=True)
+class Numbered:
+    """A key, or an NH, and its NCC."""
+
+    key: Key
+    ncc: int
 
 
 @dataclass(frozen=True, slots=True)
@@ -68,15 +75,15 @@ class Held:
 
     key: Key = UNKNOWN_KEY
     ncc: int = 0
-    pair: Pair | None = None
+    pair: Numbered | None = None
 
-    def base(self) -> Pair:
+    def base(self) -> Numbered:
         """What the next KeNB* is made from: the stored NH, or else the key in use (TS 33.401 7.2.8.4)."""
-        return self.pair or (self.key, self.ncc)
+        return self.pair or Numbered(self.key, self.ncc)
 
     @property
     def known(self) -> bool:
-        return bool(self.base()[0].value)
+        return bool(self.base().key.value)
 
 
 @dataclass(frozen=True, slots=True)
@@ -90,10 +97,10 @@ class History:
 
     def refreshed(self, derivations: Derivations, cell: Radio) -> History:
         """A step of station and phone to a cell of the station: a handover within it, a re-establishment, a resumption."""
-        key, ncc = self.held.base()
-        return replace(self, held=Held(derivations.star(key, *cell), ncc), phone=self.phone and self.phone.takes(derivations, ncc, cell))
+        base = self.held.base()
+        return replace(self, held=Held(derivations.star(base.key, *cell), base.ncc), phone=self.phone and self.phone.takes(derivations, base.ncc, cell))
 
-    def stores(self, pair: Pair) -> History:
+    def stores(self, pair: Numbered) -> History:
         """The station stores NH and NCC for the next handover (7.2.8.4.1)."""
         return replace(self, held=replace(self.held, pair=pair))
 

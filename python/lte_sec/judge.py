@@ -5,7 +5,7 @@ from dataclasses import replace
 
 from .cells import RANGES, Site, is_cell
 from .decoding import Command, Message, title
-from .histories import Held, History, Pair, PhoneKeys, Radio, renewed
+from .histories import Held, History, Numbered, PhoneKeys, Radio, renewed
 from .moves import ANYWHERE
 from .prepared import PreparedJudge
 from .report import DIFFERS, RIGHT, UNKNOWN, Line, unknown_line
@@ -135,7 +135,7 @@ class KeyJudge(PreparedJudge):
         """What the target of a handover over S1 makes of NH and NCC for its cell."""
         attempt.cell = cell
         if cell is not None and not attempt.given:
-            attempt.given = [Given(Held(self.derivations.star(key, *cell), ncc)) for key, ncc in attempt.pairs]
+            attempt.given = [Given(Held(self.derivations.star(pair.key, *cell), pair.ncc)) for pair in attempt.pairs]
 
     def undecoded(self, connection: Connection, attempt: Attempt, message: Message, why: str) -> None:
         """A command that does not decode: it is taken to tell what the target was given, and not judged."""
@@ -226,8 +226,8 @@ class KeyJudge(PreparedJudge):
     def within(self, connection: Connection, message: Message, told: Command, site: Site) -> None:
         """A handover within a station, which only RRC shows (7.2.8.4.1)."""
         cell = (site.pci, site.earfcn)
-        if connection.away and told.ncc not in [one.base()[1] for one in connection.states()]:
-            found = next((one for one in self.moves.unseen(connection) if one.held.base()[1] == told.ncc), None)
+        if connection.away and told.ncc not in [one.base().ncc for one in connection.states()]:
+            found = next((one for one in self.moves.unseen(connection) if one.held.base().ncc == told.ncc), None)
             if found is not None:
                 self.moves.takes(connection, found)
         given = self.handed_on(connection, cell)
@@ -238,7 +238,7 @@ class KeyJudge(PreparedJudge):
 
     def handed_on(self, connection: Connection, cell: Radio) -> list[Given]:
         """What the target has, by each state of the source."""
-        return [Given(Held(self.derivations.star(one.base()[0], *cell), one.base()[1]), one) for one in connection.states()]
+        return [Given(Held(self.derivations.star(one.base().key, *cell), one.base().ncc), one) for one in connection.states()]
 
     def unseen(self, connection: Connection, station: str, eci: int | None) -> Attempt:
         """A handover whose messages between the stations the trace lacks: as the standard has it."""
@@ -269,6 +269,6 @@ class KeyJudge(PreparedJudge):
         attempt.capabilities = message.capabilities
         return attempt
 
-    def given(self, connection: Connection, pairs: list[Pair]) -> None:
+    def given(self, connection: Connection, pairs: list[Numbered]) -> None:
         """The serving station stores NH and NCC for the next handover (7.2.8.4.1)."""
         connection.keeps([one.stores(pair) for pair in pairs for one in connection.histories])

@@ -36,7 +36,7 @@ class KeyLines:
     def at_hand(self, connection: Connection) -> list[Key]:
         """The keys of a connection, the most likely first."""
         held = [*connection.states(), *(one for states in connection.left.values() for one in states)]
-        keys = [one.base()[0] for one in held] + [one.key for one in held] + [chain.sync for chain in connection.cores()]
+        keys = [one.base().key for one in held] + [one.key for one in held] + [chain.sync for chain in connection.cores()]
         if connection.phone:
             keys += [connection.phone.key, connection.phone.chain.sync]
         keys += [key for _, _, key in connection.keys[-8:]]

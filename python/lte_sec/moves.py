@@ -11,7 +11,7 @@ from dataclasses import replace
 from .cells import Cells
 from .contexts import EpsSecurityContext
 from .coverage import Coverage
-from .histories import UNKNOWN_KEY, Chain, Held, History, PhoneKeys, Radio, renewed
+from .histories import UNKNOWN_KEY, Chain, Held, History, Numbered, PhoneKeys, Radio, renewed
 from .service import ServiceBook
 from .state import Connection
 from .terms import Key
@@ -77,7 +77,7 @@ class Moves:
         for _ in range(STEPS):
             before, chain = chain, chain.step(self.derivations)
             phone = PhoneKeys(UNKNOWN_KEY, before.ncc, before, True)
-            yield History(chain, Held(UNKNOWN_KEY, before.ncc, (chain.sync, chain.ncc)), phone)
+            yield History(chain, Held(UNKNOWN_KEY, before.ncc, Numbered(chain.sync, chain.ncc)), phone)
             for cell in cells:
                 key = self.derivations.star(chain.sync, *cell)
                 yield History(chain, Held(key, chain.ncc), PhoneKeys(key, chain.ncc, chain))
@@ -106,7 +106,7 @@ class Moves:
             return
         for one in last.before:
             for pair in last.bases or last.pairs:
-                for cell in cells if pair[0].value and one.core is not None else []:
+                for cell in cells if pair.key.value and one.core is not None else []:
                     yield one.stores(pair).refreshed(self.derivations, cell)
 
     def of_nh(self, connection: Connection, nh: bytes, ncc: int) -> History | None:
@@ -122,7 +122,7 @@ class Moves:
     def of_star(self, connection: Connection, key: bytes, ncc: int, cell: Radio) -> History | None:
         """A history in which the station makes this KeNB* for a cell."""
         star = self.derivations.calls.kenb_star
-        return next((one for one in self.unseen(connection) if one.held.base()[1] == ncc and star(one.held.base()[0].value, *cell) == key), None)
+        return next((one for one in self.unseen(connection) if one.held.base().ncc == ncc and star(one.held.base().key.value, *cell) == key), None)
 
     def of_kenb(self, connection: Connection, key: bytes) -> Key | None:
         """A KeNB of an uplink message that the trace does not show: of any COUNT near, never one that was sent before."""

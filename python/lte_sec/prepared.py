@@ -29,10 +29,10 @@ class PreparedJudge(StarJudge):
             self.short_mac(connection, message, one, name)
 
     def prepared_key(self, connection: Connection, message: Message, one: Reestablishment, made: Made, cell: Radio, name: str) -> None:
-        wanted = [self.derivations.star(key, *cell) for key, _ in made.bases]
+        wanted = [self.derivations.star(base.key, *cell) for base in made.bases]
         match = next((key for key in wanted if key.value == one.key), None)
-        found = match or self.named(one.key, connection, [key for key, _ in made.bases], cell)
-        why = self.reason(found, lambda: (reasons.star(found.value, key.value, *cell) for key, _ in made.bases[:BASES]))
+        found = match or self.named(one.key, connection, [base.key for base in made.bases], cell)
+        why = self.reason(found, lambda: (reasons.star(found.value, base.key.value, *cell) for base in made.bases[:BASES]))
         self.judged(message, f"KeNB* {name}", found, match or wanted[0], why=why, cell=cell)
 
     def short_mac(self, connection: Connection, message: Message, one: Reestablishment, name: str) -> None:

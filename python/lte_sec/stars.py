@@ -12,7 +12,7 @@ from . import reasons
 from .cells import is_cell
 from .chains import LOST_CHANGE, ChainJudge
 from .decoding import Message
-from .histories import CHAIN, Chain, Held, History, Pair, PhoneKeys, Radio, renewed
+from .histories import CHAIN, Chain, Held, History, Numbered, PhoneKeys, Radio, renewed
 from .state import Attempt, Connection, Given
 from .terms import NONE, Key, unknown
 
@@ -26,7 +26,7 @@ class Made:
     """What came of a KeNB*: what the target may have been given, and from what it was made."""
 
     given: list[Given]
-    bases: list[Pair] = field(default_factory=list)
+    bases: list[Numbered] = field(default_factory=list)
     doubt: str = ""  # why it is not known whether it is right
 
 
@@ -54,7 +54,7 @@ class StarJudge(ChainJudge):
 
     def came_there(self, attempt: Attempt, cell: Radio) -> list[History]:
         """The phone came to another cell of the target than was prepared, and KeNB* was made for that (TS 33.401 7.4.3, 7.2.8.4)."""
-        return [one.stores(pair).refreshed(self.derivations, cell) for pair in attempt.bases or attempt.pairs for one in attempt.before if pair[0].value]
+        return [one.stores(pair).refreshed(self.derivations, cell) for pair in attempt.bases or attempt.pairs for one in attempt.before if pair.key.value]
 
     def star(self, connection: Connection, message: Message) -> Made:
         """Judges a KeNB* and its NCC, and keeps the histories that give it."""
@@ -64,13 +64,13 @@ class StarJudge(ChainJudge):
         bases = list(dict.fromkeys(one.base() for one in connection.states()))
         if not bases or cell is None:
             return self.star_of_nothing(connection, message, bases)
-        wanted = [(self.derivations.star(key, *cell), number) for key, number in bases]
-        fits = [place for place, (key, _) in enumerate(wanted) if key.value == message.key]
+        wanted = [Numbered(self.derivations.star(base.key, *cell), base.ncc) for base in bases]
+        fits = [place for place, one in enumerate(wanted) if one.key.value == message.key]
         if fits:
-            exact = [place for place in fits if wanted[place][1] == ncc] or fits[:1]
+            exact = [place for place in fits if wanted[place].ncc == ncc] or fits[:1]
             return self.right_star(connection, message, bases[exact[0]], wanted[exact[0]], cell)
-        first = next((one for one in wanted if not unknown(one[0].term)), wanted[0])
-        if not connection.cores() and connection.asked and ncc != first[1]:
+        first = next((one for one in wanted if not unknown(one.key.term)), wanted[0])
+        if not connection.cores() and connection.asked and ncc != first.ncc:
             found = self.named(message.key, connection, [])
             self.unjudged(message, "KeNB*", "its NH may have come in an answer that the trace lacks, and the trace does not show where the chain begins", found)
             self.begins_at(connection, found)
@@ -79,7 +79,7 @@ class StarJudge(ChainJudge):
         made = made or self.star_of_refreshed(connection, message, first, cell) or self.star_of_nobody(connection, message, bases)
         return made or self.star_of_foreign(connection, message, bases) or self.other_star(connection, message, bases, first, cell)
 
-    def star_of_nothing(self, connection: Connection, message: Message, bases: list[Pair]) -> Made:
+    def star_of_nothing(self, connection: Connection, message: Message, bases: list[Numbered]) -> Made:
         """A KeNB* of a source whose key is not known, or for a cell that is not."""
         found = self.named(message.key or b"", connection, [])
         why = "the trace does not show the key in use" if not bases else "the target cell is not known; name it with --cells"
@@ -87,46 +87,45 @@ class StarJudge(ChainJudge):
         self.begins_at(connection, found)
         return Made([Given(Held(found, message.ncc or 0))], doubt=why)
 
-    def right_star(self, connection: Connection, message: Message, base: Pair, made: Pair, cell: Radio) -> Made:
+    def right_star(self, connection: Connection, message: Message, base: Numbered, made: Numbered, cell: Radio) -> Made:
         """A KeNB* that the histories with this base give, with its NCC or another."""
-        key, number = made
         ncc = message.ncc or 0
-        self.judged(message, "KeNB*", key, key, (ncc, number), cell=cell)
+        self.judged(message, "KeNB*", made.key, made.key, (ncc, made.ncc), cell=cell)
         connection.keeps(one for one in connection.histories if one.held.base() == base)
-        return Made([Given(Held(key, one)) for one in dict.fromkeys((ncc, number))], [base])
+        return Made([Given(Held(made.key, one)) for one in dict.fromkeys((ncc, made.ncc))], [base])
 
     def made_by(self, connection: Connection, histories: list[History], made: Key, ncc: int) -> Made:
         """What the target is given by these histories, which are left."""
         connection.keeps(histories)
         return Made([Given(Held(made, ncc))], [connection.histories[0].held.base()])
 
-    def star_of_nobody(self, connection: Connection, message: Message, bases: list[Pair]) -> Made | None:
+    def star_of_nobody(self, connection: Connection, message: Message, bases: list[Numbered]) -> Made | None:
         """A KeNB* that no lawful course of a phone without S1 gives: one under a KASME that was not given would."""
-        if not connection.away or self.named(message.key or b"", connection, [key for key, _ in bases]).known:
+        if not connection.away or self.named(message.key or b"", connection, [base.key for base in bases]).known:
             return None
         why = self.moves.why(connection)
         self.unjudged(message, "KeNB*", why)
         self.moves.lost(connection)
         return Made([Given(Held(Key(message.key or b"", NONE), message.ncc or 0))], doubt=why)
 
-    def star_of_changed_cell(self, connection: Connection, message: Message, bases: list[Pair]) -> Made | None:
+    def star_of_changed_cell(self, connection: Connection, message: Message, bases: list[Numbered]) -> Made | None:
         """A KeNB* for another PCI of the target cell than is known, which the target's own answer has too: the cell has changed."""
         told, site = self.replies.get(id(message)), self.cells.at(message.eci) if message.eci is not None else None
         if told is None or site is None or told.pci is None or told.pci in self.cells.pcis() or site.eci in self.cells.given:
             return None
         now = replace(site, pci=told.pci, earfcn=told.earfcn if told.earfcn is not None else site.earfcn)
         for base in bases if is_cell(now.pci, now.earfcn) else []:
-            made = self.derivations.star(base[0], now.pci, now.earfcn)
+            made = self.derivations.star(base.key, now.pci, now.earfcn)
             if made.value == message.key:
                 self.cells.changed(now, self.cells.now)
-                self.judged(message, "KeNB*", made, made, (message.ncc or 0, base[1]), f"the cell has PCI {now.pci} now, as the target answers", (now.pci, now.earfcn))
+                self.judged(message, "KeNB*", made, made, (message.ncc or 0, base.ncc), f"the cell has PCI {now.pci} now, as the target answers", (now.pci, now.earfcn))
                 return self.made_by(connection, [one for one in connection.histories if one.held.base() == base], made, message.ncc or 0)
         return None
 
-    def star_of_unknown_pci(self, message: Message, found: Key, bases: list[Pair], cell: Radio) -> str:
+    def star_of_unknown_pci(self, message: Message, found: Key, bases: list[Numbered], cell: Radio) -> str:
         """Why a KeNB* for a PCI of no known cell may be right: the target may have told its source of it where the trace does not show X2."""
         made_for = found.term.cells()[:1] if found.term.kind == "star" else []
-        lawful = any(found.term.above == key.term and number == message.ncc for key, number in bases)
+        lawful = any(found.term.above == base.key.term and base.ncc == message.ncc for base in bases)
         target = self.cells.station(message.eci)
         told = self.coverage.x2(target, self.cells.station(message.source_eci) or self.cells.addresses.get(message.source, ""))
         if not lawful or told or not made_for or made_for[0][0] in self.cells.pcis() or made_for[0][1] != cell[1]:
@@ -141,7 +140,7 @@ class StarJudge(ChainJudge):
         found = self.moves.of_star(connection, message.key or b"", ncc, cell)
         if found is None:
             return None
-        made = self.derivations.star(found.held.base()[0], *cell)
+        made = self.derivations.star(found.held.base().key, *cell)
         self.judged(message, "KeNB*", made, made, (ncc, ncc), self.moves.remark(connection), cell)
         self.moves.takes(connection, found)
         return self.made_by(connection, connection.histories, made, ncc)
@@ -154,13 +153,13 @@ class StarJudge(ChainJudge):
         for number in sorted(connection.missed):
             late = self.numbered(connection, number)
             if late is not None and late.ncc == ncc:
-                yield late, [one.stores((late.sync, ncc)) for one in connection.histories]
+                yield late, [one.stores(Numbered(late.sync, ncc)) for one in connection.histories]
         for begun in connection.cores():
             chain = begun
             for _ in range(CHAIN):
                 chain = chain.step(self.derivations)
                 if chain.ncc == ncc:
-                    yield chain, [replace(one.stores((chain.sync, ncc)), core=chain) for one in connection.histories if one.core == begun]
+                    yield chain, [replace(one.stores(Numbered(chain.sync, ncc)), core=chain) for one in connection.histories if one.core == begun]
 
     def told_unseen(self, connection: Connection, chain: Chain) -> None:
         """The source was told this NH, in an answer that may come yet: X2 and S1 may be captured in another order than they were sent."""
@@ -191,9 +190,9 @@ class StarJudge(ChainJudge):
                 return self.made_by(connection, connection.histories, made, 0)
         return None
 
-    def star_of_foreign(self, connection: Connection, message: Message, bases: list[Pair]) -> Made | None:
+    def star_of_foreign(self, connection: Connection, message: Message, bases: list[Numbered]) -> Made | None:
         """A KeNB* of a phone whose KASME was not given: a key change that the trace lacks may have brought its key, and NCC 0."""
-        begun = not message.ncc and all(number for _, number in bases)
+        begun = not message.ncc and all(base.ncc for base in bases)
         if connection.phone is not None and not begun and not self.is_foreign(connection):
             return None
         found, why = self.named(message.key or b"", connection, []), "the trace may lack a key change to a KASME that was not given"
@@ -227,11 +226,11 @@ class StarJudge(ChainJudge):
             level = [(one.refreshed(self.derivations, cell), [*path, cell]) for one, path in level for cell in ways]
             yield from ((one, path) for one, path in level if path[-1] == cells[0])
 
-    def star_of_refreshed(self, connection: Connection, message: Message, wanted: Pair, cell: Radio) -> Made | None:
+    def star_of_refreshed(self, connection: Connection, message: Message, wanted: Numbered, cell: Radio) -> Made | None:
         """A KeNB* that is right if the phone was refreshed in its cell before; nothing on S1 and X2 tells."""
         ncc = message.ncc or 0
         starts: list[tuple[list[History], Chain | None, str]] = [(connection.histories, None, "")]
-        if all(one.base()[1] != ncc for one in connection.states()):
+        if all(one.base().ncc != ncc for one in connection.states()):
             starts += [(histories, chain, LOST_ANSWER) for chain, histories in self.unseen_chains(connection, ncc)]
         for kenb in self.unseen_changes(connection):
             begun = Chain(kenb.kasme, kenb)
@@ -256,7 +255,7 @@ class StarJudge(ChainJudge):
             if one.held == held:
                 yield one
 
-    def refreshed_star(self, connection: Connection, message: Message, wanted: Pair, one: History, path: list[Radio], made: Key, also: str) -> Made:
+    def refreshed_star(self, connection: Connection, message: Message, wanted: Numbered, one: History, path: list[Radio], made: Key, also: str) -> Made:
         """The line of a KeNB* that is right if the phone was refreshed; NCC is judged all the same."""
         times = f" ({len(path)} times)" if len(path) > 1 else ""
         cells = " ".join(f"({pci},{earfcn})" for pci, earfcn in path)
@@ -265,23 +264,23 @@ class StarJudge(ChainJudge):
         if ncc != one.held.ncc:
             self.judged(message, "KeNB*", made, made, (ncc, one.held.ncc), why)
         else:
-            self.unjudged(message, "KeNB*", f"{why}; else wanted {self.show(wanted[0], made)}", made)
+            self.unjudged(message, "KeNB*", f"{why}; else wanted {self.show(wanted.key, made)}", made)
         return Made([Given(Held(made, ncc))], [one.held.base()], why)
 
     # -- what no history gives
 
-    def other_star(self, connection: Connection, message: Message, bases: list[Pair], wanted: Pair, cell: Radio) -> Made:
+    def other_star(self, connection: Connection, message: Message, bases: list[Numbered], wanted: Numbered, cell: Radio) -> Made:
         """A KeNB* that no lawful history gives."""
         assert message.key is not None
         ncc = message.ncc or 0
-        found = self.named(message.key, connection, [key for key, _ in bases], cell)
-        given = [Given(Held(found, ncc)), Given(Held(wanted[0], wanted[1]))]
+        found = self.named(message.key, connection, [base.key for base in bases], cell)
+        given = [Given(Held(found, ncc)), Given(Held(wanted.key, wanted.ncc))]
         doubt = self.star_of_unknown_pci(message, found, bases, cell)
         if doubt:
             self.unjudged(message, "KeNB*", doubt, found)
             return Made(given, bases, doubt)
-        why = self.reason(found, lambda: (reasons.star(found.value, key.value, *cell) for key, _ in bases[:BASES]))
-        self.judged(message, "KeNB*", found, wanted[0], (ncc, wanted[1]), why, cell)
+        why = self.reason(found, lambda: (reasons.star(found.value, base.key.value, *cell) for base in bases[:BASES]))
+        self.judged(message, "KeNB*", found, wanted.key, (ncc, wanted.ncc), why, cell)
         return Made(given, bases)
 
 

@@ -6,7 +6,7 @@ from dataclasses import dataclass, field, replace
 
 from .contexts import NasSide
 from .decoding import Command
-from .histories import Chain, Held, History, Pair, PhoneKeys, Radio, merged
+from .histories import Chain, Held, History, Numbered, PhoneKeys, Radio, merged
 from .report import Line
 from .terms import Key
 
@@ -32,14 +32,14 @@ class Attempt:
     given: list[Given]
     nccs: list[int]  # of the command: as it was sent to the target, then as it was wanted
     cell: Radio | None = None
-    pairs: list[Pair] = field(default_factory=list)  # NH and NCC as an S1 target was given them
+    pairs: list[Numbered] = field(default_factory=list)  # NH and NCC as an S1 target was given them
     change: bool = False  # the command is to tell that KASME changed
     command: Command | None = None
     heard: tuple[int, Radio | None, bool] | None = None  # NCC, cell and keyChangeIndicator as the phone was told them
     told: bool = False  # the line on agreement stands
     aired: bool = False  # the command was seen over the air
     over: str = ""  # how it ended
-    bases: list[Pair] = field(default_factory=list)  # what the target's KeNB* was made from
+    bases: list[Numbered] = field(default_factory=list)  # what the target's KeNB* was made from
     before: list[History] = field(default_factory=list)  # the histories when the phone came to the target
     doubt: str = ""  # why it is not known whether phone and target have one key
     capabilities: tuple[int, int] | None = None  # of the phone, as the target was told them
@@ -78,7 +78,7 @@ class Connection:
     away: list[str] = field(default_factory=list)  # stations without S1 in the trace where the phone was since its keys were last certain
     resumed: bool = False  # the phone came back from suspension at its station
     capabilities: tuple[int, int] | None = None  # of the phone, as the core told the station
-    forwarded: list[Pair] = field(default_factory=list)  # NH and NCC that another core was given for this handover
+    forwarded: list[Numbered] = field(default_factory=list)  # NH and NCC that another core was given for this handover
     keys: list[tuple[str, str, Key]] = field(default_factory=list)  # frame, holder and key, for Wireshark
 
     def cores(self) -> list[Chain]:
