@@ -20,7 +20,8 @@ import tomllib
 from collections.abc import Iterator
 from typing import Any, NoReturn
 
-from . import frames
+from . import frames, network
+from .ladders import rows_of
 
 TOP = pathlib.Path(__file__).resolve().parents[2]
 PROGRAM = TOP / "lte_sec"
@@ -145,23 +146,10 @@ class System:
 
 def act(event: dict[str, Any]) -> tuple[Name, bytes]:
     """The actor of an act, and its frame."""
-    do, station = event["do"], event.get("station", "")
-    plain = {"service": ("phone", 0x10), "resend": ("phone", 0x11), "idle": ("phone", 0x12), "smc": ("core", 0x20), "release": ("core", 0x22), "command": (station, 0x31), "cancel": (station, 0x32), "ask": (station, 0x33)}
-    if do in plain:
-        name, kind = plain[do]
-        return name, bytes([kind])
-    if do == "connect":
-        return "core", b"\x21" + cell(event["cell"])
-    if do in ("x2", "s1", "intra"):
-        return station, bytes([0x30, ("x2", "s1", "intra").index(do)]) + cell(event["cell"])
-    who = event.get("from", event.get("who", ""))
-    name = station if who == "station" else who
-    if do == "skip":
-        return name, bytes([0x16, BEARERS[event["bearer"]]]) + number(event["n"], 4)
-    text = bytes.fromhex(event["text"])
-    if do == "nas":
-        return name, b"\x15" + text
-    return name, bytes([{"user": 0x13, "rrc": 0x14}[do], BEARERS[event["bearer"]]]) + text
+    told = network.act(event)
+    assert told is not None
+    role, _, place = told.actor.partition(" ")
+    return int(place) if place else role, told.body
 
 
 def framed(ue: int, uplink: bool, bearer: int, pdu: bytes) -> bytes:
@@ -179,15 +167,12 @@ def dump(step: int, octets: bytes) -> str:
 
 def algorithm_keys(report: str) -> dict[str, dict[int, tuple[int, str]]]:
     """Of each KeNB of a report the keys derived from it, by algorithm type: (identity, octets)."""
-    rows: dict[str, str] = {}
+    rows = rows_of(report.splitlines())
     keys: dict[str, dict[int, tuple[int, str]]] = {}
-    for line in report.splitlines():
-        if line.startswith("row "):
-            _, row, form, key, _ = line.split()
-            rows[row] = key
-            if form.startswith("alg("):
-                parent, kind, identity = form[4:-1].split(",")
-                keys.setdefault(rows[parent], {})[int(kind)] = (int(identity), key)
+    for row in rows.values():
+        if row.word == "alg" and row.parent is not None:
+            _, kind, identity = map(int, row.values)
+            keys.setdefault(rows[row.parent].key, {})[kind] = (identity, row.key)
     return keys
 
 

@@ -217,6 +217,7 @@ INPUTS: dict[str, dict[int, tuple[Any, ...]]] = {
 for _role, _bare in BARE.items():
     INPUTS[_role].update({kind: (name,) for kind, name in _bare.items()})
 OCTETS = ("kasme", "caps")  # fields that are octets and no numbers
+KINDS: dict[str, int] = {form[0]: kind for forms in INPUTS.values() for kind, form in forms.items()}  # a name has one kind for all roles
 
 
 SETUPS = {"phone": (0,), "station": (0,), "core": (0, 6)}  # the kinds of a Setup

@@ -10,11 +10,14 @@ from typing import Any, Callable, Iterator, NamedTuple
 from lte_sec import frames, scenarios
 
 BEARERS = {name: octet for octet, name in frames.BEARERS.items()}
-BARE = {"service": ("phone", 0x10), "resend": ("phone", 0x11), "idle": ("phone", 0x12), "smc": ("core", 0x20), "release": ("core", 0x22)}
-OF_STATION = {"command": 0x31, "cancel": 0x32, "ask": 0x33}
+# Acts by what an actor is told then: phone and core, a station, and who sends something.
+BARE = {
+    "service": ("phone", "ServiceRequest"), "resend": ("phone", "ResendComplete"), "idle": ("phone", "GoIdle"), "smc": ("core", "StartSmc"),
+    "release": ("core", "Release"),
+}
+OF_STATION = {"command": "Command", "cancel": "Cancel", "ask": "Ask"}
+SENDS = {"user": "SendUser", "rrc": "SendRrc", "nas": "SendNas"}
 WAYS = {"x2": 0, "s1": 1, "intra": 2}
-SENDS = {"user": 0x13, "rrc": 0x14, "nas": 0x15}
-OVER = {"s1": 0x04, "x2": 0x05}
 
 
 class NoRecord(Exception):
@@ -55,6 +58,36 @@ def number(value: int) -> bytes:
     return struct.pack(">I", value)
 
 
+def kind(name: str) -> bytes:
+    """The first octet of what an actor is told."""
+    return bytes([frames.KINDS[name]])
+
+
+def named(step: scenarios.Step, field: str) -> str:
+    """The actor that a field of a step names."""
+    return f"station {step['station']}" if step[field] == "station" else str(step[field])
+
+
+def act(step: scenarios.Step) -> Told | None:
+    """Who is told what at an act of one actor; None at another step."""
+    do = step["do"]
+    if do in BARE:
+        actor, name = BARE[do]
+        return Told(actor, kind(name))
+    if do in OF_STATION:
+        return Told(f"station {step['station']}", kind(OF_STATION[do]))
+    if do in WAYS:
+        return Told(f"station {step['station']}", kind("Start") + bytes([WAYS[do]]) + cell_of(step["cell"]))
+    if do in SENDS:
+        bearer = b"" if do == "nas" else bytes([BEARERS[step["bearer"]]])
+        return Told(named(step, "from"), kind(SENDS[do]) + bearer + bytes.fromhex(step["text"]))
+    if do == "connect":
+        return Told("core", kind("Connect") + cell_of(step["cell"]))
+    if do == "skip":
+        return Told(named(step, "who"), kind("Skip") + bytes([BEARERS[step["bearer"]]]) + number(step["n"]))
+    return None
+
+
 class Network:
     """The setup, and the records that were sent."""
 
@@ -76,44 +109,27 @@ class Network:
 
     def told(self, step: scenarios.Step) -> list[Told]:
         """Who is told what at a step."""
-        do = step["do"]
-        if do in BARE:
-            actor, kind = BARE[do]
-            return [Told(actor, bytes([kind]))]
-        if do in OF_STATION:
-            return [Told(f"station {step['station']}", bytes([OF_STATION[do]]))]
-        if do in WAYS:
-            return [Told(f"station {step['station']}", bytes([0x30, WAYS[do]]) + cell_of(step["cell"]))]
-        if do in SENDS:
-            bearer = b"" if do == "nas" else bytes([BEARERS[step["bearer"]]])
-            return [Told(self.named(step, "from"), bytes([SENDS[do]]) + bearer + bytes.fromhex(step["text"]))]
-        found: list[Told] = getattr(self, f"told_{do}")(step)
+        of_act = act(step)
+        if of_act is not None:
+            return [of_act]
+        found: list[Told] = getattr(self, f"told_{step['do']}")(step)
         return found
 
-    def named(self, step: scenarios.Step, field: str) -> str:
-        return f"station {step['station']}" if step[field] == "station" else str(step[field])
-
     def told_auth(self, step: scenarios.Step) -> list[Told]:
-        body = bytes([0x01, step["ksi"]]) + bytes.fromhex(step["kasme"])
+        body = kind("Auth") + bytes([step["ksi"]]) + bytes.fromhex(step["kasme"])
         return [Told("phone", body), Told("core", body + bytes.fromhex(step.get("caps", self.setup["phone"]["caps"])))]
-
-    def told_connect(self, step: scenarios.Step) -> list[Told]:
-        return [Told("core", b"\x21" + cell_of(step["cell"]))]
-
-    def told_skip(self, step: scenarios.Step) -> list[Told]:
-        return [Told(self.named(step, "who"), bytes([0x16, BEARERS[step["bearer"]]]) + number(step["n"]))]
 
     def told_inject(self, step: scenarios.Step) -> list[Told]:
         octets = bytes.fromhex(step["octets"])
         if step["bearer"] == "nas":
-            return [Told(step["to"], b"\x02" + octets)]
+            return [Told(step["to"], kind("Nas") + octets)]
         place = number(step["air"]) + bytes([BEARERS[step["bearer"]]])
         if step["to"] == "phone":
-            return [Told("phone", bytes([0x03, step["station"]]) + place + octets)]
-        return [Told(f"station {step['station']}", b"\x03" + place + octets)]
+            return [Told("phone", kind("Air") + bytes([step["station"]]) + place + octets)]
+        return [Told(f"station {step['station']}", kind("Air") + place + octets)]
 
     def told_octets(self, step: scenarios.Step) -> list[Told]:
-        return [Told(self.named(step, "to"), bytes([OVER[step["over"]]]) + bytes.fromhex(step["octets"]))]
+        return [Told(named(step, "to"), kind(step["over"].upper()) + bytes.fromhex(step["octets"]))]
 
     def told_deliver(self, step: scenarios.Step) -> list[Told]:
         place = step["record"]
@@ -121,10 +137,10 @@ class Network:
             raise NoRecord(f"there is no record {place}")
         record = self.records[place]
         tag, rest = record.to[0], record.to[1:]
-        actor, kind, field = {0: ("phone", 0x03, rest), 1: ("phone", 0x02, b""), 2: ("core", 0x02, b""), 3: ("core", 0x04, b""), 4: ("station", 0x03, rest[1:]),
-                              5: ("station", 0x04, b""), 6: ("station", 0x05, b"")}[tag]
-        name = f"station {rest[0]}" if actor == "station" else actor
-        return [Told(name, bytes([kind]) + field + record.octets, record.made_by)]
+        role, told, field = {0: ("phone", "Air", rest), 1: ("phone", "Nas", b""), 2: ("core", "Nas", b""), 3: ("core", "S1", b""), 4: ("station", "Air", rest[1:]),
+                             5: ("station", "S1", b""), 6: ("station", "X2", b"")}[tag]
+        actor = f"station {rest[0]}" if role == "station" else role
+        return [Told(actor, kind(told) + field + record.octets, record.made_by)]
 
     def run(self, tell: Callable[[int, Told, Any], Any]) -> None:
         """All steps: `tell` is given each step's number, what is told and the step, and gives the reply of the written machine."""

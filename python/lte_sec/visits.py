@@ -11,6 +11,8 @@ HORIZONTAL, VERTICAL, INITIAL = (frames.WAYS.index(way) for way in ("horizontal"
 REJECTED = ("WrongKsi", "AlgUnsupported", "MacFails", "CapsMismatch")
 CUT = "cut to 1,500 octets"
 KINDS = ("X2", "S1", "within")
+KEY_CHANGE = "UE Context Modification Request"
+CAME = {"Path Switch Request": "X2", "Handover Notify": "S1"}  # over what the phone came, by what its station sends then
 
 
 def answer_of(reply: frames.Reply) -> str:
@@ -121,22 +123,22 @@ class StationWatch(Watch):
         octets = octets_of(told)
         if answer in ("BadRecord", "WrongKind"):
             return interface, "any", ""
+        message, way = forms[octets[0]][0], ""
         if answer == "done":
-            self.taken(octets[0], reply)
-        way = ""
-        if answer == "OldConnection" and octets[0] == 0x34:
+            self.taken(message, reply)
+        if answer == "OldConnection" and message == KEY_CHANGE:
             way = "the connection" if value_of(reply, "got") == int.from_bytes(octets[1:5], "big") else "the next one"
-        return forms[octets[0]][0], "any", way
+        return message, "any", way
 
-    def taken(self, kind: int, reply: frames.Reply) -> None:
+    def taken(self, message: str, reply: frames.Reply) -> None:
         """What a record that is done with changes."""
-        if kind == 0x20:
+        if message == "Initial Context Setup Request":
             self.air, self.is_starting, self.attempt = int.from_bytes(reply.to[2:6], "big"), True, ""
-        elif kind in (0x21, 0x33):
+        elif message in ("UE Context Release Command", "X2 UE Context Release"):
             self.drop()
-        elif kind in (0x27, 0x31):
+        elif message in ("Handover Command", "X2 Handover Request Acknowledge"):
             self.stage = "ready"
-        elif kind == 0x34:
+        elif message == KEY_CHANGE:
             self.attempt, self.stage = "key change", "commanded"
 
     def on_Air(self, told: frames.Input, reply: frames.Reply, answer: str, made_by: str) -> RowParts:
@@ -157,7 +159,7 @@ class StationWatch(Watch):
             return "text" if told.fields["bearer"] == frames.SRBS[0] else "bearer"
         if answer != "done":
             return ""
-        way = {0x22: "X2", 0x28: "S1"}[reply.record[0]] if reply.record else "key change" if self.attempt == "key change" else "within"
+        way = CAME[records.S1[reply.record[0]][0]] if reply.record else "key change" if self.attempt == "key change" else "within"
         self.drop()
         self.air = int(str(told.fields["air"]))
         return way
