@@ -4,7 +4,6 @@ import pathlib
 import unittest
 
 PACKAGE = pathlib.Path(__file__).resolve().parent.parent / "lte_sec"
-OF_EACH_WORD = {"Options", "Words", "WrongWords"}  # what a word of the launcher is given
 
 
 def modules_by_class() -> dict[str, list[str]]:
@@ -19,7 +18,7 @@ def modules_by_class() -> dict[str, list[str]]:
 
 class Names(unittest.TestCase):
     def test_no_two_classes_have_one_name(self) -> None:
-        self.assertEqual({}, {name: modules for name, modules in modules_by_class().items() if len(modules) > 1 and name not in OF_EACH_WORD})
+        self.assertEqual({}, {name: modules for name, modules in modules_by_class().items() if len(modules) > 1})
 
 
 if __name__ == "__main__":
