@@ -2,7 +2,7 @@
 
 The chain runs down (KeNB, and each NH with the key above it as SYNC-input, dashed), and to the right the keys of cells.
 """
-from lte_sec.ladders import Row, algorithm, rows_of, title_of
+from lte_sec.ladders import LadderRow, algorithm, rows_of, title_of
 from lte_sec.picture import MONO, Picture
 
 from . import NotDrawn
@@ -13,11 +13,11 @@ FILLS = {"root": "#e4e7eb", "kenb": "#cfe3ff", "nh": "#cdeed6", "star": "#ffe8c7
 BOX, STEP, GAP = 300, 344, 22  # the width of a box, of a column, and the space between boxes
 
 
-def height_of(row: Row) -> int:
+def height_of(row: LadderRow) -> int:
     return 44 + 15 * len(row.algs) + (6 if row.algs else 0)
 
 
-def draw_row(picture: Picture, row: Row, x: int, y: int, number: int) -> None:
+def draw_row(picture: Picture, row: LadderRow, x: int, y: int, number: int) -> None:
     picture.box(x, y, BOX, height_of(row), FILLS[row.word])
     picture.text(x + 9, y + 18, title_of(row, number), 12.5, weight="bold")
     picture.text(x + BOX - 9, y + 18, f"row {row.number}", 10.5, colour="#52606d", anchor="end")
@@ -30,7 +30,7 @@ def draw_row(picture: Picture, row: Row, x: int, y: int, number: int) -> None:
         picture.text(x + BOX - 9, at, alg.holders, 9.5, MONO, anchor="end")
 
 
-def draw_from(picture: Picture, row: Row, x: int, y: int, number: int) -> int:
+def draw_from(picture: Picture, row: LadderRow, x: int, y: int, number: int) -> int:
     """The row and, to its right, the keys of cells that come of it; answers where the next may begin."""
     draw_row(picture, row, x, y, number)
     bottom, at = y + height_of(row) + GAP, y

@@ -12,7 +12,7 @@ from typing import Any
 
 from lte_sec.charted import Charted, lanes_of, octets, said, steps_of
 from lte_sec.ladders import names_of, rows_of
-from lte_sec.messages import LINE, Note
+from lte_sec.messages import LINE, NotedKey
 from lte_sec.picture import INK, MONO, PALE, RED, Picture
 from lte_sec.remarks import named
 
@@ -127,7 +127,7 @@ class Steps(Picture):
     def beside(self, x: float, y: int, words: str, colour: str = INK, weight: str = "normal") -> None:
         self.text(x + 9, y + 4, words, 11, colour=colour, weight=weight)
 
-    def draw_key(self, x: int, y: int, note: Note) -> None:
+    def draw_key(self, x: int, y: int, note: NotedKey) -> None:
         fill = self.fills.setdefault(note.key, KEY_FILLS[len(self.fills) % len(KEY_FILLS)])
         self.box(x - 116, y, 232, 18, fill)
         self.text(x - 110, y + 13, f"{self.names.get(note.key, '')} {note.key[:8]}..".strip(), 10.5, MONO)
