@@ -5,6 +5,7 @@ ghost use Rattle.role_wire.specs.Ranges.{IsRole};
 mod ends;
 mod kinds;
 
+use crate::values::octets;
 use edge_io::{MemPort, MemSink, MemSource, Port, Role};
 use role_node::{ServeEnd, serve};
 use std::process::Abort;
@@ -41,11 +42,11 @@ fn listed<R: Abort + AllocGlobal>(rt: &R, number: Option<u64>) -> Result<Vec<u64
 
 // The octets that texts in hex spell, one after another.
 fn octets_of<R: Abort + AllocGlobal>(rt: &R, texts: &[&str]) -> Result<Vec<u8>, Fail> {
-    let mut octets = Vec::new(rt.alloc());
+    let mut all = Vec::new(rt.alloc());
     for text in texts {
-        octets.extend_from_slice(hex::decode(rt.alloc(), text)?.as_slice())?;
+        all.extend_from_slice(octets(rt, text).as_slice())?;
     }
-    Ok(octets)
+    Ok(all)
 }
 
 // So many octets at the front.
