@@ -2,7 +2,8 @@
 // KASMEs of octets 00 to 1f and of octets 20 to 3f.
 ghost use Rattle.std.specs.Prelude.{◌≤◌, length};
 
-use crate::values::{octets, same};
+use crate::spelled::octets;
+use crate::values::same;
 use alg_choice::{Caps, Eea, Priority};
 use annex_a_keys::Kasme;
 use lte_events::Answer;

@@ -2,7 +2,8 @@
 // 00 to 1f, of a handover over X2 and of one over S1, and of a change to the KASME of octets 20 to 3f.
 ghost use Rattle.std.specs.Prelude.{◌≤◌};
 
-use crate::values::{key, octets, same};
+use crate::spelled::{key, octets};
+use crate::values::same;
 use alg_choice::{Caps, Eea, Priority};
 use annex_a_keys::{Cell, Kasme};
 use lte_events::{ActorOut, Address, Answer, Cells, CoreAct, CoreIn, FirstNcc};

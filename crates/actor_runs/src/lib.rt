@@ -13,6 +13,8 @@ mod phones;
 #[cfg(test)]
 mod sessions;
 #[cfg(test)]
+mod spelled;
+#[cfg(test)]
 mod stations;
 #[cfg(test)]
 mod values;

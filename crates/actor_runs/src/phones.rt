@@ -4,7 +4,8 @@
 ghost use Rattle.std.specs.Prelude.{◌≤◌};
 ghost use Rattle.lte_events.specs.Ranges.{PhoneTakes};
 
-use crate::values::{key, octets, same};
+use crate::spelled::{key, octets};
+use crate::values::same;
 use alg_choice::Caps;
 use annex_a_keys::Kasme;
 use lte_events::{ActorOut, Address, Answer, KeyNote, PhoneAct, PhoneIn};

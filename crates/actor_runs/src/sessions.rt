@@ -5,7 +5,7 @@ ghost use Rattle.role_wire.specs.Ranges.{IsRole};
 mod ends;
 mod kinds;
 
-use crate::values::octets;
+use crate::spelled::octets;
 use edge_io::{MemPort, MemSink, MemSource, Port, Role};
 use role_node::{ServeEnd, serve};
 use std::process::Abort;

@@ -3,7 +3,8 @@
 ghost use Rattle.std.specs.Prelude.{◌≤◌};
 ghost use Rattle.lte_events.specs.Ranges.{StationTakes};
 
-use crate::values::{octets, same};
+use crate::spelled::octets;
+use crate::values::same;
 use alg_choice::{Eea, Priority};
 use annex_a_keys::Cell;
 use enb_context::Station;

@@ -1,9 +1,6 @@
-// What the tests compare their values by, and the octets that texts in hex spell. (No library may end the process, so each crate of
-// tests has this file.)
+// What the tests compare their values by. (No library may end the process, so each crate of tests has this file.)
 ghost use Rattle.std.specs.Prelude.{IsTrue};
 
-use hex::FromHex;
-use rec_base::Octets;
 use std::fmt::Debug;
 use std::process::Abort;
 
@@ -24,20 +21,4 @@ pub(crate) fn same_at<P: Debug + Drop, T: PartialEq + Debug + Drop>(
     ensures { IsTrue (T.eq got wanted) }
 {
     assert_eq!(rt; got, wanted, "at {place:?}");
-}
-
-// The octets that a text in hex spells.
-pub(crate) fn octets(rt: &impl Abort, text: &str) -> Octets {
-    let count = text.len() / 2;
-    assert!(rt; count <= 1536, "{text} is too long");
-    let mut room = [0; 1536];
-    hex::decode_to_slice(text, &mut room[..count]).expect(rt, text);
-    let mut octets = Octets::new();
-    octets.append(&room[..count]);
-    octets
-}
-
-// The key that a text in hex spells.
-pub(crate) fn key(rt: &impl Abort, text: &str) -> [u8; 32] {
-    <[u8; 32] as FromHex>::from_hex(text).expect(rt, text)
 }
