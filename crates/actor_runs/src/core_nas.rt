@@ -2,10 +2,9 @@
 // KASMEs of octets 00 to 1f and of octets 20 to 3f.
 ghost use Rattle.std.specs.Prelude.{◌≤◌, length};
 
-use crate::spelled::octets;
+use crate::spelled::{kasme, octets};
 use crate::values::same;
 use alg_choice::{Caps, Eea, Priority};
-use annex_a_keys::Kasme;
 use lte_events::Answer;
 use nas_count::LIMIT;
 use nas_smc::{CoreNas, NasOut};
@@ -21,17 +20,6 @@ const COMMAND: &str = "37f049792b00010022a020";
 
 // A SECURITY MODE COMPLETE of COUNT 5.
 const COMPLETE: &str = "473fc6631b05e2";
-
-// The KASME of 32 octets that rise from this one.
-fn kasme(first: u8) -> Kasme
-    requires { first ≤ 32 }
-{
-    let mut octets = [0; 32];
-    for i in 0..32u8 {
-        octets[i as usize] = first + i;
-    }
-    Kasme::of_octets(octets)
-}
 
 // A core that authenticated the phone.
 fn authenticated() -> CoreNas {

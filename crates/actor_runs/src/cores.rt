@@ -2,10 +2,11 @@
 // 00 to 1f, of a handover over X2 and of one over S1, and of a change to the KASME of octets 20 to 3f.
 ghost use Rattle.std.specs.Prelude.{◌≤◌};
 
-use crate::spelled::{key, octets};
+use crate::sent::expect_sent;
+use crate::spelled::{kasme, key, octets};
 use crate::values::same;
 use alg_choice::{Caps, Eea, Priority};
-use annex_a_keys::{Cell, Kasme};
+use annex_a_keys::Cell;
 use lte_events::{ActorOut, Address, Answer, Cells, CoreAct, CoreIn, FirstNcc};
 use mme_context::Core;
 use rec_base::Way;
@@ -55,17 +56,6 @@ const NEXT_PATH_SWITCH: &str = "22000000020100000002000b00000065e020";
 const NEXT_PAIR: &str =
     "230000000200000002011000c1321970677d303da64ee05fe4262de8ec98ad8ecd80558e5db135c66d65";
 
-// The KASME of 32 octets that rise from this one.
-fn kasme(first: u8) -> Kasme
-    requires { first ≤ 32 }
-{
-    let mut octets = [0; 32];
-    for i in 0..32u8 {
-        octets[i as usize] = first + i;
-    }
-    Kasme::of_octets(octets)
-}
-
 fn cell(rt: &impl Abort, pci: u16, earfcn: u32) -> Cell {
     Cell::new(pci, earfcn).expect(rt, "in range")
 }
@@ -74,17 +64,6 @@ fn cell(rt: &impl Abort, pci: u16, earfcn: u32) -> Cell {
 fn expect_answer(rt: &impl Abort, out: &ActorOut, answer: Answer) {
     same(rt, out.answer, answer);
     assert!(rt; out.sent.is_none());
-}
-
-// The record was sent there.
-fn expect_sent(rt: &impl Abort, out: &ActorOut, to: Address, record: &str) {
-    same(rt, out.answer, Answer::Done);
-    let Some(sent) = &out.sent else {
-        assert!(rt; false, "nothing was sent");
-        return;
-    };
-    same(rt, sent.to, to);
-    same(rt, sent.octets.as_slice(), octets(rt, record).as_slice());
 }
 
 // A key is told, with its NCC, and it is the one derivation.

@@ -11,6 +11,8 @@ mod phone_nas;
 #[cfg(test)]
 mod phones;
 #[cfg(test)]
+mod sent;
+#[cfg(test)]
 mod sessions;
 #[cfg(test)]
 mod spelled;

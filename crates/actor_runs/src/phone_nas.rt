@@ -2,10 +2,9 @@
 // KASMEs of octets 00 to 1f and of octets 20 to 3f.
 ghost use Rattle.std.specs.Prelude.{◌≤◌, ◌<◌, length};
 
-use crate::spelled::octets;
+use crate::spelled::{kasme, octets};
 use crate::values::same;
 use alg_choice::{Algs, Caps, Eea};
-use annex_a_keys::Kasme;
 use lte_events::Answer;
 use nas_count::LIMIT;
 use nas_smc::{NasOut, PhoneNas};
@@ -16,17 +15,6 @@ const OWN: Caps = Caps {
     eea: 0xa0,
     eia: 0x20,
 };
-
-// The KASME of 32 octets that rise from this one.
-fn kasme(first: u8) -> Kasme
-    requires { first ≤ 32 }
-{
-    let mut octets = [0; 32];
-    for i in 0..32u8 {
-        octets[i as usize] = first + i;
-    }
-    Kasme::of_octets(octets)
-}
 
 // A SECURITY MODE COMMAND of the first KASME: KSI 0, 128-EEA2, the phone's own capabilities.
 const COMMAND: &str = "37f049792b00010022a020";

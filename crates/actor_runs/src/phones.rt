@@ -1,13 +1,12 @@
 // The octets come from an independent implementation of the profile, and for other NCCs and COUNTs from
 // HMAC-SHA-256, AES-CTR and AES-CMAC of another implementation, under the
 // KASMEs of octets 00 to 1f and of octets 20 to 3f.
-ghost use Rattle.std.specs.Prelude.{◌≤◌};
 ghost use Rattle.lte_events.specs.Ranges.{PhoneTakes};
 
-use crate::spelled::{key, octets};
+use crate::sent::expect_sent;
+use crate::spelled::{kasme, key, octets};
 use crate::values::same;
 use alg_choice::Caps;
-use annex_a_keys::Kasme;
 use lte_events::{ActorOut, Address, Answer, KeyNote, PhoneAct, PhoneIn};
 use rec_base::{Bearer, UserText, Way};
 use std::process::Abort;
@@ -38,17 +37,6 @@ fn signal(rt: &impl Abort, station: u8, air: u32, pdu: &str) -> PhoneIn
     PhoneIn::Air(station, air, Bearer::Srb1, octets(rt, pdu))
 }
 
-// The KASME of 32 octets that rise from this one.
-fn kasme(first: u8) -> Kasme
-    requires { first ≤ 32 }
-{
-    let mut octets = [0; 32];
-    for i in 0..32u8 {
-        octets[i as usize] = first + i;
-    }
-    Kasme::of_octets(octets)
-}
-
 // A phone with a NAS context, which waits for the security of its connection.
 fn waiting(rt: &impl Abort) -> Phone {
     let mut phone = Phone::new(Caps {
@@ -65,17 +53,6 @@ fn connected(rt: &impl Abort) -> Phone {
     let mut phone = waiting(rt);
     let _ = phone.step(&signal(rt, 0, 1, SECURITY));
     phone
-}
-
-// Done, and the record was sent there.
-fn expect_sent(rt: &impl Abort, out: &ActorOut, to: Address, record: &str) {
-    same(rt, out.answer, Answer::Done);
-    let Some(sent) = &out.sent else {
-        assert!(rt; false, "nothing was sent");
-        return;
-    };
-    same(rt, sent.to, to);
-    same(rt, sent.octets.as_slice(), octets(rt, record).as_slice());
 }
 
 // As `expect_sent`, of a PDU on SRB1 to a station and an air address there.

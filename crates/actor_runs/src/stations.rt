@@ -3,6 +3,7 @@
 ghost use Rattle.std.specs.Prelude.{◌≤◌};
 ghost use Rattle.lte_events.specs.Ranges.{StationTakes};
 
+use crate::sent::expect_sent;
 use crate::spelled::octets;
 use crate::values::same;
 use alg_choice::{Eea, Priority};
@@ -82,17 +83,6 @@ fn connected(rt: &impl Abort, first: u32) -> Station
     let complete = srb1(rt, first, STARTED);
     expect(rt, &mut station, &complete, Answer::Done);
     station
-}
-
-// The record was sent there.
-fn expect_sent(rt: &impl Abort, out: &ActorOut, to: Address, record: &str) {
-    same(rt, out.answer, Answer::Done);
-    let Some(sent) = &out.sent else {
-        assert!(rt; false, "nothing was sent");
-        return;
-    };
-    same(rt, sent.to, to);
-    same(rt, sent.octets.as_slice(), octets(rt, record).as_slice());
 }
 
 #[test]
