@@ -187,32 +187,25 @@ module _ {K C : Type 0} (r : Reading K C) (s : Station K C) (act : StationAct) w
     target_has kind cell a f (Some target) h (Some attempt) g = by_test Has (is_misplaced kind (target == s.id)) _ _ (λ i. tt) (λ i. tt)
     target_has kind cell a f (Some target) h None g = by_test Has (is_misplaced kind (target == s.id)) _ _ (λ i. tt) (λ i. begun_has kind target cell a f g h i)
 
+    sent_has : act ≡ Command → (a : Attempt K C) → c.attempt ≡ Some a → (order : Order) → Orders a.progress order
+        → Has (unless_spent c.bearers.srb1 (OrderSent a.via order c.bearers.srb1.send))
+    sent_has is a f order orders =
+        unspent_has c.bearers.srb1 _ (λ h. record {
+          act_is = is;
+          context = c;
+          serving = e;
+          attempt = a;
+          trying = f;
+          via_is = refl;
+          orders = orders;
+          count_is = refl;
+          unspent = h;
+        })
+
     ordered_has : act ≡ Command → (a : Attempt K C) → c.attempt ≡ Some a → (p : Progress) → a.progress ≡ p → Has (ordered_row a.via p c.bearers.srb1)
     ordered_has is a f Open g = tt
-    ordered_has is a f (Ready order) g =
-        unspent_has c.bearers.srb1 _ (λ h. record {
-          act_is = is;
-          context = c;
-          serving = e;
-          attempt = a;
-          trying = f;
-          via_is = refl;
-          orders = subst (λ p. Orders p order) (sym g) refl;
-          count_is = refl;
-          unspent = h;
-        })
-    ordered_has is a f (Commanded order) g =
-        unspent_has c.bearers.srb1 _ (λ h. record {
-          act_is = is;
-          context = c;
-          serving = e;
-          attempt = a;
-          trying = f;
-          via_is = refl;
-          orders = subst (λ p. Orders p order) (sym g) refl;
-          count_is = refl;
-          unspent = h;
-        })
+    ordered_has is a f (Ready order) g = sent_has is a f order (subst (λ p. Orders p order) (sym g) refl)
+    ordered_has is a f (Commanded order) g = sent_has is a f order (subst (λ p. Orders p order) (sym g) refl)
 
     command_has : act ≡ Command
         → (o : Option (Attempt K C))

@@ -16,6 +16,7 @@ pub mod Order
 pub mod Phone
 pub mod PhoneWalk
 pub mod Seen
+pub mod Sources
 pub mod Station
 pub mod StationAct
 pub mod StationContext

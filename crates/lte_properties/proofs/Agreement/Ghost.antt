@@ -25,13 +25,14 @@ use Rattle.lte_machine.specs.Bearers.{Srb, Signalling1, Bearers}
 use Rattle.lte_machine.specs.Wire.{KeyUse, Ciphering, Outgoing, SealedNas, SealedRrc, Between, srb_use, srb_ciphering}
 use Rattle.lte_machine.specs.Reply.{Origin, From, BySetup, ByAttempt, ByChange, Made, Tried, Came, Secured, Commanded, Changed, Took, Handover, BySource, ByTarget}
 use Rattle.lte_machine.specs.PhoneState.{Link, Radio, Idle, Connecting, Connected}
-use Rattle.lte_machine.specs.StationState.{Station, Context, Via, OverX2, Renewing, Progress, Open, Ready, Commanded as Sent, SourceKeys, Attempt}
+use Rattle.lte_machine.specs.StationState.{Station, Context, Via, Renewing, Progress, Open, Ready, Commanded as Sent, Attempt}
 use Rattle.lte_machine.specs.StationKeys.{spent_of}
 use Rattle.lte_machine.specs.CoreState.{Core, CoreLink}
 use Rattle.std.specs.Prelude.{slice_index, length, ◌==◌, ◌&&◌, Bool, true, false, find, ⊤}
 use Rattle.lte_properties.specs.ChainBelow.{AllOf}
 use Rattle.lte_properties.specs.Agreement.{made_at, Obeys, KeyGrows, HadTaken, TakenIfTried}
 use Rattle.lte_properties.specs.Origins.{root_of, nas_count_of}
+use Rattle.lte_properties.proofs.Agreement.Sources.{handover_by, HasStar}
 use Rattle.lte_properties.proofs.Agreement.Terms.{lands, ChainOf}
 use Rattle.lte_properties.specs.Chains.{chain_key, OnChain}
 
@@ -239,16 +240,6 @@ UnderKey g id conn t number = record {
   key : tried.key ≡ t;
   conn : tried.conn ≡ conn;
 }
-
--- what was told of the start of an attempt
-abbrev pub handover_by : Option (SourceKeys Term ℕ) → Handover Term ℕ
-handover_by None = ByTarget
-handover_by (Some keys) = BySource keys.star
-
--- an open attempt over X2 has a KeNB*
-abbrev pub HasStar : Via → Option (SourceKeys Term ℕ) → Type 0
-HasStar OverX2 None = ⊥
-HasStar other keys = ⊤
 
 -- an attempt at a handover, by how far it is
 abbrev pub ProgressOk : Ghost → ℕ → ℕ → Term → Attempt Term ℕ → Progress → Type 0

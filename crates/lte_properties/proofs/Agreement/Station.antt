@@ -36,7 +36,8 @@ use Rattle.lte_properties.specs.ChainAbove.{AnswerOk, InFlight}
 use Rattle.lte_properties.specs.Agreement.{made_at, HadTaken}
 use Rattle.lte_properties.specs.Chains.{chain_key}
 use Rattle.lte_properties.proofs.Agreement.Terms.{base_nh}
-use Rattle.lte_properties.proofs.Agreement.Ghost.{Ghost, is_tried_at, tried_at, chain_at, TermOk, PairOk, Leads, GivenFits, FromOk, MadeOk, TriedOk, GivenOk, handover_by, HasStar, ProgressOk, ChangeOk, ViaOk, AttemptOk, CtxOk, PrepOk, FreshFrom, SeenBy, StationOk, SaysOk, IsOther, StartIs, OrderIs, IsOrder, UnderKey, ChangeIs, AckIs, HasNcc, AnyMade, BetweenOk, OutOk}
+use Rattle.lte_properties.proofs.Agreement.Ghost.{Ghost, is_tried_at, tried_at, chain_at, TermOk, PairOk, Leads, GivenFits, FromOk, MadeOk, TriedOk, GivenOk, ProgressOk, ChangeOk, ViaOk, AttemptOk, CtxOk, PrepOk, FreshFrom, SeenBy, StationOk, SaysOk, IsOther, StartIs, OrderIs, IsOrder, UnderKey, ChangeIs, AckIs, HasNcc, AnyMade, BetweenOk, OutOk}
+use Rattle.lte_properties.proofs.Agreement.Sources.{handover_by, HasStar}
 use Rattle.lte_properties.proofs.Agreement.Later.{same_found, made_later, ctx_later, preps_later}
 use Rattle.lte_properties.proofs.ChainNumbers.Lists.{all_map}
 use Rattle.lte_properties.proofs.Agreement.PhoneWalk.{both_named}
