@@ -1,7 +1,7 @@
 -- The states of an attempt as the written machine has them.
 use Rattle.std.specs.Prelude.{ℕ, List, Some, None}
 use Rattle.key_model.specs.Reading.{octet_reading}
-use Rattle.x2_handover.specs.Attempt.{X2Start, x2_order}
+use Rattle.x2_handover.specs.Attempt.{X2Start, Commanded, x2_order}
 use Rattle.s1_handover.specs.Attempt.{S1Start, s1_order}
 use Rattle.enb_context.specs.declared.attempt.X2State.{X2State}
 use Rattle.enb_context.specs.declared.attempt.X2State as x2_states
@@ -23,19 +23,7 @@ x2_opened via start progress = record {
   progress = progress;
 }
 
-abbrev pub x2_attempt : machine.Via → X2State → machine.Attempt (List ℕ) ℕ
-x2_attempt via (x2_states.TheVariants.Open start) = x2_opened via start machine.Open
-x2_attempt via (x2_states.TheVariants.Ready acked) = x2_opened via acked.start (machine.Ready (x2_order octet_reading.ncc acked))
-x2_attempt via (x2_states.TheVariants.Commanded sent) = record {
-  number = sent.number;
-  station = sent.station;
-  cell = sent.cell;
-  via = via;
-  keys = None;
-  progress = machine.Commanded sent.order;
-}
-
--- an attempt over S1
+-- one over S1
 abbrev pub s1_opened : S1Start → machine.Progress → machine.Attempt (List ℕ) ℕ
 s1_opened start progress = record {
   number = start.number;
@@ -46,17 +34,26 @@ s1_opened start progress = record {
   progress = progress;
 }
 
-abbrev pub s1_attempt : S1State → machine.Attempt (List ℕ) ℕ
-s1_attempt (s1_states.TheVariants.Open start) = s1_opened start machine.Open
-s1_attempt (s1_states.TheVariants.Ready acked) = s1_opened acked.start (machine.Ready (s1_order acked))
-s1_attempt (s1_states.TheVariants.Commanded sent) = record {
+-- one whose order was sent
+abbrev pub ordered_via : machine.Via → Commanded → machine.Attempt (List ℕ) ℕ
+ordered_via via sent = record {
   number = sent.number;
   station = sent.station;
   cell = sent.cell;
-  via = machine.OverS1;
+  via = via;
   keys = None;
   progress = machine.Commanded sent.order;
 }
+
+abbrev pub x2_attempt : machine.Via → X2State → machine.Attempt (List ℕ) ℕ
+x2_attempt via (x2_states.TheVariants.Open start) = x2_opened via start machine.Open
+x2_attempt via (x2_states.TheVariants.Ready acked) = x2_opened via acked.start (machine.Ready (x2_order octet_reading.ncc acked))
+x2_attempt via (x2_states.TheVariants.Commanded sent) = ordered_via via sent
+
+abbrev pub s1_attempt : S1State → machine.Attempt (List ℕ) ℕ
+s1_attempt (s1_states.TheVariants.Open start) = s1_opened start machine.Open
+s1_attempt (s1_states.TheVariants.Ready acked) = s1_opened acked.start (machine.Ready (s1_order acked))
+s1_attempt (s1_states.TheVariants.Commanded sent) = ordered_via machine.OverS1 sent
 
 abbrev pub attempt_of : Attempt → machine.Attempt (List ℕ) ℕ
 attempt_of (attempts.TheVariants.OverX2 state) = x2_attempt machine.OverX2 state

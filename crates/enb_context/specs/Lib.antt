@@ -2,5 +2,5 @@ pub mod Admission
 pub mod Attempt
 pub mod Orders
 pub mod Preps
-pub mod Step
 pub mod Renewal
+pub mod Step
