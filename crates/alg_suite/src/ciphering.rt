@@ -1,7 +1,7 @@
 ghost use Rattle.std.specs.Prelude.{◌≡◌};
 
 /// An EPS encryption algorithm (TS 33.401 5.1.3.2).
-#[derive(Clone, Copy, Debug, PartialEq, Eq)]
+#[derive(Clone, Copy)]
 pub enum Ciphering {
     /// The null algorithm, which leaves a text as it is: identity 0.
     Eea0,

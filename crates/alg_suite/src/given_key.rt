@@ -5,7 +5,7 @@ use std::marker::Model;
 
 /// An algorithm key that the caller gives: 32 octets, of which a 128-bit algorithm takes the last 16 (TS 33.401 A.7). Nothing says that it
 /// was derived, as an `AlgKey` was.
-#[derive(Clone, Copy, Debug, PartialEq, Eq)]
+#[derive(Clone, Copy)]
 pub struct GivenKey {
     octets: [u8; 32],
 }

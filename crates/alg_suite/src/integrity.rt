@@ -1,7 +1,7 @@
 ghost use Rattle.std.specs.Prelude.{◌≡◌};
 
 /// An EPS integrity algorithm (TS 33.401 5.1.4.2).
-#[derive(Clone, Copy, Debug, PartialEq, Eq)]
+#[derive(Clone, Copy)]
 pub enum Integrity {
     /// The null algorithm, whose MAC is four zero octets and shows nothing: identity 0. Only emergency calls without
     /// authentication may use it (TS 33.401 5.1.4.1, the clause number from memory).

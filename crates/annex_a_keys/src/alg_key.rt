@@ -8,7 +8,7 @@ use hmac_kdf::{KdfInput, KdfKey};
 use std::marker::Model;
 
 /// An algorithm key (TS 33.401 A.7): 32 octets, derived of KASME or KeNB. A 128-bit algorithm takes the last 16.
-#[derive(Clone, Copy, Debug, PartialEq, Eq)]
+#[derive(Clone, Copy)]
 pub struct AlgKey {
     octets: [u8; 32],
 }

@@ -8,7 +8,7 @@ use hmac_kdf::{KdfInput, KdfKey};
 use std::marker::Model;
 
 /// A KASME that derives several keys: each after the first takes half the work.
-#[derive(Debug, Drop)]
+#[derive(Drop)]
 pub struct KeyedKasme {
     key: KdfKey,
 }

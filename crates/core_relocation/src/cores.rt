@@ -8,7 +8,7 @@ use lte_events::{Answer, Cells, CoreAct, Event, Line};
 use s1x2_rec::CoreRecord;
 
 /// An open relocation of the context: to which core, and by which attempt of which station.
-#[derive(Clone, Copy, Debug, PartialEq, Eq)]
+#[derive(Clone, Copy)]
 pub struct Relocation {
     /// The core to which the context is to go.
     pub core: u8,
@@ -19,7 +19,7 @@ pub struct Relocation {
 }
 
 // Where the context is: the core that holds it, and the relocation that is open, if one is.
-#[derive(Clone, Copy, Debug, PartialEq, Eq)]
+#[derive(Clone, Copy)]
 pub(crate) struct Held {
     pub(crate) holder: u8,
     pub(crate) next: Option<Relocation>,

@@ -4,7 +4,7 @@ ghost use Rattle.core_relocation.specs.Acted.{acted};
 use lte_events::{Line, Who};
 
 /// What is answered to an event of a system with two cores.
-#[derive(Clone, Debug, PartialEq, Eq, Drop)]
+#[derive(Drop)]
 pub enum TwoLine {
     /// The line of the event, and the core that acted, if only a core did.
     By(Line, Option<u8>),

@@ -7,7 +7,7 @@ ghost use Rattle.core_relocation.specs.declared.senders.Sender.{Sender};
 use lte_events::{Class, Event, Who};
 
 // Who sent a record, and on which interface, as the line of its event tells.
-#[derive(Clone, Copy, Debug, PartialEq, Eq)]
+#[derive(Clone, Copy)]
 pub(crate) struct Sender {
     pub(crate) who: Who,
     pub(crate) class: Class,

@@ -9,7 +9,7 @@ use crate::failed::Failed;
 use crate::sink::Sink;
 
 /// A sink that drops what it is given. It never fails, and tells nothing of the octets.
-#[derive(Clone, Copy, Debug)]
+#[derive(Clone, Copy)]
 pub struct DropSink;
 
 impl DropSink {

@@ -123,8 +123,8 @@ impl<H: Net + Processes> Host for CountingHost<H> {
 
     ghost programs_started = { λ h. h.started };
 
-    fn start(&mut self, command: Command) -> io::Result<(Child<H::Started>, UnixStream)> {
-        match std_program(&self.host, command) {
+    fn start(&mut self, mut command: Command) -> io::Result<(Child<H::Started>, UnixStream)> {
+        match std_program(&self.host, &mut command) {
             Ok(program) => {
                 self.started = self.started.saturating_add(1);
                 Ok(program)
@@ -150,7 +150,7 @@ impl<H: Net + Processes> Host for CountingHost<H> {
 // A program of std that was started, and what it says.
 fn std_program<H: Net + Processes>(
     host: &H,
-    mut command: Command,
+    command: &mut Command,
 ) -> io::Result<(Child<H::Started>, UnixStream)> {
     let (ours, theirs) = host.unix_pair()?;
     ours.set_read_timeout(Some(Duration::from_secs(PATIENCE)))?;

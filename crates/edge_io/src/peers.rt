@@ -1,7 +1,7 @@
 use crate::failed::Failed;
 
 /// What a peer plays.
-#[derive(Clone, Copy, Debug, PartialEq, Eq)]
+#[derive(Clone, Copy)]
 pub enum Role {
     /// The phone.
     Phone,
@@ -21,7 +21,7 @@ pub enum StartFault {
 }
 
 /// A call on peers.
-#[derive(Clone, Copy, Debug, PartialEq, Eq)]
+#[derive(Clone, Copy)]
 pub enum PeerCall {
     /// The start of a role.
     Start(Role),

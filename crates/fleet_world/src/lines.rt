@@ -1,7 +1,7 @@
 use lte_events::Line;
 
 /// What a fleet answers to an event.
-#[derive(Clone, PartialEq, Eq, Debug, Drop)]
+#[derive(Drop)]
 pub enum FleetLine {
     /// The phone, and the line of its world.
     Of(u16, Line),

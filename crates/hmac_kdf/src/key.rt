@@ -11,7 +11,7 @@ use std::marker::Model;
 
 /// A key of 32 octets that derives several keys. What HMAC computes from the key before any text is computed once
 /// (RFC 2104, 4), so each key after the first takes two compressions of SHA-256 and not four.
-#[derive(Debug, Drop)]
+#[derive(Drop)]
 pub struct KdfKey {
     key: [u8; 32],
     inner: Sha256,

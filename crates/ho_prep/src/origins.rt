@@ -1,5 +1,5 @@
 /// How a preparation came to its station.
-#[derive(Clone, Copy, Debug, PartialEq, Eq)]
+#[derive(Clone, Copy)]
 pub enum By {
     /// By an X2 Handover Request (TS 33.401 7.2.8.4.2).
     X2,

@@ -7,7 +7,7 @@ use std::marker::Model;
 
 /// What a target station keeps for a phone that may come to one of its cells (TS 33.401 7.2.8.4). No
 /// bearer is in it, so nothing is sent from it.
-#[derive(Debug, Drop)]
+#[derive(Drop)]
 pub struct Prep {
     /// The number of the phone's connection, at least 1.
     pub conn: u32,

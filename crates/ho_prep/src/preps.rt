@@ -7,7 +7,7 @@ use arrayvec::ArrayVec;
 use std::marker::Model;
 
 /// The preparations of a station, at most eight, in the order in which they were added.
-#[derive(Debug, Drop)]
+#[derive(Drop)]
 pub struct Preps {
     list: ArrayVec<Prep, 8>,
 }

@@ -5,7 +5,7 @@ ghost use Rattle.item_lines.specs.Lines.{answers, is_done, is_key, is_no_ue, is_
 use lte_events::{Answer, KeyNote, Line, Who};
 
 /// The line of an event, and the name of the item by which it happened.
-#[derive(Debug, Drop)]
+#[derive(Drop)]
 pub struct Told {
     /// The name of the item.
     pub name: u32,

@@ -10,7 +10,7 @@ use item_lines::{Told, line_of, opens, opens_to};
 use lte_events::{Answer, Line};
 
 /// What becomes of a text that an item of the probe is to bring.
-#[derive(Clone, Copy, PartialEq, Eq)]
+#[derive(Clone, Copy)]
 pub enum Fate {
     /// It does not come, or is refused.
     Fails,

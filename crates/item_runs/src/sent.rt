@@ -1,5 +1,5 @@
 /// The record that an item sent, where it was not delivered at once.
-#[derive(Clone, Copy, Debug, PartialEq, Eq)]
+#[derive(Clone, Copy)]
 pub struct Sent {
     /// The name of the item.
     pub name: u32,

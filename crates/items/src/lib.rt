@@ -2,7 +2,7 @@
 #![tactic(auto)]
 
 /// What an item does.
-#[derive(Clone, Copy, Debug, PartialEq, Eq)]
+#[derive(Clone, Copy)]
 pub enum Deed {
     /// The act of this place in a list of acts.
     Act(u32),
@@ -11,7 +11,7 @@ pub enum Deed {
 }
 
 /// An item of a scenario or of a variant of it.
-#[derive(Clone, Copy, Debug, PartialEq, Eq)]
+#[derive(Clone, Copy)]
 pub struct Item {
     /// Its name.
     pub name: u32,

@@ -12,14 +12,14 @@ use report_text::TextMemory;
 use std::alloc::{AllocError, Global};
 
 /// What each station can derive by itself, for each row of a ladder.
-#[derive(Debug, Drop)]
+#[derive(Drop)]
 pub struct Audit {
     /// A row for each row of the ladder, in its order.
     pub rows: Vec<AuditRow>,
 }
 
 /// Which stations can derive the key of a row, by their numbers.
-#[derive(Clone, Copy, Debug, PartialEq, Eq)]
+#[derive(Clone, Copy)]
 pub struct AuditRow {
     /// Whether the station of this number can derive it.
     pub can: [bool; 8],
@@ -67,7 +67,7 @@ impl AuditRow {
 }
 
 /// Memory ran out.
-#[derive(Clone, Copy, Debug, PartialEq, Eq)]
+#[derive(Clone, Copy, Debug)]
 pub struct AuditMemory;
 
 impl From<AllocError> for AuditMemory {

@@ -5,7 +5,7 @@ use hmac_kdf::KdfInput;
 pub struct Row(pub u32);
 
 /// Who can hold a key: the phone, the core, or a base station by its number.
-#[derive(Clone, Copy, Debug, PartialEq, Eq)]
+#[derive(Clone, Copy)]
 pub enum Holder {
     Phone,
     Core,
@@ -23,7 +23,7 @@ pub enum Origin {
 }
 
 /// A key of the ladder: its origin, its 32 octets, and who holds it.
-#[derive(Clone, Copy, Debug, PartialEq, Eq)]
+#[derive(Clone, Copy)]
 pub struct LadderRow {
     /// Where the octets come from.
     pub origin: Origin,

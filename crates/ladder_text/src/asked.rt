@@ -11,7 +11,7 @@ use annex_a_keys::{AlgType, Derived, Kasme, Kenb, Nh};
 use key_terms::{Ladder, Row};
 
 /// What a line asks the ladder for: a row with the octets of a root, or the row of a derivation.
-#[derive(Clone, Copy, Debug)]
+#[derive(Clone, Copy)]
 pub(crate) enum Asked {
     /// A root's 32 octets.
     Root([u8; 32]),

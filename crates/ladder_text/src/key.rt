@@ -1,6 +1,6 @@
 /// What a line of a ladder text says, in numbers, by which the line is found: two lines are the same
 /// exactly where their keys are equal.
-#[derive(Clone, Copy, Debug, PartialEq, Eq, Hash)]
+#[derive(Clone, Copy, PartialEq, Eq, Hash)]
 pub(crate) enum LineKey {
     /// A root's 32 octets.
     Root([u8; 32]),

@@ -1,5 +1,5 @@
 /// The interface that a record is sent on.
-#[derive(Clone, Copy, Debug, PartialEq, Eq)]
+#[derive(Clone, Copy)]
 pub enum Class {
     /// NAS, between phone and core (TS 24.301).
     Nas,

@@ -8,7 +8,7 @@ use std::marker::Model;
 
 /// A list of the events of a fleet, each with the phone that it happens to. A contract sees the phones with their
 /// events, and for how many more there is room.
-#[derive(Debug, Drop)]
+#[derive(Drop)]
 pub struct FleetEvents {
     phones: Vec<u16>,
     events: Events,

@@ -9,7 +9,7 @@ use annex_a_keys::Cell;
 use rec_base::{Bearer, Bounded};
 
 // What an event is besides its text.
-#[derive(Clone, Copy, Debug)]
+#[derive(Clone, Copy)]
 pub(crate) enum Head {
     Auth(u8, [u8; 32], Caps),
     Phone(PhoneHead),
@@ -20,7 +20,7 @@ pub(crate) enum Head {
 }
 
 // What an act of a phone is besides its text.
-#[derive(Clone, Copy, Debug)]
+#[derive(Clone, Copy)]
 pub(crate) enum PhoneHead {
     ServiceRequest,
     ResendComplete,
@@ -32,7 +32,7 @@ pub(crate) enum PhoneHead {
 }
 
 // What an act of a station is besides its text.
-#[derive(Clone, Copy, Debug)]
+#[derive(Clone, Copy)]
 pub(crate) enum StationHead {
     Start(HoKind, Cell),
     Command,
@@ -44,7 +44,7 @@ pub(crate) enum StationHead {
 }
 
 // What an act of the core is besides its text.
-#[derive(Clone, Copy, Debug)]
+#[derive(Clone, Copy)]
 pub(crate) enum CoreHead {
     StartSmc,
     Connect(Cell),

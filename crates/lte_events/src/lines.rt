@@ -2,7 +2,7 @@ use crate::{Answer, Class, KeyNote};
 use rec_base::UserText;
 
 /// Who acted in an event.
-#[derive(Clone, Copy, Debug, PartialEq, Eq)]
+#[derive(Clone, Copy, PartialEq, Eq)]
 pub enum Who {
     /// Phone and core, at an authentication.
     Both,
@@ -17,7 +17,7 @@ pub enum Who {
 }
 
 /// What a report says of one event.
-#[derive(Clone, PartialEq, Eq, Debug, Drop)]
+#[derive(Drop)]
 pub struct Line {
     /// The number of the event, counted from 0.
     pub step: u32,

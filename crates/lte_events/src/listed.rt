@@ -9,7 +9,7 @@ use std::marker::Model;
 
 /// A list of events, each of which takes only as much room as its own text needs. A contract sees the
 /// events, and for how many more there is room.
-#[derive(Debug, Drop)]
+#[derive(Drop)]
 pub struct Events {
     texts: Texts<Head>,
 }

@@ -6,7 +6,7 @@ use annex_a_keys::Derived;
 use rec_base::{Few, Octets, Use, UserText, Way};
 
 /// A record as an actor sends it.
-#[derive(Clone, PartialEq, Eq, Debug, Drop)]
+#[derive(PartialEq, Eq, Debug, Drop)]
 pub struct Record {
     /// Where it goes.
     pub to: Address,
@@ -26,7 +26,7 @@ pub struct KeyNote {
 }
 
 /// What an actor answers to an input.
-#[derive(Clone, PartialEq, Eq, Debug, Default, Drop)]
+#[derive(PartialEq, Eq, Debug, Default, Drop)]
 pub struct ActorOut {
     /// Done, or why the input was refused.
     pub answer: Answer,

@@ -9,7 +9,7 @@ use std::alloc::{AllocError, Global};
 use std::marker::Model;
 
 // An item: what it is besides its octets, and the place and the number of its octets in the flat list.
-#[derive(Clone, Copy, Debug)]
+#[derive(Clone, Copy)]
 pub(crate) struct Piece<T> {
     tag: T,
     start: usize,
@@ -18,7 +18,7 @@ pub(crate) struct Piece<T> {
 
 /// A list of items, each a small value and octets, at most 1,536. A contract sees the items, and for how
 /// many more there is room.
-#[derive(Debug, Drop)]
+#[derive(Drop)]
 pub struct Texts<T> {
     pieces: Vec<Piece<T>>,
     flat: Vec<u8>,

@@ -10,7 +10,7 @@ use text_lines::number;
 pub const MOST_STEPS: u32 = 100_000;
 
 /// What is written for a text that the program reads.
-#[derive(Clone, Copy, Debug, PartialEq, Eq)]
+#[derive(Clone, Copy)]
 pub enum TextCommand {
     /// The keys of a ladder text.
     Ladder,
@@ -25,7 +25,7 @@ pub enum TextCommand {
 }
 
 /// What the program is asked to do.
-#[derive(Clone, Copy, Debug, PartialEq, Eq)]
+#[derive(Clone, Copy)]
 pub enum Command {
     /// Read a text, and write what is asked for it.
     Text(TextCommand),

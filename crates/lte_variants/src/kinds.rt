@@ -8,7 +8,7 @@ use item_faults::{Entry, Fault, Kind, faults_of};
 use std::alloc::{AllocError, Global};
 
 /// The kinds of faults that are named.
-#[derive(Clone, Copy, Debug, PartialEq, Eq)]
+#[derive(Clone, Copy)]
 pub struct Kinds {
     /// A message that is lost.
     pub lost: bool,

@@ -8,7 +8,7 @@ use item_faults::Kind;
 use text_lines::number;
 
 /// How many faults a variant has.
-#[derive(Clone, Copy, Debug, PartialEq, Eq)]
+#[derive(Clone, Copy)]
 pub enum Together {
     /// One.
     One,
@@ -19,7 +19,7 @@ pub enum Together {
 }
 
 /// A share of the variants, which so many shares take in turns.
-#[derive(Clone, Copy, Debug, PartialEq, Eq)]
+#[derive(Clone, Copy)]
 pub struct Share {
     /// Its number, counted from 1.
     pub number: u32,
@@ -49,7 +49,7 @@ impl Share {
 }
 
 /// What the program is asked to tell.
-#[derive(Clone, Copy, Debug, PartialEq, Eq)]
+#[derive(Clone, Copy)]
 pub struct Request {
     /// How many faults a variant has.
     pub together: Together,

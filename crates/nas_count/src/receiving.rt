@@ -7,7 +7,7 @@ use std::marker::Model;
 
 /// A receiver's NAS COUNT (TS 24.301 4.4.3.1). A contract sees it as the next COUNT, the one above the
 /// last that was accepted; it is 0 where none was, and 2^24 where none can come any more.
-#[derive(Clone, Copy, Debug, PartialEq, Eq)]
+#[derive(Clone, Copy)]
 pub struct RxCount {
     next: u32,
 }

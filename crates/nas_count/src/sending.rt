@@ -13,7 +13,7 @@ pub struct CountSpent;
 
 /// A sender's NAS COUNT (TS 24.301 4.4.3.1). A contract sees it as the next COUNT, 2^24 where none is
 /// left. It is not copied, so that no COUNT is taken twice.
-#[derive(Debug, PartialEq, Eq, Drop)]
+#[derive(Drop)]
 pub struct TxCount {
     next: u32,
 }

@@ -12,7 +12,7 @@ use rec_base::{Dir, Octets};
 use std::marker::Model;
 
 /// The keys of a NAS security context, KNASenc and KNASint, and its algorithms (TS 33.401 6.2).
-#[derive(Clone, Copy, Debug, PartialEq, Eq)]
+#[derive(Clone, Copy)]
 pub struct NasKeys {
     enc: AlgKey,
     int: AlgKey,

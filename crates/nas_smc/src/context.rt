@@ -19,7 +19,7 @@ use rec_base::Dir;
 use std::marker::Model;
 
 // The NAS context in use: its KASME, its keys, and the COUNTs of both directions (TS 24.301 4.4.3).
-#[derive(Debug, Drop)]
+#[derive(Drop)]
 pub(crate) struct Context {
     pub(crate) root: Kasme,
     pub(crate) keys: NasKeys,

@@ -17,7 +17,7 @@ use std::marker::Model;
 
 // The NAS context in use at the core: keys and COUNTs, and the capabilities of the phone that it was made
 // with (TS 33.401 7.2.4.4).
-#[derive(Debug, Drop)]
+#[derive(Drop)]
 pub(crate) struct CoreContext {
     pub(crate) nas: Context,
     pub(crate) caps: Caps,

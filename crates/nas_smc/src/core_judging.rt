@@ -17,7 +17,7 @@ use nas_rec::NasRecord;
 use rec_base::{Dir, Octets, ShortText, Use};
 
 // What a NAS message comes to.
-#[derive(Debug, Drop)]
+#[derive(Drop)]
 pub(crate) enum CoreVerdict {
     // It is refused.
     Refused(Answer),
@@ -34,7 +34,7 @@ pub(crate) enum CoreVerdict {
 }
 
 // The same, with the integrity use of a message whose MAC was right.
-#[derive(Debug, Drop)]
+#[derive(Drop)]
 pub(crate) struct CoreJudged {
     pub(crate) verdict: CoreVerdict,
     pub(crate) accepted: Option<Use>,

@@ -25,7 +25,7 @@ use std::marker::Model;
 /// these parts of the core of the written machine, with keys in octets.
 ///
 /// No call takes memory.
-#[derive(Debug, Drop)]
+#[derive(Drop)]
 pub struct CoreNas {
     pub(crate) priority: Priority,
     pub(crate) left: Option<CorePartial>,

@@ -20,7 +20,7 @@ use std::marker::Model;
 
 // What an authentication left at the core: KSI, KASME and the capabilities of the phone, the next downlink
 // COUNT, and the keys of the Security Mode procedure where one is open (TS 24.301 4.4.2 and 5.4.3).
-#[derive(Debug, Drop)]
+#[derive(Drop)]
 pub(crate) struct CorePartial {
     pub(crate) ksi: u8,
     pub(crate) root: Kasme,

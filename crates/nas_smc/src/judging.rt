@@ -20,7 +20,7 @@ use nas_rec::NasRecord;
 use rec_base::{Dir, Few, ShortText, Use};
 
 // What a NAS message comes to.
-#[derive(Debug, Drop)]
+#[derive(Drop)]
 pub(crate) enum Verdict {
     // It is refused, and nothing is sent.
     Refused(Answer),
@@ -33,7 +33,7 @@ pub(crate) enum Verdict {
 }
 
 // The same, with the integrity use of a message whose MAC was right.
-#[derive(Debug, Drop)]
+#[derive(Drop)]
 pub(crate) struct Judged {
     pub(crate) verdict: Verdict,
     pub(crate) accepted: Option<Use>,

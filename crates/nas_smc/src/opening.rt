@@ -19,7 +19,7 @@ use nas_guard::{NasKeys, OpenFault, Opened, open};
 use rec_base::{Dir, Octets, Use};
 
 // The MAC computed and the MAC received, where they differ.
-#[derive(Clone, Copy, Debug, PartialEq, Eq)]
+#[derive(Clone, Copy)]
 pub(crate) struct Macs {
     wanted: [u8; 4],
     got: [u8; 4],

@@ -2,7 +2,7 @@ use annex_a_keys::Kasme;
 use std::marker::Model;
 
 // A partial context: the KSI and KASME that an authentication left (TS 24.301 4.4.2).
-#[derive(Debug, Drop)]
+#[derive(Drop)]
 pub(crate) struct Partial {
     pub(crate) ksi: u8,
     pub(crate) root: Kasme,

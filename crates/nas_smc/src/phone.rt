@@ -25,7 +25,7 @@ use std::marker::Model;
 /// written machine, with keys in octets.
 ///
 /// No call takes memory.
-#[derive(Debug, Drop)]
+#[derive(Drop)]
 pub struct PhoneNas {
     pub(crate) caps: Caps,
     pub(crate) partial: Option<Partial>,

@@ -7,7 +7,7 @@ use nas_guard::NasPdu;
 use rec_base::{Few, ShortText, Use};
 
 /// What a NAS part answers to a call.
-#[derive(Clone, PartialEq, Eq, Debug, Drop)]
+#[derive(Drop)]
 pub struct NasOut {
     /// Done, or why the call was refused.
     pub answer: Answer,

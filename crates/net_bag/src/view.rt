@@ -2,7 +2,7 @@ use lte_events::Address;
 use rec_base::{Octets, Use};
 
 /// A record of the bag.
-#[derive(Clone, PartialEq, Eq, Debug, Drop)]
+#[derive(Drop)]
 pub struct BagView {
     /// Where it was sent.
     pub to: Address,

@@ -14,7 +14,7 @@ use arrayvec::ArrayVec;
 use std::marker::Model;
 
 // The SYNC-input of the next NH.
-#[derive(Debug, Drop)]
+#[derive(Drop)]
 pub(crate) enum SyncInput {
     // For the first NH.
     First(Kenb),
@@ -23,7 +23,7 @@ pub(crate) enum SyncInput {
 }
 
 // KASME, the SYNC-input of the next NH, and the NCC of that input.
-#[derive(Debug, Drop)]
+#[derive(Drop)]
 pub(crate) struct Chain {
     root: KeyedKasme,
     sync: SyncInput,

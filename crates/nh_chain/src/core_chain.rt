@@ -16,7 +16,7 @@ use annex_a_keys::{Derived, Kasme, Kenb};
 use std::marker::Model;
 
 /// The chain of a connection at the core, which makes each pair of NH and NCC (TS 33.401 7.2.8.1.1).
-#[derive(Debug, Drop)]
+#[derive(Drop)]
 pub struct CoreChain {
     chain: Chain,
 }

@@ -12,7 +12,7 @@ use annex_a_keys::{Cell, Derived, Nh, Star};
 use std::marker::Model;
 
 /// An unused pair of NH and NCC (TS 33.401 7.2.8.1.1). It moves into its one use and is not copied.
-#[derive(Debug, Drop)]
+#[derive(Drop)]
 pub struct NhPair {
     nh: Nh,
     ncc: u8,
@@ -31,7 +31,7 @@ impl Model for NhPair {
 
 /// A pair that has given a KeNB*. It gives no other, unless the handover is cancelled and the pair goes
 /// back.
-#[derive(Debug, Drop)]
+#[derive(Drop)]
 pub struct Spent {
     pair: NhPair,
 }

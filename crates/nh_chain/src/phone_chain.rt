@@ -20,7 +20,7 @@ use rec_base::Way;
 use std::marker::Model;
 
 /// The chain of a connection at the phone (TS 33.401 7.2.8.1.1).
-#[derive(Debug, Drop)]
+#[derive(Drop)]
 pub struct PhoneChain {
     chain: Chain,
 }

@@ -13,7 +13,7 @@ use std::marker::Model;
 
 /// The key of a phone's context at a station: the active KeNB with its NCC, and the unused pair of NH
 /// and NCC that is stored, if one is (TS 33.401 7.2.8.4).
-#[derive(Debug, Default, Drop)]
+#[derive(Default, Drop)]
 pub struct StationKey {
     kenb: Kenb,
     ncc: u8,

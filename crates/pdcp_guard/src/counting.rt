@@ -10,7 +10,7 @@ pub const LIMIT: u64 = 1 << 32;
 
 // The COUNTs of a radio bearer: the next one to send with, and the next one that a receiver expects.
 // 2^32 stands where none is left.
-#[derive(Debug, PartialEq, Eq, Drop)]
+#[derive(Drop)]
 pub(crate) struct Counts {
     send: u64,
     receive: u64,

@@ -16,7 +16,7 @@ use std::marker::Model;
 /// protection (TS 36.323 5.6). A contract sees it as the bearer and its COUNTs.
 ///
 /// It is neither `Copy` nor `Clone`, so that no COUNT is sent twice.
-#[derive(Debug, PartialEq, Eq, Drop)]
+#[derive(Drop)]
 pub struct Drb {
     bearer: Bearer,
     counts: Counts,

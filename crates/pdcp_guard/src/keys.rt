@@ -17,7 +17,7 @@ use rec_base::{Bearer, Dir, Octets};
 use std::marker::Model;
 
 /// The keys of the access stratum, KRRCenc, KRRCint and KUPenc, and its algorithms (TS 33.401 6.2).
-#[derive(Clone, Copy, Debug, Default, PartialEq, Eq)]
+#[derive(Clone, Copy, Default)]
 pub struct AsKeys {
     rrc_enc: AlgKey,
     rrc_int: AlgKey,

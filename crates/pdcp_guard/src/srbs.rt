@@ -16,7 +16,7 @@ use std::marker::Model;
 /// and 5.7). A contract sees it as the bearer and its COUNTs.
 ///
 /// It is neither `Copy` nor `Clone`, so that no COUNT is sent twice.
-#[derive(Debug, PartialEq, Eq, Drop)]
+#[derive(Drop)]
 pub struct Srb {
     bearer: Bearer,
     counts: Counts,

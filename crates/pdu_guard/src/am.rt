@@ -7,7 +7,7 @@ use crate::drb::{DrbKeys, Numbers, drb_text};
 use rec_base::Dir;
 
 /// What becomes of a PDU of a data radio bearer on RLC AM.
-#[derive(Clone, Copy, Debug, PartialEq, Eq)]
+#[derive(Clone, Copy)]
 pub enum AmFate {
     /// It is kept, and the next COUNT is the one behind its own.
     New,
@@ -18,7 +18,7 @@ pub enum AmFate {
 }
 
 /// What is found of a PDU.
-#[derive(Clone, Copy, Debug, PartialEq, Eq)]
+#[derive(Clone, Copy)]
 pub struct AmFound {
     /// The COUNT at which it is deciphered.
     pub count: u32,
@@ -40,7 +40,7 @@ pub enum AmFault {
 }
 
 // The HFN of a PDU, by the one of the next COUNT.
-#[derive(Clone, Copy, Debug, PartialEq, Eq)]
+#[derive(Clone, Copy)]
 pub(crate) enum Hfn {
     Before,
     Same,
@@ -48,7 +48,7 @@ pub(crate) enum Hfn {
 }
 
 // With which HFN a sequence number is taken, and what becomes of the PDU.
-#[derive(Clone, Copy, Debug, PartialEq, Eq)]
+#[derive(Clone, Copy)]
 pub(crate) struct Place {
     pub(crate) hfn: Hfn,
     pub(crate) fate: AmFate,

@@ -7,7 +7,7 @@ use pdcp_guard::{PdcpFault, count_from};
 use rec_base::Dir;
 
 /// The sequence numbers of a data radio bearer, by their bits (TS 36.323 6.3.2).
-#[derive(Clone, Copy, Debug, PartialEq, Eq)]
+#[derive(Clone, Copy)]
 pub enum Numbers {
     /// Of 7 bits, in one header octet (6.2.4).
     Seven,
@@ -105,7 +105,7 @@ impl Numbers {
 }
 
 /// What both ends of a data radio bearer have (TS 36.323 5.6).
-#[derive(Clone, Copy, Debug, PartialEq, Eq)]
+#[derive(Clone, Copy)]
 pub struct DrbKeys {
     /// KUPenc.
     pub enc: GivenKey,

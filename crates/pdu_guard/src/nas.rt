@@ -10,7 +10,7 @@ use nas_guard::OpenFault;
 use rec_base::Dir;
 
 /// What both ends of a NAS security context have (TS 33.401 6.2).
-#[derive(Clone, Copy, Debug, PartialEq, Eq)]
+#[derive(Clone, Copy)]
 pub struct NasKeys {
     /// KNASenc.
     pub enc: GivenKey,
@@ -23,7 +23,7 @@ pub struct NasKeys {
 }
 
 /// What the front of a protected NAS message says.
-#[derive(Clone, Copy, Debug, PartialEq, Eq)]
+#[derive(Clone, Copy)]
 pub struct NasHead {
     /// The security header type, 1 to 4 (TS 24.301 9.3.1).
     pub header: u8,
@@ -105,7 +105,7 @@ pub fn nas_head(next: u32, pdu: &[u8]) -> Result<NasHead, OpenFault>
 }
 
 /// What is found of a NAS message that opens.
-#[derive(Clone, Copy, Debug, PartialEq, Eq)]
+#[derive(Clone, Copy)]
 pub struct NasFound {
     /// The security header type, 1 to 4 (TS 24.301 9.3.1).
     pub header: u8,

@@ -6,7 +6,7 @@ ghost use Rattle.pdu_guard.specs.Phone.{keys_in};
 use annex_a_keys::{Cell, Kasme, Kenb, Nh, Star};
 
 /// What a phone keeps of its chain (TS 33.401 7.2.8.1.1).
-#[derive(Clone, Copy, Debug, PartialEq, Eq)]
+#[derive(Clone, Copy, PartialEq, Eq)]
 pub struct Phone {
     /// KASME.
     pub root: Kasme,
@@ -19,7 +19,7 @@ pub struct Phone {
 }
 
 /// What a phone comes to on an NCC.
-#[derive(Clone, Copy, Debug, PartialEq, Eq)]
+#[derive(Clone, Copy)]
 pub struct Reached {
     /// The NH steps, 0 to 7: after none the way is horizontal, and else vertical.
     pub steps: u8,

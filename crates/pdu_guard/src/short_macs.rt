@@ -30,7 +30,7 @@ pub enum ServiceFault {
 }
 
 /// What is found of a Service Request.
-#[derive(Clone, Copy, Debug, PartialEq, Eq)]
+#[derive(Clone, Copy)]
 pub struct ServiceFound {
     /// The uplink NAS COUNT.
     pub count: u32,

@@ -14,7 +14,7 @@ use rec_base::Dir;
 pub const LONGEST_SDU: usize = 8188;
 
 /// What both ends of a signalling radio bearer have (TS 36.323 5.6 and 5.7).
-#[derive(Clone, Copy, Debug, PartialEq, Eq)]
+#[derive(Clone, Copy)]
 pub struct SrbKeys {
     /// KRRCenc.
     pub enc: GivenKey,
@@ -82,7 +82,7 @@ pub fn srb_count(next: u64, pdu: &[u8]) -> Result<u32, PdcpFault>
 }
 
 /// What is found of a PDU that opens.
-#[derive(Clone, Copy, Debug, PartialEq, Eq)]
+#[derive(Clone, Copy)]
 pub struct SrbFound {
     /// COUNT.
     pub count: u32,

@@ -1,7 +1,7 @@
 use std::alloc::AllocError;
 
 /// Memory ran out.
-#[derive(Clone, Copy, Debug, PartialEq, Eq)]
+#[derive(Clone, Copy, Debug)]
 pub struct TextMemory;
 
 impl From<AllocError> for TextMemory {

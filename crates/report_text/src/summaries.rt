@@ -11,7 +11,7 @@ use std::alloc::{AllocError, Global};
 use std::marker::Model;
 
 /// How many lines of a run there are so far, and how many of them tell what the summary counts.
-#[derive(Clone, Copy, Debug, PartialEq, Eq)]
+#[derive(Clone, Copy)]
 pub struct Tally {
     steps: u32,
     records: u32,
@@ -88,7 +88,7 @@ impl Tally {
 }
 
 /// A figure of a summary.
-#[derive(Clone, Copy, Debug, PartialEq, Eq)]
+#[derive(Clone, Copy)]
 pub enum Figure {
     /// The steps.
     Steps,

@@ -14,7 +14,7 @@ use lte_world::{World, WorldFault};
 use report_text::Tally;
 
 /// How a run comes out.
-#[derive(Clone, Copy, Debug, PartialEq, Eq)]
+#[derive(Clone, Copy)]
 pub enum Course {
     /// All events happened.
     Ended,

@@ -7,7 +7,7 @@ use std::marker::Model;
 use x2_handover::Order;
 
 /// An attempt that has commanded the phone. The command may be sent again.
-#[derive(Debug, Drop)]
+#[derive(Drop)]
 pub struct S1Commanded {
     number: u32,
     order: Order,

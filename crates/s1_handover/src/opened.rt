@@ -6,7 +6,7 @@ use annex_a_keys::Cell;
 use std::marker::Model;
 
 /// An attempt that the core has not answered. It has no key, since the core gives the target its pair.
-#[derive(Debug, Drop)]
+#[derive(Drop)]
 pub struct S1Open {
     number: u32,
     station: u8,

@@ -12,7 +12,7 @@ use x2_handover::Order;
 pub type Order1 = Order;
 
 /// An attempt that the target has acknowledged. It may be cancelled, or command the phone.
-#[derive(Debug, Drop)]
+#[derive(Drop)]
 pub struct S1Ready {
     start: S1Open,
     ncc: u8,

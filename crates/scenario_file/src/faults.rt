@@ -44,7 +44,7 @@ impl<T: Drop> From<AllocFailed<T>> for ScenarioFault {
 }
 
 // Why a table is refused, before it is said which table it is.
-#[derive(Clone, Copy, Debug, Drop, PartialEq, Eq)]
+#[derive(Clone, Copy, Drop)]
 pub(crate) enum Refusal {
     // A field that must stand does not.
     Missing(Field),

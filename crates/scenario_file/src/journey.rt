@@ -10,7 +10,7 @@ const FACTOR: u64 = 6364136223846793005;
 const SUMMAND: u64 = 1442695040888963407;
 
 // Where the draws stand, and the phone.
-#[derive(Clone, Copy, Debug, PartialEq, Eq)]
+#[derive(Clone, Copy)]
 pub(crate) struct Journey {
     // The state of the draws.
     pub(crate) state: u64,

@@ -6,7 +6,7 @@ use lte_events::{Event, Events, FleetEvents};
 use std::alloc::{AllocError, Global};
 
 // What a step says: which phone it happens to, and what happens.
-#[derive(Debug, PartialEq, Eq, Drop)]
+#[derive(Drop)]
 pub(crate) struct Step {
     pub(crate) phone: u16,
     pub(crate) event: Event,

@@ -10,7 +10,7 @@ use lte_events::{Events, FleetEvents, Setup};
 use std::alloc::Global;
 
 /// What a system starts with, and what then happens to it.
-#[derive(Debug, Drop)]
+#[derive(Drop)]
 pub struct Scenario {
     /// The phone, the core, the stations and their cells.
     pub setup: Setup,
@@ -19,7 +19,7 @@ pub struct Scenario {
 }
 
 /// What a fleet of phones over the same stations and core starts with, and what then happens to them.
-#[derive(Debug, Drop)]
+#[derive(Drop)]
 pub struct FleetScenario {
     /// Each phone, the core, the stations and their cells.
     pub setup: Setup,
@@ -30,7 +30,7 @@ pub struct FleetScenario {
 }
 
 /// What a system of two cores starts with, and what then happens to it.
-#[derive(Debug, Drop)]
+#[derive(Drop)]
 pub struct TwoScenario {
     /// The phone, the cores, the stations and their cells.
     pub setup: Setup,

@@ -17,21 +17,21 @@ use rec_base::Few;
 use toml::{Table, Value};
 
 // The algorithms that the core or a station may choose, and the first number that it draws.
-#[derive(Clone, Copy, Debug, PartialEq, Eq)]
+#[derive(Clone, Copy)]
 pub(crate) struct Numbers {
     pub(crate) priority: Priority,
     pub(crate) first: u32,
 }
 
 // What the core starts with.
-#[derive(Clone, Copy, Debug, PartialEq, Eq)]
+#[derive(Clone, Copy)]
 pub(crate) struct CoreStart {
     pub(crate) numbers: Numbers,
     pub(crate) first_ncc: FirstNcc,
 }
 
 // The stations read so far, their cells, and the core of each by its number.
-#[derive(Debug, PartialEq, Eq, Drop)]
+#[derive(Drop)]
 pub(crate) struct Network {
     pub(crate) stations: Few<StationSetup, 8>,
     pub(crate) cells: Cells,
@@ -40,7 +40,7 @@ pub(crate) struct Network {
 
 // What a system starts with: the phone, the core and the stations; how many such phones; and the core of each
 // station by its number, which is 0 where there is no such station.
-#[derive(Debug, PartialEq, Eq, Drop)]
+#[derive(PartialEq, Eq, Drop)]
 pub(crate) struct Start {
     pub(crate) setup: Setup,
     pub(crate) phones: u16,

@@ -21,7 +21,7 @@ use rec_base::{Bearer, ShortText};
 use toml::Table;
 
 // Where injected octets go: `to` and `bearer` of a step.
-#[derive(Clone, Copy, Debug, PartialEq, Eq)]
+#[derive(Clone, Copy)]
 pub(crate) enum Target {
     // The phone, at NAS.
     PhoneNas,

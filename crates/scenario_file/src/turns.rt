@@ -18,7 +18,7 @@ static KASME: [u8; 32] = [
 ];
 
 // A few steps that belong together.
-#[derive(Clone, Copy, Debug, PartialEq, Eq)]
+#[derive(Clone, Copy)]
 pub(crate) enum Turn {
     // A packet from the phone, with its text.
     Uplink([u8; 8]),

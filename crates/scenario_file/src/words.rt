@@ -10,7 +10,7 @@ use lte_events::FirstNcc;
 use rec_base::{Bearer, Bounded};
 
 // What happens in a step: a word of `do`.
-#[derive(Clone, Copy, Debug, PartialEq, Eq)]
+#[derive(Clone, Copy)]
 pub(crate) enum Act {
     Auth,
     Smc,
@@ -34,7 +34,7 @@ pub(crate) enum Act {
 }
 
 // One of the actors.
-#[derive(Clone, Copy, Debug, PartialEq, Eq)]
+#[derive(Clone, Copy)]
 pub(crate) enum Actor {
     Phone,
     Station,
@@ -42,14 +42,14 @@ pub(crate) enum Actor {
 }
 
 // An actor with a radio interface.
-#[derive(Clone, Copy, Debug, PartialEq, Eq)]
+#[derive(Clone, Copy)]
 pub(crate) enum RadioEnd {
     Phone,
     Station,
 }
 
 // An actor that speaks NAS.
-#[derive(Clone, Copy, Debug, PartialEq, Eq)]
+#[derive(Clone, Copy)]
 pub(crate) enum NasEnd {
     Phone,
     Core,

@@ -6,7 +6,7 @@ use annex_a_keys::Cell;
 use std::marker::Model;
 
 /// An attempt that has commanded the phone. The command may be sent again.
-#[derive(Debug, Drop)]
+#[derive(Drop)]
 pub struct X2Commanded {
     number: u32,
     order: Order,

@@ -9,7 +9,7 @@ use std::marker::Model;
 /// An attempt that the target has not answered. A pair that was used for it lies in it, and goes back
 /// where the attempt is cancelled. An attempt within the station is acknowledged at once (TS 33.401
 /// 7.2.8.4.1).
-#[derive(Debug, Drop)]
+#[derive(Drop)]
 pub struct X2Open {
     number: u32,
     station: u8,

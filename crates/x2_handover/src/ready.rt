@@ -10,7 +10,7 @@ use nh_chain::Spent;
 use std::marker::Model;
 
 /// An attempt that the target has acknowledged. It may be cancelled, or command the phone.
-#[derive(Debug, Drop)]
+#[derive(Drop)]
 pub struct X2Ready {
     start: X2Open,
     algs: Algs,
