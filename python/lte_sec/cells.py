@@ -11,6 +11,8 @@ GREATEST_PCI, GREATEST_EARFCN = 503, 262143
 RANGES = f"PCI is 0 to {GREATEST_PCI}, EARFCN-DL 0 to {GREATEST_EARFCN}"
 WIDE, DOWN_EXTENSION, TDD_EXTENSION = 65535, 96, 94  # TS 36.423 9.3.7: id-DL-EARFCNExtension, id-eARFCNExtension
 
+Cell = tuple[int, int]  # its PCI and EARFCN-DL, of which KeNB* is derived (TS 33.401 A.5)
+
 
 @dataclass(frozen=True)
 class Site:

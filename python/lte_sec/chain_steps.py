@@ -6,10 +6,11 @@ from __future__ import annotations
 
 from dataclasses import dataclass, field
 
+from .cells import Cell
 from .nas_steps import NasSteps, ReplayedKey
 from .recorded import KeySeen, Met
 from .report import DIFFERS
-from .script import At, Cell, ItemBlock
+from .script import At, ItemBlock
 from .terms import Term, numbered
 
 NO_ANSWER = "its answer is not in the capture, and is taken as lost"

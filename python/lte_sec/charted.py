@@ -13,8 +13,8 @@ from .courses import Course
 from .messages import NAS_TEXT, Names, StepLine, nas_name
 from .probe import PROBE
 from .scenarios import Scenario, Step
+from .trace_page import Json
 
-Json = dict[str, Any]
 COMMENT = re.compile(r"#\s*([^.:\n]+)")
 DOES = {
     "smc": "starts NAS security", "connect": "sets up a connection", "release": "releases the connection", "service": "asks for service",

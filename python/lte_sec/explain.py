@@ -11,10 +11,10 @@ from dataclasses import dataclass
 from functools import partial
 
 from . import reasons
-from .cells import Cells
+from .cells import Cell, Cells
 from .dumps import OctetBlock, candidates, resolved
 from .quick import ready
-from .search import Cell, DerivationSearch, MadeStar
+from .search import DerivationSearch, MadeStar
 from .terms import Derivations, Key, Term, counted
 
 NAS_TYPES, STATION_TYPES, IDENTITIES = (1, 2), (3, 4, 5, 6), range(16)

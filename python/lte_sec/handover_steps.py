@@ -5,13 +5,13 @@ from __future__ import annotations
 from collections.abc import Iterator
 from dataclasses import dataclass, field
 
-from .cells import Cells
+from .cells import Cell, Cells
 from .chain_steps import ChainSteps, Open, above, nh, star
 from .escaped import shown
 from .nas_steps import ReplayedKey
 from .recorded import KeySeen, Met
 from .report import DIFFERS
-from .script import At, Cell
+from .script import At
 from .terms import NONE, Term, numbered
 
 UNKNOWN_CELL = "the target cell is not known; name it with --cells"

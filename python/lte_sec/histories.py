@@ -10,13 +10,12 @@ from collections.abc import Iterable
 from dataclasses import dataclass, field, replace
 from itertools import islice
 
+from .cells import Cell
 from .terms import NONE, Derivations, Key
 
 CHAIN = 8  # NCC has three bits
 MOST = 24  # histories of a connection
 UNKNOWN_KEY = Key(b"", NONE)
-
-Radio = tuple[int, int]  # PCI and EARFCN-DL of a cell
 
 
 @dataclass(frozen=True, slots=True)
@@ -55,7 +54,7 @@ class PhoneKeys:
     chain: Chain
     lost: bool = False  # a handover was not seen, so that NCC and key may be others
 
-    def takes(self, derivations: Derivations, ncc: int, cell: Radio) -> PhoneKeys:
+    def takes(self, derivations: Derivations, ncc: int, cell: Cell) -> PhoneKeys:
         """What the phone makes of a command with this NCC and cell (TS 33.401 7.2.8.4.4, TS 36.331 5.3.5.4)."""
         if ncc == self.ncc:
             return replace(self, key=derivations.star(self.key, *cell)) if self.key.value else self
@@ -95,7 +94,7 @@ class History:
     phone: PhoneKeys | None = None
     is_old: bool = False  # it goes on from before a key change that has no answer yet
 
-    def refreshed(self, derivations: Derivations, cell: Radio) -> History:
+    def refreshed(self, derivations: Derivations, cell: Cell) -> History:
         """A step of station and phone to a cell of the station: a handover within it, a re-establishment, a resumption."""
         base = self.held.base()
         return replace(self, held=Held(derivations.star(base.key, *cell), base.ncc), phone=self.phone and self.phone.takes(derivations, base.ncc, cell))
@@ -114,6 +113,6 @@ def merged(found: Iterable[History]) -> list[History]:
     return list(islice(dict.fromkeys(found), MOST)) or [History()]
 
 
-def renewed(derivations: Derivations, kenb: Key, cell: Radio | None = None) -> PhoneKeys:
+def renewed(derivations: Derivations, kenb: Key, cell: Cell | None = None) -> PhoneKeys:
     """The phone that took a KeNB from its KASME: at a connection, or with a cell at a key change (TS 33.401 7.2.9.2)."""
     return PhoneKeys(derivations.star(kenb, *cell) if cell else kenb, 0, Chain(kenb.kasme, kenb))

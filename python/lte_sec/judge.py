@@ -3,9 +3,9 @@ from __future__ import annotations
 
 from dataclasses import replace
 
-from .cells import RANGES, Site, is_cell
+from .cells import RANGES, Cell, Site, is_cell
 from .decoding import Command, Message, title
-from .histories import Held, History, Numbered, PhoneKeys, Radio, renewed
+from .histories import Held, History, Numbered, PhoneKeys, renewed
 from .moves import ANYWHERE
 from .prepared import PreparedJudge
 from .report import DIFFERS, RIGHT, UNKNOWN, Line, unknown_line
@@ -117,7 +117,7 @@ class KeyJudge(PreparedJudge):
         self.command_lines(attempt, message, told, faults, cell, elsewhere)
         attempt.heard = ncc, None if is_none else cell, told.key_change
 
-    def command_lines(self, attempt: Attempt, message: Message, told: Command, faults: list[str], cell: Radio | None, elsewhere: bool) -> None:
+    def command_lines(self, attempt: Attempt, message: Message, told: Command, faults: list[str], cell: Cell | None, elsewhere: bool) -> None:
         head = f"frame {message.frame} {title(message)} command"
         ncc, wanted = str(told.ncc), str(attempt.nccs[0]) if attempt.nccs else ""
         if faults:
@@ -131,7 +131,7 @@ class KeyJudge(PreparedJudge):
             attempt.doubt = f"the target answers for its cell ({cell[0]},{cell[1]})"
             self.lines.append(unknown_line(message.frame, title(message), "cell of the command", attempt.doubt))
 
-    def target_keys(self, attempt: Attempt, cell: Radio | None) -> None:
+    def target_keys(self, attempt: Attempt, cell: Cell | None) -> None:
         """What the target of a handover over S1 makes of NH and NCC for its cell."""
         attempt.cell = cell
         if cell is not None and not attempt.given:
@@ -236,7 +236,7 @@ class KeyJudge(PreparedJudge):
         self.command(connection, attempt, message, told)
         self.moved(connection, attempt)
 
-    def handed_on(self, connection: Connection, cell: Radio) -> list[Given]:
+    def handed_on(self, connection: Connection, cell: Cell) -> list[Given]:
         """What the target has, by each state of the source."""
         return [Given(Held(self.derivations.star(one.base().key, *cell), one.base().ncc), one) for one in connection.states()]
 

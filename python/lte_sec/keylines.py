@@ -3,10 +3,9 @@ from __future__ import annotations
 
 from collections.abc import Callable, Iterator
 
-from .cells import Cells
+from .cells import Cell, Cells
 from .coverage import Coverage
 from .decoding import Command, Message, title
-from .histories import Radio
 from .moves import Moves
 from .report import Line, key_line, note_line, unknown_line
 from .search import DerivationSearch
@@ -48,7 +47,7 @@ class KeyLines:
         near = dict.fromkeys((kasme, max(0, count - back)) for kasme, count in [*own, *others] for back in range(4))
         return [*keys, *bases, *(self.derivations.kenb(*one) for one in near)]
 
-    def named(self, value: bytes, connection: Connection, more: list[Key], cell: Radio | None = None) -> Key:
+    def named(self, value: bytes, connection: Connection, more: list[Key], cell: Cell | None = None) -> Key:
         """The term of a key that is not the wanted one."""
         found = self.search.find(value, [*more, *self.at_hand(connection)], cell[0] if cell else None, bool(more))
         return found or Key(value, NONE)
@@ -63,7 +62,7 @@ class KeyLines:
     def show(self, key: Key, beside: Key | None = None) -> str:
         return self.derivations.shown(key, beside)
 
-    def judged(self, message: Message, what: str, found: Key, wanted: Key, ncc: tuple[int, int] | None = None, why: str = "", cell: Radio | None = None) -> Line:
+    def judged(self, message: Message, what: str, found: Key, wanted: Key, ncc: tuple[int, int] | None = None, why: str = "", cell: Cell | None = None) -> Line:
         line = self.line_of(message, what, found, wanted, ncc, why)
         line.cell = cell
         self.lines.append(line)
@@ -88,7 +87,7 @@ class KeyLines:
             line.kasme = self.derivations.kasmes[found.kasme].name if found.kasme >= 0 else ""
         self.lines.append(line)
 
-    def cell(self, eci: int | None) -> Radio | None:
+    def cell(self, eci: int | None) -> Cell | None:
         site = self.cells.at(eci) if eci is not None else None
         return (site.pci, site.earfcn) if site else None
 

@@ -2,16 +2,13 @@
 from __future__ import annotations
 
 from collections.abc import Iterator
-from typing import Any
 
 from .escaped import shown
 from .matrix import LOOKS, MEANS
 from .outcomes import GOES_ON, RANK, WORDS
-from .trace_page import GLYPHS
+from .trace_page import GLYPHS, Json
 
-Json = dict[str, Any]
 MARKS = {"bad": "refused, and not so in the scenario", "unk": "otherwise than in the scenario", "none": "as in the scenario"}
-
 
 DARK = ("keys differ",)  # outcomes whose colour wants a white letter
 

@@ -8,10 +8,10 @@ from __future__ import annotations
 from collections.abc import Iterator
 from dataclasses import replace
 
-from .cells import Cells
+from .cells import Cell, Cells
 from .contexts import EpsSecurityContext
 from .coverage import Coverage
-from .histories import UNKNOWN_KEY, Chain, Held, History, Numbered, PhoneKeys, Radio, renewed
+from .histories import UNKNOWN_KEY, Chain, Held, History, Numbered, PhoneKeys, renewed
 from .service import ServiceBook
 from .state import Connection
 from .terms import Key
@@ -45,7 +45,7 @@ class Moves:
 
     # -- moves
 
-    def cells_of(self, connection: Connection) -> list[Radio]:
+    def cells_of(self, connection: Connection) -> list[Cell]:
         """The cells that an unseen step may have been for: those of the station, and those of stations where the phone was."""
         named = dict.fromkeys([connection.station, *reversed(connection.away)])
         sites = [site for station in named for site in self.cells.of(station)]
@@ -72,7 +72,7 @@ class Moves:
             if key.value not in self.sent:
                 yield key
 
-    def stepped(self, chain: Chain, cells: list[Radio]) -> Iterator[History]:
+    def stepped(self, chain: Chain, cells: list[Cell]) -> Iterator[History]:
         """One to eight steps of a chain, each NH stored, or in use for a cell."""
         for _ in range(STEPS):
             before, chain = chain, chain.step(self.derivations)
@@ -99,7 +99,7 @@ class Moves:
                 yield History(begun, Held(phone.key), phone)
             yield from self.stepped(begun, cells)
 
-    def prepared_elsewhere(self, connection: Connection, cells: list[Radio]) -> Iterator[History]:
+    def prepared_elsewhere(self, connection: Connection, cells: list[Cell]) -> Iterator[History]:
         """The phone came to another cell of the target than was prepared (TS 33.401 7.4.3)."""
         last = connection.attempts[-1] if connection.attempts else None
         if last is None or last.station != connection.station:
@@ -119,7 +119,7 @@ class Moves:
                     return History(chain, Held(UNKNOWN_KEY, before.ncc), PhoneKeys(UNKNOWN_KEY, before.ncc, before, True))
         return None
 
-    def of_star(self, connection: Connection, key: bytes, ncc: int, cell: Radio) -> History | None:
+    def of_star(self, connection: Connection, key: bytes, ncc: int, cell: Cell) -> History | None:
         """A history in which the station makes this KeNB* for a cell."""
         star = self.derivations.calls.kenb_star
         return next((one for one in self.unseen(connection) if one.held.base().ncc == ncc and star(one.held.base().key.value, *cell) == key), None)

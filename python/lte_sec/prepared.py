@@ -2,8 +2,8 @@
 from __future__ import annotations
 
 from . import reasons
+from .cells import Cell
 from .decoding import Message, Reestablishment, title
-from .histories import Radio
 from .report import DIFFERS, RIGHT, Line, unknown_line
 from .stars import BASES, Made, StarJudge
 from .state import Connection
@@ -28,7 +28,7 @@ class PreparedJudge(StarJudge):
                 self.prepared_key(connection, message, one, made, cell, name)
             self.short_mac(connection, message, one, name)
 
-    def prepared_key(self, connection: Connection, message: Message, one: Reestablishment, made: Made, cell: Radio, name: str) -> None:
+    def prepared_key(self, connection: Connection, message: Message, one: Reestablishment, made: Made, cell: Cell, name: str) -> None:
         wanted = [self.derivations.star(base.key, *cell) for base in made.bases]
         match = next((key for key in wanted if key.value == one.key), None)
         found = match or self.named(one.key, connection, [base.key for base in made.bases], cell)

@@ -11,7 +11,6 @@ import subprocess
 import sys
 from collections.abc import Iterator
 from pathlib import Path
-from typing import Any
 
 from . import pages
 from .charted import lanes_of, name_of, stage, steps_of
@@ -21,10 +20,9 @@ from .options import Words
 from .remarks import frames_of
 from .scenarios import NoScenario, read
 from .terms import TraceError
-from .trace_page import GLYPHS, WORST
+from .trace_page import GLYPHS, WORST, Json
 from .verdict import NOT_MADE, NoReport, Outcome, judged
 
-Json = dict[str, Any]
 VERSION = 1  # of the document
 REASONS = Path(__file__).resolve().parents[2] / "launcher" / "reasons"
 BAD_WORDS, REFUSED, ENDED = 2, 3, 7

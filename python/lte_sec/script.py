@@ -8,14 +8,12 @@ from __future__ import annotations
 from collections.abc import Iterator
 from dataclasses import dataclass, field
 
-from .cells import GREATEST_EARFCN, GREATEST_PCI
+from .cells import GREATEST_EARFCN, GREATEST_PCI, Cell
 from .courses import Course, Item, Runs, act, delivery
 from .scenarios import Step, setup_text
 
 STATIONS, CELLS = 8, 4  # that a scenario has at most, cells of one station
 SILENT = ("auth", "skip", "idle", "intra")  # acts that send nothing
-
-Cell = tuple[int, int]
 
 
 class Full(Exception):

@@ -9,7 +9,7 @@ import itertools
 from collections.abc import Iterable, Iterator
 from dataclasses import dataclass
 
-from .cells import Cells
+from .cells import Cell, Cells
 from .quick import ready
 from .terms import Derivations, Key
 
@@ -17,8 +17,6 @@ PCIS, EARFCNS = 504, 65536
 KEPT = 4096  # chains that are kept
 FEW = 6  # of the keys at hand, so many are taken further
 
-
-Cell = tuple[int, int]
 MadeStar = tuple[bytes, Key, tuple[Cell, ...]]  # octets, and of which key and for which cells, one after the other, they are KeNB*; of none the key itself
 
 

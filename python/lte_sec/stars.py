@@ -9,10 +9,10 @@ from collections.abc import Iterator
 from dataclasses import dataclass, field, replace
 
 from . import reasons
-from .cells import is_cell
+from .cells import Cell, is_cell
 from .chains import LOST_CHANGE, ChainJudge
 from .decoding import Message
-from .histories import CHAIN, Chain, Held, History, Numbered, PhoneKeys, Radio, renewed
+from .histories import CHAIN, Chain, Held, History, Numbered, PhoneKeys, renewed
 from .state import Attempt, Connection, Given
 from .terms import NONE, Key, unknown
 
@@ -52,7 +52,7 @@ class StarJudge(ChainJudge):
         cores = connection.cores()
         connection.keeps([*moved, *(one for one in came if one.core in cores), *connection.histories])
 
-    def came_there(self, attempt: Attempt, cell: Radio) -> list[History]:
+    def came_there(self, attempt: Attempt, cell: Cell) -> list[History]:
         """The phone came to another cell of the target than was prepared, and KeNB* was made for that (TS 33.401 7.4.3, 7.2.8.4)."""
         return [one.stores(pair).refreshed(self.derivations, cell) for pair in attempt.bases or attempt.pairs for one in attempt.before if pair.key.value]
 
@@ -87,7 +87,7 @@ class StarJudge(ChainJudge):
         self.begins_at(connection, found)
         return Made([Given(Held(found, message.ncc or 0))], doubt=why)
 
-    def right_star(self, connection: Connection, message: Message, base: Numbered, made: Numbered, cell: Radio) -> Made:
+    def right_star(self, connection: Connection, message: Message, base: Numbered, made: Numbered, cell: Cell) -> Made:
         """A KeNB* that the histories with this base give, with its NCC or another."""
         ncc = message.ncc or 0
         self.judged(message, "KeNB*", made.key, made.key, (ncc, made.ncc), cell=cell)
@@ -122,7 +122,7 @@ class StarJudge(ChainJudge):
                 return self.made_by(connection, [one for one in connection.histories if one.held.base() == base], made, message.ncc or 0)
         return None
 
-    def star_of_unknown_pci(self, message: Message, found: Key, bases: list[Numbered], cell: Radio) -> str:
+    def star_of_unknown_pci(self, message: Message, found: Key, bases: list[Numbered], cell: Cell) -> str:
         """Why a KeNB* for a PCI of no known cell may be right: the target may have told its source of it where the trace does not show X2."""
         made_for = found.term.cells()[:1] if found.term.kind == "star" else []
         lawful = any(found.term.above == base.key.term and base.ncc == message.ncc for base in bases)
@@ -132,7 +132,7 @@ class StarJudge(ChainJudge):
             return ""
         return f"right if the cell has PCI {made_for[0][0]} now: the trace does not have X2 from {target}"
 
-    def star_of_elsewhere(self, connection: Connection, message: Message, cell: Radio) -> Made | None:
+    def star_of_elsewhere(self, connection: Connection, message: Message, cell: Cell) -> Made | None:
         """A KeNB* of a phone that was where the trace has no S1."""
         if not connection.away or not connection.cores():
             return None
@@ -167,7 +167,7 @@ class StarJudge(ChainJudge):
             connection.asked = 0
         connection.missed.add(chain.number)
 
-    def star_of_unseen(self, connection: Connection, message: Message, cell: Radio) -> Made | None:
+    def star_of_unseen(self, connection: Connection, message: Message, cell: Cell) -> Made | None:
         """A KeNB* from an NH that the source was to get, in an answer that the trace lacks, or after a key change that it lacks."""
         ncc = message.ncc or 0
         for chain, histories in self.unseen_chains(connection, ncc):
@@ -178,7 +178,7 @@ class StarJudge(ChainJudge):
                 return self.made_by(connection, histories, made, ncc)
         return self.star_of_change(connection, message, cell)
 
-    def star_of_change(self, connection: Connection, message: Message, cell: Radio) -> Made | None:
+    def star_of_change(self, connection: Connection, message: Message, cell: Cell) -> Made | None:
         """A KeNB* from the key of a key change that the trace lacks."""
         own = self.cell(connection.eci)
         for kenb in self.unseen_changes(connection) if own is not None and not message.ncc else []:
@@ -206,19 +206,19 @@ class StarJudge(ChainJudge):
 
     # -- refreshes that S1 and X2 do not show
 
-    def own_cells(self, connection: Connection) -> list[Radio]:
+    def own_cells(self, connection: Connection) -> list[Cell]:
         """The cells of the station that the phone is at, its own first."""
         own = self.cell(connection.eci)
         others = sorted({(site.pci, site.earfcn) for site in self.cells.of(connection.station)} - {own})
         return ([own] if own else []) + [one for one in others if one is not None][:MIXED]
 
-    def refreshes(self, connection: Connection, histories: list[History]) -> Iterator[tuple[History, list[Radio]]]:
+    def refreshes(self, connection: Connection, histories: list[History]) -> Iterator[tuple[History, list[Cell]]]:
         """The histories behind steps to cells of the station: re-establishments and handovers within it (TS 33.401 7.2.8.4.1,
         7.2.9.3, TS 36.331 5.3.7). They end in the phone's own cell."""
         cells = self.own_cells(connection)
         if not cells or self.cell(connection.eci) is None:
             return
-        level: list[tuple[History, list[Radio]]] = [(one, []) for one in histories if one.held.known]
+        level: list[tuple[History, list[Cell]]] = [(one, []) for one in histories if one.held.known]
         for _ in range(MANY):
             ways = cells
             if len(level) * len(cells) > WIDE:  # from here on only in its own cell
@@ -226,7 +226,7 @@ class StarJudge(ChainJudge):
             level = [(one.refreshed(self.derivations, cell), [*path, cell]) for one, path in level for cell in ways]
             yield from ((one, path) for one, path in level if path[-1] == cells[0])
 
-    def star_of_refreshed(self, connection: Connection, message: Message, wanted: Numbered, cell: Radio) -> Made | None:
+    def star_of_refreshed(self, connection: Connection, message: Message, wanted: Numbered, cell: Cell) -> Made | None:
         """A KeNB* that is right if the phone was refreshed in its cell before; nothing on S1 and X2 tells."""
         ncc = message.ncc or 0
         starts: list[tuple[list[History], Chain | None, str]] = [(connection.histories, None, "")]
@@ -247,7 +247,7 @@ class StarJudge(ChainJudge):
                     return self.refreshed_star(connection, message, wanted, one, path, made, also)
         return None
 
-    def gone(self, histories: list[History], path: list[Radio], held: Held) -> Iterator[History]:
+    def gone(self, histories: list[History], path: list[Cell], held: Held) -> Iterator[History]:
         """The histories that come to this state of the station through these cells."""
         for one in histories:
             for cell in path if one.held.known else []:
@@ -255,7 +255,7 @@ class StarJudge(ChainJudge):
             if one.held == held:
                 yield one
 
-    def refreshed_star(self, connection: Connection, message: Message, wanted: Numbered, one: History, path: list[Radio], made: Key, also: str) -> Made:
+    def refreshed_star(self, connection: Connection, message: Message, wanted: Numbered, one: History, path: list[Cell], made: Key, also: str) -> Made:
         """The line of a KeNB* that is right if the phone was refreshed; NCC is judged all the same."""
         times = f" ({len(path)} times)" if len(path) > 1 else ""
         cells = " ".join(f"({pci},{earfcn})" for pci, earfcn in path)
@@ -269,7 +269,7 @@ class StarJudge(ChainJudge):
 
     # -- what no history gives
 
-    def other_star(self, connection: Connection, message: Message, bases: list[Numbered], wanted: Numbered, cell: Radio) -> Made:
+    def other_star(self, connection: Connection, message: Message, bases: list[Numbered], wanted: Numbered, cell: Cell) -> Made:
         """A KeNB* that no lawful history gives."""
         assert message.key is not None
         ncc = message.ncc or 0

@@ -4,9 +4,10 @@ from __future__ import annotations
 from collections.abc import Iterable
 from dataclasses import dataclass, field, replace
 
+from .cells import Cell
 from .contexts import NasSide
 from .decoding import Command
-from .histories import Chain, Held, History, Numbered, PhoneKeys, Radio, merged
+from .histories import Chain, Held, History, Numbered, PhoneKeys, merged
 from .report import Line
 from .terms import Key
 
@@ -31,11 +32,11 @@ class Attempt:
     eci: int | None
     given: list[Given]
     nccs: list[int]  # of the command: as it was sent to the target, then as it was wanted
-    cell: Radio | None = None
+    cell: Cell | None = None
     pairs: list[Numbered] = field(default_factory=list)  # NH and NCC as an S1 target was given them
     change: bool = False  # the command is to tell that KASME changed
     command: Command | None = None
-    heard: tuple[int, Radio | None, bool] | None = None  # NCC, cell and keyChangeIndicator as the phone was told them
+    heard: tuple[int, Cell | None, bool] | None = None  # NCC, cell and keyChangeIndicator as the phone was told them
     told: bool = False  # the line on agreement stands
     aired: bool = False  # the command was seen over the air
     over: str = ""  # how it ended

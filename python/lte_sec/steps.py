@@ -4,13 +4,14 @@ from __future__ import annotations
 from collections.abc import Callable, Iterator
 from dataclasses import dataclass, field
 
+from .cells import Cell
 from .chain_steps import ReplayedConnection, above, kenb, nh, star
 from .handover_steps import HandoverSteps
 from .nas import NOT_GIVEN
 from .nas_steps import UNREPLAYED_AGAIN
 from .recorded import KeySeen, Met
 from .report import DIFFERS, RIGHT
-from .script import At, Cell, Full
+from .script import At, Full
 from .terms import NONE, Term, counted, numbered
 
 FAR = 200  # messages of a connection that are looked at behind one
@@ -22,7 +23,7 @@ ON_THE_FLY = "a new KeNB from the KASME in use on the fly, which the profile doe
 REFUSED_CHANGE = "a key change that the station refuses, which the profile's core does not take back"
 MADE_UP = "a KASME that is made up"
 
-Handler = Callable[["Steps", Met, At], None]
+StepHandler = Callable[["Steps", Met, At], None]
 
 
 def due(key: KeySeen | None) -> tuple[str, int] | None:
@@ -396,7 +397,7 @@ class Steps(HandoverSteps):
             self.step_within(met.within, at)
 
 
-HANDLERS: dict[tuple[str, str], Handler] = {
+HANDLERS: dict[tuple[str, str], StepHandler] = {
     ("S1", "InitialContextSetupRequest"): Steps.setup,
     ("S1", "UEContextModificationRequest"): Steps.changes,
     ("S1", "UEContextReleaseCommand"): Steps.released,
