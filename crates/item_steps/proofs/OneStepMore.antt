@@ -1,4 +1,4 @@
--- One step more.
+-- One step more, and one element more of what a list begins with.
 use Rattle.std.proofs.Common.{◌≡◌, sym, ap, ◌∙◌, ℕ, ◌+◌, List, [], ◌∷◌, ◌++◌, take, drop, slice_get, Some}
 use Rattle.std.proofs.lemmas.List.{drop_more, take_more}
 use Rattle.std.proofs.lemmas.Option.{get_or_from_slice_get, slice_get_within}
@@ -11,8 +11,8 @@ left : {A : Type 0} (xs : List A) (n : ℕ) (x : A) → slice_get xs n ≡ Some 
 left xs n x at =
     drop_more xs n x (slice_get_within xs n x at) ∙ ap (λ y. y ∷ drop (n + 1) xs) (get_or_from_slice_get xs n x x at)
 
-done : {A : Type 0} (xs : List A) (n : ℕ) (x : A) → slice_get xs n ≡ Some x → take n xs ++ x ∷ [] ≡ take (n + 1) xs
-done xs n x at =
+pub taken : {A : Type 0} (xs : List A) (n : ℕ) (x : A) → slice_get xs n ≡ Some x → take n xs ++ x ∷ [] ≡ take (n + 1) xs
+taken xs n x at =
     sym (take_more xs n x (slice_get_within xs n x at) ∙ ap (λ y. take n xs ++ y ∷ []) (get_or_from_slice_get xs n x x at))
 
 pub steps_more : (steps next : List Step) (events : List Event) (told : List Told) (n : ℕ) (e : Event) (t : Told)
@@ -24,4 +24,4 @@ pub steps_more : (steps next : List Step) (events : List Event) (told : List Tol
 unfolding steps_from
 steps_more steps next events told n e t at line more =
     (λ j. steps_from steps (take n told) (left events n e at j) (left told n t line j))
-    ∙ (λ j. steps_from (sym more j) (done told n t line j) (drop (n + 1) events) (drop (n + 1) told))
+    ∙ (λ j. steps_from (sym more j) (taken told n t line j) (drop (n + 1) events) (drop (n + 1) told))

@@ -1,16 +1,10 @@
 -- The items of a scenario: as many as its steps, each of so many acts; and its first station.
-use Rattle.std.proofs.Common.{◌≡◌, ℕ, zero, suc, ◌+◌, ◌<◌, ◌≤◌, List, [], ◌∷◌, ◌++◌, length, take, slice_get, Some, All, refl, sym, ap, ◌∙◌, arith, length-append}
-use Rattle.std.proofs.lemmas.List.{take_more}
+use Rattle.std.proofs.Common.{◌≡◌, ℕ, zero, suc, ◌+◌, ◌<◌, ◌≤◌, List, [], ◌∷◌, ◌++◌, length, All, refl, ap, arith, length-append}
 use Rattle.std.proofs.lemmas.List.Elements.{All-head, All-nil, All-push}
-use Rattle.std.proofs.lemmas.Option.{get_or_from_slice_get, slice_get_within}
 use Rattle.lte_events.specs.Ranges.{IsStation}
 use Rattle.lte_events.specs.declared.setups.StationSetup.{StationSetup}
 use Rattle.items.specs.Items.{IsItemOf}
 use Rattle.variant_runs.specs.Original.{first_station, item_at, own_items}
-
-pub taken : {A : Type 0} (xs : List A) (n : ℕ) (x : A) → slice_get xs n ≡ Some x → take n xs ++ x ∷ [] ≡ take (n + 1) xs
-taken xs n x at =
-    sym (take_more xs n x (slice_get_within xs n x at) ∙ ap (λ y. take n xs ++ y ∷ []) (get_or_from_slice_get xs n x x at))
 
 pub one_more : (steps step : ℕ) → steps ≡ step + 1 → own_items steps ≡ own_items step ++ item_at step ∷ []
 unfolding own_items

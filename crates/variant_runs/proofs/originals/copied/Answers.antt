@@ -1,5 +1,5 @@
 use Rattle.std.proofs.Common.{◌∙◌, [], ◌∷◌, ◌++◌}
-use Rattle.variant_runs.proofs.OwnItems.{taken}
+use Rattle.item_steps.proofs.OneStepMore.{taken}
 use Rattle.variant_runs.proofs.originals.copied.Goals as goal
 
 pub loop-number-preserved : goal.loop-number-preserved
