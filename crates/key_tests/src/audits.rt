@@ -93,12 +93,11 @@ fn add_algs(rt: &impl Abort, ladder: &mut Ladder, kenb: &Kenb)
     ladder.add(&made).expect(rt, "a new row");
 }
 
-// The ladder of those two handovers.
-fn ladder_of(rt: &impl Abort, alloc: Global) -> Ladder {
-    let mut ladder = Ladder::new(alloc);
-    same(rt, ladder.reserve(16), Ok(()));
-    let root = Kasme::of_octets(KASME);
-    same(rt, ladder.root(KASME), Ok(Row(0)));
+// Adds the keys of NAS and of the first connection to a ladder that has this root alone.
+fn add_first(rt: &impl Abort, ladder: &mut Ladder, root: &Kasme) -> Kenb
+    requires { 6 ≤ ladder.old.spare }
+    ensures { ladder.old.spare ≤ ladder.new.spare + 6 }
+{
     let (_, made) = root.nas_alg(AlgType::NasEnc, 2);
     ladder.find(&made.key).expect(rt, "a root");
     same(rt, ladder.add(&made), Ok(Row(1)));
@@ -109,13 +108,21 @@ fn ladder_of(rt: &impl Abort, alloc: Global) -> Ladder {
     let key = ladder.find(&made.key).expect(rt, "a root");
     same(rt, ladder.row(key).origin, Origin::Root);
     same(rt, ladder.add(&made), Ok(Row(3)));
-    add_algs(rt, &mut ladder, &kenb);
+    add_algs(rt, ladder, &kenb);
+    kenb
+}
+
+// Adds the keys of those two handovers.
+fn add_handovers(rt: &impl Abort, ladder: &mut Ladder, root: &Kasme, kenb: &Kenb)
+    requires { 9 ≤ ladder.old.spare }
+    ensures { ladder.old.spare ≤ ladder.new.spare + 9 }
+{
     let cell = Cell::new(11, 101).expect(rt, "a cell in range");
     let (star, made) = kenb.star(&cell);
     ladder.find(&made.key).expect(rt, "a KeNB");
     same(rt, ladder.add(&made), Ok(Row(7)));
-    add_algs(rt, &mut ladder, &star.install());
-    let (nh, made) = root.nh_first(&kenb);
+    add_algs(rt, ladder, &star.install());
+    let (nh, made) = root.nh_first(kenb);
     let key = ladder.find(&made.key).expect(rt, "a root");
     same(rt, ladder.row(key).origin, Origin::Root);
     ladder.find(&kenb.octets()).expect(rt, "a SYNC-input");
@@ -124,7 +131,17 @@ fn ladder_of(rt: &impl Abort, alloc: Global) -> Ladder {
     let (star, made) = nh.star(&cell);
     ladder.find(&made.key).expect(rt, "an NH");
     same(rt, ladder.add(&made), Ok(Row(12)));
-    add_algs(rt, &mut ladder, &star.install());
+    add_algs(rt, ladder, &star.install());
+}
+
+// Their ladder, with the rows that the stations hold.
+fn ladder_of(rt: &impl Abort, alloc: Global) -> Ladder {
+    let mut ladder = Ladder::new(alloc);
+    same(rt, ladder.reserve(16), Ok(()));
+    let root = Kasme::of_octets(KASME);
+    same(rt, ladder.root(KASME), Ok(Row(0)));
+    let kenb = add_first(rt, &mut ladder, &root);
+    add_handovers(rt, &mut ladder, &root, &kenb);
     for (station, row) in HELD {
         assert!(rt; station <= 7 && (row as usize) < ladder.len());
         ladder.hold(Holder::Station(station), Row(row));
@@ -132,18 +149,21 @@ fn ladder_of(rt: &impl Abort, alloc: Global) -> Ladder {
     ladder
 }
 
+// Audits a ladder, and compares the text of the audit.
+fn audited(rt: &impl Abort, alloc: Global, ladder: &Ladder, wanted: &str) -> Result<(), Fail> {
+    let audit = audit_of(alloc, ladder)?;
+    let text = audit_text(alloc, ladder, &audit)?;
+    same(rt, text.as_slice(), wanted.as_bytes());
+    Ok(())
+}
+
 #[test]
 fn stations_derive_what_comes_from_the_rows_that_they_hold(rt: HostRuntime) -> Result<(), Fail> {
     let mut ladder = ladder_of(&rt, rt.alloc());
-    let audit = audit_of(rt.alloc(), &ladder)?;
-    let text = audit_text(rt.alloc(), &ladder, &audit)?;
-    same(&rt, text.as_slice(), AUDIT.as_bytes());
+    audited(&rt, rt.alloc(), &ladder, AUDIT)?;
     assert!(rt; ladder.len() == 16);
     ladder.hold(Holder::Station(5), Row(0));
-    let audit = audit_of(rt.alloc(), &ladder)?;
-    let text = audit_text(rt.alloc(), &ladder, &audit)?;
-    same(&rt, text.as_slice(), WITH_ROOT.as_bytes());
-    Ok(())
+    audited(&rt, rt.alloc(), &ladder, WITH_ROOT)
 }
 
 // One place of an audit, changed.

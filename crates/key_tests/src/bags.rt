@@ -23,39 +23,29 @@ fn put(rt: &impl Abort, bag: &mut Bag, to: Address, octets: &[u8], tuple: Option
     bag.put(&rec, tuple)
 }
 
-#[test]
-fn the_first_record_of_a_class_is_found(rt: HostRuntime) {
-    let mut bag = Bag::new(rt.alloc());
+// The use under which the first record was sealed.
+const TUPLE: Use = Use {
+    key: [9; 32],
+    count: 5,
+    bearer: 1,
+    dir: Dir::Down,
+};
+
+// Puts six records into an empty bag.
+fn put_six(rt: &impl Abort, bag: &mut Bag) {
     let air = Address::Phone(3, 7, Bearer::Srb1);
-    let tuple = Use {
-        key: [9; 32],
-        count: 5,
-        bearer: 1,
-        dir: Dir::Down,
-    };
-    same(
-        &rt,
-        put(&rt, &mut bag, Address::CoreNas, &[0x27, 1, 2], Some(&tuple)),
-        0,
-    );
-    same(&rt, put(&rt, &mut bag, air, &[0x27, 1, 2], None), 1);
-    same(
-        &rt,
-        put(&rt, &mut bag, Address::PhoneNas, &[0x37, 1, 2], None),
-        2,
-    );
-    same(&rt, put(&rt, &mut bag, Address::CoreS1, &[], None), 3);
-    same(
-        &rt,
-        put(&rt, &mut bag, Address::StationS1(1), &[5], None),
-        4,
-    );
-    same(
-        &rt,
-        put(&rt, &mut bag, Address::StationX2(1), &[5], None),
-        5,
-    );
-    same(&rt, bag.len(), 6);
+    let nas = &[0x27, 1, 2];
+    same(rt, put(rt, bag, Address::CoreNas, nas, Some(&TUPLE)), 0);
+    same(rt, put(rt, bag, air, nas, None), 1);
+    same(rt, put(rt, bag, Address::PhoneNas, &[0x37, 1, 2], None), 2);
+    same(rt, put(rt, bag, Address::CoreS1, &[], None), 3);
+    same(rt, put(rt, bag, Address::StationS1(1), &[5], None), 4);
+    same(rt, put(rt, bag, Address::StationX2(1), &[5], None), 5);
+    same(rt, bag.len(), 6);
+}
+
+// Looks for octets of each class, some of which none of the six has.
+fn find_each(rt: &impl Abort, bag: &Bag) {
     // class, octets, the first record that has them
     let table: [(Class, &[u8], Option<u32>); 9] = [
         (Class::Nas, &[0x27, 1, 2], Some(0)),
@@ -68,19 +58,25 @@ fn the_first_record_of_a_class_is_found(rt: HostRuntime) {
         (Class::X2, &[5], Some(5)),
         (Class::X2, &[], None),
     ];
+    for (class, octets, number) in table {
+        same(rt, bag.find(class, octets), number);
+    }
+}
+
+#[test]
+fn the_first_record_of_a_class_is_found(rt: HostRuntime) {
+    let mut bag = Bag::new(rt.alloc());
+    put_six(&rt, &mut bag);
     // all but the last record are in the index
-    for (class, octets, number) in table {
-        same(&rt, bag.find(class, octets), number);
-    }
+    find_each(&rt, &bag);
     // and now the last one is too
+    assert!(rt; bag.len() < 1_000_000);
     same(&rt, bag.reserve(), Ok(()));
-    for (class, octets, number) in table {
-        same(&rt, bag.find(class, octets), number);
-    }
+    find_each(&rt, &bag);
     let first = bag.get(0).expect(&rt, "a record");
     same(&rt, first.to, Address::CoreNas);
     same(&rt, first.octets.as_slice(), [0x27, 1, 2].as_slice());
-    same(&rt, first.tuple, Some(tuple));
+    same(&rt, first.tuple, Some(TUPLE));
     same(&rt, bag.get(6).is_none(), true);
 }
 
@@ -139,10 +135,7 @@ fn a_refused_growth_changes_nothing(rt: HostRuntime) {
     for number in 0..200 {
         let octets = numbered(number);
         reserve_twice(&rt, &mut bag, &octets);
-        assert!(rt; bag.len() < 1_000_000);
-        same(&rt, bag.reserve(), Ok(()));
-        let rec = record_of(&rt, air, &octets);
-        same(&rt, bag.put(&rec, None), number);
+        same(&rt, put(&rt, &mut bag, air, &octets, None), number);
     }
     for number in 0..200 {
         same(&rt, bag.find(Class::Air, &numbered(number)), Some(number));

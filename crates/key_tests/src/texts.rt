@@ -182,26 +182,45 @@ fn ladder_with_room(rt: &impl Abort, alloc: Global) -> Ladder
     ladder
 }
 
+// Adds a row of each other kind to a ladder that has the root alone.
+fn add_one_of_each(rt: &impl Abort, ladder: &mut Ladder)
+    requires { 4 ≤ ladder.old.spare }
+{
+    let (kenb, made) = Kasme::of_octets(KASME).kenb(0);
+    let key = ladder.find(&made.key).expect(rt, "a root");
+    same(rt, ladder.row(key).origin, Origin::Root);
+    same(rt, ladder.add(&made), Ok(Row(1)));
+    let (_, made) = Kasme::of_octets(KASME).nh_first(&kenb);
+    let key = ladder.find(&made.key).expect(rt, "a root");
+    same(rt, ladder.row(key).origin, Origin::Root);
+    ladder.find(&kenb.octets()).expect(rt, "a SYNC-input");
+    same(rt, ladder.add(&made), Ok(Row(2)));
+    let cell = Cell::new(11, 101).expect(rt, "a cell in range");
+    let (_, made) = kenb.star(&cell);
+    ladder.find(&made.key).expect(rt, "a KeNB");
+    same(rt, ladder.add(&made), Ok(Row(3)));
+    let (_, made) = kenb.alg(AlgType::RrcEnc, 2);
+    ladder.find(&made.key).expect(rt, "a KeNB");
+    same(rt, ladder.add(&made), Ok(Row(4)));
+}
+
+// Compares the text of a ladder.
+fn assert_ladder(
+    rt: &impl Abort,
+    alloc: Global,
+    ladder: &Ladder,
+    wanted: &str,
+) -> Result<(), Fail> {
+    let text = ladder_text(alloc, ladder)?;
+    same(rt, text.as_slice(), wanted.as_bytes());
+    Ok(())
+}
+
 #[test]
 fn rows_of_the_ladder_have_a_line_each(rt: HostRuntime) -> Result<(), Fail> {
     let mut ladder = ladder_with_room(&rt, rt.alloc());
     same(&rt, ladder.root(KASME), Ok(Row(0)));
-    let (kenb, made) = Kasme::of_octets(KASME).kenb(0);
-    let key = ladder.find(&made.key).expect(&rt, "a root");
-    same(&rt, ladder.row(key).origin, Origin::Root);
-    same(&rt, ladder.add(&made), Ok(Row(1)));
-    let (_, made) = Kasme::of_octets(KASME).nh_first(&kenb);
-    let key = ladder.find(&made.key).expect(&rt, "a root");
-    same(&rt, ladder.row(key).origin, Origin::Root);
-    ladder.find(&kenb.octets()).expect(&rt, "a SYNC-input");
-    same(&rt, ladder.add(&made), Ok(Row(2)));
-    let cell = Cell::new(11, 101).expect(&rt, "a cell in range");
-    let (_, made) = kenb.star(&cell);
-    ladder.find(&made.key).expect(&rt, "a KeNB");
-    same(&rt, ladder.add(&made), Ok(Row(3)));
-    let (_, made) = kenb.alg(AlgType::RrcEnc, 2);
-    ladder.find(&made.key).expect(&rt, "a KeNB");
-    same(&rt, ladder.add(&made), Ok(Row(4)));
+    add_one_of_each(&rt, &mut ladder);
     let wanted = "\
 row 0 root 000102030405060708090a0b0c0d0e0f101112131415161718191a1b1c1d1e1f -
 row 1 kenb(0,0) e6267359de012d9bda173d1b6fae57dec0e04e01cfcf57cb33a7573f142b8b95 -
@@ -209,19 +228,12 @@ row 2 nh(0,1) 09aba1730b0aaeee84feac6bc03f66b9aa90d45309b719114a90be777b24b74c -
 row 3 star(1,11,101) 4f92e8cee01ca1f84e022ac503175c61f6792a8fe01fa36a8e154c3910ba1a1c -
 row 4 alg(1,3,2) 9bf10551417d3b3128705dd54a20f8f1ae14c26e3ba014f8e4279841fb8ade28 -
 ";
-    let text = ladder_text(rt.alloc(), &ladder)?;
-    same(&rt, text.as_slice(), wanted.as_bytes());
-    Ok(())
+    assert_ladder(&rt, rt.alloc(), &ladder, wanted)
 }
 
-#[test]
-fn holders_stand_in_their_order(rt: HostRuntime) -> Result<(), Fail> {
-    let mut ladder = ladder_with_room(&rt, rt.alloc());
-    same(&rt, ladder.root([1; 32]), Ok(Row(0)));
-    same(&rt, ladder.root([2; 32]), Ok(Row(1)));
-    same(&rt, ladder.root([3; 32]), Ok(Row(2)));
-    same(&rt, ladder.root([4; 32]), Ok(Row(3)));
-    same(&rt, ladder.len(), 4);
+// Gives the four rows of a ladder their holders, in no order.
+fn give_holders(rt: &impl Abort, ladder: &mut Ladder) {
+    same(rt, ladder.len(), 4);
     ladder.hold(Holder::Phone, Row(0));
     ladder.hold(Holder::Station(7), Row(1));
     ladder.hold(Holder::Core, Row(1));
@@ -236,15 +248,23 @@ fn holders_stand_in_their_order(rt: HostRuntime) -> Result<(), Fail> {
         assert!(rt; 3 < ladder.len());
         ladder.hold(Holder::Station(station), Row(3));
     }
+}
+
+#[test]
+fn holders_stand_in_their_order(rt: HostRuntime) -> Result<(), Fail> {
+    let mut ladder = ladder_with_room(&rt, rt.alloc());
+    same(&rt, ladder.root([1; 32]), Ok(Row(0)));
+    same(&rt, ladder.root([2; 32]), Ok(Row(1)));
+    same(&rt, ladder.root([3; 32]), Ok(Row(2)));
+    same(&rt, ladder.root([4; 32]), Ok(Row(3)));
+    give_holders(&rt, &mut ladder);
     let wanted = "\
 row 0 root 0101010101010101010101010101010101010101010101010101010101010101 P
 row 1 root 0202020202020202020202020202020202020202020202020202020202020202 C,S7
 row 2 root 0303030303030303030303030303030303030303030303030303030303030303 P,C,S0,S3,S5
 row 3 root 0404040404040404040404040404040404040404040404040404040404040404 P,C,S0,S1,S2,S3,S4,S5,S6,S7
 ";
-    let text = ladder_text(rt.alloc(), &ladder)?;
-    same(&rt, text.as_slice(), wanted.as_bytes());
-    Ok(())
+    assert_ladder(&rt, rt.alloc(), &ladder, wanted)
 }
 
 #[test]
