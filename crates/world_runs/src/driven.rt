@@ -1,4 +1,6 @@
 // The ordinary scenario against peers in memory.
+ghost use Rattle.std.specs.Prelude.{◌≤◌, IfSome, length};
+
 use crate::kept::{CORE, PHONE, REPORT, SCENARIO, STATION_0, STATION_1};
 use crate::values::{same, same_at};
 use edge_io::{MemPeers, MemSink};
@@ -23,17 +25,11 @@ fn driven<R: Abort + AllocGlobal>(
     bad_call: Option<u64>,
     bad_write: Option<u64>,
 ) -> Option<(End, MemSink)> {
-    let Ok(scenario) = read(rt.alloc(), SCENARIO) else {
-        return None;
-    };
-    assert!(rt; scenario.setup.cells.len() > 0 && scenario.events.len() <= 200_000);
-    let mut replies = Vec::new(rt.alloc());
-    replies.push(octets_of(rt, &PHONE)?).ok()?;
-    replies.push(octets_of(rt, &CORE)?).ok()?;
-    replies.push(octets_of(rt, &STATION_0)?).ok()?;
-    replies.push(octets_of(rt, &STATION_1)?).ok()?;
+    let replies = replies_of(rt)?;
     let mut peers = MemPeers::new(rt.alloc(), replies, 2_048, listed(rt, bad_call)?).ok()?;
     let mut out = MemSink::new(rt.alloc(), 8_192, listed(rt, bad_write)?).ok()?;
+    let scenario = read(rt.alloc(), SCENARIO).ok()?;
+    assert!(rt; scenario.setup.cells.len() > 0 && scenario.events.len() <= 200_000);
     let end = match drive(
         rt.alloc(),
         &scenario.setup,
@@ -48,6 +44,18 @@ fn driven<R: Abort + AllocGlobal>(
         Ok(Ending::Chance) | Err(_) => End::Other,
     };
     Some((end, out))
+}
+
+// The replies of the four peers, in the order in which they are set up.
+fn replies_of<R: AllocGlobal>(rt: &R) -> Option<Vec<Vec<u8>>>
+    ensures { IfSome result (λ replies. length replies.items ≤ 256) }
+{
+    let mut replies = Vec::new(rt.alloc());
+    replies.push(octets_of(rt, &PHONE)?).ok()?;
+    replies.push(octets_of(rt, &CORE)?).ok()?;
+    replies.push(octets_of(rt, &STATION_0)?).ok()?;
+    replies.push(octets_of(rt, &STATION_1)?).ok()?;
+    Some(replies)
 }
 
 fn octets_of<R: AllocGlobal>(rt: &R, texts: &[&str]) -> Option<Vec<u8>> {

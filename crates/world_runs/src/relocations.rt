@@ -9,7 +9,7 @@ use crate::values::{same, same_at};
 use core_relocation::{Two, TwoLine};
 use key_terms::{Proof, Row as Key};
 use lte_events::{Answer, Event, Events, Setup};
-use lte_world::WorldFault;
+use lte_world::{World, WorldFault};
 use rec_base::u32_at;
 use scenario_file::read;
 use std::alloc::{AllocError, Global};
@@ -293,7 +293,7 @@ fn ran<R: Abort + AllocGlobal>(
 fn the_context_is_handed_on(rt: HostRuntime) -> Result<(), Fail> {
     for case in &CASES {
         let text = text_of(rt.alloc(), case.steps)?;
-        ran(&rt, &text, &CORE_OF, case)?;
+        drop(ran(&rt, &text, &CORE_OF, case)?);
     }
     Ok(())
 }
@@ -345,19 +345,17 @@ static KEYS: [(u32, bool, bool, bool, bool); 16] = [
     (0xa7d588dc, true, false, true, false),
 ];
 
-#[test]
-fn the_calls_of_a_world_show_the_ordinary_run(rt: HostRuntime) -> Result<(), Fail> {
-    let two = ran(&rt, SCENARIO, &ALL_IN_ONE, &ORDINARY)?;
-    let world = two.world();
+// Compares what the calls of a world show of the ordinary run.
+fn assert_ordinary(rt: &impl Abort, world: &World) {
     let counts = (
         world.journal().len(),
         world.records(),
         world.uses().len(),
         world.replies().len(),
     );
-    same(&rt, counts, (27, 19, 15, 1));
+    same(rt, counts, (27, 19, 15, 1));
     let ladder = world.ladder();
-    same(&rt, ladder.len(), KEYS.len());
+    same(rt, ladder.len(), KEYS.len());
     for number in 0..16u32 {
         assert!(rt; (number as usize) < ladder.len());
         let row = ladder.row(Key(number));
@@ -368,14 +366,21 @@ fn the_calls_of_a_world_show_the_ordinary_run(rt: HostRuntime) -> Result<(), Fai
             row.stations[0],
             row.stations[1],
         );
-        same_at(&rt, number, held, KEYS[number as usize]);
+        same_at(rt, number, held, KEYS[number as usize]);
     }
     let shared = world.phone_kenb();
-    same(&rt, shared.map(|key| u32_at(&key, 0)), Some(0x5a3b5a21));
+    same(rt, shared.map(|key| u32_at(&key, 0)), Some(0x5a3b5a21));
     same(
-        &rt,
+        rt,
         (world.station_kenb(0), world.station_kenb(2)),
         (shared, None),
     );
+}
+
+#[test]
+fn the_calls_of_a_world_show_the_ordinary_run(rt: HostRuntime) -> Result<(), Fail> {
+    let two = ran(&rt, SCENARIO, &ALL_IN_ONE, &ORDINARY)?;
+    assert_ordinary(&rt, two.world());
+    drop(two);
     Ok(())
 }
