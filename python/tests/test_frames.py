@@ -1,4 +1,4 @@
-"""Tests of frames and replies: the examples of crates/record_tests, and the sessions of examples/serve."""
+"""Tests of frames and replies: the examples of crates/record_tests, the kinds that crates/role_wire reads, and the sessions of examples/serve."""
 import io
 import pathlib
 import re
