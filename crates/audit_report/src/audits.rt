@@ -45,7 +45,9 @@ pub fn write_audit<W: Sink>(
         Ok(world) => world,
         Err(_) => return Err(Unwritten::Memory),
     };
-    audit_run(alloc, &mut world, events, out)
+    let written = audit_run(alloc, &mut world, events, out);
+    drop(world);
+    written
 }
 
 // The same, in a system that has just begun.

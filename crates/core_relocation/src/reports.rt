@@ -1,5 +1,5 @@
 // The report of a run with two cores.
-ghost use Rattle.std.specs.Prelude.{◌≡◌, ◌≤◌, Ok, length, All, IsTrue};
+ghost use Rattle.std.specs.Prelude.{◌≡◌, ◌≤◌, [], Ok, length, All, IsTrue};
 ghost use Rattle.lte_events.specs.Scenario.{IsScenario};
 ghost use Rattle.run_report.specs.Written.{WritesReport};
 ghost use Rattle.core_relocation.specs.Report.{answer_report, two_report_of};
@@ -34,9 +34,27 @@ pub fn write_two<W: Sink>(
         Ok(two) => two,
         Err(_) => return Err(Unwritten::Memory),
     };
+    let written = write_answers(alloc, &mut two, events, out);
+    drop(two);
+    written
+}
+
+// The same, in a system that has just begun.
+fn write_answers<W: Sink>(
+    alloc: Global,
+    two: &mut Two,
+    events: &Events,
+    out: &mut W,
+) -> Result<Ending, Unwritten>
+    requires out_ready { IsTrue (W.told out.old).ready }
+    requires begun { two.old.events ≡ [] }
+    requires runs { StillRuns two.old }
+    requires is_scenario { IsScenario two.old.world.setup events.now.items }
+    ensures { WritesReport (two_report_of two.old.world.setup two.old.cores.core_of events.now.items) result (W.told out.old) (W.told out.new) }
+{
     for number in 0..events.len() {
         let event = events.at(number);
-        match write_answer(alloc, &mut two, &event, out)? {
+        match write_answer(alloc, two, &event, out)? {
             Ending::Done => {}
             Ending::Chance => return Ok(Ending::Chance),
         }

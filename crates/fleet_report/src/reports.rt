@@ -4,7 +4,7 @@ ghost use Rattle.edge_io.specs.Lines.{EndsLine};
 ghost use Rattle.lte_world.specs.Whole.{run_of};
 ghost use Rattle.lte_events.specs.Scenario.{IsScenarioBy, most_events};
 ghost use Rattle.run_report.specs.Written.{WritesReport, WritesText};
-ghost use Rattle.fleet_world.specs.Fleets.{most_phones, owns_in, CanTake};
+ghost use Rattle.fleet_world.specs.Fleets.{begun, most_phones, owns_in, CanTake};
 ghost use Rattle.fleet_world.specs.Worlds.{Goes};
 ghost use Rattle.fleet_report.specs.Events.{event_report, HasItsCounts, IsOfPhone, Takes};
 ghost use Rattle.fleet_report.specs.Lines.{IsShown, answer_output, output_text, phone_text, texts, row_outputs, end_outputs};
@@ -42,14 +42,33 @@ pub fn write_fleet<W: Sink>(
         Ok(fleet) => fleet,
         Err(_) => return Err(Unwritten::Memory),
     };
+    let written = write_events(alloc, &mut fleet, phones, events, out);
+    drop(fleet);
+    written
+}
+
+// The same, of a fleet that has just begun.
+fn write_events<W: Sink>(
+    alloc: Global,
+    fleet: &mut Fleet,
+    phones: u16,
+    events: &FleetEvents,
+    out: &mut W,
+) -> Result<Ending, Unwritten>
+    requires out_ready { IsTrue (W.told out.old).ready }
+    requires begun { fleet.old ≡ begun fleet.old.setup phones }
+    requires is_scenario { IsScenarioBy (λ x. x.1) fleet.old.setup events.now.items }
+    requires of_phones { All (IsOfPhone phones) events.now.items }
+    ensures { WritesReport (fleet_report_of fleet.old.setup phones events.now.items) result (W.told out.old) (W.told out.new) }
+{
     for number in 0..events.len() {
         let step = events.at(number);
-        match write_event(alloc, &mut fleet, step.0, &step.1, out)? {
+        match write_event(alloc, fleet, step.0, &step.1, out)? {
             Ending::Done => {}
             Ending::Chance => return Ok(Ending::Chance),
         }
     }
-    write_ends(alloc, &fleet, phones, out).and(Ok(Ending::Done))
+    write_ends(alloc, fleet, phones, out).and(Ok(Ending::Done))
 }
 
 // Lets one event happen, and writes what is told of it. The answer is `Chance` if it is one, and else `Done`.

@@ -104,6 +104,7 @@ fn drive_plan<P: Peers, W: Sink>(
     };
     let (count, result) = play(alloc, setup, events, &mut world, peers, out);
     stop_all(peers, count);
+    drop(world);
     result
 }
 

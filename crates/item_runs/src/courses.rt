@@ -66,8 +66,13 @@ pub fn run_items(
     ensures few { IfOk result (λ c. length c.coming.events ≤ length items.now * (most_at_once + 1)) }
 {
     let mut course = Course::new(alloc, setup)?;
-    course.go_on(acts, items)?;
-    Ok(course)
+    match course.go_on(acts, items) {
+        Ok(()) => Ok(course),
+        Err(fault) => {
+            drop(course);
+            Err(fault)
+        }
+    }
 }
 
 impl Course {
@@ -248,7 +253,9 @@ impl Course {
     pub fn into_told(self) -> Vec<Told>
         ensures { result.items ≡ self.coming.told }
     {
-        self.told
+        let Course { world, told, .. } = self;
+        drop(world);
+        told
     }
 
     /// The stations that can derive the key that the phone came by last: none after a coincidence. `Memory` where std refuses memory.

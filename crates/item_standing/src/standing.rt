@@ -42,10 +42,28 @@ pub fn standing_of(
 {
     let mut course = course;
     let core = course.core_station();
-    let reach = course.reach(alloc)?;
-    go_first(alloc, &mut course, setup, acts, steps)?;
+    let reach = match course.reach(alloc) {
+        Ok(reach) => reach,
+        Err(fault) => {
+            drop(course);
+            return Err(fault);
+        }
+    };
+    match go_first(alloc, &mut course, setup, acts, steps) {
+        Ok(()) => {}
+        Err(fault) => {
+            drop(course);
+            return Err(fault);
+        }
+    }
     let serving = serving_of(setup, serving, course.told());
-    go_second(alloc, &mut course, setup, acts, steps, serving)?;
+    match go_second(alloc, &mut course, setup, acts, steps, serving) {
+        Ok(()) => {}
+        Err(fault) => {
+            drop(course);
+            return Err(fault);
+        }
+    }
     let over = course.over().is_some();
     match Standing::of(alloc, course.into_told(), serving, core, reach, over) {
         Ok(standing) => Ok(standing),

@@ -32,6 +32,27 @@ pub fn write_report<W: Sink>(alloc: Global, lines: &[LadderLine], out: &mut W) -
     ensures out { UsedAsSink (W.told out.old) (W.told out.new) }
 {
     let mut ladder = Ladder::new(alloc);
+    let ended = write_lines(alloc, lines, &mut ladder, out);
+    drop(ladder);
+    ended
+}
+
+// The same, with a ladder that has no row yet.
+fn write_lines<W: Sink>(
+    alloc: Global,
+    lines: &[LadderLine],
+    ladder: &mut Ladder,
+    out: &mut W,
+) -> Ending
+    requires ready { IsTrue (W.told out.old).ready }
+    requires good { AreGood [] lines.now }
+    requires few { length lines.now ≤ 4096 }
+    requires empty { ladder.old.rows ≡ [] }
+    ensures output { Writes (output_from [] 1 lines.now) result (W.told out.old) (W.told out.new) }
+    ensures memory { result ≡ Ending.Memory → WasRefused }
+    ensures no_fault { result ≢ Ending.WriteFault → NoFault (W.told out.old) (W.told out.new) }
+    ensures out { UsedAsSink (W.told out.old) (W.told out.new) }
+{
     for (index, line) in lines.iter().enumerate() {
         // For each line and not once for all of them: this also indexes the rows that stand, so that the
         // line finds its row in constant time.
@@ -39,7 +60,7 @@ pub fn write_report<W: Sink>(alloc: Global, lines: &[LadderLine], out: &mut W) -
             Ok(()) => {}
             Err(_) => return Ending::Memory,
         }
-        match write_line(alloc, &mut ladder, line, index as u32 + 1, out) {
+        match write_line(alloc, ladder, line, index as u32 + 1, out) {
             Ending::Done => {}
             ended => return ended,
         }

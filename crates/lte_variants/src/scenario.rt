@@ -78,7 +78,11 @@ fn answer_scenario<W: Sink>(
         return Status::TooManySteps;
     }
     match Study::of(alloc, scenario.setup, &scenario.events) {
-        Ok(Some(study)) => status_of(write_report(alloc, request, &study, out)),
+        Ok(Some(study)) => {
+            let written = write_report(alloc, request, &study, out);
+            drop(study);
+            status_of(written)
+        }
         Ok(None) => Status::Coincidence,
         Err(_) => Status::Memory,
     }

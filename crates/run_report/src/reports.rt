@@ -1,7 +1,7 @@
 ghost use Rattle.growth.specs.Growth.{WasRefused};
 ghost use Rattle.std.specs.Prelude.{◌≡◌, ◌≤◌, ℕ, List, true, Ok, length, IfOk, OnErr, IsTrue};
 ghost use Rattle.edge_io.specs.Lines.{are_lines};
-ghost use Rattle.lte_world.specs.Whole.{run_of};
+ghost use Rattle.lte_world.specs.Whole.{begun, run_of};
 ghost use Rattle.report_text.specs.Coincidence.{coincidence_text};
 ghost use Rattle.lte_machine.specs.Run.{GoesOn};
 ghost use Rattle.run_report.specs.Report.{report_of, end_of};
@@ -38,14 +38,31 @@ pub fn write_run<W: Sink>(
         Ok(world) => world,
         Err(_) => return Err(Unwritten::Memory),
     };
+    let written = write_events(alloc, &mut world, events, out);
+    drop(world);
+    written
+}
+
+// The same, in a system that has just begun.
+fn write_events<W: Sink>(
+    alloc: Global,
+    world: &mut World,
+    events: &Events,
+    out: &mut W,
+) -> Result<Ending, Unwritten>
+    requires out_ready { IsTrue (W.told out.old).ready }
+    requires begun { world.old ≡ begun world.old.setup }
+    requires is_scenario { IsScenario world.old.setup events.now.items }
+    ensures { WritesReport (report_of world.old.setup events.now.items) result (W.told out.old) (W.told out.new) }
+{
     for number in 0..events.len() {
         let event = events.at(number);
-        match write_event(alloc, &mut world, &event, out)? {
+        match write_event(alloc, world, &event, out)? {
             Ending::Done => {}
             Ending::Chance => return Ok(Ending::Chance),
         }
     }
-    write_end(alloc, &world, out).and(Ok(Ending::Done))
+    write_end(alloc, world, out).and(Ok(Ending::Done))
 }
 
 /// Lets one event happen, and writes what is told of it. The answer is `Chance` if it is one, and else

@@ -31,7 +31,9 @@ pub fn write_summary<W: Sink>(
         Ok(world) => world,
         Err(_) => return Err(Unwritten::Memory),
     };
-    summarise(alloc, &mut world, events, out)
+    let written = summarise(alloc, &mut world, events, out);
+    drop(world);
+    written
 }
 
 // The same, in a system that has just begun.

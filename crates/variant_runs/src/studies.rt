@@ -55,13 +55,20 @@ impl Study {
         let acts = acts_of(alloc, &setup, events)?;
         let course = own_run(alloc, &setup, &acts, steps)?;
         if course.told().len() != events.len() {
+            drop(course);
             return Ok(None);
         }
-        let listed = steps_of(alloc, events, course.told())?;
-        let entries = entries_of(alloc, listed.as_slice())?;
-        let senders = senders_of(alloc, listed.as_slice())?;
+        let listed = match steps_of(alloc, events, course.told()) {
+            Ok(listed) => listed,
+            Err(fault) => {
+                drop(course);
+                return Err(fault);
+            }
+        };
         let first = first_station(setup.stations.as_slice());
         let usual = standing_of(alloc, course, &setup, &acts, steps, first)?;
+        let entries = entries_of(alloc, listed.as_slice())?;
+        let senders = senders_of(alloc, listed.as_slice())?;
         Ok(Some(Study {
             setup,
             acts,

@@ -11,5 +11,5 @@ returns-in-Ok-Some-clause-text g c =
     let few : length events ≤ most_steps = search rules in
     let all : length (own_lines setup events) ≡ length events = search rules in
     let is : c.in-Ok-Some.study ≡ original_of setup events = search rules in
-    report_told c.args.request.now setup events c.in-Ok-Some.study c.write_report.result c.status_of.result _ _ few all is
-    c.status_of.ensures.value c.write_report.ensures
+    report_told c.args.request.now setup events c.in-Ok-Some.study c.write_report-written.result c.status_of.result _ _ few all is
+    c.status_of.ensures.value c.write_report-written.ensures

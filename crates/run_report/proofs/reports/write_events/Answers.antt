@@ -4,13 +4,13 @@ use Rattle.lte_world.specs.Whole.{run_of}
 use Rattle.run_report.proofs.Partly.{none_reported, more_reported, coincidence_reported, cut_reported, last_reported}
 use Rattle.run_report.proofs.HappenedSoFar.{none_taken, can_take, one_taken, follows}
 use Rattle.run_report.proofs.ReportByEvent.{report_is, report_from, report_ends}
-use Rattle.run_report.proofs.reports.write_run.Goals as goal
+use Rattle.run_report.proofs.reports.write_events.Goals as goal
 
 pub loop-number-init : goal.loop-number-init
 loop-number-init g c =
-    let runs = c.in-Ok.ensures.run in
+    let runs = ap run_of c.requires.begun in
     record {
-      took = none_taken c.in-Ok.ensures.begins runs;
+      took = none_taken c.requires.begun runs;
       report = none_reported (g.W.Edge.told c.args.out.now) c.requires.out_ready
           (report_is c.requires.is_scenario ∙ ap (λ run. report_from (length c.args.events.now.items) 0 run c.args.events.now.items) (sym runs));
     }

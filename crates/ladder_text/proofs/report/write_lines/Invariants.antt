@@ -3,7 +3,7 @@ use Rattle.edge_io.specs.Cause.{NoFault}
 use Rattle.key_terms.specs.Ladder.{IsLadder}
 use Rattle.edge_io.specs.Used.{UsedAsSink}
 use Rattle.ladder_text.proofs.Printing.{Printed}
-use Rattle.ladder_text.proofs.report.write_report.Given as goal
+use Rattle.ladder_text.proofs.report.write_lines.Given as goal
 
 abbrev pub invariant-loop-index : goal.invariant-loop-index
 invariant-loop-index g l = record {

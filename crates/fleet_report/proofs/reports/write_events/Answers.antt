@@ -5,7 +5,7 @@ use Rattle.fleet_world.specs.Fleets.{Fleeted}
 use Rattle.fleet_report.specs.Report.{fleet_report_of}
 use Rattle.fleet_report.proofs.Looping.{can_take, event_next, behind_is, end_is, first_is}
 use Rattle.run_report.proofs.Partly.{ReportPartly, none_reported, more_reported, coincidence_reported, cut_reported, last_reported}
-use Rattle.fleet_report.proofs.reports.write_fleet.Goals as goal
+use Rattle.fleet_report.proofs.reports.write_events.Goals as goal
 
 pub write_event-requires-clause-out_ready : goal.write_event-requires-clause-out_ready
 write_event-requires-clause-out_ready g c = c.loop-number.invariant.report.text.used.ready
@@ -13,17 +13,17 @@ write_event-requires-clause-out_ready g c = c.loop-number.invariant.report.text.
 pub write_event-requires-clause-can : goal.write_event-requires-clause-can
 write_event-requires-clause-can g c =
     let so_far = c.loop-number.invariant in
-    can_take c.args.setup.now c.loop-number.fleet c.args.phones c.args.events.now.items c.loop-number.number
+    can_take c.args.fleet.now.setup c.loop-number.fleet c.args.phones c.args.events.now.items c.loop-number.number
     c.at-step.result so_far.setup so_far.phones so_far.count c.at-step.ensures
     c.requires.is_scenario c.requires.of_phones
 
 pub loop-number-init : goal.loop-number-init
 loop-number-init g c =
-    let begins = c.in-Ok.ensures.begins in
+    let begins = c.requires.begun in
     record {
       report =
           none_reported (g.W.Edge.told c.args.out.now) c.requires.out_ready
-          (first_is c.args.setup.now c.args.phones c.in-Ok.fleet c.args.events.now.items begins);
+          (first_is c.args.fleet.now.setup c.args.phones c.args.fleet.now c.args.events.now.items begins);
       setup = ap (λ (v : Fleeted). v.setup) begins;
       over = ap (λ (v : Fleeted). v.over) begins;
       count = ap (λ (v : Fleeted). length v.journal) begins;
@@ -41,7 +41,7 @@ loop-number-preserved g c =
     let takes = c.write_event.ensures.takes (c.in_ok-write_event.was ∙ ap Ok c.in-Done.is) in
     let more = more_reported so_far.report (event_next v events i x so_far.over so_far.count at) c.in-Done.is c.in_ok-write_event.ensures.report in
     record {
-      report = subst (λ r. ReportPartly (fleet_report_of c.args.setup.now c.args.phones events) r
+      report = subst (λ r. ReportPartly (fleet_report_of c.args.fleet.now.setup c.args.phones events) r
           (g.W.Edge.told c.args.out.now) (g.W.Edge.told c.write_event.new.out))
           (behind_is v events i x so_far.over so_far.count at c.write_event.new.fleet takes) more;
       setup = takes.setup ∙ so_far.setup;

@@ -3,13 +3,13 @@ use Rattle.key_terms.proofs.LadderLemmas.{ladder_none}
 use Rattle.key_terms.specs.Ladder.{IsLadder}
 use Rattle.ladder_text.specs.Report.{place_in, ends_at, text_at, TextAt}
 use Rattle.ladder_text.proofs.Printing.{Printed, none_printed, next_printed, line_met, memory_before, one_row_more, ended}
-use Rattle.ladder_text.proofs.report.write_report.Goals as goal
+use Rattle.ladder_text.proofs.report.write_lines.Goals as goal
 
 pub loop-index-init : goal.loop-index-init
 loop-index-init g c =
-    let none = c.new-ladder.ensures.rows in
+    let none = c.requires.empty in
     record {
-      printed = none_printed c.args.lines.now (g.W.Edge.told c.args.out.now) c.new-ladder.result.rows none c.requires.good;
+      printed = none_printed c.args.lines.now (g.W.Edge.told c.args.out.now) c.args.ladder.now.rows none c.requires.good;
       ladder = subst IsLadder (sym none) ladder_none;
       rows = omega (arith, ap length none);
       no_fault = search rules;
