@@ -96,16 +96,32 @@ reach_of fields = do
   cell ← cell_in (word 5 fields) (word 6 fields)
   Ok (Reach (record { root = k; active = a; sync = s; ncc = o }) n cell)
 
--- the line of this first word; an SDU of a signalling radio bearer has at most 8,188 octets, and its PDU five more (TS 36.323 4.3.1
--- and 6.2.2)
+abbrev pub seal_nas_of : List (List ℕ) → Result Request Field
+seal_nas_of fields = nas_text_of fields >>= λ n. Ok (SealNas n)
+
+-- a PDU or a text of a bearer; an SDU of a signalling radio bearer has at most 8,188 octets, and its PDU five more
+-- (TS 36.323 4.3.1 and 6.2.2)
+abbrev pub srb_of : List (List ℕ) → Result Request Field
+srb_of fields = srb_octets_of 8193 field.Pdu fields >>= λ s. Ok (Srb s)
+
+abbrev pub seal_srb_of : List (List ℕ) → Result Request Field
+seal_srb_of fields = srb_octets_of 8188 field.Text fields >>= λ s. Ok (SealSrb s)
+
+abbrev pub drb_of : List (List ℕ) → Result Request Field
+drb_of fields = drb_octets_of field.Pdu fields >>= λ d. Ok (Drb d)
+
+abbrev pub seal_drb_of : List (List ℕ) → Result Request Field
+seal_drb_of fields = drb_octets_of field.Text fields >>= λ d. Ok (SealDrb d)
+
+-- the line of this first word
 unfoldable pub pdu_named : List ℕ → List (List ℕ) → Result Request Field
 pdu_named name fields =
     if bytes_eq name (codes "nas") then nas_of fields
-    else if bytes_eq name (codes "seal-nas") then (nas_text_of fields >>= λ n. Ok (SealNas n))
+    else if bytes_eq name (codes "seal-nas") then seal_nas_of fields
     else if bytes_eq name (codes "service-request") then service_of fields
-    else if bytes_eq name (codes "srb") then (srb_octets_of 8193 field.Pdu fields >>= λ s. Ok (Srb s))
-    else if bytes_eq name (codes "seal-srb") then (srb_octets_of 8188 field.Text fields >>= λ s. Ok (SealSrb s))
-    else if bytes_eq name (codes "drb") then (drb_octets_of field.Pdu fields >>= λ d. Ok (Drb d))
-    else if bytes_eq name (codes "seal-drb") then (drb_octets_of field.Text fields >>= λ d. Ok (SealDrb d))
+    else if bytes_eq name (codes "srb") then srb_of fields
+    else if bytes_eq name (codes "seal-srb") then seal_srb_of fields
+    else if bytes_eq name (codes "drb") then drb_of fields
+    else if bytes_eq name (codes "seal-drb") then seal_drb_of fields
     else if bytes_eq name (codes "reach") then reach_of fields
     else Err field.Word

@@ -3,7 +3,9 @@ use Rattle.std.specs.Prelude.{ℕ, false, if◌then◌else◌, Result, Ok, Err, 
 use Rattle.std.specs.Str.{bytes_eq}
 use Rattle.calc_text.specs.declared.fields.Field.{Field}
 use Rattle.calc_text.specs.declared.fields.Field.TheVariants as field
+use Rattle.alg_suite.specs.declared.ciphering.Ciphering.{Ciphering}
 use Rattle.alg_suite.specs.declared.ciphering.Ciphering.TheVariants.{Eea1, Eea2, Eea3}
+use Rattle.alg_suite.specs.declared.integrity.Integrity.{Integrity}
 use Rattle.alg_suite.specs.declared.integrity.Integrity.TheVariants.{Eia1, Eia2, Eia3}
 use Rattle.calc_text.specs.declared.requests.KeyedText.{KeyedText}
 use Rattle.calc_text.specs.declared.requests.UsimKeys.{UsimKeys}
@@ -66,15 +68,21 @@ keyed_text_of fields = do
   octets ← octets_in field.Text (word 4 fields)
   Ok (record { inputs = record { key = k; count = c; bearer = b; dir = d }; text = octets })
 
+abbrev pub cipher_of : Ciphering → List (List ℕ) → Result Request Field
+cipher_of eea fields = keyed_text_of fields >>= λ t. Ok (Cipher eea t)
+
+abbrev pub mac_of : Integrity → List (List ℕ) → Result Request Field
+mac_of eia fields = keyed_text_of fields >>= λ t. Ok (Mac eia t)
+
 -- the line of an algorithm
 unfoldable pub by_cipher : List ℕ → List (List ℕ) → Result Request Field
 by_cipher name fields =
-    if bytes_eq name (codes "eea1") then (keyed_text_of fields >>= λ t. Ok (Cipher Eea1 t))
-    else if bytes_eq name (codes "eea2") then (keyed_text_of fields >>= λ t. Ok (Cipher Eea2 t))
-    else if bytes_eq name (codes "eea3") then (keyed_text_of fields >>= λ t. Ok (Cipher Eea3 t))
-    else if bytes_eq name (codes "eia1") then (keyed_text_of fields >>= λ t. Ok (Mac Eia1 t))
-    else if bytes_eq name (codes "eia2") then (keyed_text_of fields >>= λ t. Ok (Mac Eia2 t))
-    else if bytes_eq name (codes "eia3") then (keyed_text_of fields >>= λ t. Ok (Mac Eia3 t))
+    if bytes_eq name (codes "eea1") then cipher_of Eea1 fields
+    else if bytes_eq name (codes "eea2") then cipher_of Eea2 fields
+    else if bytes_eq name (codes "eea3") then cipher_of Eea3 fields
+    else if bytes_eq name (codes "eia1") then mac_of Eia1 fields
+    else if bytes_eq name (codes "eia2") then mac_of Eia2 fields
+    else if bytes_eq name (codes "eia3") then mac_of Eia3 fields
     else pdu_named name fields
 
 -- the line of this first word

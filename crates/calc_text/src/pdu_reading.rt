@@ -2,7 +2,7 @@
 ghost use Rattle.std.specs.Prelude.{◌≡◌, ◌≤◌, ◌<◌, length, IfOk};
 ghost use Rattle.calc_text.specs.Answer.{IsRequest};
 ghost use Rattle.calc_text.specs.Field.{Reads};
-ghost use Rattle.calc_text.specs.PduReading.{nas_inputs_of, nas_pdu_of, nas_of, nas_text_of, service_pdu_of, service_of, bearer_inputs_of, srb_octets_of, drb_octets_of, reach_of, pdu_named};
+ghost use Rattle.calc_text.specs.PduReading.{nas_inputs_of, nas_pdu_of, nas_of, nas_text_of, seal_nas_of, service_pdu_of, service_of, bearer_inputs_of, srb_octets_of, drb_octets_of, srb_of, seal_srb_of, drb_of, seal_drb_of, reach_of, pdu_named};
 
 use crate::fields::{Field, LineFault};
 use crate::line_fields::Fields;
@@ -66,6 +66,13 @@ fn nas_text(fields: &Fields) -> Result<NasText, LineFault>
         header: header as u8,
         text,
     })
+}
+
+fn seal_nas(fields: &Fields) -> Result<Request, LineFault>
+    ensures reads { Reads result (seal_nas_of fields.now) }
+    ensures fits { IfOk result IsRequest }
+{
+    Ok(Request::SealNas(nas_text(fields)?))
 }
 
 // A Service Request, under 128-EIA2 or under the algorithm of a fourth field.
@@ -144,6 +151,35 @@ fn drb_octets(fields: &Fields, field: Field) -> Result<DrbOctets, LineFault>
     })
 }
 
+// A PDU or a text of a bearer.
+fn srb(fields: &Fields) -> Result<Request, LineFault>
+    ensures reads { Reads result (srb_of fields.now) }
+    ensures fits { IfOk result IsRequest }
+{
+    Ok(Request::Srb(srb_octets(fields, 8193, Field::Pdu)?))
+}
+
+fn seal_srb(fields: &Fields) -> Result<Request, LineFault>
+    ensures reads { Reads result (seal_srb_of fields.now) }
+    ensures fits { IfOk result IsRequest }
+{
+    Ok(Request::SealSrb(srb_octets(fields, 8188, Field::Text)?))
+}
+
+fn drb(fields: &Fields) -> Result<Request, LineFault>
+    ensures reads { Reads result (drb_of fields.now) }
+    ensures fits { IfOk result IsRequest }
+{
+    Ok(Request::Drb(drb_octets(fields, Field::Pdu)?))
+}
+
+fn seal_drb(fields: &Fields) -> Result<Request, LineFault>
+    ensures reads { Reads result (seal_drb_of fields.now) }
+    ensures fits { IfOk result IsRequest }
+{
+    Ok(Request::SealDrb(drb_octets(fields, Field::Text)?))
+}
+
 // A phone and its chain, and a handover command.
 #[tactic(auto, unfolding(crate::specs::PduReading::reach_of))]
 fn reach(fields: &Fields) -> Result<Request, LineFault>
@@ -178,18 +214,12 @@ pub(crate) fn pdu_named(name: &[u8], fields: &Fields) -> Result<Request, LineFau
 {
     match name {
         _ if name == b"nas".as_slice() => nas(fields),
-        _ if name == b"seal-nas".as_slice() => Ok(Request::SealNas(nas_text(fields)?)),
+        _ if name == b"seal-nas".as_slice() => seal_nas(fields),
         _ if name == b"service-request".as_slice() => service_request(fields),
-        _ if name == b"srb".as_slice() => {
-            Ok(Request::Srb(srb_octets(fields, 8193, Field::Pdu)?))
-        }
-        _ if name == b"seal-srb".as_slice() => {
-            Ok(Request::SealSrb(srb_octets(fields, 8188, Field::Text)?))
-        }
-        _ if name == b"drb".as_slice() => Ok(Request::Drb(drb_octets(fields, Field::Pdu)?)),
-        _ if name == b"seal-drb".as_slice() => {
-            Ok(Request::SealDrb(drb_octets(fields, Field::Text)?))
-        }
+        _ if name == b"srb".as_slice() => srb(fields),
+        _ if name == b"seal-srb".as_slice() => seal_srb(fields),
+        _ if name == b"drb".as_slice() => drb(fields),
+        _ if name == b"seal-drb".as_slice() => seal_drb(fields),
         _ if name == b"reach".as_slice() => reach(fields),
         _ => Err(LineFault::Bad(Field::Word)),
     }

@@ -3,7 +3,7 @@ ghost use Rattle.std.specs.Prelude.{◌≡◌, ◌<◌, Ok, map, IfOk, IfErr};
 ghost use Rattle.text_lines.specs.Words.{words_of};
 ghost use Rattle.calc_text.specs.Answer.{IsRequest};
 ghost use Rattle.calc_text.specs.Field.{Reads, Refuses};
-ghost use Rattle.calc_text.specs.Reading.{usim_keys_of, kenb_of, nh_of, star_of, alg_of, keyed_text_of, by_cipher, named, request_of};
+ghost use Rattle.calc_text.specs.Reading.{usim_keys_of, kenb_of, nh_of, star_of, alg_of, keyed_text_of, cipher_of, mac_of, by_cipher, named, request_of};
 
 use crate::fields::{Field, LineFault};
 use crate::line_fields::Fields;
@@ -105,6 +105,20 @@ fn keyed_text(fields: &Fields) -> Result<KeyedText, LineFault>
     Ok(KeyedText { inputs, text })
 }
 
+fn cipher(eea: Ciphering, fields: &Fields) -> Result<Request, LineFault>
+    ensures reads { Reads result (cipher_of eea fields.now) }
+    ensures fits { IfOk result IsRequest }
+{
+    Ok(Request::Cipher(eea, keyed_text(fields)?))
+}
+
+fn mac(eia: Integrity, fields: &Fields) -> Result<Request, LineFault>
+    ensures reads { Reads result (mac_of eia fields.now) }
+    ensures fits { IfOk result IsRequest }
+{
+    Ok(Request::Mac(eia, keyed_text(fields)?))
+}
+
 // The line of an algorithm.
 #[tactic(auto, unfolding(crate::specs::Reading::by_cipher))]
 fn by_cipher(name: &[u8], fields: &Fields) -> Result<Request, LineFault>
@@ -112,21 +126,12 @@ fn by_cipher(name: &[u8], fields: &Fields) -> Result<Request, LineFault>
     ensures fits { IfOk result IsRequest }
 {
     match name {
-        _ if name == b"eea1".as_slice() => Ok(Request::Cipher(
-            Ciphering::Eea1,
-            keyed_text(fields)?,
-        )),
-        _ if name == b"eea2".as_slice() => Ok(Request::Cipher(
-            Ciphering::Eea2,
-            keyed_text(fields)?,
-        )),
-        _ if name == b"eea3".as_slice() => Ok(Request::Cipher(
-            Ciphering::Eea3,
-            keyed_text(fields)?,
-        )),
-        _ if name == b"eia1".as_slice() => Ok(Request::Mac(Integrity::Eia1, keyed_text(fields)?)),
-        _ if name == b"eia2".as_slice() => Ok(Request::Mac(Integrity::Eia2, keyed_text(fields)?)),
-        _ if name == b"eia3".as_slice() => Ok(Request::Mac(Integrity::Eia3, keyed_text(fields)?)),
+        _ if name == b"eea1".as_slice() => cipher(Ciphering::Eea1, fields),
+        _ if name == b"eea2".as_slice() => cipher(Ciphering::Eea2, fields),
+        _ if name == b"eea3".as_slice() => cipher(Ciphering::Eea3, fields),
+        _ if name == b"eia1".as_slice() => mac(Integrity::Eia1, fields),
+        _ if name == b"eia2".as_slice() => mac(Integrity::Eia2, fields),
+        _ if name == b"eia3".as_slice() => mac(Integrity::Eia3, fields),
         _ => pdu_named(name, fields),
     }
 }
