@@ -1,7 +1,9 @@
 // The values that an answer keeps.
 ghost use Rattle.growth.specs.Growth.{WasRefused};
-ghost use Rattle.std.specs.Prelude.{◌≡◌, IfOk, OnErr};
+ghost use Rattle.std.specs.Prelude.{◌≡◌, ◌++◌, ◌∷◌, [], IfOk, OnErr};
+ghost use Rattle.std.specs.Fmt.{decimal};
 ghost use Rattle.std.specs.String.{string_bytes};
+ghost use Rattle.hex.specs.Hex.{encode_lower};
 ghost use Rattle.report_text.specs.Details.{algs_digits, record_fault_number, fault_place, caps_text, mac_text, details_text};
 
 use alg_choice::{Algs, Caps, Eea};
@@ -14,10 +16,7 @@ pub(crate) fn details_text(alloc: Global, answer: &Answer) -> Result<String, All
     ensures refused { OnErr result WasRefused }
 {
     match *answer {
-        Answer::WrongKsi(held, got) => growth::format(
-            alloc,
-            format_args!(" held={held} got={got}"),
-        ),
+        Answer::WrongKsi(held, got) => numbers(alloc, " held=", held.into(), " got=", got.into()),
         Answer::CapsMismatch(own, got) => caps_text(alloc, own, got),
         Answer::AlgUnsupported(algs) => {
             let algs = algs_digits(algs);
@@ -25,32 +24,19 @@ pub(crate) fn details_text(alloc: Global, answer: &Answer) -> Result<String, All
         }
         Answer::MacFails(count, wanted, got) => mac_text(alloc, count, wanted, got),
         Answer::BadRecord(fault) => {
-            let number = record_fault_number(fault);
-            let place = fault_place(fault);
-            growth::format(alloc, format_args!(" fault={number} place={place}"))
+            let (number, place) = (record_fault_number(fault), fault_place(fault));
+            numbers(alloc, " fault=", number.into(), " place=", place.into())
         }
-        Answer::BadHeader(octet) => {
-            let hex = growth::encode(alloc, &[octet])?;
-            growth::format(alloc, format_args!(" octet={hex}"))
-        }
-        Answer::WrongKind(kind) => {
-            let hex = growth::encode(alloc, &[kind])?;
-            growth::format(alloc, format_args!(" kind={hex}"))
-        }
+        Answer::BadHeader(value) => octet(alloc, " octet=", value),
+        Answer::WrongKind(kind) => octet(alloc, " kind=", kind),
         Answer::Stale(outstanding, got) => {
-            growth::format(alloc, format_args!(" outstanding={outstanding} got={got}"))
+            numbers(alloc, " outstanding=", outstanding, " got=", got)
         }
-        Answer::OldConnection(held, got) => growth::format(
-            alloc,
-            format_args!(" held={held} got={got}"),
-        ),
-        Answer::AttemptOpen(number) => growth::format(alloc, format_args!(" number={number}")),
-        Answer::Repeated(seen, got) => growth::format(
-            alloc,
-            format_args!(" seen={seen} got={got}"),
-        ),
-        Answer::Sent(record) => growth::format(alloc, format_args!(" record={record}")),
-        Answer::RepeatedRoot(row) => growth::format(alloc, format_args!(" row={row}")),
+        Answer::OldConnection(held, got) => numbers(alloc, " held=", held, " got=", got),
+        Answer::AttemptOpen(value) => number(alloc, " number=", value),
+        Answer::Repeated(seen, got) => numbers(alloc, " seen=", seen, " got=", got),
+        Answer::Sent(record) => number(alloc, " record=", record),
+        Answer::RepeatedRoot(row) => number(alloc, " row=", row),
         Answer::Done
         | Answer::NoContext
         | Answer::CountSpent
@@ -74,6 +60,41 @@ pub(crate) fn details_text(alloc: Global, answer: &Answer) -> Result<String, All
         | Answer::NoSmc
         | Answer::NoRecord => Ok(String::new(alloc)),
     }
+}
+
+// A number behind its name.
+fn number(alloc: Global, name: &str, value: u32) -> Result<String, AllocError>
+    ensures text { IfOk result (λ text. string_bytes text ≡ name.now ++ decimal value) }
+    ensures refused { OnErr result WasRefused }
+{
+    growth::format(alloc, format_args!("{name}{value}"))
+}
+
+// Two numbers, each behind its name.
+fn numbers(
+    alloc: Global,
+    first_name: &str,
+    first: u32,
+    second_name: &str,
+    second: u32,
+) -> Result<String, AllocError>
+    ensures text { IfOk result (λ text.
+        string_bytes text ≡ first_name.now ++ (decimal first ++ (second_name.now ++ decimal second))) }
+    ensures refused { OnErr result WasRefused }
+{
+    growth::format(
+        alloc,
+        format_args!("{first_name}{first}{second_name}{second}"),
+    )
+}
+
+// An octet behind its name.
+fn octet(alloc: Global, name: &str, value: u8) -> Result<String, AllocError>
+    ensures text { IfOk result (λ text. string_bytes text ≡ name.now ++ encode_lower (value ∷ [])) }
+    ensures refused { OnErr result WasRefused }
+{
+    let hex = growth::encode(alloc, &[value])?;
+    growth::format(alloc, format_args!("{name}{hex}"))
 }
 
 #[tactic(auto, unfolding(crate::specs::Details::caps_text))]
