@@ -18,13 +18,13 @@ mod telling;
 mod text;
 mod two;
 
-use edge_io::{ChildPeers, CountingHost, LoopbackPort, ReaderSource, WriterSink};
+use edge_io::{ChildPeers, CountingHost, LoopbackPort, Programs, ReaderSource, WriterSink};
 use programs::programs_of;
 use status::Status;
 use std::process::ExitCode;
 use std::rt::Env;
 use std::{env, io};
-use telling::{tell_difference, tell_fault, tell_rest};
+use telling::tell_peers;
 
 fn main(rt: HostRuntime) -> ExitCode {
     ExitCode::from(status_of(&rt).code())
@@ -36,25 +36,22 @@ fn status_of(rt: &HostRuntime) -> Status {
         Err(e) if e.kind() == io::ErrorKind::OutOfMemory => return Status::Memory,
         Err(_) => return Status::BadWords,
     };
-    let programs = match programs_of(rt) {
-        Ok(programs) => programs,
-        Err(_) => return Status::Memory,
-    };
+    match programs_of(rt) {
+        Ok(programs) => run_with(rt, &words, programs),
+        Err(_) => Status::Memory,
+    }
+}
+
+// Runs the program with these words and these programs for its peers, and tells what it found of them.
+fn run_with(rt: &HostRuntime, words: &[String], programs: Programs) -> Status {
     let alloc = rt.alloc();
     let mut peers = ChildPeers::new(CountingHost::new(rt), alloc, programs);
     let mut port = LoopbackPort::new(rt, WriterSink::new(io::writer(rt)));
     let mut input = ReaderSource::new(rt.reader());
     let mut out = WriterSink::new(io::writer(rt));
-    let status = app::run(alloc, &words, &mut input, &mut out, &mut peers, &mut port);
-    if let Some((role, fault)) = peers.failed {
-        tell_fault(rt, role, fault);
-    }
-    if let (Status::Differs, Some(role)) = (status, peers.heard) {
-        tell_difference(rt, role);
-    }
-    for (role, octets) in &peers.rests {
-        tell_rest(rt, *role, octets);
-    }
+    let status = app::run(alloc, words, &mut input, &mut out, &mut peers, &mut port);
+    tell_peers(rt, status, &peers);
+    drop(peers);
     status
 }
 

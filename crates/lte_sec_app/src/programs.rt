@@ -10,21 +10,66 @@ const STATIONS: u8 = 8;
 // For each role the program that its variable names, or else this program. The one error is want of memory.
 pub(crate) fn programs_of(rt: &HostRuntime) -> Result<Programs, AllocError> {
     let own = env::current_exe(rt).ok();
-    let any = named(rt, "LTE_SEC_STATION")?;
-    let mut stations = Vec::new(rt.alloc());
+    let mut programs = Programs {
+        phone: None,
+        stations: Vec::new(rt.alloc()),
+        core: None,
+    };
+    name_programs(rt, &own, &mut programs)?;
+    Ok(programs)
+}
+
+// Names the programs of all roles.
+fn name_programs(
+    rt: &HostRuntime,
+    own: &Option<PathBuf>,
+    programs: &mut Programs,
+) -> Result<(), AllocError> {
+    programs.phone = program_of(rt, "LTE_SEC_PHONE", own)?;
+    programs.core = program_of(rt, "LTE_SEC_CORE", own)?;
+    let any = program_of(rt, "LTE_SEC_STATION", own)?;
+    name_stations(rt, &any, &mut programs.stations)
+}
+
+// Names the programs of the stations: of each the one that its own variable names, or else the one for all.
+fn name_stations(
+    rt: &HostRuntime,
+    any: &Option<Program>,
+    stations: &mut Vec<Option<Program>>,
+) -> Result<(), AllocError> {
     for number in 0..STATIONS {
         let name = format!(in rt.alloc(); "LTE_SEC_STATION_{number}")?;
-        let station = match named(rt, name.as_str())? {
-            Some(program) => Some(program),
-            None => copied(&any)?,
-        };
-        stations.push(or_own(rt, station, &own)?)?;
+        stations.push(station_of(rt, name.as_str(), any)?)?;
     }
-    Ok(Programs {
-        phone: or_own(rt, named(rt, "LTE_SEC_PHONE")?, &own)?,
-        stations,
-        core: or_own(rt, named(rt, "LTE_SEC_CORE")?, &own)?,
-    })
+    Ok(())
+}
+
+// The program that the variable of a station names, or else the one for all.
+fn station_of(
+    rt: &HostRuntime,
+    name: &str,
+    any: &Option<Program>,
+) -> Result<Option<Program>, AllocError> {
+    match named(rt, name)? {
+        Some(program) => Ok(Some(program)),
+        None => copied(any),
+    }
+}
+
+// The program that a variable names, or else this program, where its path is known.
+fn program_of(
+    rt: &HostRuntime,
+    name: &str,
+    own: &Option<PathBuf>,
+) -> Result<Option<Program>, AllocError> {
+    match (named(rt, name)?, own) {
+        (Some(program), _) => Ok(Some(program)),
+        (None, Some(path)) => Ok(Some(Program {
+            path: path.clone()?,
+            words: Vec::new(rt.alloc()),
+        })),
+        (None, None) => Ok(None),
+    }
 }
 
 // The program that a variable names: its path, and the words before those of the role, in lines. One that is empty or
@@ -57,21 +102,5 @@ fn copied(program: &Option<Program>) -> Result<Option<Program>, AllocError> {
             words: program.words.clone()?,
         })),
         None => Ok(None),
-    }
-}
-
-// A program, or else the one of this path, where it is known.
-fn or_own(
-    rt: &HostRuntime,
-    program: Option<Program>,
-    own: &Option<PathBuf>,
-) -> Result<Option<Program>, AllocError> {
-    match (program, own) {
-        (Some(program), _) => Ok(Some(program)),
-        (None, Some(path)) => Ok(Some(Program {
-            path: path.clone()?,
-            words: Vec::new(rt.alloc()),
-        })),
-        (None, None) => Ok(None),
     }
 }

@@ -1,9 +1,23 @@
 // What the program says of its peers on standard error. Nothing is said where that fails.
-use edge_io::{PeerFault, Role};
+use crate::status::Status;
+use edge_io::{ChildPeers, Host, PeerFault, Role};
 use std::alloc::AllocError;
 
+// Says which peer failed, whose reply differed, and what each had still to say.
+pub(crate) fn tell_peers<H: Host + Drop>(rt: &HostRuntime, status: Status, peers: &ChildPeers<H>) {
+    if let Some((role, fault)) = peers.failed {
+        tell_fault(rt, role, fault);
+    }
+    if let (Status::Differs, Some(role)) = (status, peers.heard) {
+        tell(rt, role, "its reply differs");
+    }
+    for (role, octets) in &peers.rests {
+        tell_rest(rt, *role, octets);
+    }
+}
+
 // Says which peer failed, and how.
-pub(crate) fn tell_fault(rt: &HostRuntime, role: Role, fault: PeerFault) {
+fn tell_fault(rt: &HostRuntime, role: Role, fault: PeerFault) {
     let text = match fault {
         PeerFault::NotStarted => "its program did not start",
         PeerFault::NoPort => "its program said no port in its first line, within 10 seconds",
@@ -15,13 +29,8 @@ pub(crate) fn tell_fault(rt: &HostRuntime, role: Role, fault: PeerFault) {
     tell(rt, role, text);
 }
 
-// Says whose reply is not the local actor's.
-pub(crate) fn tell_difference(rt: &HostRuntime, role: Role) {
-    tell(rt, role, "its reply differs");
-}
-
 // Says what a peer had still to say.
-pub(crate) fn tell_rest(rt: &HostRuntime, role: Role, octets: &[u8]) {
+fn tell_rest(rt: &HostRuntime, role: Role, octets: &[u8]) {
     if let Ok(text) = rest_text(rt, octets) {
         tell(rt, role, text.as_str());
     }
