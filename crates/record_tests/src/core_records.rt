@@ -1,8 +1,17 @@
+ghost use Rattle.s1x2_rec.specs.Content.{content_of};
+ghost use Rattle.s1x2_rec.specs.Spelling.{InRange};
+
 use crate::values::{same, same_at};
 use alg_choice::{Algs, Caps, Eea};
 use annex_a_keys::{Cell, Kenb, Nh, Star};
 use rec_base::{Octets, RecFault};
 use s1x2_rec::CoreRecord;
+use std::process::Abort;
+
+const CAPS: Caps = Caps {
+    eea: 0xa0,
+    eia: 0x20,
+};
 
 // A key of 32 octets.
 const KEY: [u8; 32] = [
@@ -65,6 +74,17 @@ static KINDS: [(&[u8], bool); 15] = [
     (&[0x34, 0, 0, 0, 1, 0, 0, 0, 2], true),
 ];
 
+// A record is spelled as these octets, and what is read from them is spelled so too.
+fn expect_record(rt: &impl Abort, octets: &[u8], record: &CoreRecord)
+    requires { InRange (content_of record.now) }
+{
+    same(rt, record.write().as_slice(), octets);
+    match CoreRecord::read(octets) {
+        Ok(read) => same(rt, read.write().as_slice(), octets),
+        Err(fault) => panic!(rt; "{octets:?} is refused: {fault:?}"),
+    }
+}
+
 // Appends octets one by one.
 fn push_all(out: &mut Octets, octets: &[u8]) {
     for octet in octets {
@@ -109,13 +129,9 @@ fn path_switch_request_is_read(rt: HostRuntime) {
         station: 1,
         number: 2,
         cell: Cell::new(11, 101).expect(&rt, "in range"),
-        caps: Caps {
-            eea: 0xa0,
-            eia: 0x20,
-        },
+        caps: CAPS,
     };
-    same(&rt, request.write().as_slice(), octets.as_slice());
-    same(&rt, CoreRecord::read(&octets), Ok(request));
+    expect_record(&rt, &octets, &request);
 }
 
 #[test]
@@ -127,10 +143,7 @@ fn derived_key_stands_behind_its_ncc(rt: HostRuntime) {
         source: 7,
         attempt: 2,
         cell,
-        caps: Caps {
-            eea: 0xa0,
-            eia: 0x20,
-        },
+        caps: CAPS,
         ncc: 3,
         star,
     };
@@ -138,56 +151,78 @@ fn derived_key_stands_behind_its_ncc(rt: HostRuntime) {
     same(&rt, request.write().as_slice(), octets.as_slice());
 }
 
+// A record is spelled as the octets of its kind, and read from them.
+fn expect_kind(rt: &impl Abort, kind: usize, record: &CoreRecord)
+    requires { InRange (content_of record.now) }
+{
+    expect_record(rt, spelling(kind).as_slice(), record);
+}
+
 #[test]
-fn each_kind_is_read_as_spelled_and_written_back(rt: HostRuntime) {
+fn records_of_s1_are_read_as_spelled_and_written_back(rt: HostRuntime) {
     let cell = Cell::new(11, 101).expect(&rt, "in range");
-    let caps = Caps {
-        eea: 0xa0,
-        eia: 0x20,
-    };
-    let eea0 = Algs { eea: Eea::Eea0 };
-    let eea2 = Algs { eea: Eea::Eea2 };
+    let (eea0, eea2) = (Algs { eea: Eea::Eea0 }, Algs { eea: Eea::Eea2 });
     let (conn, station, source, attempt, number, ncc, air) = (1, 7, 7, 2, 2, 3, 9);
-    let kenb = Kenb::of_octets(KEY);
-    let nh = Nh::of_octets(KEY);
-    let star = Star::of_octets(KEY);
-    let table = [
-        CoreRecord::InitialContext {
+    let (kenb, nh) = (Kenb::of_octets(KEY), Nh::of_octets(KEY));
+    expect_kind(
+        &rt,
+        0,
+        &CoreRecord::InitialContext {
             conn,
             cell,
-            caps,
+            caps: CAPS,
             kenb,
         },
-        CoreRecord::ContextRelease { conn },
-        CoreRecord::PathSwitchRequest {
+    );
+    expect_kind(&rt, 1, &CoreRecord::ContextRelease { conn });
+    expect_kind(
+        &rt,
+        2,
+        &CoreRecord::PathSwitchRequest {
             conn,
             station: 1,
             number,
             cell,
-            caps,
+            caps: CAPS,
         },
-        CoreRecord::PathSwitchAnswer {
+    );
+    expect_kind(
+        &rt,
+        3,
+        &CoreRecord::PathSwitchAnswer {
             conn,
             number,
             ncc,
             nh,
         },
-        CoreRecord::HandoverRequired {
+    );
+    expect_kind(
+        &rt,
+        4,
+        &CoreRecord::HandoverRequired {
             conn,
             station,
             attempt,
             cell,
         },
-        CoreRecord::HandoverRequest {
+    );
+    expect_kind(
+        &rt,
+        5,
+        &CoreRecord::HandoverRequest {
             conn,
             source,
             attempt,
             cell,
-            caps,
+            caps: CAPS,
             ncc,
             nh,
         },
-        CoreRecord::HandoverRequestAck {
+    );
+    expect_kind(
+        &rt,
+        6,
+        &CoreRecord::HandoverRequestAck {
             conn,
             source,
             attempt,
@@ -196,7 +231,11 @@ fn each_kind_is_read_as_spelled_and_written_back(rt: HostRuntime) {
             algs: eea2,
             air,
         },
-        CoreRecord::HandoverCommand {
+    );
+    expect_kind(
+        &rt,
+        7,
+        &CoreRecord::HandoverCommand {
             conn,
             attempt,
             cell,
@@ -204,54 +243,77 @@ fn each_kind_is_read_as_spelled_and_written_back(rt: HostRuntime) {
             algs: eea0,
             air,
         },
-        CoreRecord::HandoverNotify {
+    );
+    expect_kind(
+        &rt,
+        8,
+        &CoreRecord::HandoverNotify {
             conn,
             station,
             cell,
         },
-        CoreRecord::HandoverCancel {
+    );
+    expect_kind(
+        &rt,
+        9,
+        &CoreRecord::HandoverCancel {
             conn,
             source,
             attempt,
             cell,
         },
-        CoreRecord::X2Request {
-            conn,
-            source,
-            attempt,
-            cell,
-            caps,
-            ncc,
-            star,
-        },
-        CoreRecord::X2Ack {
-            conn,
-            attempt,
-            cell,
-            algs: eea2,
-            air,
-        },
-        CoreRecord::X2Cancel {
-            conn,
-            source,
-            attempt,
-        },
-        CoreRecord::X2Release { conn, attempt },
-        CoreRecord::ContextModification {
+    );
+    expect_kind(
+        &rt,
+        14,
+        &CoreRecord::ContextModification {
             conn,
             next: 2,
             kenb,
         },
-    ];
-    for (kind, record) in table.iter().enumerate() {
-        let octets = spelling(kind);
-        let read = CoreRecord::read(octets.as_slice());
-        assert!(rt; read.is_ok(), "kind {kind}");
-        if let Ok(read) = read {
-            same_at(&rt, kind, &read, record);
-            same_at(&rt, kind, read.write().as_slice(), octets.as_slice());
-        }
-    }
+    );
+}
+
+#[test]
+fn records_of_x2_are_read_as_spelled_and_written_back(rt: HostRuntime) {
+    let cell = Cell::new(11, 101).expect(&rt, "in range");
+    let algs = Algs { eea: Eea::Eea2 };
+    let (conn, source, attempt, ncc, air) = (1, 7, 2, 3, 9);
+    let star = Star::of_octets(KEY);
+    expect_kind(
+        &rt,
+        10,
+        &CoreRecord::X2Request {
+            conn,
+            source,
+            attempt,
+            cell,
+            caps: CAPS,
+            ncc,
+            star,
+        },
+    );
+    expect_kind(
+        &rt,
+        11,
+        &CoreRecord::X2Ack {
+            conn,
+            attempt,
+            cell,
+            algs,
+            air,
+        },
+    );
+    expect_kind(
+        &rt,
+        12,
+        &CoreRecord::X2Cancel {
+            conn,
+            source,
+            attempt,
+        },
+    );
+    expect_kind(&rt, 13, &CoreRecord::X2Release { conn, attempt });
 }
 
 #[test]
@@ -287,83 +349,85 @@ fn fault_is_the_first_in_order(rt: HostRuntime) {
     }
 }
 
+// For each field of each kind octets that are out of its range: the kind, the place and the octets.
+static FIELDS: [(usize, u8, &[u8]); 66] = [
+    (0, 1, &[0, 0, 0, 0]),
+    (0, 5, &[1, 0xf8]),
+    (0, 7, &[0, 4, 0, 0]),
+    (1, 1, &[0, 0, 0, 0]),
+    (2, 1, &[0, 0, 0, 0]),
+    (2, 5, &[8]),
+    (2, 6, &[0, 0, 0, 0]),
+    (2, 10, &[1, 0xf8]),
+    (2, 12, &[0, 4, 0, 0]),
+    (3, 1, &[0, 0, 0, 0]),
+    (3, 5, &[0, 0, 0, 0]),
+    (3, 9, &[8]),
+    (4, 1, &[0, 0, 0, 0]),
+    (4, 5, &[8]),
+    (4, 6, &[0, 0, 0, 0]),
+    (4, 10, &[1, 0xf8]),
+    (4, 12, &[0, 4, 0, 0]),
+    (5, 1, &[0, 0, 0, 0]),
+    (5, 5, &[8]),
+    (5, 6, &[0, 0, 0, 0]),
+    (5, 10, &[1, 0xf8]),
+    (5, 12, &[0, 4, 0, 0]),
+    (5, 18, &[8]),
+    (6, 1, &[0, 0, 0, 0]),
+    (6, 5, &[8]),
+    (6, 6, &[0, 0, 0, 0]),
+    (6, 10, &[1, 0xf8]),
+    (6, 12, &[0, 4, 0, 0]),
+    (6, 16, &[8]),
+    (6, 17, &[0x12]),
+    (6, 18, &[0, 0, 0, 0]),
+    (7, 1, &[0, 0, 0, 0]),
+    (7, 5, &[0, 0, 0, 0]),
+    (7, 9, &[1, 0xf8]),
+    (7, 11, &[0, 4, 0, 0]),
+    (7, 15, &[8]),
+    (7, 16, &[0x12]),
+    (7, 17, &[0, 0, 0, 0]),
+    (8, 1, &[0, 0, 0, 0]),
+    (8, 5, &[8]),
+    (8, 6, &[1, 0xf8]),
+    (8, 8, &[0, 4, 0, 0]),
+    (9, 1, &[0, 0, 0, 0]),
+    (9, 5, &[8]),
+    (9, 6, &[0, 0, 0, 0]),
+    (9, 10, &[1, 0xf8]),
+    (9, 12, &[0, 4, 0, 0]),
+    (10, 1, &[0, 0, 0, 0]),
+    (10, 5, &[8]),
+    (10, 6, &[0, 0, 0, 0]),
+    (10, 10, &[1, 0xf8]),
+    (10, 12, &[0, 4, 0, 0]),
+    (10, 18, &[8]),
+    (11, 1, &[0, 0, 0, 0]),
+    (11, 5, &[0, 0, 0, 0]),
+    (11, 9, &[1, 0xf8]),
+    (11, 11, &[0, 4, 0, 0]),
+    (11, 15, &[0x12]),
+    (11, 16, &[0, 0, 0, 0]),
+    (12, 1, &[0, 0, 0, 0]),
+    (12, 5, &[8]),
+    (12, 6, &[0, 0, 0, 0]),
+    (13, 1, &[0, 0, 0, 0]),
+    (13, 5, &[0, 0, 0, 0]),
+    (14, 1, &[0, 0, 0, 0]),
+    (14, 5, &[0, 0, 0, 0]),
+];
+
 #[test]
 fn field_out_of_range_is_named_by_its_offset(rt: HostRuntime) {
-    let table: [(usize, u8, &[u8]); 66] = [
-        (0, 1, &[0, 0, 0, 0]),
-        (0, 5, &[1, 0xf8]),
-        (0, 7, &[0, 4, 0, 0]),
-        (1, 1, &[0, 0, 0, 0]),
-        (2, 1, &[0, 0, 0, 0]),
-        (2, 5, &[8]),
-        (2, 6, &[0, 0, 0, 0]),
-        (2, 10, &[1, 0xf8]),
-        (2, 12, &[0, 4, 0, 0]),
-        (3, 1, &[0, 0, 0, 0]),
-        (3, 5, &[0, 0, 0, 0]),
-        (3, 9, &[8]),
-        (4, 1, &[0, 0, 0, 0]),
-        (4, 5, &[8]),
-        (4, 6, &[0, 0, 0, 0]),
-        (4, 10, &[1, 0xf8]),
-        (4, 12, &[0, 4, 0, 0]),
-        (5, 1, &[0, 0, 0, 0]),
-        (5, 5, &[8]),
-        (5, 6, &[0, 0, 0, 0]),
-        (5, 10, &[1, 0xf8]),
-        (5, 12, &[0, 4, 0, 0]),
-        (5, 18, &[8]),
-        (6, 1, &[0, 0, 0, 0]),
-        (6, 5, &[8]),
-        (6, 6, &[0, 0, 0, 0]),
-        (6, 10, &[1, 0xf8]),
-        (6, 12, &[0, 4, 0, 0]),
-        (6, 16, &[8]),
-        (6, 17, &[0x12]),
-        (6, 18, &[0, 0, 0, 0]),
-        (7, 1, &[0, 0, 0, 0]),
-        (7, 5, &[0, 0, 0, 0]),
-        (7, 9, &[1, 0xf8]),
-        (7, 11, &[0, 4, 0, 0]),
-        (7, 15, &[8]),
-        (7, 16, &[0x12]),
-        (7, 17, &[0, 0, 0, 0]),
-        (8, 1, &[0, 0, 0, 0]),
-        (8, 5, &[8]),
-        (8, 6, &[1, 0xf8]),
-        (8, 8, &[0, 4, 0, 0]),
-        (9, 1, &[0, 0, 0, 0]),
-        (9, 5, &[8]),
-        (9, 6, &[0, 0, 0, 0]),
-        (9, 10, &[1, 0xf8]),
-        (9, 12, &[0, 4, 0, 0]),
-        (10, 1, &[0, 0, 0, 0]),
-        (10, 5, &[8]),
-        (10, 6, &[0, 0, 0, 0]),
-        (10, 10, &[1, 0xf8]),
-        (10, 12, &[0, 4, 0, 0]),
-        (10, 18, &[8]),
-        (11, 1, &[0, 0, 0, 0]),
-        (11, 5, &[0, 0, 0, 0]),
-        (11, 9, &[1, 0xf8]),
-        (11, 11, &[0, 4, 0, 0]),
-        (11, 15, &[0x12]),
-        (11, 16, &[0, 0, 0, 0]),
-        (12, 1, &[0, 0, 0, 0]),
-        (12, 5, &[8]),
-        (12, 6, &[0, 0, 0, 0]),
-        (13, 1, &[0, 0, 0, 0]),
-        (13, 5, &[0, 0, 0, 0]),
-        (14, 1, &[0, 0, 0, 0]),
-        (14, 5, &[0, 0, 0, 0]),
-    ];
-    for (kind, place, field) in table {
-        let octets = changed(kind, place as usize, field);
+    for (kind, place, field) in &FIELDS {
+        let octets = changed(*kind, *place as usize, field);
         same_at(
             &rt,
-            (kind, place),
+            (*kind, *place),
             CoreRecord::read(octets.as_slice()).err(),
-            Some(RecFault::BadField(place)),
+            Some(RecFault::BadField(*place)),
         );
     }
     // Two fields out of range: the first is named.
@@ -381,12 +445,8 @@ fn cell_with_an_earfcn_of_17_bits_is_read(rt: HostRuntime) {
     let context = CoreRecord::InitialContext {
         conn: 1,
         cell: Cell::new(11, 65536).expect(&rt, "in range"),
-        caps: Caps {
-            eea: 0xa0,
-            eia: 0x20,
-        },
+        caps: CAPS,
         kenb: Kenb::of_octets(KEY),
     };
-    same(&rt, context.write().as_slice(), octets.as_slice());
-    same(&rt, CoreRecord::read(octets.as_slice()), Ok(context));
+    expect_record(&rt, octets.as_slice(), &context);
 }

@@ -51,26 +51,28 @@ fn text_has_up_to_200_octets(rt: HostRuntime) {
     same(&rt, NasRecord::read(&octets).err(), Some(RecFault::Long));
 }
 
+// Octets that are no record, and why.
+static FAULTS: [(&[u8], RecFault); 15] = [
+    (&[], RecFault::Short),
+    (&[0x00], RecFault::BadKind),
+    (&[0x06, 0, 0], RecFault::BadKind),
+    (&[0x01, 7, 0, 0], RecFault::Short),
+    (&[0x01, 7, 0, 0, 0, 0], RecFault::Long),
+    (&[0x01, 7, 0, 0, 0], RecFault::BadField(1)),
+    (&[0x01, 6, 0x12, 0, 0], RecFault::BadField(2)),
+    (&[0x01, 6, 0x20, 0, 0], RecFault::BadField(2)),
+    (&[0x02, 0], RecFault::Long),
+    (&[0x03], RecFault::Short),
+    (&[0x03, 23, 0], RecFault::Long),
+    (&[0x03, 22], RecFault::BadField(1)),
+    (&[0x03, 25], RecFault::BadField(1)),
+    (&[0x03, 0x23], RecFault::BadField(1)),
+    (&[0x04, 0], RecFault::Long),
+];
+
 #[test]
 fn fault_is_the_first_in_order(rt: HostRuntime) {
-    let table: [(&[u8], RecFault); 15] = [
-        (&[], RecFault::Short),
-        (&[0x00], RecFault::BadKind),
-        (&[0x06, 0, 0], RecFault::BadKind),
-        (&[0x01, 7, 0, 0], RecFault::Short),
-        (&[0x01, 7, 0, 0, 0, 0], RecFault::Long),
-        (&[0x01, 7, 0, 0, 0], RecFault::BadField(1)),
-        (&[0x01, 6, 0x12, 0, 0], RecFault::BadField(2)),
-        (&[0x01, 6, 0x20, 0, 0], RecFault::BadField(2)),
-        (&[0x02, 0], RecFault::Long),
-        (&[0x03], RecFault::Short),
-        (&[0x03, 23, 0], RecFault::Long),
-        (&[0x03, 22], RecFault::BadField(1)),
-        (&[0x03, 25], RecFault::BadField(1)),
-        (&[0x03, 0x23], RecFault::BadField(1)),
-        (&[0x04, 0], RecFault::Long),
-    ];
-    for (octets, fault) in table {
-        same(&rt, NasRecord::read(octets).err(), Some(fault));
+    for (octets, fault) in &FAULTS {
+        same(&rt, NasRecord::read(octets).err(), Some(*fault));
     }
 }

@@ -82,79 +82,81 @@ fn text_has_up_to_200_octets(rt: HostRuntime) {
     same(&rt, RrcRecord::read(&octets).err(), Some(RecFault::Long));
 }
 
+// Octets that are no record, and why.
+static FAULTS: [(&[u8], RecFault); 26] = [
+    (&[], RecFault::Short),
+    (&[0x07], RecFault::BadKind),
+    (&[0x07, 0, 0], RecFault::BadKind),
+    (&[0x01, 0x12, 8, 0, 0, 0], RecFault::Short),
+    (&[0x01, 0x12, 8, 0, 0, 0, 0, 0], RecFault::Long),
+    (&[0x01, 0x22, 0, 0, 0, 0, 1, 0], RecFault::Long),
+    (&[0x01, 0x12, 0, 0, 0, 0, 1], RecFault::BadField(1)),
+    (&[0x01, 0x12, 8, 0, 0, 0, 0], RecFault::BadField(1)),
+    (&[0x01, 0x22, 8, 0, 0, 0, 1], RecFault::BadField(2)),
+    (&[0x01, 0x22, 0, 0, 0, 0, 0], RecFault::BadField(3)),
+    (&[0x02, 0], RecFault::Long),
+    (&[0x04, 0], RecFault::Long),
+    (
+        &[0x03, 1, 0xf8, 0, 4, 0, 0, 8, 0, 8, 0, 0, 0],
+        RecFault::Short,
+    ),
+    (
+        &[0x03, 1, 0xf8, 0, 4, 0, 0, 8, 0, 8, 0, 0, 0, 0],
+        RecFault::BadField(1),
+    ),
+    (
+        &[0x03, 1, 0xf7, 0, 4, 0, 0, 8, 0, 8, 0, 0, 0, 0],
+        RecFault::BadField(3),
+    ),
+    (
+        &[0x03, 1, 0xf7, 0, 3, 0xff, 0xff, 8, 0, 8, 0, 0, 0, 0],
+        RecFault::BadField(7),
+    ),
+    (
+        &[0x03, 1, 0xf7, 0, 3, 0xff, 0xff, 7, 0, 8, 0, 0, 0, 0],
+        RecFault::BadField(8),
+    ),
+    (
+        &[0x03, 1, 0xf7, 0, 3, 0xff, 0xff, 7, 2, 8, 0, 0, 0, 0],
+        RecFault::BadField(9),
+    ),
+    (
+        &[0x03, 1, 0xf7, 0, 3, 0xff, 0xff, 7, 2, 7, 0, 0, 0, 0],
+        RecFault::BadField(10),
+    ),
+    (
+        &[0x06, 1, 0xf8, 0, 4, 0, 0, 0x12, 8, 0, 0, 0],
+        RecFault::Short,
+    ),
+    (
+        &[0x06, 1, 0xf7, 0, 3, 0xff, 0xff, 2, 7, 0, 0, 0, 1, 0],
+        RecFault::Long,
+    ),
+    (
+        &[0x06, 1, 0xf8, 0, 4, 0, 0, 0x12, 8, 0, 0, 0, 0],
+        RecFault::BadField(1),
+    ),
+    (
+        &[0x06, 1, 0xf7, 0, 4, 0, 0, 0x12, 8, 0, 0, 0, 0],
+        RecFault::BadField(3),
+    ),
+    (
+        &[0x06, 1, 0xf7, 0, 3, 0xff, 0xff, 0x12, 8, 0, 0, 0, 0],
+        RecFault::BadField(7),
+    ),
+    (
+        &[0x06, 1, 0xf7, 0, 3, 0xff, 0xff, 2, 8, 0, 0, 0, 0],
+        RecFault::BadField(8),
+    ),
+    (
+        &[0x06, 1, 0xf7, 0, 3, 0xff, 0xff, 2, 7, 0, 0, 0, 0],
+        RecFault::BadField(9),
+    ),
+];
+
 #[test]
 fn fault_is_the_first_in_order(rt: HostRuntime) {
-    let table: [(&[u8], RecFault); 26] = [
-        (&[], RecFault::Short),
-        (&[0x07], RecFault::BadKind),
-        (&[0x07, 0, 0], RecFault::BadKind),
-        (&[0x01, 0x12, 8, 0, 0, 0], RecFault::Short),
-        (&[0x01, 0x12, 8, 0, 0, 0, 0, 0], RecFault::Long),
-        (&[0x01, 0x22, 0, 0, 0, 0, 1, 0], RecFault::Long),
-        (&[0x01, 0x12, 0, 0, 0, 0, 1], RecFault::BadField(1)),
-        (&[0x01, 0x12, 8, 0, 0, 0, 0], RecFault::BadField(1)),
-        (&[0x01, 0x22, 8, 0, 0, 0, 1], RecFault::BadField(2)),
-        (&[0x01, 0x22, 0, 0, 0, 0, 0], RecFault::BadField(3)),
-        (&[0x02, 0], RecFault::Long),
-        (&[0x04, 0], RecFault::Long),
-        (
-            &[0x03, 1, 0xf8, 0, 4, 0, 0, 8, 0, 8, 0, 0, 0],
-            RecFault::Short,
-        ),
-        (
-            &[0x03, 1, 0xf8, 0, 4, 0, 0, 8, 0, 8, 0, 0, 0, 0],
-            RecFault::BadField(1),
-        ),
-        (
-            &[0x03, 1, 0xf7, 0, 4, 0, 0, 8, 0, 8, 0, 0, 0, 0],
-            RecFault::BadField(3),
-        ),
-        (
-            &[0x03, 1, 0xf7, 0, 3, 0xff, 0xff, 8, 0, 8, 0, 0, 0, 0],
-            RecFault::BadField(7),
-        ),
-        (
-            &[0x03, 1, 0xf7, 0, 3, 0xff, 0xff, 7, 0, 8, 0, 0, 0, 0],
-            RecFault::BadField(8),
-        ),
-        (
-            &[0x03, 1, 0xf7, 0, 3, 0xff, 0xff, 7, 2, 8, 0, 0, 0, 0],
-            RecFault::BadField(9),
-        ),
-        (
-            &[0x03, 1, 0xf7, 0, 3, 0xff, 0xff, 7, 2, 7, 0, 0, 0, 0],
-            RecFault::BadField(10),
-        ),
-        (
-            &[0x06, 1, 0xf8, 0, 4, 0, 0, 0x12, 8, 0, 0, 0],
-            RecFault::Short,
-        ),
-        (
-            &[0x06, 1, 0xf7, 0, 3, 0xff, 0xff, 2, 7, 0, 0, 0, 1, 0],
-            RecFault::Long,
-        ),
-        (
-            &[0x06, 1, 0xf8, 0, 4, 0, 0, 0x12, 8, 0, 0, 0, 0],
-            RecFault::BadField(1),
-        ),
-        (
-            &[0x06, 1, 0xf7, 0, 4, 0, 0, 0x12, 8, 0, 0, 0, 0],
-            RecFault::BadField(3),
-        ),
-        (
-            &[0x06, 1, 0xf7, 0, 3, 0xff, 0xff, 0x12, 8, 0, 0, 0, 0],
-            RecFault::BadField(7),
-        ),
-        (
-            &[0x06, 1, 0xf7, 0, 3, 0xff, 0xff, 2, 8, 0, 0, 0, 0],
-            RecFault::BadField(8),
-        ),
-        (
-            &[0x06, 1, 0xf7, 0, 3, 0xff, 0xff, 2, 7, 0, 0, 0, 0],
-            RecFault::BadField(9),
-        ),
-    ];
-    for (octets, fault) in table {
-        same(&rt, RrcRecord::read(octets).err(), Some(fault));
+    for (octets, fault) in &FAULTS {
+        same(&rt, RrcRecord::read(octets).err(), Some(*fault));
     }
 }

@@ -1,8 +1,11 @@
 // The place of the first bad octet of a body: of a field out of its range or repeated, the end where
 // octets are wanting, or the first octet too many.
+ghost use Rattle.role_wire.specs.Ranges.{IsRole};
+
 use super::expect_fault;
 use edge_io::Role;
 use role_wire::FrameFault;
+use std::process::Abort;
 use std::test::Fail;
 
 // Bodies of a first frame of a station or the core.
@@ -27,6 +30,9 @@ static SETUPS: [(&str, u16); 19] = [
     ("000f000102000000010200000a00000064", 15),
     ("0010000102000000010100000a00000064ff", 15),
 ];
+
+// Bodies of a first frame of the phone.
+static PHONE_SETUPS: [(&str, u16); 3] = [("000110", 0), ("000200a0", 2), ("000400a02000", 3)];
 
 // Bodies of later frames of the phone.
 static PHONE: [(&str, u16); 22] = [
@@ -118,44 +124,35 @@ static CORE: [(&str, u16); 18] = [
     ("000821000a0000006400", 7),
 ];
 
-#[test]
-fn setups_are_refused_at_the_first_bad_octet(rt: HostRuntime) -> Result<(), Fail> {
-    for (text, place) in SETUPS {
-        expect_fault(
-            &rt,
-            Role::Station(7),
-            true,
-            text,
-            FrameFault::BadBody(place),
-        )?;
-        expect_fault(&rt, Role::Core, true, text, FrameFault::BadBody(place))?;
-    }
-    let standard = "000f060102000000010100000a00000064";
-    let other = FrameFault::BadBody(0);
-    expect_fault(&rt, Role::Station(7), true, standard, other)?;
-    expect_fault(&rt, Role::Core, false, standard, other)?;
-    for (text, place) in [("000110", 0), ("000200a0", 2), ("000400a02000", 3)] {
-        expect_fault(&rt, Role::Phone, true, text, FrameFault::BadBody(place))?;
+// Each text is refused at its place.
+fn expect_faults<R: Abort + AllocGlobal>(
+    rt: &R,
+    role: Role,
+    first: bool,
+    rows: &[(&str, u16)],
+) -> Result<(), Fail>
+    requires { IsRole role }
+{
+    for (text, place) in rows {
+        expect_fault(rt, role, first, text, FrameFault::BadBody(*place))?;
     }
     Ok(())
 }
 
 #[test]
+fn setups_are_refused_at_the_first_bad_octet(rt: HostRuntime) -> Result<(), Fail> {
+    expect_faults(&rt, Role::Station(7), true, &SETUPS)?;
+    expect_faults(&rt, Role::Core, true, &SETUPS)?;
+    let standard = "000f060102000000010100000a00000064";
+    let other = FrameFault::BadBody(0);
+    expect_fault(&rt, Role::Station(7), true, standard, other)?;
+    expect_fault(&rt, Role::Core, false, standard, other)?;
+    expect_faults(&rt, Role::Phone, true, &PHONE_SETUPS)
+}
+
+#[test]
 fn later_frames_are_refused_at_the_first_bad_octet(rt: HostRuntime) -> Result<(), Fail> {
-    for (text, place) in PHONE {
-        expect_fault(&rt, Role::Phone, false, text, FrameFault::BadBody(place))?;
-    }
-    for (text, place) in STATION {
-        expect_fault(
-            &rt,
-            Role::Station(0),
-            false,
-            text,
-            FrameFault::BadBody(place),
-        )?;
-    }
-    for (text, place) in CORE {
-        expect_fault(&rt, Role::Core, false, text, FrameFault::BadBody(place))?;
-    }
-    Ok(())
+    expect_faults(&rt, Role::Phone, false, &PHONE)?;
+    expect_faults(&rt, Role::Station(0), false, &STATION)?;
+    expect_faults(&rt, Role::Core, false, &CORE)
 }

@@ -73,56 +73,62 @@ fn keys_of_the_ordinary_scenario(rt: HostRuntime) -> Result<(), Fail> {
     expect_reply(&rt, &reply, text)
 }
 
+const OWN: Caps = Caps {
+    eea: 0xa0,
+    eia: 0x20,
+};
+
+const GOT: Caps = Caps {
+    eea: 0x20,
+    eia: 0x60,
+};
+
+// An answer and its frame.
+static ANSWERS: [(Answer, &str); 14] = [
+    (Answer::NoContext, "00088001000000000000"),
+    (Answer::WrongKsi(1, 2), "000a80020201020000000000"),
+    (
+        Answer::CapsMismatch(OWN, GOT),
+        "000c800304a02020600000000000",
+    ),
+    (
+        Answer::AlgUnsupported(Algs { eea: Eea::Eea2 }),
+        "0009800401220000000000",
+    ),
+    (
+        Answer::MacFails(7, [1, 2, 3, 4], [5, 6, 7, 8]),
+        "001480050c0000000701020304050607080000000000",
+    ),
+    (
+        Answer::BadRecord(RecFault::Short),
+        "000a80090201000000000000",
+    ),
+    (
+        Answer::BadRecord(RecFault::BadField(9)),
+        "000a80090204090000000000",
+    ),
+    (Answer::BadHeader(0x70), "0009800b01700000000000"),
+    (Answer::WrongKind(0x30), "0009800d01300000000000"),
+    (
+        Answer::Stale(0, 258),
+        "0010801f0800000000000001020000000000",
+    ),
+    (
+        Answer::OldConnection(2, 1),
+        "001080200800000002000000010000000000",
+    ),
+    (Answer::AttemptOpen(3), "000c802404000000030000000000"),
+    (
+        Answer::Repeated(4, 4),
+        "001080270800000004000000040000000000",
+    ),
+    (Answer::NoSmc, "0008802c000000000000"),
+];
+
 #[test]
 fn answers_keep_their_values(rt: HostRuntime) -> Result<(), Fail> {
-    let own = Caps {
-        eea: 0xa0,
-        eia: 0x20,
-    };
-    let got = Caps {
-        eea: 0x20,
-        eia: 0x60,
-    };
-    let algs = Algs { eea: Eea::Eea2 };
-    let table = [
-        (Answer::NoContext, "00088001000000000000"),
-        (Answer::WrongKsi(1, 2), "000a80020201020000000000"),
-        (
-            Answer::CapsMismatch(own, got),
-            "000c800304a02020600000000000",
-        ),
-        (Answer::AlgUnsupported(algs), "0009800401220000000000"),
-        (
-            Answer::MacFails(7, [1, 2, 3, 4], [5, 6, 7, 8]),
-            "001480050c0000000701020304050607080000000000",
-        ),
-        (
-            Answer::BadRecord(RecFault::Short),
-            "000a80090201000000000000",
-        ),
-        (
-            Answer::BadRecord(RecFault::BadField(9)),
-            "000a80090204090000000000",
-        ),
-        (Answer::BadHeader(0x70), "0009800b01700000000000"),
-        (Answer::WrongKind(0x30), "0009800d01300000000000"),
-        (
-            Answer::Stale(0, 258),
-            "0010801f0800000000000001020000000000",
-        ),
-        (
-            Answer::OldConnection(2, 1),
-            "001080200800000002000000010000000000",
-        ),
-        (Answer::AttemptOpen(3), "000c802404000000030000000000"),
-        (
-            Answer::Repeated(4, 4),
-            "001080270800000004000000040000000000",
-        ),
-        (Answer::NoSmc, "0008802c000000000000"),
-    ];
-    for (answer, text) in table {
-        expect_reply(&rt, &ActorOut::of(answer), text)?;
+    for (answer, text) in &ANSWERS {
+        expect_reply(&rt, &ActorOut::of(*answer), text)?;
     }
     Ok(())
 }
