@@ -6,6 +6,7 @@ mod ends;
 mod kinds;
 
 use crate::spelled::octets;
+use crate::values::same_at;
 use edge_io::{MemPort, MemSink, MemSource, Port, Role};
 use role_node::{ServeEnd, serve};
 use std::process::Abort;
@@ -29,6 +30,23 @@ fn session<R: Abort + AllocGlobal>(
     port.open().expect(rt, "a port over memory opens");
     let end = serve(role, &mut port);
     Ok((end, port.sink().octets().to_vec(alloc)?))
+}
+
+// A session of a role over a port that has these octets ends so, with these replies written, which are texts in hex.
+fn expect_end<R: Abort + AllocGlobal>(
+    rt: &R,
+    role: Role,
+    octets: &[u8],
+    end: ServeEnd,
+    replies: &[&str],
+) -> Result<(), Fail>
+    requires { IsRole role }
+{
+    let (got, written) = session(rt, role, octets, None, None)?;
+    same_at(rt, octets, got, end);
+    let replies = octets_of(rt, replies)?;
+    same_at(rt, octets, written.as_slice(), replies.as_slice());
+    Ok(())
 }
 
 // The number of the one call that fails, if there is one.

@@ -32,69 +32,73 @@ fn assert_line(rt: &impl Abort, alloc: Global, of: &Line, wanted: &str) -> Resul
     Ok(())
 }
 
+const OWN: Caps = Caps {
+    eea: 0xa0,
+    eia: 0x20,
+};
+
+const GOT: Caps = Caps {
+    eea: 0x0f,
+    eia: 0x00,
+};
+
+// An answer and what is printed of it.
+static ANSWERS: [(Answer, &str); 21] = [
+    (Answer::Done, "done"),
+    (Answer::NoContext, "NoContext"),
+    (Answer::WrongKsi(0, 6), "WrongKsi held=0 got=6"),
+    (
+        Answer::CapsMismatch(OWN, GOT),
+        "CapsMismatch own=a020 got=0f00",
+    ),
+    (
+        Answer::AlgUnsupported(Algs { eea: Eea::Eea0 }),
+        "AlgUnsupported algs=02",
+    ),
+    (
+        Answer::AlgUnsupported(Algs { eea: Eea::Eea2 }),
+        "AlgUnsupported algs=22",
+    ),
+    (
+        Answer::MacFails(512, [0, 1, 0xab, 255], [0xde, 0xad, 0xbe, 0xef]),
+        "MacFails count=512 wanted=0001abff got=deadbeef",
+    ),
+    (
+        Answer::BadRecord(RecFault::Short),
+        "BadRecord fault=1 place=0",
+    ),
+    (
+        Answer::BadRecord(RecFault::Long),
+        "BadRecord fault=2 place=0",
+    ),
+    (
+        Answer::BadRecord(RecFault::BadKind),
+        "BadRecord fault=3 place=0",
+    ),
+    (
+        Answer::BadRecord(RecFault::BadField(10)),
+        "BadRecord fault=4 place=10",
+    ),
+    (Answer::Short, "Short"),
+    (Answer::BadHeader(7), "BadHeader octet=07"),
+    (Answer::WrongKind(0x2a), "WrongKind kind=2a"),
+    (Answer::Stale(0, 12), "Stale outstanding=0 got=12"),
+    (
+        Answer::OldConnection(4294967295, 1),
+        "OldConnection held=4294967295 got=1",
+    ),
+    (Answer::AttemptOpen(3), "AttemptOpen number=3"),
+    (Answer::Repeated(5, 5), "Repeated seen=5 got=5"),
+    (Answer::NoRecord, "NoRecord"),
+    (Answer::Sent(10), "Sent record=10"),
+    (Answer::RepeatedRoot(0), "RepeatedRoot row=0"),
+];
+
 #[test]
 fn answers_print_what_they_keep(rt: HostRuntime) -> Result<(), Fail> {
-    let own = Caps {
-        eea: 0xa0,
-        eia: 0x20,
-    };
-    let got = Caps {
-        eea: 0x0f,
-        eia: 0x00,
-    };
-    let table = [
-        (Answer::Done, "done"),
-        (Answer::NoContext, "NoContext"),
-        (Answer::WrongKsi(0, 6), "WrongKsi held=0 got=6"),
-        (
-            Answer::CapsMismatch(own, got),
-            "CapsMismatch own=a020 got=0f00",
-        ),
-        (
-            Answer::AlgUnsupported(Algs { eea: Eea::Eea0 }),
-            "AlgUnsupported algs=02",
-        ),
-        (
-            Answer::AlgUnsupported(Algs { eea: Eea::Eea2 }),
-            "AlgUnsupported algs=22",
-        ),
-        (
-            Answer::MacFails(512, [0, 1, 0xab, 255], [0xde, 0xad, 0xbe, 0xef]),
-            "MacFails count=512 wanted=0001abff got=deadbeef",
-        ),
-        (
-            Answer::BadRecord(RecFault::Short),
-            "BadRecord fault=1 place=0",
-        ),
-        (
-            Answer::BadRecord(RecFault::Long),
-            "BadRecord fault=2 place=0",
-        ),
-        (
-            Answer::BadRecord(RecFault::BadKind),
-            "BadRecord fault=3 place=0",
-        ),
-        (
-            Answer::BadRecord(RecFault::BadField(10)),
-            "BadRecord fault=4 place=10",
-        ),
-        (Answer::Short, "Short"),
-        (Answer::BadHeader(7), "BadHeader octet=07"),
-        (Answer::WrongKind(0x2a), "WrongKind kind=2a"),
-        (Answer::Stale(0, 12), "Stale outstanding=0 got=12"),
-        (
-            Answer::OldConnection(4294967295, 1),
-            "OldConnection held=4294967295 got=1",
-        ),
-        (Answer::AttemptOpen(3), "AttemptOpen number=3"),
-        (Answer::Repeated(5, 5), "Repeated seen=5 got=5"),
-        (Answer::NoRecord, "NoRecord"),
-        (Answer::Sent(10), "Sent record=10"),
-        (Answer::RepeatedRoot(0), "RepeatedRoot row=0"),
-    ];
-    for (answer, wanted) in table {
+    for (answer, wanted) in &ANSWERS {
         let wanted = format!(in rt.alloc(); "7 core {wanted}")?;
-        assert_line(&rt, rt.alloc(), &line_of(7, Who::Core, answer), &wanted)?;
+        assert_line(&rt, rt.alloc(), &line_of(7, Who::Core, *answer), &wanted)?;
     }
     Ok(())
 }

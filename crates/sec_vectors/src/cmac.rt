@@ -6,31 +6,34 @@ use cmac_eia2::{Cmac, cmac_of};
 use hex::FromHex;
 use std::test::Fail;
 
+// Text and its CMAC.
+static SP_800_38B: [(&str, &str); 4] = [
+    ("", "bb1d6929e95937287fa37d129b756746"),
+    (
+        "6bc1bee22e409f96e93d7e117393172a",
+        "070a16b46b4d4144f79bdd9dd04a287c",
+    ),
+    (
+        concat!(
+            "6bc1bee22e409f96e93d7e117393172aae2d8a571e03ac9c9eb76fac45af8e51",
+            "30c81c46a35ce411",
+        ),
+        "dfa66747de9ae63030ca32611497c827",
+    ),
+    (
+        concat!(
+            "6bc1bee22e409f96e93d7e117393172aae2d8a571e03ac9c9eb76fac45af8e51",
+            "30c81c46a35ce411e5fbc1191a0a52eff69f2445df4f9b17ad2b417be66c3710",
+        ),
+        "51f0bebf7e3b9d92fc49741779363cfe",
+    ),
+];
+
 #[test]
 fn texts_of_sp_800_38b_have_their_cmac(rt: HostRuntime) -> Result<(), Fail> {
     let key = <[u8; 16] as FromHex>::from_hex("2b7e151628aed2a6abf7158809cf4f3c")?;
     let aes = Aes128::new(&key);
-    for (text, cmac) in [
-        ("", "bb1d6929e95937287fa37d129b756746"),
-        (
-            "6bc1bee22e409f96e93d7e117393172a",
-            "070a16b46b4d4144f79bdd9dd04a287c",
-        ),
-        (
-            concat!(
-                "6bc1bee22e409f96e93d7e117393172aae2d8a571e03ac9c9eb76fac45af8e51",
-                "30c81c46a35ce411",
-            ),
-            "dfa66747de9ae63030ca32611497c827",
-        ),
-        (
-            concat!(
-                "6bc1bee22e409f96e93d7e117393172aae2d8a571e03ac9c9eb76fac45af8e51",
-                "30c81c46a35ce411e5fbc1191a0a52eff69f2445df4f9b17ad2b417be66c3710",
-            ),
-            "51f0bebf7e3b9d92fc49741779363cfe",
-        ),
-    ] {
+    for (text, cmac) in &SP_800_38B {
         let octets = hex::decode(rt.alloc(), text)?;
         let cmac = <[u8; 16] as FromHex>::from_hex(cmac)?;
         same_at(&rt, text, cmac_of(&aes, &octets), cmac);

@@ -1,6 +1,6 @@
 // How a session ends: at a frame's edge, inside a frame, at a frame that is none, and at a fault.
-use super::{front, octets_of, session};
-use crate::values::{same, same_at};
+use super::{expect_end, front, octets_of, session};
+use crate::values::same_at;
 use edge_io::Role;
 use role_node::ServeEnd;
 use role_wire::FrameFault;
@@ -87,14 +87,7 @@ static SESSIONS: [Session; 8] = [
 fn a_frame_that_is_none_ends_a_session_at_its_place(rt: HostRuntime) -> Result<(), Fail> {
     for (frames, replies, want) in &SESSIONS {
         let octets = octets_of(&rt, frames)?;
-        let (end, written) = session(&rt, Role::Phone, octets.as_slice(), None, None)?;
-        same(&rt, end, *want);
-        same_at(
-            &rt,
-            want,
-            written.as_slice(),
-            octets_of(&rt, replies)?.as_slice(),
-        );
+        expect_end(&rt, Role::Phone, octets.as_slice(), *want, replies)?;
     }
     Ok(())
 }

@@ -1,10 +1,12 @@
 // Every kind of frame for each role: to an actor that was just set up a frame with a good body, which has its
 // reply, and one with a bad body, which ends the session.
-use super::{octets_of, session};
-use crate::values::same_at;
+ghost use Rattle.role_wire.specs.Ranges.{IsRole};
+
+use super::{expect_end, octets_of};
 use edge_io::Role;
 use role_node::ServeEnd;
 use role_wire::FrameFault;
+use std::process::Abort;
 use std::test::Fail;
 
 // A frame and its reply; a frame that is none, by its octets and so many zeros behind them, and the offset of its
@@ -163,26 +165,32 @@ fn every_kind_is_answered_or_ends_a_session(rt: HostRuntime) -> Result<(), Fail>
         (Role::Core, CELLS, CORE.as_slice()),
     ];
     for (role, setup, rows) in roles {
-        for (index, (frame, reply, bad, zeros, offset)) in rows.iter().enumerate() {
+        for (index, row) in rows.iter().enumerate() {
             // The first row is that of the Setup, which is behind no other.
             let (before, said) = if index == 0 { ("", "") } else { (setup, DONE) };
-            let good = octets_of(&rt, &[before, *frame])?;
-            let (end, written) = session(&rt, role, good.as_slice(), None, None)?;
-            same_at(&rt, frame, end, ServeEnd::Done);
-            let replies = octets_of(&rt, &[said, *reply])?;
-            same_at(&rt, frame, written.as_slice(), replies.as_slice());
-
-            let mut octets = octets_of(&rt, &[before, *bad])?;
-            for _ in 0..*zeros {
-                octets.push(0)?;
-            }
-            let (end, written) = session(&rt, role, octets.as_slice(), None, None)?;
-            let fault = FrameFault::BadBody(*offset);
-            let place = before.len() as u64 / 2;
-            same_at(&rt, bad, end, ServeEnd::BadFrame(place, fault));
-            let replies = octets_of(&rt, &[said])?;
-            same_at(&rt, bad, written.as_slice(), replies.as_slice());
+            expect_row(&rt, role, before, said, row)?;
         }
     }
     Ok(())
+}
+
+// Behind what comes before it, whose replies are said, each frame of a row does what the row says.
+fn expect_row<R: Abort + AllocGlobal>(
+    rt: &R,
+    role: Role,
+    before: &'static str,
+    said: &'static str,
+    row: &Row,
+) -> Result<(), Fail>
+    requires { IsRole role }
+{
+    let (frame, reply, bad, zeros, offset) = row;
+    let good = octets_of(rt, &[before, *frame])?;
+    expect_end(rt, role, good.as_slice(), ServeEnd::Done, &[said, *reply])?;
+    let mut octets = octets_of(rt, &[before, *bad])?;
+    for _ in 0..*zeros {
+        octets.push(0)?;
+    }
+    let end = ServeEnd::BadFrame(before.len() as u64 / 2, FrameFault::BadBody(*offset));
+    expect_end(rt, role, octets.as_slice(), end, &[said])
 }
