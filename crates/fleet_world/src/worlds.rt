@@ -1,6 +1,6 @@
 // The worlds of the phones.
 ghost use Rattle.growth.specs.Growth.{WasRefused};
-ghost use Rattle.std.specs.Prelude.{◌≡◌, ◌<◌, ◌≤◌, length, replicate, IfErr, IfOk, IsOkUnless, OnErr};
+ghost use Rattle.std.specs.Prelude.{◌≡◌, ◌<◌, ◌≤◌, [], length, replicate, IfErr, IfOk, IsOkUnless, OnErr, OnOk};
 ghost use Rattle.lte_events.specs.Ranges.{IsSetup};
 ghost use Rattle.lte_world.specs.Whole.{CanApply, begun};
 ghost use Rattle.fleet_world.specs.Worlds.{CanTakeAt, Goes, Takes, TakesAt, with_room};
@@ -18,17 +18,39 @@ pub(crate) fn worlds_of(alloc: Global, setup: &Setup, phones: u16) -> Result<Vec
     ensures begin { IfOk result (λ worlds. worlds.items ≡ replicate phones (begun setup.now)) }
 {
     let mut worlds = Vec::new(alloc);
+    match add_worlds(alloc, setup, phones, &mut worlds) {
+        Ok(()) => Ok(worlds),
+        Err(fault) => {
+            drop(worlds);
+            Err(fault)
+        }
+    }
+}
+
+// Puts them into a list that has none.
+fn add_worlds(
+    alloc: Global,
+    setup: &Setup,
+    phones: u16,
+    worlds: &mut Vec<World>,
+) -> Result<(), FleetFault>
+    requires setup { IsSetup setup.now }
+    requires none { worlds.old.items ≡ [] }
+    ensures memory { IsOkUnless result FleetFault.Memory }
+    ensures refused { OnErr result WasRefused }
+    ensures begin { OnOk result (worlds.new.items ≡ replicate phones (begun setup.now)) }
+{
     for _phone in 0..phones {
-        let world = match World::new(alloc, setup) {
-            Ok(world) => world,
-            Err(_) => return Err(FleetFault::Memory),
-        };
-        match growth::push(&mut worlds, world) {
+        match growth::reserve(worlds, 1) {
             Ok(()) => {}
             Err(_) => return Err(FleetFault::Memory),
         }
+        match World::new(alloc, setup) {
+            Ok(world) => worlds.push_reserved(world),
+            Err(_) => return Err(FleetFault::Memory),
+        }
     }
-    Ok(worlds)
+    Ok(())
 }
 
 // The world of a phone takes an event: how many rows its ladder had before, and the line.

@@ -78,6 +78,7 @@ fn the_first_record_of_a_class_is_found(rt: HostRuntime) {
     same(&rt, first.octets.as_slice(), [0x27, 1, 2].as_slice());
     same(&rt, first.tuple, Some(TUPLE));
     same(&rt, bag.get(6).is_none(), true);
+    drop(bag);
 }
 
 // A number in 32 octets, big-endian.
@@ -113,6 +114,7 @@ fn each_of_many_records_is_found(rt: HostRuntime) {
     for number in 200_000..400_000 {
         same(&rt, bag.find(Class::Air, &numbered(number)), None);
     }
+    drop(bag);
 }
 
 // Makes room, also where that is refused once: then the bag is as before, and the next try succeeds.
@@ -140,4 +142,5 @@ fn a_refused_growth_changes_nothing(rt: HostRuntime) {
     for number in 0..200 {
         same(&rt, bag.find(Class::Air, &numbered(number)), Some(number));
     }
+    drop(bag);
 }

@@ -41,6 +41,7 @@ fn the_same_kenb_twice_is_one_row(rt: HostRuntime) {
     same(&rt, row.origin, Origin::From(Row(0), KdfInput::Kenb(1)));
     same(&rt, ladder.find(&row.octets), Some(Row(2)));
     same(&rt, ladder.find(&[0; 32]), None);
+    drop(ladder);
 }
 
 #[test]
@@ -54,6 +55,7 @@ fn a_root_twice_is_refused(rt: HostRuntime) {
         Err(LadderFault::RepeatedRoot(Row(1))),
     );
     same(&rt, ladder.len(), 2);
+    drop(ladder);
 }
 
 #[test]
@@ -68,6 +70,7 @@ fn a_root_with_the_octets_of_a_kenb_is_a_coincidence(rt: HostRuntime) {
         Err(LadderFault::Coincidence(Row(1), Origin::Root)),
     );
     same(&rt, ladder.len(), 2);
+    drop(ladder);
 }
 
 #[test]
@@ -83,6 +86,7 @@ fn a_kenb_with_the_octets_of_a_root_is_a_coincidence(rt: HostRuntime) {
         Err(LadderFault::Coincidence(Row(0), origin)),
     );
     same(&rt, ladder.len(), 2);
+    drop(ladder);
 }
 
 #[test]
@@ -102,6 +106,7 @@ fn a_row_has_the_holders_that_it_was_given(rt: HostRuntime) {
     stations[7] = true;
     same(&rt, (kenb.phone, kenb.core), (true, false));
     same(&rt, kenb.stations, stations);
+    drop(ladder);
 }
 
 // A number in 32 octets, big-endian.
@@ -130,6 +135,7 @@ fn each_of_many_roots_is_found(rt: HostRuntime) {
     for number in 200_000..400_000 {
         same(&rt, ladder.find(&numbered(number)), None);
     }
+    drop(ladder);
 }
 
 // Makes room for a row, also where that is refused once: then the ladder is as before, and the next try
@@ -159,4 +165,5 @@ fn a_refused_growth_changes_nothing(rt: HostRuntime) {
     for number in 0..200 {
         same(&rt, ladder.find(&numbered(number)), Some(Row(number)));
     }
+    drop(ladder);
 }

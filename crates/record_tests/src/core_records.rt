@@ -75,10 +75,10 @@ static KINDS: [(&[u8], bool); 15] = [
 ];
 
 // A record is spelled as these octets, and what is read from them is spelled so too.
-fn expect_record(rt: &impl Abort, octets: &[u8], record: &CoreRecord)
-    requires { InRange (content_of record.now) }
+fn expect_record(rt: &impl Abort, octets: &[u8], message: &CoreRecord)
+    requires { InRange (content_of message.now) }
 {
-    same(rt, record.write().as_slice(), octets);
+    same(rt, message.write().as_slice(), octets);
     match CoreRecord::read(octets) {
         Ok(read) => same(rt, read.write().as_slice(), octets),
         Err(fault) => panic!(rt; "{octets:?} is refused: {fault:?}"),
@@ -152,10 +152,10 @@ fn derived_key_stands_behind_its_ncc(rt: HostRuntime) {
 }
 
 // A record is spelled as the octets of its kind, and read from them.
-fn expect_kind(rt: &impl Abort, kind: usize, record: &CoreRecord)
-    requires { InRange (content_of record.now) }
+fn expect_kind(rt: &impl Abort, kind: usize, message: &CoreRecord)
+    requires { InRange (content_of message.now) }
 {
-    expect_record(rt, spelling(kind).as_slice(), record);
+    expect_record(rt, spelling(kind).as_slice(), message);
 }
 
 #[test]
