@@ -13,19 +13,12 @@ use edge_io::{Role, SliceSource};
 use rec_base::Bounded;
 use role_wire::{FrameFault, FrameIn, input_frame, read_frame};
 use std::process::Abort;
-use std::test::Fail;
 
 // A frame is read as this, and written again with the same octets.
-fn expect_frame<R: Abort + AllocGlobal>(
-    rt: &R,
-    role: Role,
-    first: bool,
-    text: &str,
-    want: &FrameIn,
-) -> Result<(), Fail>
+fn expect_frame<R: Abort + AllocGlobal>(rt: &R, role: Role, first: bool, text: &str, want: &FrameIn)
     requires { IsRole role }
 {
-    let octets = hex::decode(rt.alloc(), text)?;
+    let octets = hex::decode(rt.alloc(), text).expect(rt, text);
     let mut src = SliceSource::new(octets.as_slice());
     match read_frame(&mut src, role, first) {
         Ok(frame) => {
@@ -34,7 +27,6 @@ fn expect_frame<R: Abort + AllocGlobal>(
         }
         Err(fault) => panic!(rt; "{text} is refused: {fault:?}"),
     }
-    Ok(())
 }
 
 // A frame is refused by this fault.
@@ -44,29 +36,25 @@ fn expect_fault<R: Abort + AllocGlobal>(
     first: bool,
     text: &str,
     want: FrameFault,
-) -> Result<(), Fail>
+)
     requires { IsRole role }
 {
-    let octets = hex::decode(rt.alloc(), text)?;
+    let octets = hex::decode(rt.alloc(), text).expect(rt, text);
     let mut src = SliceSource::new(octets.as_slice());
     match read_frame(&mut src, role, first) {
         Ok(_) => panic!(rt; "{text} is read"),
         Err(fault) => same_at(rt, text, fault, want),
     }
-    Ok(())
 }
 
 // The octets that a text in hex spells.
-fn octets_of<R: Abort + AllocGlobal, const N: usize>(
-    rt: &R,
-    text: &str,
-) -> Result<Bounded<N>, Fail> {
-    let octets = hex::decode(rt.alloc(), text)?;
+fn octets_of<R: Abort + AllocGlobal, const N: usize>(rt: &R, text: &str) -> Bounded<N> {
+    let octets = hex::decode(rt.alloc(), text).expect(rt, text);
     let mut out = Bounded::new();
     for octet in octets.as_slice() {
         assert!(rt; out.try_push(*octet).is_ok(), "{text}");
     }
-    Ok(out)
+    out
 }
 
 // The cell with this PCI and EARFCN-DL.

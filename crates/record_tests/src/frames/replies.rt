@@ -28,13 +28,13 @@ fn expect_reply<R: Abort + AllocGlobal>(rt: &R, reply: &ActorOut, text: &str) ->
 
 #[test]
 fn records_and_texts_of_the_ordinary_scenario(rt: HostRuntime) -> Result<(), Fail> {
-    let setup = octets_of::<_, 10>(&rt, "00088000000000000000")?;
+    let setup = octets_of::<_, 10>(&rt, "00088000000000000000");
     same(&rt, setup_reply().as_slice(), setup.as_slice());
 
     let mut packet = ActorOut::of(Answer::Done);
     packet.sent = Some(Record {
         to: Address::StationAir(0, 1, Bearer::Drb1),
-        octets: octets_of(&rt, "8000c9b9")?,
+        octets: octets_of(&rt, "8000c9b9"),
     });
     expect_reply(
         &rt,
@@ -43,7 +43,7 @@ fn records_and_texts_of_the_ordinary_scenario(rt: HostRuntime) -> Result<(), Fai
     )?;
 
     let mut opened = ActorOut::of(Answer::Done);
-    opened.opened = Some(octets_of(&rt, "6f6b")?);
+    opened.opened = Some(octets_of(&rt, "6f6b"));
     expect_reply(&rt, &opened, "000c800000000100026f6b000000")
 }
 
@@ -51,18 +51,20 @@ fn records_and_texts_of_the_ordinary_scenario(rt: HostRuntime) -> Result<(), Fai
 fn keys_of_the_ordinary_scenario(rt: HostRuntime) -> Result<(), Fail> {
     let key = "09aba1730b0aaeee84feac6bc03f66b9aa90d45309b719114a90be777b24b74c";
     let mut reply = ActorOut::of(Answer::Done);
+    let octets = octets_of(
+        &rt,
+        "2300000001000000020109aba1730b0aaeee84feac6bc03f66b9aa90d45309b719114a90be777b24b74c",
+    );
     reply.sent = Some(Record {
         to: Address::StationS1(1),
-        octets: octets_of(
-            &rt,
-            "2300000001000000020109aba1730b0aaeee84feac6bc03f66b9aa90d45309b719114a90be777b24b74c",
-        )?,
+        octets,
     });
     let made = derived(key)?;
+    let key = made.out;
     reply.note = Some(KeyNote {
         ncc: 1,
         way: Way::Chained,
-        key: made.out,
+        key,
     });
     assert!(rt; reply.derived.try_push(made).is_ok());
     let text = concat!(
@@ -152,7 +154,7 @@ fn records_go_to_their_address(rt: HostRuntime) -> Result<(), Fail> {
     ];
     for (to, text) in table {
         let mut reply = ActorOut::of(Answer::Done);
-        let octets = octets_of(&rt, "2a")?;
+        let octets = octets_of(&rt, "2a");
         reply.sent = Some(Record { to, octets });
         expect_reply(&rt, &reply, text)?;
     }

@@ -68,124 +68,140 @@ fn a_setup_is_what_its_tables_say(rt: HostRuntime) -> Result<(), Fail> {
     Ok(())
 }
 
-#[test]
-fn acts_are_the_events_of_their_steps(rt: HostRuntime) -> Result<(), Fail> {
-    let cell = Cell::new(11, 101).expect(&rt, "a cell in range");
-    let table = [
-        ("do='smc'", Event::Core(CoreAct::StartSmc)),
-        ("do='release'", Event::Core(CoreAct::Release)),
-        ("do='service'", Event::Phone(PhoneAct::ServiceRequest)),
-        ("do='resend'", Event::Phone(PhoneAct::ResendComplete)),
-        ("do='idle'", Event::Phone(PhoneAct::GoIdle)),
-        (
-            "do='connect',cell=[11,101]",
-            Event::Core(CoreAct::Connect(cell)),
-        ),
-        (
-            "do='x2',station=1,cell=[11,101]",
-            Event::Station(1, StationAct::Start(HoKind::X2, cell)),
-        ),
-        (
-            "do='s1',station=1,cell=[11,101]",
-            Event::Station(1, StationAct::Start(HoKind::S1, cell)),
-        ),
-        (
-            "do='intra',station=1,cell=[11,101]",
-            Event::Station(1, StationAct::Start(HoKind::Intra, cell)),
-        ),
-        (
-            "do='command',station=1",
-            Event::Station(1, StationAct::Command),
-        ),
-        (
-            "do='cancel',station=1",
-            Event::Station(1, StationAct::Cancel),
-        ),
-        ("do='ask',station=1", Event::Station(1, StationAct::Ask)),
-        (
-            "do='deliver',record=-9223372036854775808",
-            Event::Deliver(i64::MIN),
-        ),
-        (
-            "do='skip',who='phone',bearer='nas',n=0",
-            Event::Phone(PhoneAct::Skip(None, 0)),
-        ),
-        (
-            "do='skip',who='phone',bearer='drb4',n=1",
-            Event::Phone(PhoneAct::Skip(Some(Bearer::Drb4), 1)),
-        ),
-        (
-            "do='skip',who='station',station=1,bearer='srb2',n=2",
-            Event::Station(1, StationAct::Skip(Bearer::Srb2, 2)),
-        ),
-        (
-            "do='skip',who='core',bearer='nas',n=4294967295",
-            Event::Core(CoreAct::Skip(u32::MAX)),
-        ),
-    ];
-    for (step, event) in table {
-        let steps = format!(in rt.alloc(); "step=[{{{step}}}]")?;
-        let scenario = scenario_of(rt.alloc(), &steps)?;
-        same(&rt, scenario.events.len(), 1);
-        same_at(&rt, step, event_at(&scenario.events, 0), Some(event));
-    }
-    Ok(())
+// A step is read as this event.
+fn expect_step<R: Abort + AllocGlobal>(rt: &R, step: &str, event: Event) {
+    let text = format!(in rt.alloc(); "{PHONE}{STATION}step=[{{{step}}}]").expect(rt, step);
+    let scenario = read(rt.alloc(), text.as_str().as_bytes()).expect(rt, step);
+    same_at(rt, step, scenario.events.len(), 1);
+    same_at(rt, step, event_at(&scenario.events, 0), Some(event));
+    drop(scenario);
 }
 
 #[test]
-fn texts_and_octets_are_the_events_of_their_steps(rt: HostRuntime) -> Result<(), Fail> {
-    let table = [
-        (
-            "do='user',from='phone',bearer='drb1',text=''",
-            Event::Phone(PhoneAct::SendUser(Bearer::Drb1, bounded(&rt, b""))),
+fn acts_are_the_events_of_their_steps(rt: HostRuntime) {
+    let cell = Cell::new(11, 101).expect(&rt, "a cell in range");
+    expect_step(&rt, "do='smc'", Event::Core(CoreAct::StartSmc));
+    expect_step(&rt, "do='release'", Event::Core(CoreAct::Release));
+    expect_step(&rt, "do='service'", Event::Phone(PhoneAct::ServiceRequest));
+    expect_step(&rt, "do='resend'", Event::Phone(PhoneAct::ResendComplete));
+    expect_step(&rt, "do='idle'", Event::Phone(PhoneAct::GoIdle));
+    expect_step(
+        &rt,
+        "do='connect',cell=[11,101]",
+        Event::Core(CoreAct::Connect(cell)),
+    );
+    expect_step(
+        &rt,
+        "do='x2',station=1,cell=[11,101]",
+        Event::Station(1, StationAct::Start(HoKind::X2, cell)),
+    );
+    expect_step(
+        &rt,
+        "do='s1',station=1,cell=[11,101]",
+        Event::Station(1, StationAct::Start(HoKind::S1, cell)),
+    );
+    expect_step(
+        &rt,
+        "do='intra',station=1,cell=[11,101]",
+        Event::Station(1, StationAct::Start(HoKind::Intra, cell)),
+    );
+    expect_step(
+        &rt,
+        "do='command',station=1",
+        Event::Station(1, StationAct::Command),
+    );
+    expect_step(
+        &rt,
+        "do='cancel',station=1",
+        Event::Station(1, StationAct::Cancel),
+    );
+    expect_step(
+        &rt,
+        "do='ask',station=1",
+        Event::Station(1, StationAct::Ask),
+    );
+    expect_step(
+        &rt,
+        "do='deliver',record=-9223372036854775808",
+        Event::Deliver(i64::MIN),
+    );
+    expect_step(
+        &rt,
+        "do='skip',who='phone',bearer='nas',n=0",
+        Event::Phone(PhoneAct::Skip(None, 0)),
+    );
+    expect_step(
+        &rt,
+        "do='skip',who='phone',bearer='drb4',n=1",
+        Event::Phone(PhoneAct::Skip(Some(Bearer::Drb4), 1)),
+    );
+    expect_step(
+        &rt,
+        "do='skip',who='station',station=1,bearer='srb2',n=2",
+        Event::Station(1, StationAct::Skip(Bearer::Srb2, 2)),
+    );
+    expect_step(
+        &rt,
+        "do='skip',who='core',bearer='nas',n=4294967295",
+        Event::Core(CoreAct::Skip(u32::MAX)),
+    );
+}
+
+#[test]
+fn texts_and_octets_are_the_events_of_their_steps(rt: HostRuntime) {
+    expect_step(
+        &rt,
+        "do='user',from='phone',bearer='drb1',text=''",
+        Event::Phone(PhoneAct::SendUser(Bearer::Drb1, bounded(&rt, b""))),
+    );
+    expect_step(
+        &rt,
+        "do='user',from='station',station=1,bearer='drb3',text='6f6B'",
+        Event::Station(1, StationAct::SendUser(Bearer::Drb3, bounded(&rt, b"ok"))),
+    );
+    expect_step(
+        &rt,
+        "do='rrc',from='phone',bearer='srb2',text='68'",
+        Event::Phone(PhoneAct::SendRrc(Bearer::Srb2, bounded(&rt, b"h"))),
+    );
+    expect_step(
+        &rt,
+        "do='rrc',from='station',station=1,bearer='srb1',text=''",
+        Event::Station(1, StationAct::SendRrc(Bearer::Srb1, bounded(&rt, b""))),
+    );
+    expect_step(
+        &rt,
+        "do='nas',from='phone',text='6869'",
+        Event::Phone(PhoneAct::SendNas(bounded(&rt, b"hi"))),
+    );
+    expect_step(
+        &rt,
+        "do='nas',from='core',text='6869'",
+        Event::Core(CoreAct::SendNas(bounded(&rt, b"hi"))),
+    );
+    expect_step(
+        &rt,
+        "do='inject',to='phone',bearer='nas',octets='27'",
+        Event::Inject(Address::PhoneNas, bounded(&rt, b"'")),
+    );
+    expect_step(
+        &rt,
+        "do='inject',to='core',bearer='nas',octets='27'",
+        Event::Inject(Address::CoreNas, bounded(&rt, b"'")),
+    );
+    expect_step(
+        &rt,
+        "do='inject',to='phone',bearer='srb1',station=1,air=0,octets='27'",
+        Event::Inject(Address::Phone(1, 0, Bearer::Srb1), bounded(&rt, b"'")),
+    );
+    expect_step(
+        &rt,
+        "do='inject',to='station',bearer='drb2',station=1,air=4294967295,octets='27'",
+        Event::Inject(
+            Address::StationAir(1, u32::MAX, Bearer::Drb2),
+            bounded(&rt, b"'"),
         ),
-        (
-            "do='user',from='station',station=1,bearer='drb3',text='6f6B'",
-            Event::Station(1, StationAct::SendUser(Bearer::Drb3, bounded(&rt, b"ok"))),
-        ),
-        (
-            "do='rrc',from='phone',bearer='srb2',text='68'",
-            Event::Phone(PhoneAct::SendRrc(Bearer::Srb2, bounded(&rt, b"h"))),
-        ),
-        (
-            "do='rrc',from='station',station=1,bearer='srb1',text=''",
-            Event::Station(1, StationAct::SendRrc(Bearer::Srb1, bounded(&rt, b""))),
-        ),
-        (
-            "do='nas',from='phone',text='6869'",
-            Event::Phone(PhoneAct::SendNas(bounded(&rt, b"hi"))),
-        ),
-        (
-            "do='nas',from='core',text='6869'",
-            Event::Core(CoreAct::SendNas(bounded(&rt, b"hi"))),
-        ),
-        (
-            "do='inject',to='phone',bearer='nas',octets='27'",
-            Event::Inject(Address::PhoneNas, bounded(&rt, b"'")),
-        ),
-        (
-            "do='inject',to='core',bearer='nas',octets='27'",
-            Event::Inject(Address::CoreNas, bounded(&rt, b"'")),
-        ),
-        (
-            "do='inject',to='phone',bearer='srb1',station=1,air=0,octets='27'",
-            Event::Inject(Address::Phone(1, 0, Bearer::Srb1), bounded(&rt, b"'")),
-        ),
-        (
-            "do='inject',to='station',bearer='drb2',station=1,air=4294967295,octets='27'",
-            Event::Inject(
-                Address::StationAir(1, u32::MAX, Bearer::Drb2),
-                bounded(&rt, b"'"),
-            ),
-        ),
-    ];
-    for (step, event) in table {
-        let steps = format!(in rt.alloc(); "step=[{{{step}}}]")?;
-        let scenario = scenario_of(rt.alloc(), &steps)?;
-        same(&rt, scenario.events.len(), 1);
-        same_at(&rt, step, event_at(&scenario.events, 0), Some(event));
-    }
-    Ok(())
+    );
 }
 
 #[test]
