@@ -1,15 +1,10 @@
 -- The words of the key expansion, one after another.
 use Rattle.std.proofs.Common.{◌≡◌, ℕ, zero, suc, ◌+◌, ◌-◌, ◌/◌, ◌%◌, ◌<◌, ◌≤◌, List, [], ◌∷◌, map, length, take, get_or, set, refl, ap, sym, ◌∙◌, arith, eq-eqb, length-append}
-use Rattle.std.specs.Prelude.{bit_xor}
-use Rattle.std.specs.List.{concat, range_with_len}
-use Rattle.std.specs.Int.Bits.{xor_zero_r}
-use Rattle.std.proofs.lemmas.Bool.{ne_eqb}
+use Rattle.std.specs.{Prelude.bit_xor, List.concat, List.range_with_len, Int.Bits.xor_zero_r}
+use Rattle.std.proofs.{lemmas.Bool.ne_eqb, lemmas.List.FromFn.fill_by_all, lemmas.List.FromFn.get_or-map-range_with_len}
 use Rattle.std.proofs.lemmas.List.{get_or-take, take-append-le, take_more_set}
-use Rattle.std.proofs.lemmas.List.FromFn.{fill_by_all, get_or-map-range_with_len}
-use Rattle.aes_core.specs.Field.{multiply, power_of_x}
-use Rattle.aes_core.specs.SBox.{sub_byte}
+use Rattle.aes_core.specs.{Field.multiply, Field.power_of_x, SBox.sub_byte, declared.key_expansion.TheConstants.POWERS_OF_X}
 use Rattle.aes_core.specs.KeyExpansion.{first_words, key_expansion, key_mask, next_word}
-use Rattle.aes_core.specs.declared.key_expansion.TheConstants.{POWERS_OF_X}
 
 all_powers : POWERS_OF_X ≡ map power_of_x (range_with_len 0 10)
 unfolding multiply

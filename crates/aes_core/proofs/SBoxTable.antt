@@ -1,11 +1,9 @@
 -- The table of the code against the S-box, and the inverse against the product.
 use Rattle.std.proofs.Common.{◌≡◌, ℕ, ◌-◌, ◌<◌, map, get_or, replicate, refl, sym, ap, ◌∙◌, arith}
 use Rattle.std.specs.List.{range_with_len}
-use Rattle.std.proofs.lemmas.List.{get_or-replicate}
-use Rattle.std.proofs.lemmas.List.FromFn.{get_or-map-range_with_len}
-use Rattle.aes_core.specs.Field.{multiply}
+use Rattle.std.proofs.{lemmas.List.get_or-replicate, lemmas.List.FromFn.get_or-map-range_with_len}
+use Rattle.aes_core.specs.{Field.multiply, declared.s_box.TheConstants.S_BOX}
 use Rattle.aes_core.specs.SBox.{affine, inverse, sub_byte}
-use Rattle.aes_core.specs.declared.s_box.TheConstants.{S_BOX}
 
 all_entries : S_BOX ≡ map sub_byte (range_with_len 0 256)
 unfolding sub_byte inverse affine multiply

@@ -1,18 +1,11 @@
 -- Words as their octets: sums, and the tables of a round.
 use Rattle.std.proofs.Common.{◌≡◌, ℕ, suc, ◌+◌, ◌*◌, ◌/◌, ◌%◌, ◌^◌, ◌<◌, List, [], ◌∷◌, ◌++◌, map, length, get_or, refl, ap, sym, ◌∙◌, arith}
-use Rattle.std.specs.Prelude.{All, bit_xor}
-use Rattle.std.specs.Int.Bits.{xor_assoc}
-use Rattle.std.specs.Int.{w32, from_be_bytes}
+use Rattle.std.specs.{Prelude.All, Prelude.bit_xor, Int.Bits.xor_assoc, Int.w32, Int.from_be_bytes, List.range_with_len}
 use Rattle.std.proofs.lemmas.Nat.{xor_comm, xor_mod, xor_shr}
-use Rattle.std.proofs.lemmas.List.{get_or-map}
-use Rattle.std.specs.List.{range_with_len}
-use Rattle.std.proofs.lemmas.List.FromFn.{fill_by_all}
-use Rattle.aes_core.specs.Field.{multiply}
-use Rattle.aes_core.specs.SBox.{sub_byte}
-use Rattle.aes_core.specs.KeyExpansion.{add_words}
+use Rattle.std.proofs.{lemmas.List.get_or-map, lemmas.List.FromFn.fill_by_all}
+use Rattle.aes_core.specs.{Field.multiply, SBox.sub_byte, KeyExpansion.add_words, declared.s_box.TheConstants.S_BOX}
 use Rattle.aes_core.specs.RoundTable.{column_product, table_entry, turned_down}
 use Rattle.aes_core.specs.Word.{mixed_column, word_number, word_octets}
-use Rattle.aes_core.specs.declared.s_box.TheConstants.{S_BOX}
 use Rattle.aes_core.specs.declared.round_tables.TheConstants.{ROUND_0, ROUND_1, ROUND_2, ROUND_3}
 use Rattle.aes_core.proofs.SBoxTable.{get_or-S_BOX}
 

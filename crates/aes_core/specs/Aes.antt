@@ -3,9 +3,7 @@
 -- so a block is a state as it stands (3.4).
 use Rattle.std.specs.Prelude.{ℕ, zero, suc, ◌+◌, ◌*◌, ◌/◌, ◌%◌, List, bit_xor, map, slice_index}
 use Rattle.std.specs.List.{range_with_len}
-use Rattle.aes_core.specs.Field.{multiply}
-use Rattle.aes_core.specs.SBox.{sub_byte}
-use Rattle.aes_core.specs.KeyExpansion.{key_expansion, word_at}
+use Rattle.aes_core.specs.{Field.multiply, SBox.sub_byte, KeyExpansion.key_expansion, KeyExpansion.word_at}
 
 -- the octet of a state in row r and column c (3.4)
 abbrev pub octet_at : List ℕ → ℕ → ℕ → ℕ

@@ -2,8 +2,7 @@
 -- which each four in turn are a round key.
 use Rattle.std.specs.Prelude.{ℕ, zero, suc, ◌+◌, ◌-◌, ◌*◌, ◌/◌, ◌%◌, List, [], ◌∷◌, ◌++◌, ◌==◌, bit_xor, if◌then◌else◌, map, slice_index, slice_index_or}
 use Rattle.std.specs.List.{range_with_len}
-use Rattle.aes_core.specs.Field.{power_of_x}
-use Rattle.aes_core.specs.SBox.{sub_byte}
+use Rattle.aes_core.specs.{Field.power_of_x, SBox.sub_byte}
 
 -- a word turned left by one octet (RotWord, 5.2)
 abbrev pub rot_word : List ℕ → List ℕ

@@ -1,8 +1,7 @@
 -- The tables of a round: what one octet of a column adds to the column that MixColumns makes of it.
 use Rattle.std.specs.Prelude.{ℕ, ◌+◌, ◌-◌, ◌%◌, List, [], ◌∷◌, map, slice_index}
 use Rattle.std.specs.List.{range_with_len}
-use Rattle.aes_core.specs.Field.{multiply}
-use Rattle.aes_core.specs.SBox.{sub_byte}
+use Rattle.aes_core.specs.{Field.multiply, SBox.sub_byte}
 
 -- the column product of a column that has this octet in row 0 and zeros below (5.1.3)
 abbrev pub column_product : ℕ → List ℕ

@@ -1,7 +1,6 @@
 -- The S-box of FIPS 197: the inverse in the field, and then an affine map (5.1.1).
 use Rattle.std.specs.Prelude.{ℕ, ◌+◌, ◌*◌, ◌%◌, ◌^◌, ◌==◌, find, map, sum, unwrap_or}
-use Rattle.std.specs.Int.{bit_at}
-use Rattle.std.specs.List.{range_with_len}
+use Rattle.std.specs.{Int.bit_at, List.range_with_len}
 use Rattle.aes_core.specs.Field.{multiply}
 
 -- the octet whose product with x is 1, and 0 for 0, which has none (4.2, 5.1.1 step 1)

@@ -1,8 +1,7 @@
 -- Words of four octets as numbers of 32 bits, the octet of row 0 highest (FIPS 197, 3.5).
 use Rattle.std.specs.Prelude.{ℕ, ◌+◌, ◌*◌, ◌/◌, ◌%◌, ◌^◌, List, [], ◌∷◌, ◌++◌, map, slice_index}
 use Rattle.std.specs.List.{range_with_len}
-use Rattle.aes_core.specs.Aes.{mixed_octet}
-use Rattle.aes_core.specs.declared.state.State.{State}
+use Rattle.aes_core.specs.{Aes.mixed_octet, declared.state.State.State}
 
 -- the four octets of a word
 unfoldable pub word_octets : ℕ → List ℕ

@@ -1,9 +1,6 @@
 -- The algorithms that a phone supports (TS 24.301 9.9.3.36).
 use Rattle.std.specs.Prelude.{◌<◌, Bool}
-use Rattle.alg_choice.specs.declared.algs.Eea.{Eea}
-use Rattle.alg_choice.specs.declared.caps.Caps.{Caps}
-use Rattle.alg_choice.specs.Bits.{has_bit}
-use Rattle.alg_choice.specs.Algs.{identity_of, eia2_identity}
+use Rattle.alg_choice.specs.{declared.algs.Eea.Eea, declared.caps.Caps.Caps, Bits.has_bit, Algs.identity_of, Algs.eia2_identity}
 
 -- capabilities, two octets
 abbrev pub IsCaps : Caps → Type 0

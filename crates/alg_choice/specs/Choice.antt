@@ -1,10 +1,6 @@
 -- The choice of algorithms (TS 33.401 7.2.4.2.1 and 7.2.4.3.1).
 use Rattle.std.specs.Prelude.{Bool, ◌&&◌, if◌then◌else◌, List, Option, Some, None, Result, Ok, Err, find}
-use Rattle.alg_choice.specs.declared.algs.Eea.{Eea}
-use Rattle.alg_choice.specs.declared.algs.Algs.{Algs}
-use Rattle.alg_choice.specs.declared.caps.Caps.{Caps}
-use Rattle.alg_choice.specs.declared.choices.NoAlgorithm.{NoAlgorithm}
-use Rattle.alg_choice.specs.Caps.{holds_eea, holds_eia2}
+use Rattle.alg_choice.specs.{declared.algs.Eea.Eea, declared.algs.Algs.Algs, declared.caps.Caps.Caps, declared.choices.NoAlgorithm.NoAlgorithm, Caps.holds_eea, Caps.holds_eia2}
 
 -- whether the capabilities hold the algorithms
 unfoldable pub are_supported : Caps → Algs → Bool

@@ -1,7 +1,6 @@
 -- A list of one or two encryption algorithms, the preferred one first.
 use Rattle.std.specs.Prelude.{◌≡◌, List, [], ◌∷◌, Option, Some, None, refl}
-use Rattle.alg_choice.specs.declared.algs.Eea.{Eea}
-use Rattle.alg_choice.specs.declared.algs.Eea.TheVariants.{Eea0}
+use Rattle.alg_choice.specs.{declared.algs.Eea.Eea, declared.algs.Eea.TheVariants.Eea0}
 
 -- the list of them
 abbrev pub order_of : Eea → Option Eea → List Eea

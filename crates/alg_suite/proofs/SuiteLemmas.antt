@@ -1,8 +1,7 @@
 -- To cipher twice gives the text back, by cases.
 use Rattle.std.proofs.Common.{◌≡◌, ℕ, List, drop, refl}
-use Rattle.alg_suite.specs.declared.ciphering.Ciphering.{Ciphering}
+use Rattle.alg_suite.specs.{declared.ciphering.Ciphering.Ciphering, Suite.ciphered_by}
 use Rattle.alg_suite.specs.declared.ciphering.Ciphering.TheVariants.{Eea0, Eea1, Eea2, Eea3}
-use Rattle.alg_suite.specs.Suite.{ciphered_by}
 use Rattle.ctr_eea2.proofs.CombinedLemmas.{eea2_of-eea2_of}
 use Rattle.eea1.proofs.Eea1Lemmas.{eea1_of-eea1_of}
 use Rattle.eea3.proofs.Eea3Lemmas.{eea3_of-eea3_of}

@@ -1,9 +1,8 @@
 -- The ciphering and the integrity algorithms of TS 33.401 Annex B, by cases, under an algorithm key of 32 octets, of which they
 -- take the last 16 (A.7).
 use Rattle.std.specs.Prelude.{ℕ, List, drop, replicate}
-use Rattle.alg_suite.specs.declared.ciphering.Ciphering.{Ciphering}
+use Rattle.alg_suite.specs.{declared.ciphering.Ciphering.Ciphering, declared.integrity.Integrity.Integrity}
 use Rattle.alg_suite.specs.declared.ciphering.Ciphering.TheVariants.{Eea0, Eea1, Eea2, Eea3}
-use Rattle.alg_suite.specs.declared.integrity.Integrity.{Integrity}
 use Rattle.alg_suite.specs.declared.integrity.Integrity.TheVariants.{Eia0, Eia1, Eia2, Eia3}
 use Rattle.cmac_eia2.specs.Eia2.{eia2_of}
 use Rattle.ctr_eea2.specs.Eea2.{eea2_of}

@@ -1,7 +1,6 @@
 -- Each text of an audit is a line.
 use Rattle.std.proofs.Common.{ℕ, Option, List, refl}
-use Rattle.std.specs.Prelude.{codes}
-use Rattle.std.specs.Fmt.{decimal}
+use Rattle.std.specs.{Prelude.codes, Fmt.decimal}
 use Rattle.edge_io.specs.Lines.{EndsLine}
 use Rattle.edge_io.proofs.Ending.{feed, on}
 use Rattle.key_terms.specs.declared.row.LadderRow.{LadderRow}

@@ -1,7 +1,6 @@
 -- Who holds the key of a row: the stations that are noted in it.
 use Rattle.std.proofs.Common.{◌≡◌, ℕ, ◌<◌, zero, suc, Bool, true, false, ◌⊎◌, inl, inr, Some, List, [], ◌∷◌, ◌++◌, length, replicate, set, sym, refl, ap, subst, ◌∙◌, arith}
-use Rattle.std.proofs.lemmas.Bool.{false≢true}
-use Rattle.std.proofs.lemmas.List.{length-set}
+use Rattle.std.proofs.{lemmas.Bool.false≢true, lemmas.List.length-set}
 use Rattle.std.specs.Prelude.{◌↔◌, IsTrue, IsSome, slice_index_or, unwrap_or}
 use Rattle.std.specs.List.{AllByRecursion as AllOf}
 use Rattle.key_audit.specs.Derives.{held_by, holds}

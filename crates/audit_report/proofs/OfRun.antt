@@ -1,40 +1,23 @@
 -- The ladder of a run, and the marks of its audit, are those of the written run.
 use Rattle.std.proofs.Common.{◌≡◌, refl, sym, ap, subst, ◌∙◌, ℕ, Bool, true, false, Option, Some, None, List, [], ◌∷◌, ◌++◌, map}
-use Rattle.std.specs.Str.{bytes_eq}
-use Rattle.std.specs.List.{AllByRecursion as AllOf}
-use Rattle.key_model.specs.Term.{Term}
-use Rattle.key_model.specs.Value.{value_of, same_value}
-use Rattle.key_terms.specs.declared.row.LadderRow.{LadderRow}
-use Rattle.key_terms.specs.Ladder.{IsLadder}
-use Rattle.lte_events.specs.declared.events.Event.{Event}
-use Rattle.lte_events.specs.declared.setups.Setup.{Setup}
+use Rattle.std.specs.{Str.bytes_eq, List.AllByRecursion as AllOf}
+use Rattle.key_model.specs.{Term.Term, Value.value_of, Value.same_value}
+use Rattle.key_terms.specs.{declared.row.LadderRow.LadderRow, Ladder.IsLadder}
+use Rattle.lte_events.specs.{declared.events.Event.Event, declared.setups.Setup.Setup, Scenario.IsScenario}
 use Rattle.lte_machine.specs.BothRuns.{annex_b_terms, octet_run, written_run}
-use Rattle.lte_machine.specs.ByEvent.{in_octets}
-use Rattle.lte_machine.specs.Carried.{map_holding, run_value}
-use Rattle.lte_machine.specs.Ciphers.{annex_b, under_keys}
+use Rattle.lte_machine.specs.{ByEvent.in_octets, Carried.map_holding, Carried.run_value, Ciphers.annex_b, Ciphers.under_keys, Opening.open_octets, Opening.open_by_uses, World.Holding}
 use Rattle.lte_machine.specs.Distinct.{keys_of, Member, distinct_terms}
 use Rattle.lte_machine.specs.Ladder.{RowOrigin, OfRoot, Of, row_key, Clash, Ladder, Hit, hit, same_origin, stands_or_not, added_at, added_unless, add_next, add_rows, no_rows, ladder_of}
 use Rattle.lte_machine.specs.Machines.{Kept, written_machine, written_in_values}
-use Rattle.lte_machine.specs.Opening.{open_octets, open_by_uses}
 use Rattle.lte_machine.specs.Run.{RunState, Running, run, first_world}
-use Rattle.lte_machine.specs.World.{Holding}
-use Rattle.lte_machine.proofs.AnnexB.{annex_b_ciphers}
-use Rattle.lte_machine.proofs.History.{Stand, among_distinct}
-use Rattle.lte_machine.proofs.KnownWorld.{Grounds}
-use Rattle.lte_machine.proofs.LadderMap.{rows-map}
-use Rattle.lte_machine.proofs.LadderRun.{still_grounds}
-use Rattle.lte_machine.proofs.StillRun.{still_calm, still_is_run}
-use Rattle.lte_machine.proofs.WholeRun.{run_is_value}
-use Rattle.lte_machine.proofs.Worlds.{TheWorld}
+use Rattle.lte_machine.proofs.{AnnexB.annex_b_ciphers, History.Stand, History.among_distinct, KnownWorld.Grounds, LadderMap.rows-map, LadderRun.still_grounds, StillRun.still_calm, StillRun.still_is_run, WholeRun.run_is_value, Worlds.TheWorld}
 use Rattle.lte_properties.specs.Accounts.{IsRowOf}
 use Rattle.lte_properties.proofs.AccountsHold.{rows_are}
 use Rattle.lte_world.specs.Whole.{InRun}
-use Rattle.lte_events.specs.Scenario.{IsScenario}
 use Rattle.lte_events.proofs.InRange.{in_range}
 use Rattle.store_laws.specs.Additions.{CanKeep}
 use Rattle.store_laws.specs.Rows.{numbered, all_noted, world_rows}
-use Rattle.store_laws.proofs.Adding.{valued}
-use Rattle.store_laws.proofs.EveryRun.{world_keeps}
+use Rattle.store_laws.proofs.{Adding.valued, EveryRun.world_keeps}
 use Rattle.audit_report.specs.OfRun.{AreOf, AuditIsOfRun}
 use Rattle.audit_report.proofs.Rooted.{AllRooted, rows_rooted}
 use Rattle.audit_report.proofs.RowKeys.{IsKasme, RunRows, rows_are_of}

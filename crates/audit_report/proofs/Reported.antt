@@ -1,20 +1,14 @@
 -- The report of an audit is that of the run in octets.
 use Rattle.std.proofs.Common.{◌≡◌, sym, ap, ◌∙◌, ℕ, List, []}
 use Rattle.key_audit.specs.Text.{audit_text}
-use Rattle.key_terms.specs.declared.proof.Proof.{Proof}
-use Rattle.key_terms.specs.declared.row.LadderRow.{LadderRow}
-use Rattle.lte_events.specs.declared.events.Event.{Event}
-use Rattle.lte_events.specs.declared.setups.Setup.{Setup}
-use Rattle.lte_machine.specs.BothRuns.{octet_run, octet_report}
-use Rattle.lte_machine.specs.Machines.{Kept}
+use Rattle.key_terms.specs.{declared.proof.Proof.Proof, declared.row.LadderRow.LadderRow}
+use Rattle.lte_events.specs.{declared.events.Event.Event, declared.setups.Setup.Setup, Scenario.IsScenario}
+use Rattle.lte_machine.specs.{BothRuns.octet_run, BothRuns.octet_report, Machines.Kept}
 use Rattle.lte_machine.specs.Run.{RunState, Running, Stopped, GoesOn}
 use Rattle.lte_world.specs.Whole.{InRun}
-use Rattle.report_text.specs.Coincidence.{coincidence_text}
-use Rattle.report_text.specs.Summary.{Tallied}
+use Rattle.report_text.specs.{Coincidence.coincidence_text, Summary.Tallied}
 use Rattle.run_report.specs.declared.endings.Ending.TheVariants.{Done, Chance}
-use Rattle.run_report.specs.Counted.{Ended}
-use Rattle.lte_events.specs.Scenario.{IsScenario}
-use Rattle.run_report.specs.Summary.{Coincides, outcome_from}
+use Rattle.run_report.specs.{Counted.Ended, Summary.Coincides, Summary.outcome_from}
 use Rattle.run_report.proofs.ReportByEvent.{in_octets}
 use Rattle.store_laws.specs.Rows.{world_rows}
 use Rattle.audit_report.specs.AuditReport.{audit_in, audit_with, audit_report_of}

@@ -1,14 +1,12 @@
 -- Each row of the ladder of a run comes from rows before it.
 use Rattle.std.proofs.Common.{◌≡◌, ℕ, ◌+◌, ◌<◌, zero, suc, Bool, true, false, Option, Some, None, List, [], ◌∷◌, ◌++◌, length, sym, refl, subst, ◌∙◌, arith, length-append, append_assoc}
-use Rattle.std.specs.Prelude.{slice_get}
-use Rattle.std.specs.Str.{bytes_eq}
+use Rattle.std.specs.{Prelude.slice_get, Str.bytes_eq}
 use Rattle.std.proofs.lemmas.Option.{none-some}
 use Rattle.key_model.specs.Derivation.{Input, FromCount, FromSync, FromCell, FromAlg, kdf_input}
 use Rattle.key_terms.specs.declared.row.LadderRow.{LadderRow}
 use Rattle.key_terms.specs.Ladder.{unheld, row_of, HasSync}
 use Rattle.lte_machine.specs.Ladder.{RowOrigin, OfRoot, Of, row_key, same_origin, Clash, Ladder, Hit, hit, stands_or_not, added_at, added_unless, add_next, add_rows}
-use Rattle.store_laws.specs.Additions.{CanAddTo, AllCanAdd}
-use Rattle.store_laws.specs.Joins.{HasRow, Placed}
+use Rattle.store_laws.specs.{Additions.CanAddTo, Additions.AllCanAdd, Joins.HasRow, Joins.Placed}
 use Rattle.store_laws.specs.Rows.{origin_in, numbered_after, numbered}
 use Rattle.store_laws.proofs.Numbered.{row_kept, number_of, numbered_grows}
 

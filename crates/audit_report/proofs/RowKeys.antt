@@ -1,11 +1,9 @@
 -- The rows of the ladder of a run: which key each stands for, from which rows it comes, and who can derive it.
 use Rattle.std.proofs.Common.{◌≡◌, ℕ, zero, suc, ◌+◌, ◌<◌, ◌⊎◌, inl, inr, Some, List, [], ◌∷◌, length, map, sym, refl, ap, subst, ◌∙◌, arith}
-use Rattle.std.proofs.lemmas.Bool.{lt-ltb}
-use Rattle.std.proofs.lemmas.List.{length-map}
+use Rattle.std.proofs.{lemmas.Bool.lt-ltb, lemmas.List.length-map}
 use Rattle.std.proofs.lemmas.Option.{none-some, slice_get-map, slice_get_within}
 use Rattle.std.specs.Prelude.{◌↔◌, IsTrue, IsSome, slice_get, unwrap_or}
-use Rattle.std.specs.Option.{option_map}
-use Rattle.std.specs.List.{AllByRecursion as AllOf}
+use Rattle.std.specs.{Option.option_map, List.AllByRecursion as AllOf}
 use Rattle.key_audit.specs.Derives.{held_by, held_in, holds}
 use Rattle.key_audit.specs.Local.{exact_mark}
 use Rattle.key_audit.specs.Terms.{if_before, sync_row, sync_term, origin_term, term_at}
@@ -16,14 +14,11 @@ use Rattle.key_model.specs.Derivable.{Derivable, in_set, by_kenb, by_nh, by_star
 use Rattle.key_model.specs.Derivation.{Input, FromCount, FromSync, FromCell, FromAlg, map_input, kdf_input}
 use Rattle.key_model.specs.Term.{Term, Root, Kenb, Nh, Star, Alg}
 use Rattle.key_model.specs.Value.{value_of}
-use Rattle.key_terms.specs.declared.row.LadderRow.{LadderRow}
-use Rattle.key_terms.specs.declared.row.Origin.{Origin}
+use Rattle.key_terms.specs.{declared.row.LadderRow.LadderRow, declared.row.Origin.Origin}
 use Rattle.key_terms.specs.declared.row.Origin.TheVariants as origins
 use Rattle.key_terms.specs.Ladder.{row, row_of, octets_at, origin_at, IsLadder}
-use Rattle.key_terms.proofs.Holding.{plain, read_same}
-use Rattle.key_terms.proofs.LadderLemmas.{stands}
-use Rattle.lte_machine.specs.Carried.{map_holding}
-use Rattle.lte_machine.specs.Distinct.{keys_of, Member}
+use Rattle.key_terms.proofs.{Holding.plain, Holding.read_same, LadderLemmas.stands}
+use Rattle.lte_machine.specs.{Carried.map_holding, Distinct.keys_of, Distinct.Member}
 use Rattle.lte_machine.specs.Ladder.{RowOrigin, OfRoot, Of, map_row, row_key}
 use Rattle.lte_machine.specs.World.{Holder, AtPhone, AtCore, AtStation, Holding}
 use Rattle.lte_machine.proofs.Rows.{Well, From, SyncIn, made_of}
@@ -32,8 +27,7 @@ use Rattle.store_laws.specs.Joins.{HasRow}
 use Rattle.store_laws.specs.Rows.{origin_in, numbered, all_noted}
 use Rattle.store_laws.proofs.Adding.{valued, term_stands}
 use Rattle.store_laws.proofs.Numbered.{octets_numbered, origin_noted, origin_stands, plain_noted, row_noted}
-use Rattle.audit_report.specs.Alone.{HeldAlone}
-use Rattle.audit_report.specs.OfRun.{unnumbered, AreOf}
+use Rattle.audit_report.specs.{Alone.HeldAlone, OfRun.unnumbered, OfRun.AreOf}
 use Rattle.audit_report.proofs.HeldRows.{IsFree, IsNoted, all_free, free_flags, free_held, held_where}
 use Rattle.audit_report.proofs.Rooted.{AllRooted, ComesEarlier, SyncEarlier, earlier_at, rooted_placed}
 

@@ -5,22 +5,17 @@ use Rattle.key_model.specs.Derivable.{Derivable, in_set, by_kenb, by_nh, by_star
 use Rattle.key_model.specs.Term.{Term, Root, Kenb, Nh, Star, Alg}
 use Rattle.key_model.specs.Value.{same_value}
 use Rattle.key_model.proofs.DerivableFacts.{from_set_derivable}
-use Rattle.lte_events.specs.declared.events.Event.{Event}
-use Rattle.lte_events.specs.declared.setups.Setup.{Setup}
-use Rattle.lte_machine.specs.BothRuns.{annex_b_terms}
-use Rattle.lte_machine.specs.Ciphers.{annex_b}
+use Rattle.lte_events.specs.{declared.events.Event.Event, declared.setups.Setup.Setup}
+use Rattle.lte_machine.specs.{BothRuns.annex_b_terms, Ciphers.annex_b, Opening.open_octets, Wire.Outgoing}
 use Rattle.lte_machine.specs.Machines.{Kept, written_machine, written_in_values}
-use Rattle.lte_machine.specs.Opening.{open_octets}
 use Rattle.lte_machine.specs.Run.{RunState, Running, Stopped, run, first_world}
-use Rattle.lte_machine.specs.Wire.{Outgoing}
 use Rattle.lte_machine.specs.World.{World, Holder, AtPhone, AtCore, AtStation, Holding}
 use Rattle.lte_machine.proofs.StillRun.{still_is_run}
 use Rattle.lte_properties.specs.Separation.{Those, HeldBy, IsStationOf, Separates}
 use Rattle.lte_properties.proofs.KeySeparation.Ever.{separation_holds}
 use Rattle.key_audit.specs.Local.{exact_mark}
 use Rattle.key_audit.proofs.Exactness.{marks_right, marks_nearest, exact_marks_fit}
-use Rattle.key_terms.specs.declared.row.LadderRow.{LadderRow}
-use Rattle.key_terms.specs.Ladder.{IsLadder}
+use Rattle.key_terms.specs.{declared.row.LadderRow.LadderRow, Ladder.IsLadder}
 use Rattle.lte_world.specs.Whole.{InRun}
 use Rattle.store_laws.specs.Rows.{world_rows}
 use Rattle.audit_report.specs.Audited.{IsExact}

@@ -1,13 +1,9 @@
 -- What the stations of a set can derive together, one of them can derive by itself.
 use Rattle.std.specs.Prelude.{◌≡◌, ℕ, Bool, IsTrue, ◌↔◌, List}
-use Rattle.key_model.specs.Derivable.{Derivable}
-use Rattle.key_model.specs.Term.{Term}
-use Rattle.lte_events.specs.declared.events.Event.{Event}
-use Rattle.lte_events.specs.declared.setups.Setup.{Setup}
-use Rattle.lte_machine.specs.Distinct.{keys_of, Member}
-use Rattle.lte_machine.specs.World.{World, Holding}
-use Rattle.lte_properties.specs.Headline.{EachWritten}
-use Rattle.lte_properties.specs.Separation.{Those, HeldBy}
+use Rattle.key_model.specs.{Derivable.Derivable, Term.Term}
+use Rattle.lte_events.specs.{declared.events.Event.Event, declared.setups.Setup.Setup}
+use Rattle.lte_machine.specs.{Distinct.keys_of, Distinct.Member, World.World, World.Holding}
+use Rattle.lte_properties.specs.{Headline.EachWritten, Separation.Those, Separation.HeldBy}
 
 -- the keys that one station held, at any time
 abbrev pub HeldAlone : ℕ → List (Holding Term) → Term → Type 0

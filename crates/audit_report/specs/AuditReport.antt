@@ -1,12 +1,8 @@
 -- The audit of a run: where no coincidence ends it, who can derive each of its keys; and otherwise the coincidence alone.
 use Rattle.std.specs.Prelude.{ℕ, List, [], map}
 use Rattle.key_audit.specs.Text.{audit_text}
-use Rattle.lte_events.specs.declared.events.Event.{Event}
-use Rattle.lte_events.specs.declared.setups.Setup.{Setup}
-use Rattle.lte_machine.specs.BothRuns.{written_run, written_report}
-use Rattle.lte_machine.specs.Carried.{run_value, report_value}
-use Rattle.lte_machine.specs.Ciphers.{annex_b}
-use Rattle.lte_machine.specs.Machines.{Kept}
+use Rattle.lte_events.specs.{declared.events.Event.Event, declared.setups.Setup.Setup}
+use Rattle.lte_machine.specs.{BothRuns.written_run, BothRuns.written_report, Carried.run_value, Carried.report_value, Ciphers.annex_b, Machines.Kept}
 use Rattle.lte_machine.specs.Run.{RunState, Running, Stopped}
 use Rattle.report_text.specs.Coincidence.{coincidence_text}
 use Rattle.run_report.specs.declared.endings.Ending.TheVariants.{Done, Chance}

@@ -1,10 +1,8 @@
 -- The marks by which an audit of a run is written are exact.
 use Rattle.std.specs.Prelude.{◌≡◌, ◌↔◌, ℕ, ◌<◌, List, Some, IsSome, length}
-use Rattle.key_audit.specs.Derives.{CanDerive, IsNearest}
-use Rattle.key_audit.specs.Local.{exact_mark}
+use Rattle.key_audit.specs.{Derives.CanDerive, Derives.IsNearest, Local.exact_mark}
 use Rattle.key_terms.specs.declared.row.LadderRow.{LadderRow}
-use Rattle.lte_events.specs.declared.events.Event.{Event}
-use Rattle.lte_events.specs.declared.setups.Setup.{Setup}
+use Rattle.lte_events.specs.{declared.events.Event.Event, declared.setups.Setup.Setup}
 use Rattle.lte_machine.specs.BothRuns.{octet_run}
 use Rattle.lte_world.specs.Whole.{InRun}
 use Rattle.store_laws.specs.Rows.{world_rows}

@@ -1,18 +1,11 @@
 -- The audit of a run, by the keys of the written run: which key each row stands for, and who can derive it.
 use Rattle.std.specs.Prelude.{◌≡◌, ◌↔◌, ℕ, ◌<◌, List, Some, IsSome, length, slice_get}
-use Rattle.key_audit.specs.Local.{exact_mark}
-use Rattle.key_audit.specs.Terms.{term_at}
+use Rattle.key_audit.specs.{Local.exact_mark, Terms.term_at}
 use Rattle.key_model.specs.Derivable.{Derivable}
 use Rattle.key_model.specs.Term.{Term, Root, Kenb, Nh, Star, Alg}
 use Rattle.key_terms.specs.declared.row.LadderRow.{LadderRow}
-use Rattle.lte_events.specs.declared.events.Event.{Event}
-use Rattle.lte_events.specs.declared.setups.Setup.{Setup}
-use Rattle.lte_machine.specs.BothRuns.{written_run}
-use Rattle.lte_machine.specs.ByEvent.{in_octets}
-use Rattle.lte_machine.specs.Distinct.{distinct_terms}
-use Rattle.lte_machine.specs.Run.{Running}
-use Rattle.lte_machine.specs.Wire.{Outgoing}
-use Rattle.lte_machine.specs.World.{World, Holding}
+use Rattle.lte_events.specs.{declared.events.Event.Event, declared.setups.Setup.Setup}
+use Rattle.lte_machine.specs.{BothRuns.written_run, ByEvent.in_octets, Distinct.distinct_terms, Run.Running, Wire.Outgoing, World.World, World.Holding}
 use Rattle.store_laws.specs.Rows.{world_rows}
 use Rattle.audit_report.specs.Alone.{HeldAlone}
 

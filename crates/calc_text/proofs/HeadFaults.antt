@@ -1,7 +1,6 @@
 -- The head of a NAS message is never refused for its MAC.
 use Rattle.std.proofs.Common.{◌≡◌, ℕ, Bool, true, false, if◌then◌else◌, List, length, nat_lt, Result, Ok, Err}
-use Rattle.nas_count.specs.declared.sending.CountSpent.{CountSpent}
-use Rattle.nas_count.specs.Estimate.{estimate_of}
+use Rattle.nas_count.specs.{declared.sending.CountSpent.CountSpent, Estimate.estimate_of}
 use Rattle.nas_guard.specs.Open.{first_in, is_protected, sn_in}
 use Rattle.nas_guard.specs.declared.opening.OpenFault.TheVariants.{Short, BadHeader, MacFails}
 use Rattle.pdu_guard.specs.Nas.{nas_head_by, nas_head_of}

@@ -4,16 +4,11 @@ use Rattle.hmac_kdf.specs.Kdf.{kdf}
 use Rattle.hmac_kdf.specs.declared.input.KdfInput.TheVariants as input
 use Rattle.kasme_kdf.specs.Kasme.{kasme_of}
 use Rattle.text_lines.specs.Words.{words_of}
-use Rattle.calc_text.specs.declared.fields.Field.{Field}
+use Rattle.calc_text.specs.{declared.fields.Field.Field, declared.requests.Request.Request, Ciphering.enciphered, Ciphering.mac_under, Reading.request_of}
 use Rattle.calc_text.specs.declared.fields.Field.TheVariants as field
-use Rattle.calc_text.specs.declared.requests.Request.{Request}
 use Rattle.calc_text.specs.declared.requests.Request.TheVariants.{Kasme, Kenb, Nh, Star, Alg, Cipher, Mac, Nas, AnyNas, SealNas, ServiceRequest, AnyServiceRequest, Srb, SealSrb, Drb, SealDrb, Reach}
 use Rattle.calc_text.specs.PduAnswer.{written, nas_keys, srb_keys, drb_keys, nas_line, any_nas_line, service_line, any_service_line, srb_line, drb_line, reach_line}
-use Rattle.pdu_guard.specs.Nas.{nas_pdu}
-use Rattle.calc_text.specs.Ciphering.{enciphered, mac_under}
-use Rattle.pdu_guard.specs.Srb.{srb_pdu}
-use Rattle.pdu_guard.specs.Drb.{drb_pdu}
-use Rattle.calc_text.specs.Reading.{request_of}
+use Rattle.pdu_guard.specs.{Nas.nas_pdu, Srb.srb_pdu, Drb.drb_pdu}
 
 -- the ranges of what a line asks for: BEARER of 5 bits, a NAS COUNT of 24, a header type 1 to 4, an NCC of 3 bits
 abbrev pub IsRequest : Request → Type 0

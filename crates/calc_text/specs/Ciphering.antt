@@ -1,8 +1,7 @@
 -- The algorithms of TS 33.401 Annex B under a key of 128 bits.
 use Rattle.std.specs.Prelude.{ℕ, List, replicate}
-use Rattle.alg_suite.specs.declared.ciphering.Ciphering.{Ciphering}
+use Rattle.alg_suite.specs.{declared.ciphering.Ciphering.Ciphering, declared.integrity.Integrity.Integrity}
 use Rattle.alg_suite.specs.declared.ciphering.Ciphering.TheVariants.{Eea0, Eea1, Eea2, Eea3}
-use Rattle.alg_suite.specs.declared.integrity.Integrity.{Integrity}
 use Rattle.alg_suite.specs.declared.integrity.Integrity.TheVariants.{Eia0, Eia1, Eia2, Eia3}
 use Rattle.cmac_eia2.specs.Eia2.{eia2_of}
 use Rattle.ctr_eea2.specs.Eea2.{eea2_of}

@@ -1,25 +1,19 @@
 -- What a word of a line is as the value of a field, or which field is bad.
 use Rattle.std.specs.Prelude.{◌≡◌, ℕ, ◌==◌, nat_lt, nat_le, ◌&&◌, Bool, if◌then◌else◌, Option, Some, None, Result, Ok, Err, List, [], ◌∷◌, length, get_or, codes}
-use Rattle.std.specs.Option.{ok_or, option_and_then}
-use Rattle.std.specs.Result.{result_ok}
-use Rattle.std.specs.Str.{bytes_eq}
+use Rattle.std.specs.{Option.ok_or, Option.option_and_then, Result.result_ok, Str.bytes_eq}
 use Rattle.growth.specs.Growth.{WasRefused}
 use Rattle.hex.specs.Hex.{decode_of}
-use Rattle.alg_suite.specs.declared.ciphering.Ciphering.{Ciphering}
+use Rattle.alg_suite.specs.{declared.ciphering.Ciphering.Ciphering, declared.integrity.Integrity.Integrity}
 use Rattle.alg_suite.specs.declared.ciphering.Ciphering.TheVariants.{Eea0, Eea1, Eea2, Eea3}
-use Rattle.alg_suite.specs.declared.integrity.Integrity.{Integrity}
 use Rattle.alg_suite.specs.declared.integrity.Integrity.TheVariants.{Eia0, Eia1, Eia2, Eia3}
 use Rattle.annex_a_keys.specs.Cell.{Place}
-use Rattle.pdu_guard.specs.declared.drb.Numbers.{Numbers}
-use Rattle.pdu_guard.specs.Drb.{numbers_of}
+use Rattle.pdu_guard.specs.{declared.drb.Numbers.Numbers, Drb.numbers_of}
 use Rattle.rec_base.specs.declared.uses.Dir.{Dir}
 use Rattle.rec_base.specs.declared.uses.Dir.TheVariants.{Up, Down}
 use Rattle.text_lines.specs.Words.{number_of, hex_octets}
-use Rattle.calc_text.specs.declared.fields.Field.{Field}
-use Rattle.calc_text.specs.declared.fields.LineFault.{LineFault}
+use Rattle.calc_text.specs.{declared.fields.Field.Field, declared.fields.LineFault.LineFault, declared.requests.Algorithms.Algorithms}
 use Rattle.calc_text.specs.declared.fields.LineFault.TheVariants.{Bad, Memory}
 use Rattle.calc_text.specs.declared.fields.Field.TheVariants as field
-use Rattle.calc_text.specs.declared.requests.Algorithms.{Algorithms}
 
 -- the first bad field, in the order in which the fields stand
 infixl 10 ◌>>=◌

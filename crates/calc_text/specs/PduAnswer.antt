@@ -4,40 +4,21 @@ use Rattle.std.specs.Fmt.{decimal}
 use Rattle.hex.specs.Hex.{encode_lower}
 use Rattle.hmac_kdf.specs.Kdf.{kdf}
 use Rattle.hmac_kdf.specs.declared.input.KdfInput.TheVariants as input
-use Rattle.alg_suite.specs.Suite.{eea_identity, eia_identity}
-use Rattle.alg_suite.specs.declared.integrity.Integrity.{Integrity}
-use Rattle.annex_a_keys.specs.Cell.{Place}
-use Rattle.annex_a_keys.specs.AlgType.{distinguisher}
+use Rattle.alg_suite.specs.{Suite.eea_identity, Suite.eia_identity, declared.integrity.Integrity.Integrity}
+use Rattle.annex_a_keys.specs.{Cell.Place, AlgType.distinguisher}
 use Rattle.annex_a_keys.specs.declared.alg_type.AlgType.TheVariants.{NasEnc, NasInt, RrcEnc, RrcInt, UpEnc}
 use Rattle.key_model.specs.Reading.{octet_reading}
 use Rattle.key_model.specs.HandoverLines.{nh_after, phone_line, steps_to}
 use Rattle.rec_base.specs.declared.uses.Dir.{Dir}
-use Rattle.nas_guard.specs.Open.{header_in, sent_in}
-use Rattle.nas_guard.specs.declared.opening.OpenFault.{OpenFault}
+use Rattle.nas_guard.specs.{Open.header_in, Open.sent_in, declared.opening.OpenFault.OpenFault}
 use Rattle.nas_guard.specs.declared.opening.OpenFault.TheVariants as nas_fault
-use Rattle.pdcp_guard.specs.declared.pdus.PdcpOpened.{PdcpOpened}
-use Rattle.pdcp_guard.specs.declared.pdus.PdcpFault.{PdcpFault}
+use Rattle.pdcp_guard.specs.{declared.pdus.PdcpOpened.PdcpOpened, declared.pdus.PdcpFault.PdcpFault}
 use Rattle.pdcp_guard.specs.declared.pdus.PdcpFault.TheVariants as pdcp_fault
-use Rattle.pdu_guard.specs.declared.drb.DrbKeys.{DrbKeys}
-use Rattle.pdu_guard.specs.declared.drb.Numbers.{Numbers}
-use Rattle.pdu_guard.specs.declared.phone.Phone.{Phone}
-use Rattle.pdu_guard.specs.declared.short_macs.ServiceFault.{ServiceFault}
+use Rattle.pdu_guard.specs.{declared.drb.DrbKeys.DrbKeys, declared.drb.Numbers.Numbers, declared.phone.Phone.Phone, declared.short_macs.ServiceFault.ServiceFault, declared.srb.SrbKeys.SrbKeys, declared.nas.NasHead.NasHead, declared.nas.NasKeys.NasKeys, declared.short_macs.ServiceFound.ServiceFound, Checks.is_checked, Drb.drb_pdu_opened, Search.nas_search, Search.service_search, ShortMacs.service_checked, ShortMacs.service_first, Phone.keys_in}
 use Rattle.pdu_guard.specs.declared.short_macs.ServiceFault.TheVariants as service_fault
-use Rattle.pdu_guard.specs.declared.srb.SrbKeys.{SrbKeys}
-use Rattle.pdu_guard.specs.declared.nas.NasHead.{NasHead}
-use Rattle.pdu_guard.specs.declared.nas.NasKeys.{NasKeys}
-use Rattle.pdu_guard.specs.declared.short_macs.ServiceFound.{ServiceFound}
-use Rattle.pdu_guard.specs.Checks.{is_checked}
-use Rattle.pdu_guard.specs.Drb.{drb_pdu_opened}
 use Rattle.pdu_guard.specs.Nas.{NasOpening, nas_head_of, nas_opened, nas_sent}
-use Rattle.pdu_guard.specs.Search.{nas_search, service_search}
-use Rattle.pdu_guard.specs.ShortMacs.{service_checked, service_first}
-use Rattle.pdu_guard.specs.Phone.{keys_in}
 use Rattle.pdu_guard.specs.Srb.{SrbOpening, srb_pdu_opened, srb_pdu_text}
-use Rattle.calc_text.specs.declared.requests.Algorithms.{Algorithms}
-use Rattle.calc_text.specs.declared.requests.NasInputs.{NasInputs}
-use Rattle.calc_text.specs.declared.requests.ServicePdu.{ServicePdu}
-use Rattle.calc_text.specs.declared.requests.BearerInputs.{BearerInputs}
+use Rattle.calc_text.specs.{declared.requests.Algorithms.Algorithms, declared.requests.NasInputs.NasInputs, declared.requests.ServicePdu.ServicePdu, declared.requests.BearerInputs.BearerInputs}
 
 -- octets in hex digits, or `-` for none
 abbrev pub written : List ℕ → List ℕ

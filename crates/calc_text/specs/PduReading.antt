@@ -1,16 +1,8 @@
 -- The lines of PDUs, and of a phone's chain.
 use Rattle.std.specs.Prelude.{ℕ, Bool, false, if◌then◌else◌, Result, Ok, Err, List, codes}
 use Rattle.std.specs.Str.{bytes_eq}
-use Rattle.calc_text.specs.declared.fields.Field.{Field}
+use Rattle.calc_text.specs.{declared.fields.Field.Field, declared.requests.NasInputs.NasInputs, declared.requests.NasPdu.NasPdu, declared.requests.NasText.NasText, declared.requests.BearerInputs.BearerInputs, declared.requests.SrbOctets.SrbOctets, declared.requests.DrbOctets.DrbOctets, declared.requests.ServicePdu.ServicePdu, declared.requests.Request.Request}
 use Rattle.calc_text.specs.declared.fields.Field.TheVariants as field
-use Rattle.calc_text.specs.declared.requests.NasInputs.{NasInputs}
-use Rattle.calc_text.specs.declared.requests.NasPdu.{NasPdu}
-use Rattle.calc_text.specs.declared.requests.NasText.{NasText}
-use Rattle.calc_text.specs.declared.requests.BearerInputs.{BearerInputs}
-use Rattle.calc_text.specs.declared.requests.SrbOctets.{SrbOctets}
-use Rattle.calc_text.specs.declared.requests.DrbOctets.{DrbOctets}
-use Rattle.calc_text.specs.declared.requests.ServicePdu.{ServicePdu}
-use Rattle.calc_text.specs.declared.requests.Request.{Request}
 use Rattle.calc_text.specs.declared.requests.Request.TheVariants.{Nas, AnyNas, SealNas, ServiceRequest, AnyServiceRequest, Srb, SealSrb, Drb, SealDrb, Reach}
 use Rattle.calc_text.specs.Field.{◌>>=◌, between, sized, word, is_any, key_in, number_in, nas_count_in, cell_in, direction_in, algorithms_in, last_eia, numbers_in, octets_in, few_octets_in}
 

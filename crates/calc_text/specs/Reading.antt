@@ -1,17 +1,12 @@
 -- What a line asks for: its first word says which line it is, and its fields stand behind it.
 use Rattle.std.specs.Prelude.{ℕ, false, if◌then◌else◌, Result, Ok, Err, List, [], ◌∷◌, codes}
 use Rattle.std.specs.Str.{bytes_eq}
-use Rattle.calc_text.specs.declared.fields.Field.{Field}
+use Rattle.calc_text.specs.{declared.fields.Field.Field, declared.requests.KeyedText.KeyedText, declared.requests.UsimKeys.UsimKeys, declared.requests.Request.Request, PduReading.pdu_named}
 use Rattle.calc_text.specs.declared.fields.Field.TheVariants as field
-use Rattle.alg_suite.specs.declared.ciphering.Ciphering.{Ciphering}
+use Rattle.alg_suite.specs.{declared.ciphering.Ciphering.Ciphering, declared.integrity.Integrity.Integrity}
 use Rattle.alg_suite.specs.declared.ciphering.Ciphering.TheVariants.{Eea1, Eea2, Eea3}
-use Rattle.alg_suite.specs.declared.integrity.Integrity.{Integrity}
 use Rattle.alg_suite.specs.declared.integrity.Integrity.TheVariants.{Eia1, Eia2, Eia3}
-use Rattle.calc_text.specs.declared.requests.KeyedText.{KeyedText}
-use Rattle.calc_text.specs.declared.requests.UsimKeys.{UsimKeys}
-use Rattle.calc_text.specs.declared.requests.Request.{Request}
 use Rattle.calc_text.specs.declared.requests.Request.TheVariants.{Kasme, Kenb, Nh, Star, Alg, Cipher, Mac}
-use Rattle.calc_text.specs.PduReading.{pdu_named}
 use Rattle.calc_text.specs.Field.{◌>>=◌, sized, word, key_in, number_in, nas_count_in, cell_in, direction_in, octets_in}
 
 -- CK, IK, the PLMN identity and SQN xor AK (TS 33.401 A.2)

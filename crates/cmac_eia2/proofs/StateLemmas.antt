@@ -2,19 +2,15 @@
 use Rattle.std.proofs.Common.{◌≡◌, ◌≢◌, ℕ, zero, suc, ◌+◌, ◌-◌, ◌*◌, ◌/◌, ◌<◌, ◌≤◌, List, [], ◌∷◌, ◌++◌, length, length-append, length-drop, get_or, take, drop, map, fold, replicate, refl, ap, sym, ◌∙◌, arith, append_assoc, append-nil, inl, inr, eqb, false}
 use Rattle.std.specs.Int.Bits.{bit_xor, xor_assoc, xor_zero_r}
 use Rattle.std.specs.List.{range_with_len}
-use Rattle.std.proofs.lemmas.Bool.{cases_eq, cases_lt}
-use Rattle.std.proofs.lemmas.Bool.Decides.{nat_tests}
+use Rattle.std.proofs.{lemmas.Bool.cases_eq, lemmas.Bool.cases_lt, lemmas.Bool.Decides.nat_tests, lemmas.List.FromFn.get_or-map-range_with_len, lemmas.List.FromFn.map-range_with_len_more}
 use Rattle.std.proofs.lemmas.List.{ext_get_or, get_or-set_same, get_or-set_other, get_or_append_left, get_or_at, get_or_past, length-set, length-take-le, take_more, drop-append-le, drop-take, drop_at, take_all}
-use Rattle.std.proofs.lemmas.List.FromFn.{get_or-map-range_with_len, map-range_with_len_more}
 use Rattle.std.proofs.lemmas.List.Sums.{fold-append, fold_push, fold_more}
 use Rattle.aes_core.specs.Aes.{aes}
 use Rattle.aes_core.proofs.AesLemmas.{length-aes}
-use Rattle.rec_base.specs.Header.{header_of}
-use Rattle.rec_base.specs.declared.uses.Dir.{Dir}
+use Rattle.rec_base.specs.{Header.header_of, declared.uses.Dir.Dir}
 use Rattle.cmac_eia2.specs.Cmac.{block_at, blocks_before, chained, cmac_of, doubled, masked_last, padded, xor_blocks, zero_block}
-use Rattle.cmac_eia2.specs.Eia2.{eia2_of}
+use Rattle.cmac_eia2.specs.{Eia2.eia2_of, declared.state.State.State}
 use Rattle.cmac_eia2.specs.State.{absorbed, ended, fed, mixed_with, started, with_room}
-use Rattle.cmac_eia2.specs.declared.state.State.{State}
 
 -- ---- sums of blocks
 

@@ -1,7 +1,6 @@
 -- 128-EIA2: AES in CMAC mode (TS 33.401 B.2.3).
 use Rattle.std.specs.Prelude.{ℕ, List, ◌++◌, take}
-use Rattle.rec_base.specs.declared.uses.Dir.{Dir}
-use Rattle.rec_base.specs.Header.{header_of}
+use Rattle.rec_base.specs.{declared.uses.Dir.Dir, Header.header_of}
 use Rattle.cmac_eia2.specs.Cmac.{cmac_of}
 
 -- the first four octets of the CMAC over COUNT, BEARER, DIRECTION, 26 zero bits and the text

@@ -1,22 +1,12 @@
 -- One event of two cores, from what its calls say.
 use Rattle.std.proofs.Common.{◌≡◌, ◌≢◌, sym, ap, ◌∙◌, subst, ℕ, List, [], ◌∷◌, ◌++◌, true, Option, Some, None, Result, Ok, Err, option_map}
-use Rattle.lte_events.specs.Ranges.{IsEvent}
-use Rattle.lte_events.specs.declared.events.Event.{Event}
-use Rattle.lte_events.specs.declared.inputs.ActorIn.{ActorIn}
-use Rattle.lte_events.specs.declared.lines.Line.{Line}
-use Rattle.lte_events.specs.declared.replies.ActorOut.{ActorOut}
+use Rattle.lte_events.specs.{Ranges.IsEvent, declared.events.Event.Event, declared.inputs.ActorIn.ActorIn, declared.lines.Line.Line, declared.replies.ActorOut.ActorOut}
 use Rattle.key_terms.specs.declared.proof.Proof.{Proof}
-use Rattle.lte_machine.specs.BothRuns.{written_run}
-use Rattle.lte_machine.specs.Carried.{run_value}
-use Rattle.lte_machine.specs.Ciphers.{annex_b}
-use Rattle.lte_machine.specs.Run.{GoesOn}
+use Rattle.lte_machine.specs.{BothRuns.written_run, Carried.run_value, Ciphers.annex_b, Run.GoesOn}
 use Rattle.s1x2_rec.specs.declared.records.CoreRecord.{CoreRecord}
-use Rattle.lte_world.specs.declared.faults.WorldFault.{WorldFault}
-use Rattle.lte_world.specs.Replies.{RepliedLast}
+use Rattle.lte_world.specs.{declared.faults.WorldFault.WorldFault, Replies.RepliedLast}
 use Rattle.lte_world.specs.Whole.{Whole, run_of, told_of, turned}
-use Rattle.core_relocation.specs.declared.cores.Held.{Held}
-use Rattle.core_relocation.specs.declared.lines.TwoLine.{TwoLine}
-use Rattle.core_relocation.specs.declared.senders.Sender.{Sender}
+use Rattle.core_relocation.specs.{declared.cores.Held.Held, declared.lines.TwoLine.TwoLine, declared.senders.Sender.Sender}
 use Rattle.core_relocation.specs.Holder.{acting, away, fields_of, fields_given, held_after, sent_by, station_in}
 use Rattle.core_relocation.specs.Run.{answer_by, answer_in, fields_of_run, next_answer, state_in}
 use Rattle.core_relocation.specs.Whole.{TwoWhole, Keeps, StillRuns, state_of, state_written}

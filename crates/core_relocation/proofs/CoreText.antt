@@ -1,9 +1,7 @@
 -- The line of a core is that of the system, with the number of the core behind its name.
 use Rattle.std.proofs.Common.{◌≡◌, refl, sym, ap, ◌∙◌, ℕ, List, [], ◌∷◌, ◌++◌, ◌≤◌, length, length-append, drop, append_assoc, arith}
-use Rattle.std.specs.Prelude.{codes}
-use Rattle.std.specs.Fmt.{decimal}
-use Rattle.lte_events.specs.declared.lines.Line.{Line}
-use Rattle.lte_events.specs.declared.lines.Who.{Who}
+use Rattle.std.specs.{Prelude.codes, Fmt.decimal}
+use Rattle.lte_events.specs.{declared.lines.Line.Line, declared.lines.Who.Who}
 use Rattle.report_text.specs.Line.{line_text}
 use Rattle.core_relocation.specs.Report.{core_text, rest_text}
 

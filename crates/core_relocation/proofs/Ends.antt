@@ -1,11 +1,9 @@
 -- Each text of a report of two cores is a line.
 use Rattle.std.proofs.Common.{ℕ, Option, Some, None, refl}
-use Rattle.std.specs.Prelude.{codes}
-use Rattle.std.specs.Fmt.{decimal}
+use Rattle.std.specs.{Prelude.codes, Fmt.decimal}
 use Rattle.edge_io.specs.Lines.{EndsLine}
 use Rattle.edge_io.proofs.Ending.{feed, on}
-use Rattle.lte_events.specs.declared.lines.Line.{Line}
-use Rattle.lte_events.specs.Answer.{name_of}
+use Rattle.lte_events.specs.{declared.lines.Line.Line, Answer.name_of}
 use Rattle.report_text.specs.Details.{details_text}
 use Rattle.report_text.specs.Line.{alarm_text, note_text, opened_text, sent_text}
 use Rattle.run_report.proofs.Ends.{line_ends}

@@ -1,21 +1,13 @@
 -- The record on S1 that comes to a core is the one that its input says.
 use Rattle.std.proofs.Common.{◌≡◌, refl, sym, ap, ◌∙◌, ℕ, List, [], ◌∷◌, ◌++◌, Option, Some, None}
-use Rattle.lte_events.specs.declared.addresses.Address.{Address}
-use Rattle.lte_events.specs.declared.events.Event.{Event}
-use Rattle.lte_events.specs.declared.inputs.ActorIn.{ActorIn}
-use Rattle.lte_events.specs.declared.inputs.StationIn.{StationIn}
-use Rattle.lte_events.specs.declared.lines.Line.{Line}
-use Rattle.lte_events.specs.declared.replies.ActorOut.{ActorOut}
-use Rattle.lte_machine.specs.BothRuns.{octet_run}
-use Rattle.lte_machine.specs.Machines.{Kept}
+use Rattle.lte_events.specs.{declared.addresses.Address.Address, declared.events.Event.Event, declared.inputs.ActorIn.ActorIn, declared.inputs.StationIn.StationIn, declared.lines.Line.Line, declared.replies.ActorOut.ActorOut}
+use Rattle.lte_machine.specs.{BothRuns.octet_run, Machines.Kept, StationState.Station}
 use Rattle.lte_machine.specs.Run.{RunState, Running, Stopped, GoesOn}
-use Rattle.lte_machine.specs.StationState.{Station}
 use Rattle.lte_machine.specs.World.{World, record_at, station_of_id}
 use Rattle.lte_world.specs.Replies.{RepliedLast, delivered_replies, input_at, replies_in, replies_of, station_replies}
 use Rattle.lte_world.specs.Whole.{Whole, run_of}
-use Rattle.core_relocation.specs.declared.cores.Cores.{Cores}
+use Rattle.core_relocation.specs.{declared.cores.Cores.Cores, Run.fields_of_run}
 use Rattle.core_relocation.specs.Holder.{fields_at, fields_in, fields_to, fields_given, held_after, if_done, moved}
-use Rattle.core_relocation.specs.Run.{fields_of_run}
 use Rattle.lte_world.proofs.TellsAsWritten.{runs_octets}
 
 at_station : (id : ℕ) (i : StationIn) (o : Option (Station (List ℕ) ℕ)) → fields_given (station_replies id i o) ≡ None

@@ -1,19 +1,13 @@
 -- The lines of a run with two cores are those of the one system that heard the events not answered NotHere.
 use Rattle.std.proofs.Common.{◌≡◌, refl, sym, ap, ◌∙◌, ℕ, List, [], ◌∷◌, ◌++◌, map, Option, Some, None, Result, Ok, Err, append_assoc, append-nil}
 use Rattle.key_model.specs.Term.{Term}
-use Rattle.lte_events.specs.declared.events.Event.{Event}
-use Rattle.lte_events.specs.declared.lines.Line.{Line}
-use Rattle.lte_events.specs.declared.setups.Setup.{Setup}
+use Rattle.lte_events.specs.{declared.events.Event.Event, declared.lines.Line.Line, declared.setups.Setup.Setup}
 use Rattle.lte_machine.specs.BothRuns.{annex_b_terms, written_report, written_run}
-use Rattle.lte_machine.specs.Ciphers.{annex_b}
-use Rattle.lte_machine.specs.Machines.{written_machine}
-use Rattle.lte_machine.specs.Opening.{open_octets}
+use Rattle.lte_machine.specs.{Ciphers.annex_b, Machines.written_machine, Opening.open_octets, Wire.Outgoing}
 use Rattle.lte_machine.specs.Run.{EventReport, Running, RunState, first_world, replay, report, turn}
-use Rattle.lte_machine.specs.Wire.{Outgoing}
 use Rattle.lte_world.specs.declared.faults.WorldFault.{WorldFault}
 use Rattle.s1x2_rec.specs.Fields.{Fields}
-use Rattle.core_relocation.specs.declared.cores.Cores.{Cores}
-use Rattle.core_relocation.specs.declared.lines.TwoLine.{TwoLine}
+use Rattle.core_relocation.specs.{declared.cores.Cores.Cores, declared.lines.TwoLine.TwoLine}
 use Rattle.core_relocation.specs.Holder.{acting, away, station_in}
 use Rattle.core_relocation.specs.Promises.{system_told, told_alone, unstepped}
 use Rattle.core_relocation.specs.Run.{TwoState, answer_by, answers, cores_of, fields_of_run, first_state, heard_of, next_state, run_after, state_by, states, told_after, two_state}

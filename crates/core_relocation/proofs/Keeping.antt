@@ -1,20 +1,11 @@
 -- What holds of two cores stays so at each event.
 use Rattle.std.proofs.Common.{◌≡◌, refl, sym, ap, ◌∙◌, subst, ℕ, ◌+◌, ◌≤◌, List, [], ◌∷◌, ◌++◌, length, length-append, true, Option, Some, None, Ok, arith}
 use Rattle.std.specs.List.{AllByRecursion as AllOf}
-use Rattle.lte_events.specs.Ranges.{IsEvent, IsSetup}
-use Rattle.lte_events.specs.declared.events.Event.{Event}
-use Rattle.lte_events.specs.declared.lines.Line.{Line}
-use Rattle.lte_events.specs.declared.lines.Who.{Who}
-use Rattle.lte_events.specs.declared.classes.Class.{Class}
-use Rattle.lte_events.specs.declared.setups.Setup.{Setup}
-use Rattle.lte_machine.specs.Ciphers.{annex_b}
-use Rattle.lte_machine.specs.BothRuns.{written_run}
-use Rattle.lte_machine.specs.Carried.{run_value}
+use Rattle.lte_events.specs.{Ranges.IsEvent, Ranges.IsSetup, declared.events.Event.Event, declared.lines.Line.Line, declared.lines.Who.Who, declared.classes.Class.Class, declared.setups.Setup.Setup}
+use Rattle.lte_machine.specs.{Ciphers.annex_b, BothRuns.written_run, Carried.run_value, Run.GoesOn}
 use Rattle.lte_machine.proofs.KnownLists.{all_append}
-use Rattle.lte_machine.specs.Run.{GoesOn}
 use Rattle.lte_world.specs.Whole.{Whole, run_of, told_of}
-use Rattle.core_relocation.specs.declared.cores.Held.{Held}
-use Rattle.core_relocation.specs.declared.senders.Sender.{Sender}
+use Rattle.core_relocation.specs.{declared.cores.Held.Held, declared.senders.Sender.Sender}
 use Rattle.core_relocation.specs.Holder.{acting, away, held_after, sent_by, station_in}
 use Rattle.core_relocation.specs.Run.{TwoState, answer_in, state_in, state_by, fields_of_run, cores_of, next_answer, next_state, run_after, told_after, states, two_state, first_state}
 use Rattle.core_relocation.specs.Whole.{TwoWhole, Keeps, StillRuns, state_of, state_written}

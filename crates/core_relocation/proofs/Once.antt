@@ -1,17 +1,9 @@
 -- Each key that a core sends to a station goes in one record.
 use Rattle.std.proofs.Common.{◌≡◌, refl, sym, ap, ◌∙◌, subst, ℕ, zero, suc, List, [], ◌∷◌, ◌++◌, length, map, Option, Some, None, option_map, inl, inr}
-use Rattle.std.specs.Prelude.{◌⊎◌, slice_get}
-use Rattle.std.specs.List.{AllByRecursion as AllOf}
+use Rattle.std.specs.{Prelude.◌⊎◌, Prelude.slice_get, List.AllByRecursion as AllOf}
 use Rattle.rec_base.specs.declared.uses.Dir.TheVariants.{Up, Down}
-use Rattle.lte_events.specs.Ranges.{IsEvent, IsSetup}
-use Rattle.lte_events.specs.declared.addresses.Address.{Address}
-use Rattle.lte_events.specs.declared.events.Event.{Event}
-use Rattle.lte_events.specs.declared.setups.Setup.{Setup}
-use Rattle.key_model.specs.Chain.{ncc_of}
-use Rattle.key_model.specs.HandoverLines.{map_numbered}
-use Rattle.key_model.specs.HandoverTable.{NumberedKey}
-use Rattle.key_model.specs.Term.{Term, Root}
-use Rattle.key_model.specs.Value.{value_of, same_value}
+use Rattle.lte_events.specs.{Ranges.IsEvent, Ranges.IsSetup, declared.addresses.Address.Address, declared.events.Event.Event, declared.setups.Setup.Setup}
+use Rattle.key_model.specs.{Chain.ncc_of, HandoverLines.map_numbered, HandoverTable.NumberedKey, Term.Term, Term.Root, Value.value_of, Value.same_value}
 use Rattle.s1x2_rec.specs.Fields.{Fields, PathSwitchAnswer, HandoverRequest}
 use Rattle.lte_machine.specs.BothRuns.{annex_b_terms, octet_run, written_run}
 use Rattle.lte_machine.specs.Ciphers.{annex_b, octets_of}
@@ -21,16 +13,10 @@ use Rattle.lte_machine.specs.Opening.{Opening, Outcome, open_by_uses, open_octet
 use Rattle.lte_machine.specs.Run.{Running, run, first_world}
 use Rattle.lte_machine.specs.Wire.{Outgoing, SealedNas, PlainNas, SealedRrc, UserPacket, Between}
 use Rattle.lte_machine.specs.World.{Machine, World, with_one, happens}
-use Rattle.lte_machine.proofs.EventByEvent.{written_still}
-use Rattle.lte_machine.proofs.LadderRun.{all_reported, ladder_always}
-use Rattle.lte_machine.proofs.RangeHolds.{RecordRanged, Ranged}
+use Rattle.lte_machine.proofs.{EventByEvent.written_still, LadderRun.all_reported, LadderRun.ladder_always, RangeHolds.RecordRanged, RangeHolds.Ranged, StillRun.still_is_run, Worlds.TheWorld}
 use Rattle.lte_machine.proofs.RangeWorld.{first_ranged, ranged_keeps, reads_back}
-use Rattle.lte_machine.proofs.StillRun.{still_is_run}
-use Rattle.lte_machine.proofs.Worlds.{TheWorld}
 use Rattle.lte_properties.specs.Separation.{Gives, GivenTo}
-use Rattle.lte_properties.proofs.KeySeparation.Holders.{Holders}
-use Rattle.lte_properties.proofs.KeySeparation.Keys.{GivesIn}
-use Rattle.lte_properties.proofs.KeySeparation.World.{first_holds, happens_goes}
+use Rattle.lte_properties.proofs.{KeySeparation.Holders.Holders, KeySeparation.Keys.GivesIn, KeySeparation.World.first_holds, KeySeparation.World.happens_goes}
 use Rattle.core_relocation.specs.Once.{nh_of, nh_read, nh_sent, NoNhTwice}
 
 -- LISTS OF RECORDS

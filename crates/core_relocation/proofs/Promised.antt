@@ -1,24 +1,15 @@
 -- What holds of every run with two cores.
 use Rattle.std.proofs.Common.{◌≡◌, refl, sym, ap, ◌∙◌, ℕ, zero, suc, ◌==◌, Bool, true, false, List, [], ◌∷◌, take, Option, Some, None, Result, Ok, Err, eq-eqb}
-use Rattle.std.specs.Prelude.{◌||◌}
-use Rattle.std.specs.List.{AllByRecursion as AllOf}
-use Rattle.lte_events.specs.Ranges.{IsEvent, IsSetup}
-use Rattle.lte_events.specs.declared.events.Event.{Event}
-use Rattle.lte_events.specs.declared.lines.Line.{Line}
-use Rattle.lte_events.specs.declared.lines.Who.{Who}
-use Rattle.lte_events.specs.declared.setups.Setup.{Setup}
+use Rattle.std.specs.{Prelude.◌||◌, List.AllByRecursion as AllOf}
+use Rattle.lte_events.specs.{Ranges.IsEvent, Ranges.IsSetup, declared.events.Event.Event, declared.lines.Line.Line, declared.lines.Who.Who, declared.setups.Setup.Setup}
 use Rattle.lte_machine.proofs.KnownLists.{all_append}
 use Rattle.lte_properties.proofs.HeadlineHolds.{headline}
 use Rattle.lte_world.specs.declared.faults.WorldFault.{WorldFault}
 use Rattle.s1x2_rec.specs.Fields.{Fields}
-use Rattle.core_relocation.specs.declared.cores.Cores.{Cores}
-use Rattle.core_relocation.specs.declared.lines.TwoLine.{TwoLine}
-use Rattle.core_relocation.specs.Acted.{acted}
+use Rattle.core_relocation.specs.{declared.cores.Cores.Cores, declared.lines.TwoLine.TwoLine, Acted.acted, Promises.MayAct, Promises.TwoHeadline}
 use Rattle.core_relocation.specs.Holder.{acting, away, core_at, is_next, station_in, unless}
-use Rattle.core_relocation.specs.Promises.{MayAct, TwoHeadline}
 use Rattle.core_relocation.specs.Run.{TwoState, answer_by, cores_of, fields_of_run, first_state, heard_of, next_answer, next_state, run_after, state_by, states, told_after, two_state}
-use Rattle.core_relocation.proofs.Journal.{lines_are}
-use Rattle.core_relocation.proofs.Once.{no_nh_twice}
+use Rattle.core_relocation.proofs.{Journal.lines_are, Once.no_nh_twice}
 
 -- WHAT THE SYSTEM SAW
 

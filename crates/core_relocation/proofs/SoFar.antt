@@ -1,21 +1,14 @@
 -- The report, event by event.
 use Rattle.std.proofs.Common.{◌≡◌, refl, sym, ap, ◌∙◌, ℕ, suc, ◌+◌, ◌<◌, ◌≤◌, Some, Result, Ok, Err, List, [], ◌∷◌, ◌++◌, length, drop, take, drop_of_length-le, add-one, arith}
 use Rattle.std.specs.List.{slice_get}
-use Rattle.std.proofs.lemmas.List.{length-take-le}
-use Rattle.std.proofs.lemmas.Option.{slice_get_within}
-use Rattle.std.proofs.Math.Seq.{take-suc, take-length}
-use Rattle.lte_events.specs.declared.events.Event.{Event}
-use Rattle.lte_events.specs.declared.setups.Setup.{Setup}
-use Rattle.lte_world.specs.declared.faults.WorldFault.{WorldFault}
-use Rattle.lte_world.specs.Whole.{Whole, run_of}
-use Rattle.run_report.specs.declared.endings.Ending.TheVariants.{Done}
-use Rattle.run_report.specs.Report.{Report, end_of}
-use Rattle.run_report.proofs.Partly.{followed, Follows}
-use Rattle.run_report.proofs.HappenedSoFar.{item_at, left_at}
-use Rattle.core_relocation.specs.declared.lines.TwoLine.{TwoLine}
+use Rattle.std.proofs.{lemmas.List.length-take-le, lemmas.Option.slice_get_within, Math.Seq.take-suc, Math.Seq.take-length}
+use Rattle.lte_events.specs.{declared.events.Event.Event, declared.setups.Setup.Setup}
+use Rattle.lte_world.specs.{declared.faults.WorldFault.WorldFault, Whole.Whole, Whole.run_of}
+use Rattle.run_report.specs.{declared.endings.Ending.TheVariants.Done, Report.Report, Report.end_of}
+use Rattle.run_report.proofs.{Partly.followed, Partly.Follows, HappenedSoFar.item_at, HappenedSoFar.left_at}
+use Rattle.core_relocation.specs.{declared.lines.TwoLine.TwoLine, Whole.TwoWhole, Whole.state_written}
 use Rattle.core_relocation.specs.Report.{answer_report, two_report_of, two_told_from}
 use Rattle.core_relocation.specs.Run.{TwoState, answers, heard_of, next_answer, next_state, run_after, two_state}
-use Rattle.core_relocation.specs.Whole.{TwoWhole, state_written}
 use Rattle.core_relocation.proofs.Keeping.{state_more}
 
 one_more : (step : ℕ) (told : Result TwoLine WorldFault) (rest : List (Result TwoLine WorldFault)) (end : List ℕ)

@@ -1,17 +1,12 @@
 -- Two cores in which nothing has happened.
 use Rattle.std.proofs.Common.{◌≡◌, refl, sym, ap, ◌∙◌, subst, ℕ, List, [], length, arith}
 use Rattle.std.specs.List.{AllByRecursion as AllOf}
-use Rattle.lte_events.specs.Site.{Site}
-use Rattle.lte_events.specs.Ranges.{IsEvent, IsSetup}
-use Rattle.lte_events.specs.declared.events.Event.{Event}
-use Rattle.lte_events.specs.declared.setups.Setup.{Setup}
-use Rattle.lte_machine.specs.Ciphers.{annex_b}
-use Rattle.lte_machine.specs.Run.{Running, first_world}
+use Rattle.lte_events.specs.{Site.Site, Ranges.IsEvent, Ranges.IsSetup, declared.events.Event.Event, declared.setups.Setup.Setup}
+use Rattle.lte_machine.specs.{Ciphers.annex_b, Run.Running, Run.first_world}
 use Rattle.lte_machine.proofs.WholeRun.{first_value}
 use Rattle.lte_world.specs.Whole.{Whole, begun, run_of}
-use Rattle.core_relocation.specs.declared.senders.Sender.{Sender}
+use Rattle.core_relocation.specs.{declared.senders.Sender.Sender, Whole.Keeps}
 use Rattle.core_relocation.specs.Run.{first_state, run_after, two_state}
-use Rattle.core_relocation.specs.Whole.{Keeps}
 
 none_yet : (setup : Setup) (core_of : List ℕ) → first_state ≡ two_state setup core_of []
 unfolding two_state

@@ -3,28 +3,11 @@
 use Rattle.std.specs.Prelude.{ℕ, ◌==◌, ◌&&◌, ◌||◌, Bool, true, false, List, [], ◌∷◌, ◌++◌, slice_get, slice_index, Option, Some, None, option_map, Result, Ok, Err}
 use Rattle.annex_a_keys.specs.Cell.{Place}
 use Rattle.rec_base.specs.declared.faults.RecFault.{RecFault}
-use Rattle.lte_events.specs.declared.acts.CoreAct.{CoreAct}
-use Rattle.lte_events.specs.declared.addresses.Address.{Address}
-use Rattle.lte_events.specs.declared.answers.Answer.{Answer}
-use Rattle.lte_events.specs.declared.answers.Answer.TheVariants.{Done}
-use Rattle.lte_events.specs.declared.classes.Class.{Class}
-use Rattle.lte_events.specs.declared.events.Event.{Event}
-use Rattle.lte_events.specs.declared.inputs.ActorIn.{ActorIn}
-use Rattle.lte_events.specs.declared.inputs.CoreIn.{CoreIn}
-use Rattle.lte_events.specs.declared.replies.ActorOut.{ActorOut}
-use Rattle.lte_events.specs.declared.lines.Line.{Line}
-use Rattle.lte_events.specs.declared.lines.Who.{Who}
-use Rattle.lte_events.specs.Site.{station_of}
-use Rattle.s1x2_rec.specs.Content.{Content, content_of}
-use Rattle.s1x2_rec.specs.declared.records.CoreRecord.{CoreRecord}
+use Rattle.lte_events.specs.{declared.acts.CoreAct.CoreAct, declared.addresses.Address.Address, declared.answers.Answer.Answer, declared.answers.Answer.TheVariants.Done, declared.classes.Class.Class, declared.events.Event.Event, declared.inputs.ActorIn.ActorIn, declared.inputs.CoreIn.CoreIn, declared.replies.ActorOut.ActorOut, declared.lines.Line.Line, declared.lines.Who.Who, Site.station_of}
+use Rattle.s1x2_rec.specs.{Content.Content, Content.content_of, declared.records.CoreRecord.CoreRecord, Reading.read_core}
 use Rattle.s1x2_rec.specs.Fields.{Fields, HandoverRequired, HandoverNotify, HandoverCancel}
-use Rattle.s1x2_rec.specs.Reading.{read_core}
-use Rattle.lte_machine.specs.Machines.{Kept}
-use Rattle.lte_machine.specs.World.{World, record_at}
-use Rattle.core_relocation.specs.declared.cores.Cores.{Cores}
-use Rattle.core_relocation.specs.declared.cores.Held.{Held}
-use Rattle.core_relocation.specs.declared.cores.Relocation.{Relocation}
-use Rattle.core_relocation.specs.declared.senders.Sender.{Sender}
+use Rattle.lte_machine.specs.{Machines.Kept, World.World, World.record_at}
+use Rattle.core_relocation.specs.{declared.cores.Cores.Cores, declared.cores.Held.Held, declared.cores.Relocation.Relocation, declared.senders.Sender.Sender}
 
 -- WHO SENT WHAT
 

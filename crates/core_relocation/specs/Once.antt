@@ -3,11 +3,9 @@ use Rattle.std.specs.Prelude.{◌≡◌, ℕ, List, Option, Some, None, option_m
 use Rattle.rec_base.specs.declared.faults.RecFault.{RecFault}
 use Rattle.lte_events.specs.declared.addresses.Address.{Address}
 use Rattle.key_model.specs.HandoverTable.{NumberedKey}
-use Rattle.s1x2_rec.specs.Content.{Content}
+use Rattle.s1x2_rec.specs.{Content.Content, Reading.read_core}
 use Rattle.s1x2_rec.specs.Fields.{Fields, PathSwitchAnswer, HandoverRequest}
-use Rattle.s1x2_rec.specs.Reading.{read_core}
-use Rattle.lte_machine.specs.Machines.{Kept}
-use Rattle.lte_machine.specs.World.{World}
+use Rattle.lte_machine.specs.{Machines.Kept, World.World}
 
 -- the NH in a record of the kinds 23 and 25
 abbrev pub nh_of : Fields → Option (NumberedKey (List ℕ) ℕ) → Option (List ℕ)

@@ -1,21 +1,12 @@
 -- What holds of a run with two cores, for every setup and every list of events.
 use Rattle.std.specs.Prelude.{◌≡◌, ℕ, ◌==◌, ◌||◌, true, List, [], ◌∷◌, map, take, slice_get, Some, Result, Ok, Err}
 use Rattle.key_model.specs.Term.{Term}
-use Rattle.lte_events.specs.declared.events.Event.{Event}
-use Rattle.lte_events.specs.declared.lines.Line.{Line}
-use Rattle.lte_events.specs.declared.setups.Setup.{Setup}
-use Rattle.lte_machine.specs.BothRuns.{written_report}
-use Rattle.lte_machine.specs.Carried.{report_value}
-use Rattle.lte_machine.specs.Run.{EventReport}
-use Rattle.lte_properties.specs.Headline.{Headline}
-use Rattle.lte_properties.specs.InOctets.{EachWorld}
-use Rattle.lte_world.specs.declared.faults.WorldFault.{WorldFault}
-use Rattle.lte_world.specs.Whole.{answer_of}
-use Rattle.core_relocation.specs.declared.cores.Held.{Held}
-use Rattle.core_relocation.specs.declared.lines.TwoLine.{TwoLine}
+use Rattle.lte_events.specs.{declared.events.Event.Event, declared.lines.Line.Line, declared.setups.Setup.Setup}
+use Rattle.lte_machine.specs.{BothRuns.written_report, Carried.report_value, Run.EventReport}
+use Rattle.lte_properties.specs.{Headline.Headline, InOctets.EachWorld}
+use Rattle.lte_world.specs.{declared.faults.WorldFault.WorldFault, Whole.answer_of}
+use Rattle.core_relocation.specs.{declared.cores.Held.Held, declared.lines.TwoLine.TwoLine, Holder.is_next, Once.NoNhTwice}
 use Rattle.core_relocation.specs.declared.lines.TwoLine.TheVariants.{By, NotHere}
-use Rattle.core_relocation.specs.Holder.{is_next}
-use Rattle.core_relocation.specs.Once.{NoNhTwice}
 use Rattle.core_relocation.specs.Run.{answers, first_state, heard_of, next_answer, two_state}
 
 -- the core holds the context, or is to get it

@@ -1,14 +1,10 @@
 -- The report of a run with two cores: that of `run`, with the number of the core in each line of a core.
 use Rattle.std.specs.Prelude.{ℕ, suc, Option, Some, None, List, [], ◌∷◌, ◌++◌, length, codes, Result, Ok, Err}
 use Rattle.std.specs.Fmt.{decimal}
-use Rattle.lte_events.specs.declared.events.Event.{Event}
-use Rattle.lte_events.specs.declared.lines.Line.{Line}
-use Rattle.lte_events.specs.declared.setups.Setup.{Setup}
-use Rattle.lte_events.specs.Answer.{name_of}
+use Rattle.lte_events.specs.{declared.events.Event.Event, declared.lines.Line.Line, declared.setups.Setup.Setup, Answer.name_of}
 use Rattle.lte_world.specs.declared.faults.WorldFault.{WorldFault}
 use Rattle.lte_world.specs.declared.faults.WorldFault.TheVariants.{Memory, Chance}
-use Rattle.report_text.specs.Coincidence.{coincidence_text}
-use Rattle.report_text.specs.Details.{details_text}
+use Rattle.report_text.specs.{Coincidence.coincidence_text, Details.details_text}
 use Rattle.report_text.specs.Line.{alarm_text, line_text, note_text, opened_text, sent_text}
 use Rattle.run_report.specs.declared.endings.Ending.{Ending}
 use Rattle.run_report.specs.declared.endings.Ending.TheVariants as ending

@@ -1,24 +1,13 @@
 -- A run with two cores: an event goes to the one system of `run`, or asks a core that does not hold the context, and then the
 -- system does not see it.
 use Rattle.std.specs.Prelude.{ℕ, ◌+◌, List, [], ◌∷◌, ◌++◌, Option, Some, None, Result, Ok, Err}
-use Rattle.lte_events.specs.declared.events.Event.{Event}
-use Rattle.lte_events.specs.declared.lines.Line.{Line}
-use Rattle.lte_events.specs.declared.setups.Setup.{Setup}
-use Rattle.lte_machine.specs.BothRuns.{annex_b_terms, written_run}
-use Rattle.lte_machine.specs.Carried.{run_value, report_value}
-use Rattle.lte_machine.specs.Ciphers.{annex_b}
-use Rattle.lte_machine.specs.Machines.{Kept, written_machine}
-use Rattle.lte_machine.specs.Opening.{open_octets}
+use Rattle.lte_events.specs.{declared.events.Event.Event, declared.lines.Line.Line, declared.setups.Setup.Setup}
+use Rattle.lte_machine.specs.{BothRuns.annex_b_terms, BothRuns.written_run, Carried.run_value, Carried.report_value, Ciphers.annex_b, Machines.Kept, Machines.written_machine, Opening.open_octets}
 use Rattle.lte_machine.specs.Run.{RunState, Running, Stopped, event_report}
-use Rattle.lte_world.specs.declared.faults.WorldFault.{WorldFault}
-use Rattle.lte_world.specs.Whole.{answer_of}
+use Rattle.lte_world.specs.{declared.faults.WorldFault.WorldFault, Whole.answer_of}
 use Rattle.s1x2_rec.specs.Fields.{Fields}
-use Rattle.core_relocation.specs.declared.cores.Cores.{Cores}
-use Rattle.core_relocation.specs.declared.cores.Held.{Held}
-use Rattle.core_relocation.specs.declared.lines.TwoLine.{TwoLine}
+use Rattle.core_relocation.specs.{declared.cores.Cores.Cores, declared.cores.Held.Held, declared.lines.TwoLine.TwoLine, declared.senders.Sender.Sender, Acted.acted}
 use Rattle.core_relocation.specs.declared.lines.TwoLine.TheVariants.{By, NotHere}
-use Rattle.core_relocation.specs.declared.senders.Sender.{Sender}
-use Rattle.core_relocation.specs.Acted.{acted}
 use Rattle.core_relocation.specs.Holder.{acting, away, fields_in, held_after, senders_after, station_in}
 
 -- what two cores have come to

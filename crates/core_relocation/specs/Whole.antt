@@ -1,14 +1,11 @@
 -- Two cores as a caller sees them.
 use Rattle.std.specs.Prelude.{◌≡◌, ◌≤◌, ◌<◌, List, [], ◌∷◌, ◌++◌, length}
 use Rattle.std.specs.List.{AllByRecursion as AllOf}
-use Rattle.lte_events.specs.Ranges.{IsEvent, IsSetup}
-use Rattle.lte_events.specs.declared.events.Event.{Event}
+use Rattle.lte_events.specs.{Ranges.IsEvent, Ranges.IsSetup, declared.events.Event.Event, Scenario.most_events, Scenario.CanHappen}
 use Rattle.lte_machine.specs.Run.{GoesOn}
 use Rattle.lte_world.specs.Whole as world
-use Rattle.lte_events.specs.Scenario.{most_events, CanHappen}
 use Rattle.lte_world.specs.Whole.{run_of}
-use Rattle.core_relocation.specs.declared.cores.Cores.{Cores}
-use Rattle.core_relocation.specs.declared.senders.Sender.{Sender}
+use Rattle.core_relocation.specs.{declared.cores.Cores.Cores, declared.senders.Sender.Sender}
 use Rattle.core_relocation.specs.Run.{TwoState, run_after, two_state}
 
 pub record TwoWhole : Type 0 where

@@ -2,9 +2,7 @@
 use Rattle.std.proofs.Common.{◌≡◌, ℕ, ◌+◌, ◌*◌, ◌/◌, ◌%◌, ◌<◌, List, ◌++◌, length, slice_index, refl, arith}
 use Rattle.aes_core.specs.Aes.{aes}
 use Rattle.keystream.proofs.CombinedLemmas.{combined-combined, length-combined}
-use Rattle.rec_base.specs.declared.uses.Dir.{Dir}
-use Rattle.rec_base.specs.BigEndian.{octets_of}
-use Rattle.rec_base.specs.Header.{header_of}
+use Rattle.rec_base.specs.{declared.uses.Dir.Dir, BigEndian.octets_of, Header.header_of}
 use Rattle.ctr_eea2.specs.Eea2.{eea2_of, keystream_octet}
 
 -- the length is kept

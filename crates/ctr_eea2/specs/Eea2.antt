@@ -2,9 +2,7 @@
 use Rattle.std.specs.Prelude.{ℕ, ◌/◌, ◌%◌, List, ◌++◌, slice_index}
 use Rattle.aes_core.specs.Aes.{aes}
 use Rattle.keystream.specs.Combined.{combined}
-use Rattle.rec_base.specs.declared.uses.Dir.{Dir}
-use Rattle.rec_base.specs.BigEndian.{octets_of}
-use Rattle.rec_base.specs.Header.{header_of}
+use Rattle.rec_base.specs.{declared.uses.Dir.Dir, BigEndian.octets_of, Header.header_of}
 
 -- counter block n: COUNT, BEARER, DIRECTION and 26 zero bits, and then n in 64 bits (B.1.3)
 abbrev pub counter_block : ℕ → ℕ → Dir → ℕ → List ℕ

@@ -1,8 +1,7 @@
 -- A list of peers where one is changed.
 use Rattle.std.proofs.Common.{◌≡◌, ℕ, zero, suc, ◌<◌, Option, Some, List, [], ◌∷◌, ◌++◌, length, drop, get_or, map, slice_get, refl, ap, sym, ◌∙◌, append-nil, arith}
 use Rattle.std.proofs.Math.ListN.{set}
-use Rattle.edge_io.specs.declared.peers.Role.{Role}
-use Rattle.edge_io.specs.declared.peers.PeerCall.{PeerCall}
+use Rattle.edge_io.specs.{declared.peers.Role.Role, declared.peers.PeerCall.PeerCall}
 use Rattle.edge_io.specs.declared.peers.PeerCall.TheVariants.{Send, Receive}
 use Rattle.edge_io.specs.Peers.{PeerTold, PeersTold, change, IdleFrom, SendFailed, ReceiveFailed, new_peer}
 

@@ -1,10 +1,7 @@
 -- Octets that are whole lines.
 use Rattle.std.proofs.Common.{◌≡◌, ℕ, zero, suc, ◌-◌, ◌<◌, ◌==◌, ◌&&◌, Bool, true, false, Option, Some, None, Result, Ok, Err, List, [], ◌∷◌, ◌++◌, take, drop, length, slice_get, refl, ap, ◌∙◌, append-nil, arith}
 use Rattle.std.proofs.lemmas.List.{take_rest}
-use Rattle.std.specs.Prelude.{IfOk}
-use Rattle.std.specs.List.{last_or}
-use Rattle.std.specs.Option.{option_map_or}
-use Rattle.std.specs.Fmt.{decimal}
+use Rattle.std.specs.{Prelude.IfOk, List.last_or, Option.option_map_or, Fmt.decimal}
 use Rattle.edge_io.specs.Lines.{EndsLine, are_lines, ends_line, has_octets, with_octets, with_piece}
 use Rattle.edge_io.specs.PortLine.{port_line}
 

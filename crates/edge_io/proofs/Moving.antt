@@ -1,8 +1,7 @@
 -- How the known octets of a connection change over several calls.
 use Rattle.std.proofs.Common.{◌≡◌, ℕ, ◌+◌, ◌-◌, ◌≤◌, Option, List, ◌++◌, take, drop, length, ap, sym, subst, ◌∙◌, arith, length-take}
 use Rattle.std.proofs.lemmas.List.{take_rest, take_at, drop_at, take-append-le}
-use Rattle.std.proofs.Math.Seq.{take-add}
-use Rattle.std.proofs.KnownBytes.{Appends-trans, Consumes-trans}
+use Rattle.std.proofs.{Math.Seq.take-add, KnownBytes.Appends-trans, KnownBytes.Consumes-trans}
 use Rattle.std.specs.Io.KnownBytes.{Appends, Consumes}
 use borrow.Rule.Slice.PartMut.{put_mid, post_of}
 

@@ -2,10 +2,7 @@
 use Rattle.std.proofs.Common.{◌≡◌, ◌≢◌, ℕ, suc, ◌^◌, ◌<◌, ◌≤◌, List, [], ◌∷◌, ◌++◌, All, length, codes, Result, Ok, Err, refl, ◌∙◌, sym, subst, append_assoc, arith}
 use Rattle.std.proofs.lemmas.Fmt.{parse-decimal, IsAscii-decimal, decimal_is_IsNumeral, length-decimal-le}
 use Rattle.std.proofs.lemmas.Str.{IsUtf8-from_ascii}
-use Rattle.std.specs.Fmt.{decimal}
-use Rattle.std.specs.Str.{IsUtf8}
-use Rattle.std.specs.Str.Parse.{AllDigits, ParsesUnsigned}
-use Rattle.std.specs.Char.{digit_value}
+use Rattle.std.specs.{Fmt.decimal, Str.IsUtf8, Str.Parse.AllDigits, Str.Parse.ParsesUnsigned, Char.digit_value}
 use Rattle.edge_io.specs.PortLine.{BeginsNoPort}
 
 -- digits are a text

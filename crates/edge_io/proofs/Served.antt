@@ -3,10 +3,8 @@ use Rattle.std.proofs.Common.{◌≡◌, ◌⊎◌, inl, inr, ℕ, ◌<◌, Opti
 use Rattle.std.proofs.lemmas.Option.{slice_get_read}
 use Rattle.std.specs.declared.io.Error.{Error}
 use Rattle.growth.specs.Growth.{Refused}
-use Rattle.edge_io.specs.Cause.{OneMore}
+use Rattle.edge_io.specs.{Cause.OneMore, declared.peers.Role.Role, declared.peer_fault.PeerFault.PeerFault}
 use Rattle.edge_io.specs.Serving.{IsEnded, Keeps, NotFound, NotServed, OfNoPeer, OfPeer}
-use Rattle.edge_io.specs.declared.peers.Role.{Role}
-use Rattle.edge_io.specs.declared.peer_fault.PeerFault.{PeerFault}
 use Rattle.edge_io.specs.declared.peer_fault.PeerFault.TheVariants.{NotStarted, NoPort, NotReached, NotSent, NoReply}
 
 -- a program that was started, not reached, and ended

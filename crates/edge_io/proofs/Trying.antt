@@ -1,8 +1,6 @@
 -- A call that is made again while it is interrupted.
 use Rattle.std.proofs.Common.{◌≡◌, ℕ, suc, ◌+◌, Result, Err, refl, subst, arith}
-use Rattle.std.specs.IoError.{error_kind}
-use Rattle.std.specs.declared.io.Error.{Error}
-use Rattle.std.specs.declared.io.ErrorKind.TheVariants.{Interrupted}
+use Rattle.std.specs.{IoError.error_kind, declared.io.Error.Error, declared.io.ErrorKind.TheVariants.Interrupted}
 use Rattle.edge_io.specs.Tries.{Interruptions}
 
 pub interruptions_none : {X : Type 0} (answers : X → Result ℕ Error → X → Type 0) (x : X) → Interruptions answers 0 x x

@@ -1,8 +1,6 @@
 -- The causes of faults: a call of the outside answers one only where the object's count rose.
 use Rattle.std.specs.Prelude.{◌≡◌, ℕ, ◌+◌, ◌-◌, ◌^◌, ◌≤◌, min, Result, IfErr, OnErr}
-use Rattle.std.specs.IoError.{error_kind}
-use Rattle.std.specs.declared.io.Error.{Error}
-use Rattle.std.specs.declared.io.ErrorKind.TheVariants.{OutOfMemory}
+use Rattle.std.specs.{IoError.error_kind, declared.io.Error.Error, declared.io.ErrorKind.TheVariants.OutOfMemory}
 use Rattle.growth.specs.Growth.{WasRefused}
 use Rattle.edge_io.specs.Told.{Told}
 

@@ -1,7 +1,6 @@
 -- Pieces that are whole lines.
 use Rattle.std.specs.Prelude.{◌≡◌, ℕ, Bool, true, false, ◌==◌, ◌&&◌, Option, Some, None, List, [], ◌∷◌}
-use Rattle.std.specs.List.{last_or}
-use Rattle.std.specs.Option.{option_map, option_map_or}
+use Rattle.std.specs.{List.last_or, Option.option_map, Option.option_map_or}
 
 -- the last of some octets is LF
 pub record EndsLine (octets : List ℕ) : Type 0 where

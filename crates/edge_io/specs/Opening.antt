@@ -1,9 +1,7 @@
 -- How a port on the network is opened, by what each call on the network answers.
 use Rattle.std.specs.Prelude.{ℕ, ◌⊎◌, List, [], ◌∷◌, Result, Ok, Err}
 use Rattle.std.specs.declared.io.Error.{Error}
-use Rattle.edge_io.specs.Cause.{Rose}
-use Rattle.edge_io.specs.PortLine.{SaysPort}
-use Rattle.edge_io.specs.Told.{Told}
+use Rattle.edge_io.specs.{Cause.Rose, PortLine.SaysPort, Told.Told}
 
 -- Here `binds` is what a bind may answer, at the octets of an address and a port; `has_port` what a listener
 -- may answer for its port, and `accepts` for its next connection, once its port is said so.

@@ -1,10 +1,8 @@
 -- What is told of peers, and what each call does to it.
 use Rattle.std.specs.Prelude.{◌≡◌, ℕ, zero, suc, ◌+◌, ◌<◌, ◌≤◌, Bool, true, false, Option, Some, None, List, [], ◌∷◌, ◌++◌, length, take, drop, slice_get, map, Result, Ok, Err}
 use Rattle.std.specs.Option.{option_map, option_map_or}
-use Rattle.edge_io.specs.declared.peers.Role.{Role}
-use Rattle.edge_io.specs.declared.peers.PeerCall.{PeerCall}
+use Rattle.edge_io.specs.{declared.peers.Role.Role, declared.peers.PeerCall.PeerCall, declared.peers.StartFault.StartFault}
 use Rattle.edge_io.specs.declared.peers.PeerCall.TheVariants.{Start, Send, Receive}
-use Rattle.edge_io.specs.declared.peers.StartFault.{StartFault}
 use Rattle.edge_io.specs.declared.peers.StartFault.TheVariants.{Memory, Failed}
 
 -- one peer

@@ -1,10 +1,7 @@
 -- The line by which a served actor says its port: how it is written, and how it is read.
 use Rattle.std.specs.Prelude.{◌≢◌, ◌⊎◌, ℕ, ◌^◌, ◌<◌, Option, List, ◌++◌, Result, Ok, codes}
-use Rattle.std.specs.Fmt.{decimal}
-use Rattle.std.specs.Io.KnownBytes.{Consumes}
-use Rattle.std.specs.declared.io.Error.{Error}
-use Rattle.edge_io.specs.Octets.{Grows}
-use Rattle.edge_io.specs.Tries.{GivesUp, LastAnswers}
+use Rattle.std.specs.{Fmt.decimal, Io.KnownBytes.Consumes, declared.io.Error.Error}
+use Rattle.edge_io.specs.{Octets.Grows, Tries.GivesUp, Tries.LastAnswers}
 
 -- the number of the port in decimal digits, and LF
 abbrev pub port_line : ℕ → List ℕ

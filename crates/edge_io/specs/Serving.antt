@@ -1,23 +1,9 @@
 -- Which program serves a role, and how it is started, reached and ended, by what each call on the host answers.
 use Rattle.std.specs.Prelude.{◌≡◌, ◌≢◌, ◌⊎◌, ℕ, Option, Some, None, IsSomeAnd, List, [], ◌∷◌, ◌++◌, length, map, string_bytes, slice_set, Result, Ok, Err}
-use Rattle.std.specs.Option.{option_flatten}
-use Rattle.std.specs.List.{slice_get}
-use Rattle.std.specs.Io.KnownBytes.{Appends, Consumes}
-use Rattle.std.specs.Path.{path_buf_bytes}
-use Rattle.std.specs.IoError.{error_kind}
-use Rattle.std.specs.declared.io.Error.{Error}
-use Rattle.std.specs.declared.io.ErrorKind.TheVariants.{OutOfMemory}
+use Rattle.std.specs.{Option.option_flatten, List.slice_get, Io.KnownBytes.Appends, Io.KnownBytes.Consumes, Path.path_buf_bytes, IoError.error_kind, declared.io.Error.Error, declared.io.ErrorKind.TheVariants.OutOfMemory}
 use Rattle.growth.specs.Growth.{WasRefused}
-use Rattle.edge_io.specs.Cause.{OneMore}
-use Rattle.edge_io.specs.Opening.{loopback}
-use Rattle.edge_io.specs.PortLine.{ReadsPort, ReadsNoPort}
-use Rattle.edge_io.specs.RoleWords.{role_words}
-use Rattle.edge_io.specs.Tries.{GivesUp, LastAnswers}
-use Rattle.edge_io.specs.declared.peers.Role.{Role}
+use Rattle.edge_io.specs.{Cause.OneMore, Opening.loopback, PortLine.ReadsPort, PortLine.ReadsNoPort, RoleWords.role_words, Tries.GivesUp, Tries.LastAnswers, declared.peers.Role.Role, declared.programs.Program.Program, declared.programs.Programs.Programs, declared.peer_fault.PeerFault.PeerFault}
 use Rattle.edge_io.specs.declared.peers.Role.TheVariants.{Phone, Station, Core}
-use Rattle.edge_io.specs.declared.programs.Program.{Program}
-use Rattle.edge_io.specs.declared.programs.Programs.{Programs}
-use Rattle.edge_io.specs.declared.peer_fault.PeerFault.{PeerFault}
 use Rattle.edge_io.specs.declared.peer_fault.PeerFault.TheVariants.{NotStarted, NoPort, NotReached}
 
 -- the program of a role

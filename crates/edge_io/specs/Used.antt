@@ -1,7 +1,6 @@
 -- What stays of an object that a call uses on one side alone.
 use Rattle.std.specs.Prelude.{◌≡◌, IsTrue}
-use Rattle.edge_io.specs.Told.{Told}
-use Rattle.edge_io.specs.Cause.{NoCountFell}
+use Rattle.edge_io.specs.{Told.Told, Cause.NoCountFell}
 
 -- of one that is used as a source
 pub record UsedAsSource (before after : Told) : Type 0 where

@@ -1,8 +1,7 @@
 -- 128-EEA1: SNOW 3G as a stream cipher (TS 33.401 B.1.2; TS 35.215 3, whose clause numbers are from memory).
 use Rattle.std.specs.Prelude.{ℕ, ◌+◌, ◌*◌, ◌^◌, List, [], ◌∷◌}
 use Rattle.keystream.specs.Combined.{combined, octet_in}
-use Rattle.rec_base.specs.declared.uses.Dir.{Dir}
-use Rattle.rec_base.specs.Header.{direction_of}
+use Rattle.rec_base.specs.{declared.uses.Dir.Dir, Header.direction_of}
 use Rattle.snow3g.specs.State.{initialised, keystream_word}
 
 -- BEARER, DIRECTION and 26 zero bits (35.215 3.4)

@@ -1,8 +1,7 @@
 -- 128-EEA3: ZUC as a stream cipher (TS 33.401 B.1.4; TS 35.221 3, whose clause numbers are from memory).
 use Rattle.std.specs.Prelude.{ℕ, List, ◌++◌}
 use Rattle.keystream.specs.Combined.{combined, octet_in}
-use Rattle.rec_base.specs.declared.uses.Dir.{Dir}
-use Rattle.rec_base.specs.Header.{header_of}
+use Rattle.rec_base.specs.{declared.uses.Dir.Dir, Header.header_of}
 use Rattle.zuc.specs.State.{initialised, keystream_word}
 
 -- the IV: COUNT, BEARER, DIRECTION and 26 zero bits, twice (35.221 3.3)

@@ -1,10 +1,8 @@
 -- The table of a point against the product with it.
 use Rattle.std.proofs.Common.{◌≡◌, ℕ, zero, suc, ◌+◌, ◌*◌, ◌/◌, ◌%◌, ◌^◌, ◌<◌, ◌≤◌, [], ◌∷◌, map, slice_index, slice_index_or, refl, ap, sym, ◌∙◌, arith}
-use Rattle.std.specs.Int.{bit_at}
+use Rattle.std.specs.{Int.bit_at, List.range_with_len}
 use Rattle.std.specs.Int.Bits.{bit_xor, xor_assoc, xor_zero_r}
-use Rattle.std.specs.List.{range_with_len}
-use Rattle.std.proofs.lemmas.List.FromFn.{get_or-map-range_with_len}
-use Rattle.std.proofs.lemmas.Nat.{shr-shr}
+use Rattle.std.proofs.{lemmas.List.FromFn.get_or-map-range_with_len, lemmas.Nat.shr-shr}
 use Rattle.eia1.specs.Polynomial.{multiply, terms, times_power}
 use Rattle.eia1.specs.Rows.{four_sum, four_terms, row_of, rows_of, sum_of}
 use Rattle.eia1.proofs.FieldLemmas.{multiply-turned, nought, once, times_power-add, xor_zero_l}

@@ -2,9 +2,7 @@
 -- clause numbers are from memory).
 use Rattle.std.specs.Prelude.{ℕ, zero, suc, ◌+◌, ◌*◌, ◌/◌, ◌%◌, ◌^◌, List, [], ◌∷◌, bit_xor, length, map, slice_index}
 use Rattle.std.specs.List.{range_with_len}
-use Rattle.rec_base.specs.BigEndian.{number_of, octets_of}
-use Rattle.rec_base.specs.declared.uses.Dir.{Dir}
-use Rattle.rec_base.specs.Header.{direction_of}
+use Rattle.rec_base.specs.{BigEndian.number_of, BigEndian.octets_of, declared.uses.Dir.Dir, Header.direction_of}
 use Rattle.snow3g.specs.State.{initialised, keystream_word}
 use Rattle.eia1.specs.Polynomial.{multiply}
 

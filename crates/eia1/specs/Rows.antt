@@ -1,7 +1,6 @@
 -- The table of a point: what each four bits of a number add to its product with the point.
 use Rattle.std.specs.Prelude.{ℕ, zero, suc, ◌*◌, ◌/◌, ◌%◌, ◌^◌, List, [], bit_xor, map, slice_index, slice_index_or}
-use Rattle.std.specs.Int.{bit_at}
-use Rattle.std.specs.List.{range_with_len}
+use Rattle.std.specs.{Int.bit_at, List.range_with_len}
 use Rattle.eia1.specs.Polynomial.{times_power}
 
 -- the sum of those of four numbers whose bit is 1 in a number of four bits

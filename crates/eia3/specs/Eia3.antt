@@ -1,10 +1,7 @@
 -- 128-EIA3: a sum of windows of the keystream of ZUC (TS 33.401 B.2.4; TS 35.221 4, whose clause numbers are from memory).
 use Rattle.std.specs.Prelude.{ℕ, zero, suc, ◌+◌, ◌-◌, ◌*◌, ◌/◌, ◌%◌, ◌^◌, List, ◌++◌, bit_xor, length, slice_index, slice_set}
 use Rattle.std.specs.Int.{bit_at}
-use Rattle.rec_base.specs.BigEndian.{octets_of}
-use Rattle.rec_base.specs.declared.uses.Dir.{Dir}
-use Rattle.rec_base.specs.declared.uses.Dir.TheVariants.{Up}
-use Rattle.rec_base.specs.Header.{direction_of, header_of}
+use Rattle.rec_base.specs.{BigEndian.octets_of, declared.uses.Dir.Dir, declared.uses.Dir.TheVariants.Up, Header.direction_of, Header.header_of}
 use Rattle.zuc.specs.State.{initialised, keystream_word}
 
 -- COUNT, BEARER and 27 zero bits (35.221 4.3)

@@ -1,7 +1,6 @@
 -- What the code holds of a keystream and of a text: words.
 use Rattle.std.specs.Prelude.{◌≡◌, ℕ, zero, suc, ◌+◌, ◌-◌, ◌*◌, ◌/◌, ◌%◌, ◌^◌, ◌<◌, List, bit_xor, map, slice_index}
-use Rattle.std.specs.Int.{bit_at}
-use Rattle.std.specs.List.{range_with_len}
+use Rattle.std.specs.{Int.bit_at, List.range_with_len}
 use Rattle.rec_base.specs.BigEndian.{number_of}
 
 -- sixteen words of a stream from its first one on, and the word behind them

@@ -2,35 +2,25 @@
 use Rattle.std.proofs.Common.{◌≡◌, ℕ, ◌≤◌, Bool, true, false, cond, List, length, Some, None, Ok, Err, refl, ap, ◌∙◌, sym}
 use Rattle.std.specs.Prelude.{◌==◌, Option, Result, option_map}
 use Rattle.lte_events.specs.declared.answers.Answer.TheVariants.{MacFails, NotAddressed, NotActive}
-use Rattle.lte_events.specs.declared.replies.ActorOut.{ActorOut}
-use Rattle.lte_events.specs.Reply.{reply_of}
+use Rattle.lte_events.specs.{declared.replies.ActorOut.ActorOut, Reply.reply_of}
 use Rattle.key_model.specs.Reading.{octet_reading}
-use Rattle.rec_base.specs.declared.bearers.Bearer.{Bearer}
+use Rattle.rec_base.specs.{declared.bearers.Bearer.Bearer, declared.faults.RecFault.RecFault, declared.uses.Dir.TheVariants.Up, Bearer.IsDrb, Bearer.IsSrb}
 use Rattle.rec_base.specs.declared.bearers.Bearer.TheVariants.{Srb1, Srb2, Drb1, Drb2, Drb3, Drb4}
 use Rattle.ho_prep.specs.Prep.{Prep, map_prep, at_air}
-use Rattle.lte_machine.specs.Reply.{unseen}
+use Rattle.lte_machine.specs.{Reply.unseen, Ciphers.annex_b, Refusals.of_pdcp, StationKeys.air_expects}
 use Rattle.ho_prep.proofs.CarryFacts.{at_air-map}
-use Rattle.rec_base.specs.declared.faults.RecFault.{RecFault}
-use Rattle.rec_base.specs.declared.uses.Dir.TheVariants.{Up}
-use Rattle.rrc_rec.specs.declared.records.RrcRecord.{RrcRecord}
-use Rattle.rrc_rec.specs.Reading.{read_rrc}
-use Rattle.pdcp_guard.specs.declared.pdus.PdcpOpened.{PdcpOpened}
-use Rattle.pdcp_guard.specs.declared.pdus.PdcpFault.{PdcpFault}
+use Rattle.rrc_rec.specs.{declared.records.RrcRecord.RrcRecord, Reading.read_rrc}
+use Rattle.pdcp_guard.specs.{declared.pdus.PdcpOpened.PdcpOpened, declared.pdus.PdcpFault.PdcpFault, AsKeys.AsKeys}
 use Rattle.pdcp_guard.specs.declared.pdus.PdcpFault as faults
-use Rattle.pdcp_guard.specs.AsKeys.{AsKeys}
-use Rattle.rec_base.specs.Bearer.{IsDrb, IsSrb}
 use Rattle.pdcp_guard.specs.Srb.{srb_count, srb_opened, srb_opened_by, srb_opened_at}
 use Rattle.pdcp_guard.specs.Drb.{drb_count, drb_opened, drb_opened_by, drb_opened_at}
 use Rattle.pdcp_guard.proofs.SrbFacts.{long_enough}
 use Rattle.lte_machine.specs.Bearers.{Which, which, Signalling1, Signalling2, OnSrb, OnDrb, srb_counts, drb_counts}
-use Rattle.lte_machine.specs.Ciphers.{annex_b}
 use Rattle.lte_machine.specs.Opening.{Outcome, Opened, Differs, OpensSrb, OpensDrb, open_octets, accepted_of}
-use Rattle.lte_machine.specs.Refusals.{of_pdcp}
 use Rattle.lte_machine.specs.Wire.{ciphering_if, srb_ciphering, drb_ciphering}
 use Rattle.lte_machine.specs.StationState.{Station, Context, AirPdu, map_preps, map_context}
 use Rattle.lte_machine.specs.StationRows.{AirRow, AirRefused, PacketOpened}
 use Rattle.lte_machine.specs.StationChoice.{AirFront, air_front_by, prepared_front, AirSettled, OnSignalling, OnStarting, OnPrepared, OnUser, counted, air_front, air_row, rrc_row, starting_row, prepared_row, user_text}
-use Rattle.lte_machine.specs.StationKeys.{air_expects}
 use Rattle.radio_bearers.specs.Bearers.{srb_of, drb_of, is_first}
 use Rattle.enb_context.specs.Preps.{IsElsewhere}
 use Rattle.enb_context.specs.Step.{answered, serving, seen_plain, by_air, from_phone}

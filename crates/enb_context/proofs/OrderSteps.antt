@@ -2,16 +2,12 @@
 use Rattle.std.proofs.Common.{◌≡◌, ℕ, Bool, true, false, List, Some, None, refl, ap, sym, ◌∙◌}
 use Rattle.std.specs.Prelude.{Option}
 use Rattle.lte_events.specs.declared.answers.Answer.TheVariants.{Done, NotReady, CountSpent, CommandSent}
-use Rattle.lte_events.specs.declared.replies.ActorOut.{ActorOut}
-use Rattle.lte_events.specs.Reply.{reply_of}
+use Rattle.lte_events.specs.{declared.replies.ActorOut.ActorOut, Reply.reply_of}
 use Rattle.s1x2_rec.specs.Fields.{X2Cancel, HandoverCancel}
 use Rattle.ho_prep.specs.Prep.{without}
 use Rattle.lte_events.specs.declared.acts.StationAct.TheVariants.{Command, Cancel}
-use Rattle.lte_machine.specs.Bearers.{is_spent}
-use Rattle.lte_machine.specs.StationKeys.{given_up}
-use Rattle.lte_machine.specs.StationRecords.{to_core, to_station}
+use Rattle.lte_machine.specs.{Bearers.is_spent, StationKeys.given_up, StationRecords.to_core, StationRecords.to_station, Calls.sending}
 use Rattle.lte_machine.specs.StationState.{Station, Context, Via, OverX2, OverS1, Within, Renewing, Progress, Open, Ready, Commanded, Attempt, StationActs}
-use Rattle.lte_machine.specs.Calls.{sending}
 use Rattle.enb_context.specs.Orders.{is_open, ordered_by, ordered, commanded_by, cancels_via, cancels_by, cancels_of}
 use Rattle.enb_context.specs.declared.attempt.Cancel.{Cancel as GivenUp}
 use Rattle.enb_context.specs.declared.attempt.Cancel as cancels

@@ -1,8 +1,7 @@
 -- Facts on the preparations of a station.
 use Rattle.std.proofs.Common.{◌≡◌, ℕ, suc, ◌<◌, ◌≤◌, Bool, true, false, cond, List, [], ◌∷◌, ◌++◌, length, All, Some, None, find, refl, ap, sym, arith}
 use Rattle.std.specs.Prelude.{◌↔◌, Result, Ok, Err, IsErr, OnOk, IfSome, Option, None, nat_le, nat_lt, not, filter, ◌||◌}
-use Rattle.std.proofs.lemmas.Bool.Decides.{nat_tests}
-use Rattle.std.proofs.lemmas.List.{length-map}
+use Rattle.std.proofs.{lemmas.Bool.Decides.nat_tests, lemmas.List.length-map}
 use Rattle.std.proofs.lemmas.List.Elements.{All-filter, All-push, All-nil}
 use Rattle.ho_prep.proofs.CarryFacts.{has_attempt-map}
 use Rattle.ho_prep.specs.Prep.{Prep, map_prep, is_at, is_of, at_air, has_attempt, without, drop_below, most_preparations}

@@ -1,15 +1,9 @@
 -- A refused call leaves the station as it was.
 use Rattle.std.proofs.Common.{◌≡◌, ℕ, List, ◌∙◌, ap}
 use Rattle.std.specs.Prelude.{◌≢◌}
-use Rattle.lte_events.specs.declared.answers.Answer.TheVariants.{Done}
-use Rattle.lte_events.specs.declared.inputs.StationIn.{StationIn}
-use Rattle.lte_events.specs.declared.replies.ActorOut.{ActorOut}
+use Rattle.lte_events.specs.{declared.answers.Answer.TheVariants.Done, declared.inputs.StationIn.StationIn, declared.replies.ActorOut.ActorOut}
 use Rattle.key_model.specs.Reading.{octet_reading}
-use Rattle.lte_machine.specs.Calls.{station_call, station_input}
-use Rattle.lte_machine.specs.Ciphers.{annex_b}
-use Rattle.lte_machine.specs.Opening.{open_octets}
-use Rattle.lte_machine.specs.StationState.{Station}
-use Rattle.lte_machine.specs.StationStep.{station_opens, station_pdu_in}
+use Rattle.lte_machine.specs.{Calls.station_call, Calls.station_input, Ciphers.annex_b, Opening.open_octets, StationState.Station, StationStep.station_opens, StationStep.station_pdu_in}
 use Rattle.lte_machine.proofs.StationRefused.{station_refused}
 
 pub refused_stays : (s t : Station (List ℕ) ℕ) (i : StationIn) (out : ActorOut) → (t, out) ≡ station_call s i → out.answer ≢ Done → t ≡ s

@@ -1,12 +1,9 @@
 -- Whether a request is admitted, as the choice of a row has it.
 use Rattle.std.specs.Prelude.{ℕ, Result, Ok, Err}
-use Rattle.alg_choice.specs.declared.algs.Algs.{Algs}
-use Rattle.alg_choice.specs.declared.caps.Caps.{Caps}
+use Rattle.alg_choice.specs.{declared.algs.Algs.Algs, declared.caps.Caps.Caps}
 use Rattle.annex_a_keys.specs.Cell.{Place}
-use Rattle.lte_events.specs.declared.answers.Answer.{Answer}
-use Rattle.lte_machine.specs.Reply.{Origin}
-use Rattle.lte_events.specs.declared.acts.HoKind.{HoKind}
-use Rattle.lte_machine.specs.StationChoice.{PlainStation, begun_row}
+use Rattle.lte_events.specs.{declared.answers.Answer.Answer, declared.acts.HoKind.HoKind}
+use Rattle.lte_machine.specs.{Reply.Origin, StationChoice.PlainStation, StationChoice.begun_row}
 use Rattle.lte_machine.specs.StationRows.{RecordRow, RecordRefused, ContextGiven, Admitted, ActRow, ActRefused}
 
 -- the row of a handover request: refused, or taken with the algorithms chosen and the air address drawn

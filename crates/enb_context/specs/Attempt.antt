@@ -3,11 +3,9 @@ use Rattle.std.specs.Prelude.{ℕ, List, Some, None}
 use Rattle.key_model.specs.Reading.{octet_reading}
 use Rattle.x2_handover.specs.Attempt.{X2Start, Commanded, x2_order}
 use Rattle.s1_handover.specs.Attempt.{S1Start, s1_order}
-use Rattle.enb_context.specs.declared.attempt.X2State.{X2State}
+use Rattle.enb_context.specs.{declared.attempt.X2State.X2State, declared.attempt.S1State.S1State, declared.attempt.Attempt.Attempt}
 use Rattle.enb_context.specs.declared.attempt.X2State as x2_states
-use Rattle.enb_context.specs.declared.attempt.S1State.{S1State}
 use Rattle.enb_context.specs.declared.attempt.S1State as s1_states
-use Rattle.enb_context.specs.declared.attempt.Attempt.{Attempt}
 use Rattle.enb_context.specs.declared.attempt.Attempt as attempts
 use Rattle.lte_machine.specs.StationRecords.{renewing}
 use Rattle.lte_machine.specs.StationState as machine

@@ -3,18 +3,12 @@ use Rattle.std.specs.Prelude.{ℕ, Bool, true, false, List, Option, None, Some}
 use Rattle.rec_base.specs.Ranges.{IsNumber}
 use Rattle.annex_a_keys.specs.Cell.{IsCell}
 use Rattle.lte_events.specs.declared.answers.Answer.TheVariants.{CountSpent, NotReady}
-use Rattle.lte_events.specs.declared.replies.ActorOut.{ActorOut}
-use Rattle.lte_events.specs.Reply.{reply_of}
-use Rattle.rrc_rec.specs.declared.records.RrcRecord.{RrcRecord}
-use Rattle.rrc_rec.specs.Spelling.{spelling_of}
-use Rattle.lte_machine.specs.Bearers.{Signalling1, srb_sent}
-use Rattle.lte_machine.specs.StationKeys.{commanded}
-use Rattle.lte_machine.specs.StationRecords.{signalling_sent, order_record}
+use Rattle.lte_events.specs.{declared.replies.ActorOut.ActorOut, Reply.reply_of}
+use Rattle.rrc_rec.specs.{declared.records.RrcRecord.RrcRecord, Spelling.spelling_of}
+use Rattle.lte_machine.specs.{Bearers.Signalling1, Bearers.srb_sent, StationKeys.commanded, StationRecords.signalling_sent, StationRecords.order_record, Calls.sending}
 use Rattle.lte_machine.specs.StationState.{Station, Context, Via, OverX2, OverS1, Within, Renewing, Progress, Open, Ready, Commanded, Attempt}
-use Rattle.lte_machine.specs.Calls.{sending}
-use Rattle.enb_context.specs.declared.attempt.Cancel.{Cancel}
+use Rattle.enb_context.specs.{declared.attempt.Cancel.Cancel, Step.serving_at}
 use Rattle.enb_context.specs.declared.attempt.Cancel as cancels
-use Rattle.enb_context.specs.Step.{serving_at}
 
 -- whether its target has not answered
 abbrev pub is_open : Progress → Bool

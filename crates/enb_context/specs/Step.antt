@@ -1,23 +1,14 @@
 -- One step of the station in octets, by the input as it reads.
 use Rattle.std.specs.Prelude.{ℕ, List, Option, None, Some, Ok}
 use Rattle.lte_events.specs.declared.replies.ActorOut.{ActorOut}
-use Rattle.key_model.specs.Reading.{octet_reading}
-use Rattle.key_model.specs.HandoverTable.{NumberedKey}
+use Rattle.key_model.specs.{Reading.octet_reading, HandoverTable.NumberedKey}
 use Rattle.s1x2_rec.specs.Fields.{Fields}
-use Rattle.lte_machine.specs.Ciphers.{annex_b}
-use Rattle.lte_machine.specs.Opening.{open_octets}
-use Rattle.lte_machine.specs.Reply.{finished}
-use Rattle.lte_machine.specs.Wire.{KeyUse, srb_use}
-use Rattle.lte_machine.specs.StationRows.{AirRow}
-use Rattle.lte_machine.specs.StationKeys.{air_does}
+use Rattle.lte_machine.specs.{Ciphers.annex_b, Opening.open_octets, Reply.finished, Wire.KeyUse, Wire.srb_use, StationRows.AirRow, StationKeys.air_does, StationChoice.PlainStation, Calls.actor_out}
 use Rattle.pdcp_guard.specs.AsKeys.{AsKeys}
-use Rattle.rec_base.specs.declared.bearers.Bearer.{Bearer}
-use Rattle.rec_base.specs.declared.uses.Dir.TheVariants.{Up}
+use Rattle.rec_base.specs.{declared.bearers.Bearer.Bearer, declared.uses.Dir.TheVariants.Up}
 use Rattle.radio_bearers.specs.Bearers.{srb_of}
 use Rattle.lte_machine.specs.StationState.{Station, Context, OnS1, OnX2, StationInput, StationRecord}
 use Rattle.lte_machine.specs.StationStep.{station_step, station_opens, station_pdu_in, plain_station}
-use Rattle.lte_machine.specs.StationChoice.{PlainStation}
-use Rattle.lte_machine.specs.Calls.{actor_out}
 
 -- the station afterwards and its reply; a call is this of the input as it reads
 abbrev pub answered : Station (List ℕ) ℕ → StationInput (List ℕ) ℕ → Station (List ℕ) ℕ × ActorOut

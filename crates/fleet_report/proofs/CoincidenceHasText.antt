@@ -1,38 +1,23 @@
 -- A coincidence of a phone has a text.
 use Rattle.std.proofs.Common.{◌≡◌, ◌≢◌, refl, sym, ap, subst, ◌∙◌, ℕ, List, length, Option, Some, None, Result, Ok, Err}
-use Rattle.std.specs.Prelude.{IsTrue}
-use Rattle.std.specs.Result.{result_and}
+use Rattle.std.specs.{Prelude.IsTrue, Result.result_and}
 use Rattle.edge_io.specs.Told.{Told}
-use Rattle.lte_events.specs.Ranges.{IsEvent, IsSetup}
-use Rattle.lte_events.specs.declared.events.Event.{Event}
-use Rattle.lte_events.specs.declared.setups.Setup.{Setup}
+use Rattle.lte_events.specs.{Ranges.IsEvent, Ranges.IsSetup, declared.events.Event.Event, declared.setups.Setup.Setup}
 use Rattle.key_terms.specs.declared.proof.Proof.{Proof}
-use Rattle.lte_machine.specs.BothRuns.{octet_run}
-use Rattle.lte_machine.specs.Ciphers.{annex_b}
-use Rattle.lte_machine.specs.Machines.{Kept, machine_in_octets}
-use Rattle.lte_machine.specs.Opening.{open_octets}
+use Rattle.lte_machine.specs.{BothRuns.octet_run, Ciphers.annex_b, Machines.Kept, Machines.machine_in_octets, Opening.open_octets}
 use Rattle.lte_machine.specs.Run.{RunState, Running, Stopped, EventReport, Reported, Coincided, event_report as event_of_run, GoesOn}
 use Rattle.report_text.specs.Coincidence.{HasString}
-use Rattle.run_report.specs.declared.endings.Ending.{Ending}
+use Rattle.run_report.specs.{declared.endings.Ending.Ending, Events.HasCounts, Report.Report, Written.WritesReport, Written.WritesText, declared.unwritten.Unwritten.Unwritten}
 use Rattle.run_report.specs.declared.endings.Ending.TheVariants as ending
-use Rattle.run_report.specs.Events.{HasCounts}
-use Rattle.run_report.specs.Report.{Report}
-use Rattle.run_report.specs.Written.{WritesReport, WritesText}
 use Rattle.growth.specs.Growth.{WasRefused}
-use Rattle.run_report.proofs.Partly.{one_piece, unreported}
-use Rattle.run_report.specs.declared.unwritten.Unwritten.{Unwritten}
+use Rattle.run_report.proofs.{Partly.one_piece, Partly.unreported, CoincidenceHasString.shown}
 use Rattle.run_report.specs.declared.unwritten.Unwritten.TheVariants as unwritten
-use Rattle.fleet_world.specs.declared.lines.FleetLine.{FleetLine}
-use Rattle.run_report.proofs.CoincidenceHasString.{shown}
+use Rattle.fleet_world.specs.{declared.lines.FleetLine.FleetLine, declared.faults.FleetFault.FleetFault, Meeting.Meeting, Phones.phone_told}
 use Rattle.store_laws.specs.Proofs.{proof_of}
-use Rattle.fleet_world.specs.declared.faults.FleetFault.{FleetFault}
 use Rattle.fleet_world.specs.declared.faults.FleetFault.TheVariants as fault
 use Rattle.fleet_world.specs.Answers.{own_at, taken_by, crossing, unless_taken, answer}
 use Rattle.fleet_world.specs.Fleets.{Fleeted, CanTake, IsOwn, owns_in, answer_of, unless_over}
-use Rattle.fleet_world.specs.Meeting.{Meeting}
-use Rattle.fleet_world.specs.Phones.{phone_told}
-use Rattle.fleet_world.proofs.Standing.{told_is}
-use Rattle.fleet_world.proofs.Together.{octets_are}
+use Rattle.fleet_world.proofs.{Standing.told_is, Together.octets_are}
 use Rattle.fleet_report.specs.Events.{HasItsCounts, answer_report, event_report}
 use Rattle.fleet_report.specs.Lines.{IsShown, output_text, answer_output}
 

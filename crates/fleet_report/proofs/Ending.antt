@@ -1,13 +1,10 @@
 -- The end of a phone's report, by its world.
 use Rattle.std.proofs.Common.{◌≡◌, sym, ap, subst, ◌∙◌, ℕ, ◌≤◌, length, arith}
-use Rattle.lte_events.specs.Ranges.{IsSetup}
+use Rattle.lte_events.specs.{Ranges.IsSetup, Scenario.most_events}
 use Rattle.lte_machine.specs.Run.{GoesOn}
-use Rattle.lte_events.specs.Scenario.{most_events}
 use Rattle.lte_world.specs.Whole.{Whole, run_of}
-use Rattle.fleet_world.specs.Answers.{own_at}
+use Rattle.fleet_world.specs.{Answers.own_at, Phones.phone_run, Worlds.Goes}
 use Rattle.fleet_world.specs.Fleets.{Fleeted, IsOwn, owns_in, world_of}
-use Rattle.fleet_world.specs.Phones.{phone_run}
-use Rattle.fleet_world.specs.Worlds.{Goes}
 use Rattle.fleet_world.proofs.Together.{octets_are}
 use Rattle.fleet_report.specs.Lines.{texts, end_outputs}
 

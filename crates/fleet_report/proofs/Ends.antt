@@ -1,13 +1,11 @@
 -- Each text of a report of many phones is whole lines.
 use Rattle.std.proofs.Common.{◌≡◌, ℕ, true, List, Ok, Err, refl}
-use Rattle.std.specs.Prelude.{codes}
-use Rattle.std.specs.Fmt.{decimal}
+use Rattle.std.specs.{Prelude.codes, Fmt.decimal}
 use Rattle.edge_io.specs.Lines.{EndsLine, are_lines}
 use Rattle.edge_io.proofs.Ending.{feed, on, is_lines}
 use Rattle.run_report.proofs.Ends.{line_ends, coincidence_ends}
-use Rattle.fleet_world.specs.declared.faults.FleetFault.{FleetFault}
+use Rattle.fleet_world.specs.{declared.faults.FleetFault.FleetFault, declared.lines.FleetLine.FleetLine}
 use Rattle.fleet_world.specs.declared.faults.FleetFault.TheVariants as fault
-use Rattle.fleet_world.specs.declared.lines.FleetLine.{FleetLine}
 use Rattle.fleet_world.specs.declared.lines.FleetLine.TheVariants as line
 use Rattle.fleet_report.specs.Lines.{phone_prefix, phone_text, output_text, taken_text, cross_text, answer_output}
 

@@ -1,45 +1,28 @@
 -- What a fleet's report says of each phone is the report of a system of that phone's own events; and what holds of all phones.
 use Rattle.std.proofs.Common.{◌≡◌, ◌≢◌, refl, sym, ap, subst, ◌∙◌, ℕ, zero, suc, ◌+◌, ◌<◌, ◌==◌, Bool, true, false, List, [], ◌∷◌, ◌++◌, length, map, set, Option, Some, None, Result, Ok, Err, append_assoc, append-nil, arith}
-use Rattle.std.specs.Prelude.{IsOk}
-use Rattle.std.specs.List.{flat_map, AllByRecursion as AllOf}
+use Rattle.std.specs.{Prelude.IsOk, List.flat_map, List.AllByRecursion as AllOf}
 use Rattle.std.proofs.lemmas.Bool.{false≢true, eqb-true, eq-eqb}
 use Rattle.std.proofs.lemmas.List.{length-replicate}
-use Rattle.lte_events.specs.Ranges.{IsEvent, IsSetup}
-use Rattle.lte_events.specs.declared.events.Event.{Event}
-use Rattle.lte_events.specs.declared.lines.Line.{Line}
-use Rattle.lte_events.specs.declared.setups.Setup.{Setup}
-use Rattle.key_model.specs.Term.{Term}
+use Rattle.lte_events.specs.{Ranges.IsEvent, Ranges.IsSetup, declared.events.Event.Event, declared.lines.Line.Line, declared.setups.Setup.Setup}
+use Rattle.key_model.specs.{Term.Term, Value.value_of}
 use Rattle.key_terms.specs.declared.row.LadderRow.{LadderRow}
 use Rattle.lte_machine.specs.BothRuns.{annex_b_terms, written_run, written_report}
-use Rattle.lte_machine.specs.Calls.{line_out}
-use Rattle.key_model.specs.Value.{value_of}
+use Rattle.lte_machine.specs.{Calls.line_out, Ciphers.annex_b, Machines.Kept, Machines.written_machine, Opening.open_octets, Wire.Outgoing, World.World}
 use Rattle.lte_machine.specs.Carried.{map_line, run_value, report_value}
-use Rattle.lte_machine.specs.Ciphers.{annex_b}
-use Rattle.lte_machine.specs.Machines.{Kept, written_machine}
-use Rattle.lte_machine.specs.Opening.{open_octets}
 use Rattle.lte_machine.specs.Run.{RunState, Running, Stopped, turn, after, replay, EventReport, Reported, Coincided, reported, event_report, report, first_world}
 use Rattle.lte_machine.specs.Step.{StepResult, Continues, Stops, next}
-use Rattle.lte_machine.specs.Wire.{Outgoing}
-use Rattle.lte_machine.specs.World.{World}
 use Rattle.lte_machine.proofs.StillRun.{over_stays}
 use Rattle.lte_properties.proofs.HeadlineHolds.{headline}
-use Rattle.report_text.specs.End.{end_text}
-use Rattle.report_text.specs.Ladder.{rows_from, row_text}
-use Rattle.report_text.specs.Line.{line_text}
+use Rattle.report_text.specs.{End.end_text, Ladder.rows_from, Ladder.row_text, Line.line_text}
 use Rattle.run_report.specs.declared.endings.Ending.TheVariants.{Done}
 use Rattle.run_report.specs.Report.{told_from, end_of, report_of}
 use Rattle.store_laws.specs.Rows.{world_rows}
-use Rattle.fleet_world.specs.declared.faults.FleetFault.{FleetFault}
-use Rattle.fleet_world.specs.declared.lines.FleetLine.{FleetLine}
+use Rattle.fleet_world.specs.{declared.faults.FleetFault.FleetFault, declared.lines.FleetLine.FleetLine, Apart.IsEventOf, Apart.AllAnswered, Phones.phone_run}
 use Rattle.fleet_world.specs.declared.lines.FleetLine.TheVariants as line
 use Rattle.fleet_world.specs.Answers.{answer, own, own_at, taken_by, owned_if, owns_after, owns_from, owns_of, no_events}
-use Rattle.fleet_world.specs.Apart.{IsEventOf, AllAnswered}
 use Rattle.fleet_world.specs.Isolation.{answers, line_if, lines_of, lines_in, own_lines}
-use Rattle.fleet_world.specs.Phones.{phone_run}
-use Rattle.fleet_world.proofs.Isolating.{lines_are_own}
-use Rattle.fleet_world.proofs.Reading.{phones_apart}
+use Rattle.fleet_world.proofs.{Isolating.lines_are_own, Reading.phones_apart, Together.no_use_twice, Together.phones_separate}
 use Rattle.fleet_world.proofs.Separating.{GoesOn, Apart, length_after}
-use Rattle.fleet_world.proofs.Together.{no_use_twice, phones_separate}
 use Rattle.fleet_report.specs.Lines.{Output, ByPhone, ByFleet, answer_output, row_outputs, end_outputs}
 use Rattle.fleet_report.specs.Promises.{text_if, phone_texts, Holds}
 use Rattle.fleet_report.specs.Report.{ends_from, goes_on, outputs_from, fleet_report_of}

@@ -1,26 +1,18 @@
 -- The events of a fleet's report, one after the other.
 use Rattle.std.proofs.Common.{◌≡◌, sym, ap, subst, ◌∙◌, ℕ, suc, ◌+◌, ◌<◌, ◌≤◌, List, length, drop, slice_get, Some, None, All, arith}
-use Rattle.std.proofs.lemmas.List.{length-replicate}
-use Rattle.std.proofs.lemmas.Option.{slice_get_within}
-use Rattle.std.proofs.lemmas.List.Elements.{recursion_from_All}
+use Rattle.std.proofs.{lemmas.List.length-replicate, lemmas.Option.slice_get_within, lemmas.List.Elements.recursion_from_All}
 use Rattle.std.specs.List.{AllByRecursion as AllOf}
-use Rattle.lte_events.specs.Ranges.{IsEvent}
-use Rattle.lte_events.specs.Scenario.{CanHappen, IsScenarioBy}
-use Rattle.lte_events.specs.declared.events.Event.{Event}
-use Rattle.lte_events.specs.declared.setups.Setup.{Setup}
+use Rattle.lte_events.specs.{Ranges.IsEvent, Scenario.CanHappen, Scenario.IsScenarioBy, declared.events.Event.Event, declared.setups.Setup.Setup}
 use Rattle.fleet_world.specs.Answers.{answer, own_at, owns_after, owns_of, no_events}
 use Rattle.fleet_world.specs.Apart.{IsEventOf}
 use Rattle.fleet_world.specs.Fleets.{Fleeted, CanTake, owns_in, answer_of, begun}
 use Rattle.fleet_world.proofs.Standing.{owns_snoc}
-use Rattle.run_report.specs.declared.endings.Ending.TheVariants.{Done}
-use Rattle.run_report.specs.Report.{Report}
-use Rattle.run_report.proofs.HappenedSoFar.{item_at, left_at}
-use Rattle.run_report.proofs.Partly.{followed, Follows}
+use Rattle.run_report.specs.{declared.endings.Ending.TheVariants.Done, Report.Report}
+use Rattle.run_report.proofs.{HappenedSoFar.item_at, HappenedSoFar.left_at, Partly.followed, Partly.Follows}
 use Rattle.fleet_report.specs.Events.{answer_report, event_report, IsOfPhone, Takes}
 use Rattle.fleet_report.specs.Lines.{texts}
 use Rattle.fleet_report.specs.Report.{report_from, ends_from, fleet_report_of}
-use Rattle.fleet_report.proofs.CoincidenceHasText.{answers_are}
-use Rattle.fleet_report.proofs.ReportByPiece.{none_left, event_more}
+use Rattle.fleet_report.proofs.{CoincidenceHasText.answers_are, ReportByPiece.none_left, ReportByPiece.event_more}
 
 pub can_take : (setup : Setup) (v : Fleeted) (phones : ℕ) (events : List (ℕ × Event)) (i : ℕ) (x : ℕ × Event)
     → v.setup ≡ setup

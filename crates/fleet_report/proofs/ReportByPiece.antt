@@ -2,21 +2,16 @@
 use Rattle.std.proofs.Common.{◌≡◌, refl, sym, ap, ◌∙◌, ℕ, zero, suc, ◌+◌, ◌<◌, ◌≤◌, List, [], ◌∷◌, ◌++◌, length, drop, append_assoc, append-nil, arith, Result, Ok, Err}
 use Rattle.std.proofs.lemmas.List.{length-replicate}
 use Rattle.std.specs.Prelude.{slice_get, Some, IfOk}
-use Rattle.lte_events.specs.declared.events.Event.{Event}
-use Rattle.lte_events.specs.declared.setups.Setup.{Setup}
+use Rattle.lte_events.specs.{declared.events.Event.Event, declared.setups.Setup.Setup}
 use Rattle.key_terms.specs.declared.row.LadderRow.{LadderRow}
 use Rattle.lte_machine.specs.Machines.{Kept}
 use Rattle.lte_machine.specs.Run.{RunState, Running, Stopped, GoesOn}
 use Rattle.lte_world.specs.Whole.{InRun}
-use Rattle.report_text.specs.End.{end_text}
-use Rattle.report_text.specs.Ladder.{row_text}
+use Rattle.report_text.specs.{End.end_text, Ladder.row_text}
 use Rattle.store_laws.specs.Rows.{world_rows}
-use Rattle.fleet_world.specs.declared.faults.FleetFault.{FleetFault}
-use Rattle.fleet_world.specs.declared.lines.FleetLine.{FleetLine}
+use Rattle.fleet_world.specs.{declared.faults.FleetFault.FleetFault, declared.lines.FleetLine.FleetLine, Phones.phone_run}
 use Rattle.fleet_world.specs.Answers.{answer, own_at, owns_after, owns_from, owns_of, no_events}
-use Rattle.fleet_world.specs.Phones.{phone_run}
-use Rattle.fleet_world.proofs.Searching.{rows_left}
-use Rattle.fleet_world.proofs.Separating.{length_after}
+use Rattle.fleet_world.proofs.{Searching.rows_left, Separating.length_after}
 use Rattle.run_report.specs.declared.endings.Ending.TheVariants.{Chance}
 use Rattle.run_report.proofs.Partly.{Begins, followed}
 use Rattle.fleet_report.specs.Events.{answer_ends, answer_report}

@@ -1,14 +1,10 @@
 -- What is told of one event of a fleet.
 use Rattle.std.specs.Prelude.{◌≡◌, ℕ, ◌<◌, None, [], ◌∷◌, ◌++◌, length, Result, Ok, Err}
 use Rattle.lte_events.specs.declared.events.Event.{Event}
-use Rattle.run_report.specs.declared.endings.Ending.{Ending}
+use Rattle.run_report.specs.{declared.endings.Ending.Ending, Events.HasCounts, Report.Report}
 use Rattle.run_report.specs.declared.endings.Ending.TheVariants.{Done, Chance}
-use Rattle.run_report.specs.Events.{HasCounts}
-use Rattle.run_report.specs.Report.{Report}
-use Rattle.fleet_world.specs.declared.faults.FleetFault.{FleetFault}
+use Rattle.fleet_world.specs.{declared.faults.FleetFault.FleetFault, declared.lines.FleetLine.FleetLine, Answers.own_at}
 use Rattle.fleet_world.specs.declared.faults.FleetFault.TheVariants as fault
-use Rattle.fleet_world.specs.declared.lines.FleetLine.{FleetLine}
-use Rattle.fleet_world.specs.Answers.{own_at}
 use Rattle.fleet_world.specs.Fleets.{Fleeted, owns_in, answer_of}
 use Rattle.fleet_report.specs.Lines.{output_text, answer_output}
 

@@ -1,18 +1,13 @@
 -- The lines of a fleet's report.
 use Rattle.std.specs.Prelude.{ℕ, ◌+◌, List, [], ◌∷◌, ◌++◌, codes, length, Result, Ok, Err}
-use Rattle.std.specs.List.{flat_map}
-use Rattle.std.specs.Fmt.{decimal}
+use Rattle.std.specs.{List.flat_map, Fmt.decimal}
 use Rattle.key_terms.specs.declared.row.LadderRow.{LadderRow}
 use Rattle.lte_machine.specs.Machines.{Kept}
 use Rattle.lte_machine.specs.Run.{RunState, Running, Stopped}
-use Rattle.report_text.specs.Coincidence.{HasString, coincidence_text}
-use Rattle.report_text.specs.End.{end_text}
-use Rattle.report_text.specs.Ladder.{row_text}
-use Rattle.report_text.specs.Line.{line_text}
+use Rattle.report_text.specs.{Coincidence.HasString, Coincidence.coincidence_text, End.end_text, Ladder.row_text, Line.line_text}
 use Rattle.store_laws.specs.Rows.{world_rows}
-use Rattle.fleet_world.specs.declared.faults.FleetFault.{FleetFault}
+use Rattle.fleet_world.specs.{declared.faults.FleetFault.FleetFault, declared.lines.FleetLine.FleetLine}
 use Rattle.fleet_world.specs.declared.faults.FleetFault.TheVariants as fault
-use Rattle.fleet_world.specs.declared.lines.FleetLine.{FleetLine}
 use Rattle.fleet_world.specs.declared.lines.FleetLine.TheVariants as line
 
 -- a line of a phone, by its number, or one of the fleet

@@ -1,10 +1,8 @@
 -- What holds of a fleet's report: of each phone, and of all phones together.
 use Rattle.std.specs.Prelude.{◌≡◌, ℕ, ◌<◌, ◌==◌, Bool, true, false, List, [], ◌∷◌, ◌++◌}
-use Rattle.lte_events.specs.declared.events.Event.{Event}
-use Rattle.lte_events.specs.declared.setups.Setup.{Setup}
+use Rattle.lte_events.specs.{declared.events.Event.Event, declared.setups.Setup.Setup}
 use Rattle.lte_properties.specs.Headline.{Headline}
-use Rattle.run_report.specs.declared.endings.Ending.TheVariants.{Done}
-use Rattle.run_report.specs.Report.{report_of}
+use Rattle.run_report.specs.{declared.endings.Ending.TheVariants.Done, Report.report_of}
 use Rattle.fleet_world.specs.Answers.{own, owns_of, no_events}
 use Rattle.fleet_world.specs.Apart.{NoUseTwice, PhonesSeparate}
 use Rattle.fleet_report.specs.Lines.{Output, ByPhone, ByFleet}

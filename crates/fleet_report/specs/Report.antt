@@ -1,15 +1,11 @@
 -- The report of a fleet: a line for each event up to the first coincidence, and where there is none, the end of each phone's own
 -- report, phone after phone.
 use Rattle.std.specs.Prelude.{ℕ, suc, ◌+◌, List, [], ◌∷◌, ◌++◌, length, Result, Ok, Err}
-use Rattle.lte_events.specs.declared.events.Event.{Event}
-use Rattle.lte_events.specs.declared.setups.Setup.{Setup}
-use Rattle.run_report.specs.declared.endings.Ending.{Ending}
+use Rattle.lte_events.specs.{declared.events.Event.Event, declared.setups.Setup.Setup}
+use Rattle.run_report.specs.{declared.endings.Ending.Ending, Report.Report}
 use Rattle.run_report.specs.declared.endings.Ending.TheVariants.{Done, Chance}
-use Rattle.run_report.specs.Report.{Report}
-use Rattle.fleet_world.specs.declared.faults.FleetFault.{FleetFault}
-use Rattle.fleet_world.specs.declared.lines.FleetLine.{FleetLine}
+use Rattle.fleet_world.specs.{declared.faults.FleetFault.FleetFault, declared.lines.FleetLine.FleetLine, Phones.phone_run}
 use Rattle.fleet_world.specs.Answers.{answer, own_at, owns_after, no_events}
-use Rattle.fleet_world.specs.Phones.{phone_run}
 use Rattle.fleet_report.specs.Lines.{Output, texts, answer_output, end_outputs}
 
 -- the lines, and how they end

@@ -1,22 +1,16 @@
 -- A fleet that takes an event, as its caller sees it before.
 use Rattle.std.proofs.Common.{◌≡◌, refl, sym, ap, subst, ◌∙◌, ℕ, zero, suc, ◌<◌, ◌≤◌, List, [], ◌∷◌, ◌++◌, length, drop, set, Option, Some, None, Result, Ok, Err}
-use Rattle.std.specs.Prelude.{slice_get}
-use Rattle.std.specs.Option.{option_map}
-use Rattle.std.specs.List.{AllByRecursion as AllOf}
-use Rattle.lte_events.specs.declared.events.Event.{Event}
-use Rattle.lte_events.specs.declared.lines.Line.{Line}
-use Rattle.lte_events.specs.declared.setups.Setup.{Setup}
+use Rattle.std.specs.{Prelude.slice_get, Option.option_map, List.AllByRecursion as AllOf}
+use Rattle.lte_events.specs.{declared.events.Event.Event, declared.lines.Line.Line, declared.setups.Setup.Setup}
 use Rattle.key_terms.specs.declared.proof.Proof.{Proof}
 use Rattle.lte_world.specs.declared.faults.WorldFault.TheVariants as world_fault
 use Rattle.lte_world.specs.Whole.{Whole}
-use Rattle.fleet_world.specs.declared.faults.FleetFault.{FleetFault}
+use Rattle.fleet_world.specs.{declared.faults.FleetFault.FleetFault, declared.lines.FleetLine.FleetLine, Steps.Leaves, Steps.world_after}
 use Rattle.fleet_world.specs.declared.faults.FleetFault.TheVariants as fault
-use Rattle.fleet_world.specs.declared.lines.FleetLine.{FleetLine}
 use Rattle.fleet_world.specs.declared.lines.FleetLine.TheVariants as line
 use Rattle.fleet_world.specs.Answers.{answer, taken_by, crossing, cross_of, owns_of}
 use Rattle.fleet_world.specs.Fleets.{Fleeted, CanTake, Stands, StandsUnless, answer_of, unless_over, most_phones}
 use Rattle.fleet_world.specs.Meeting.{Meeting, meeting_from, ladder_at}
-use Rattle.fleet_world.specs.Steps.{Leaves, world_after}
 use Rattle.fleet_world.specs.Worlds.{Goes, ladders_in, others_in, taken_in, TakesAt, CanTakeAt}
 use Rattle.fleet_world.proofs.Standing.{go, taken_is, can_take, answer_taken, stands_taken, answer_coincidence, go_after, few_after, low_after, crossing_is, answer_of_line, answer_cross, stands_line, new_is}
 use Rattle.fleet_world.proofs.BeginsAndGoesOn.{stands_of}

@@ -2,19 +2,14 @@
 use Rattle.std.proofs.Common.{◌≡◌, refl, sym, ap, subst, ◌∙◌, ℕ, zero, suc, ◌≤◌, false, List, [], ◌∷◌, ◌++◌, length, map, replicate, Option, None, Ok, arith}
 use Rattle.std.proofs.lemmas.List.{length-replicate}
 use Rattle.std.specs.List.{AllByRecursion as AllOf}
-use Rattle.lte_events.specs.Ranges.{IsSetup}
-use Rattle.lte_events.specs.declared.events.Event.{Event}
-use Rattle.lte_events.specs.declared.lines.Line.{Line}
-use Rattle.lte_events.specs.declared.setups.Setup.{Setup}
+use Rattle.lte_events.specs.{Ranges.IsSetup, declared.events.Event.Event, declared.lines.Line.Line, declared.setups.Setup.Setup}
 use Rattle.key_terms.specs.declared.row.LadderRow.{LadderRow}
 use Rattle.lte_machine.specs.Run.{GoesOn}
 use Rattle.lte_world.specs.Whole.{Whole, InRun, run_of, told_of, turned, begun}
 use Rattle.lte_world.proofs.TellsAsWritten.{not_over, with_line}
 use Rattle.store_laws.specs.Rows.{world_rows}
-use Rattle.fleet_world.specs.Answers.{no_events}
+use Rattle.fleet_world.specs.{Answers.no_events, declared.faults.FleetFault.FleetFault, Phones.phone_run}
 use Rattle.fleet_world.specs.Fleets.{IsOwn, Stands, StandsUnless, most_phones, world_of}
-use Rattle.fleet_world.specs.declared.faults.FleetFault.{FleetFault}
-use Rattle.fleet_world.specs.Phones.{phone_run}
 use Rattle.fleet_world.specs.Worlds.{Goes, rows_at, with_room}
 use Rattle.fleet_world.proofs.Searching.{ladder_is}
 

@@ -3,24 +3,14 @@ use Rattle.std.proofs.Common.{◌≡◌, refl, sym, ap, subst, ◌∙◌, ℕ, �
 use Rattle.std.specs.Prelude.{is_ok, IsOk}
 use Rattle.std.proofs.lemmas.Bool.{false≢true, eqb-true, eqb-false}
 use Rattle.std.proofs.lemmas.List.{length-replicate, map-append}
-use Rattle.lte_events.specs.declared.events.Event.{Event}
-use Rattle.lte_events.specs.declared.setups.Setup.{Setup}
-use Rattle.lte_machine.specs.BothRuns.{annex_b_terms, written_report}
-use Rattle.lte_machine.specs.Calls.{line_out}
-use Rattle.lte_machine.specs.Carried.{report_value}
-use Rattle.lte_machine.specs.Ciphers.{annex_b}
-use Rattle.lte_machine.specs.Machines.{written_machine}
-use Rattle.lte_machine.specs.Opening.{open_octets}
+use Rattle.lte_events.specs.{declared.events.Event.Event, declared.setups.Setup.Setup}
+use Rattle.lte_machine.specs.{BothRuns.annex_b_terms, BothRuns.written_report, Calls.line_out, Carried.report_value, Ciphers.annex_b, Machines.written_machine, Opening.open_octets}
 use Rattle.lte_machine.specs.Run.{EventReport, Reported, Coincided, Running, first_world}
 use Rattle.lte_machine.proofs.EventByEvent.{tale_snoc}
-use Rattle.fleet_world.specs.declared.faults.FleetFault.{FleetFault}
-use Rattle.fleet_world.specs.declared.lines.FleetLine.{FleetLine}
+use Rattle.fleet_world.specs.{declared.faults.FleetFault.FleetFault, declared.lines.FleetLine.FleetLine, Apart.AllAnswered, Meeting.Meeting, Phones.phone_told}
 use Rattle.fleet_world.specs.declared.lines.FleetLine.TheVariants as line
 use Rattle.fleet_world.specs.Answers.{answer, own, own_at, taken_by, crossing, unless_taken, unless_met, owned_if, owns_after, owns_from, no_events}
-use Rattle.fleet_world.specs.Apart.{AllAnswered}
 use Rattle.fleet_world.specs.Isolation.{answers, line_if, lines_of, lines_in, own_lines, LinesAreOwn}
-use Rattle.fleet_world.specs.Meeting.{Meeting}
-use Rattle.fleet_world.specs.Phones.{phone_told}
 use Rattle.fleet_world.proofs.Separating.{own_other, own_same, no_own, length_after}
 
 -- one line more

@@ -1,43 +1,20 @@
 -- The ladder of a phone: which keys have a row, and what one event more adds.
 use Rattle.std.proofs.Common.{◌≡◌, refl, sym, ap, subst, ◌∙◌, ℕ, zero, suc, Bool, true, false, List, [], ◌∷◌, ◌++◌, length, map, drop, Option, Some, None, inl, inr}
-use Rattle.std.specs.Prelude.{◌⊎◌, slice_get}
-use Rattle.std.specs.Option.{is_some}
-use Rattle.std.specs.Str.{bytes_eq}
-use Rattle.std.proofs.lemmas.List.{map-append}
-use Rattle.std.proofs.lemmas.Option.{none-some}
-use Rattle.std.proofs.lemmas.Slice.Eq.{bytes_eq-Decides}
-use Rattle.lte_events.specs.declared.events.Event.{Event}
-use Rattle.lte_events.specs.declared.setups.Setup.{Setup}
-use Rattle.key_model.specs.Term.{Term}
-use Rattle.key_model.specs.Value.{value_of, same_value}
-use Rattle.key_terms.specs.declared.row.LadderRow.{LadderRow}
-use Rattle.key_terms.specs.declared.row.Origin.{Origin}
-use Rattle.key_terms.specs.Ladder.{row_of}
-use Rattle.key_terms.proofs.Places.{position_hit}
-use Rattle.key_terms.proofs.Holding.{plain}
-use Rattle.lte_machine.specs.BothRuns.{annex_b_terms, written_run}
-use Rattle.lte_machine.specs.ByEvent.{in_octets}
-use Rattle.lte_machine.specs.Carried.{run_value}
-use Rattle.lte_machine.specs.Ciphers.{annex_b, under_keys}
+use Rattle.std.specs.{Prelude.◌⊎◌, Prelude.slice_get, Option.is_some, Str.bytes_eq}
+use Rattle.std.proofs.{lemmas.List.map-append, lemmas.Option.none-some, lemmas.Slice.Eq.bytes_eq-Decides}
+use Rattle.lte_events.specs.{declared.events.Event.Event, declared.setups.Setup.Setup}
+use Rattle.key_model.specs.{Term.Term, Value.value_of, Value.same_value}
+use Rattle.key_terms.specs.{declared.row.LadderRow.LadderRow, declared.row.Origin.Origin, Ladder.row_of}
+use Rattle.key_terms.proofs.{Places.position_hit, Holding.plain}
+use Rattle.lte_machine.specs.{BothRuns.annex_b_terms, BothRuns.written_run, ByEvent.in_octets, Carried.run_value, Ciphers.annex_b, Ciphers.under_keys, Known.AllReported, Machines.written_machine, Machines.written_in_values, Opening.open_octets, Opening.open_by_uses, Standing.OctetRowsStand, Wire.Outgoing, World.World, World.happens}
 use Rattle.lte_machine.specs.Distinct.{keys_of, Member, distinct_after, distinct_terms, is_member, with_new}
-use Rattle.lte_machine.specs.Known.{AllReported}
 use Rattle.lte_machine.specs.Ladder.{RowOrigin, row_key, ladder_of}
-use Rattle.lte_machine.specs.Machines.{written_machine, written_in_values}
-use Rattle.lte_machine.specs.Opening.{open_octets, open_by_uses}
 use Rattle.lte_machine.specs.Run.{RunState, Running, Stopped, turn, after, first_world}
-use Rattle.lte_machine.specs.Standing.{OctetRowsStand}
 use Rattle.lte_machine.specs.Step.{next, Continues, Stops, StepResult}
-use Rattle.lte_machine.specs.Wire.{Outgoing}
-use Rattle.lte_machine.specs.World.{World, happens}
-use Rattle.lte_machine.proofs.EventByEvent.{replay_snoc, step_is}
-use Rattle.lte_machine.proofs.History.{among_distinct, distinct_append}
-use Rattle.lte_machine.proofs.KnownWorld.{Grounds}
-use Rattle.lte_machine.proofs.LadderRun.{still_grounds, octets_always}
-use Rattle.lte_machine.proofs.Worlds.{TheWorld}
+use Rattle.lte_machine.proofs.{EventByEvent.replay_snoc, EventByEvent.step_is, History.among_distinct, History.distinct_append, KnownWorld.Grounds, LadderRun.still_grounds, LadderRun.octets_always, Worlds.TheWorld}
 use Rattle.lte_properties.proofs.AccountsHold.{happens_gains}
 use Rattle.store_laws.specs.Rows.{numbered, all_noted, world_rows}
-use Rattle.store_laws.proofs.Adding.{Stands, row_stands}
-use Rattle.store_laws.proofs.Numbered.{plain_noted, octets_numbered}
+use Rattle.store_laws.proofs.{Adding.Stands, Adding.row_stands, Numbered.plain_noted, Numbered.octets_numbered}
 use Rattle.fleet_world.specs.Meeting.{has_row}
 use Rattle.fleet_world.specs.Phones.{phone_run, phone_rows, rows_in}
 

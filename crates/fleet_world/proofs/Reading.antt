@@ -2,22 +2,16 @@
 use Rattle.std.proofs.Common.{◌≡◌, sym, ap, subst, ◌∙◌, ℕ, ◌<◌, List, [], length, None, Option}
 use Rattle.std.proofs.lemmas.List.{length-replicate}
 use Rattle.std.specs.List.{AllByRecursion as AllOf}
-use Rattle.lte_events.specs.Ranges.{IsSetup}
-use Rattle.lte_events.specs.declared.events.Event.{Event}
-use Rattle.lte_events.specs.declared.setups.Setup.{Setup}
+use Rattle.lte_events.specs.{Ranges.IsSetup, declared.events.Event.Event, declared.setups.Setup.Setup}
 use Rattle.lte_properties.specs.Headline.{Headline}
 use Rattle.lte_properties.proofs.HeadlineHolds.{headline}
 use Rattle.lte_world.specs.Whole.{Whole}
-use Rattle.fleet_world.specs.declared.faults.FleetFault.{FleetFault}
+use Rattle.fleet_world.specs.{declared.faults.FleetFault.FleetFault, Isolation.LinesAreOwn}
 use Rattle.fleet_world.specs.Answers.{own_at, owns_of, no_events}
 use Rattle.fleet_world.specs.Apart.{IsEventOf, AllAnswered, NoUseTwice, PhonesSeparate}
 use Rattle.fleet_world.specs.Fleets.{Fleeted, IsOwn, Stands, StandsUnless, owns_in}
-use Rattle.fleet_world.specs.Isolation.{LinesAreOwn}
-use Rattle.fleet_world.proofs.Isolating.{lines_are_own}
+use Rattle.fleet_world.proofs.{Isolating.lines_are_own, Standing.own_stands, BeginsAndGoesOn.stands_of, Together.no_use_twice, Together.phones_separate}
 use Rattle.fleet_world.proofs.Separating.{Apart, none_apart, all_apart}
-use Rattle.fleet_world.proofs.Standing.{own_stands}
-use Rattle.fleet_world.proofs.BeginsAndGoesOn.{stands_of}
-use Rattle.fleet_world.proofs.Together.{no_use_twice, phones_separate}
 
 -- no two phones have a key in common after events that were answered by lines
 pub phones_apart : (setup : Setup) (phones : ℕ) (events : List (ℕ × Event))

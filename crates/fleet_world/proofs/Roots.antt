@@ -1,23 +1,14 @@
 -- The roots of the keys of a run are roots of the run.
 use Rattle.std.proofs.Common.{◌≡◌, refl, sym, subst, ℕ, Bool, true, false, List, [], ◌∷◌, ◌++◌, Option, Some, None, inl, inr}
-use Rattle.lte_events.specs.declared.events.Event.{Event}
-use Rattle.lte_events.specs.declared.setups.Setup.{Setup}
+use Rattle.lte_events.specs.{declared.events.Event.Event, declared.setups.Setup.Setup}
 use Rattle.key_model.specs.Derivation.{Input, FromCount, FromSync, FromCell, FromAlg}
 use Rattle.key_model.specs.Term.{Term, Root, Kenb, Nh, Star, Alg}
 use Rattle.key_model.specs.Value.{value_of, same_value}
-use Rattle.lte_machine.specs.BothRuns.{annex_b_terms, written_run}
-use Rattle.lte_machine.specs.Ciphers.{annex_b, under_keys}
-use Rattle.lte_machine.specs.Distinct.{keys_of, Member}
+use Rattle.lte_machine.specs.{BothRuns.annex_b_terms, BothRuns.written_run, Ciphers.annex_b, Ciphers.under_keys, Distinct.keys_of, Distinct.Member, Machines.written_machine, Machines.written_in_values, Opening.open_octets, Opening.open_by_uses, Run.Running, Run.first_world, Standing.RowsStandForTerms}
 use Rattle.lte_machine.specs.Ladder.{RowOrigin, OfRoot, Of, row_key, Hit, hit, Clash, Ladder, added_at, added_unless, stands_or_not, add_next, add_rows, no_rows, ladder_of, same_origin}
-use Rattle.lte_machine.specs.Machines.{written_machine, written_in_values}
-use Rattle.lte_machine.specs.Opening.{open_octets, open_by_uses}
 use Rattle.std.specs.List.{AllByRecursion as AllOf}
-use Rattle.lte_machine.specs.Run.{Running, first_world}
-use Rattle.lte_machine.specs.Standing.{RowsStandForTerms}
-use Rattle.lte_machine.proofs.LadderRun.{ladder_always}
+use Rattle.lte_machine.proofs.{LadderRun.ladder_always, StillRun.still_is_run, Worlds.TheWorld}
 use Rattle.lte_machine.proofs.Rows.{made_of, SyncIn, From}
-use Rattle.lte_machine.proofs.StillRun.{still_is_run}
-use Rattle.lte_machine.proofs.Worlds.{TheWorld}
 use Rattle.lte_properties.specs.Accounts.{IsRowOf}
 use Rattle.lte_properties.proofs.AccountsHold.{rows_are}
 use Rattle.fleet_world.specs.Apart.{ComesOfRoot}

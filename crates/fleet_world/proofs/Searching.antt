@@ -1,13 +1,11 @@
 -- The first ladder that passes a test, by what is known of each.
 use Rattle.std.proofs.Common.{◌≡◌, refl, sym, ap, subst, ◌∙◌, ℕ, zero, suc, ◌+◌, ◌<◌, ◌≤◌, Bool, true, false, List, [], ◌∷◌, length, drop, get_or, Some, None, arith, inl, inr}
 use Rattle.std.specs.Prelude.{◌⊎◌, slice_get, position, option_map, unwrap_or}
-use Rattle.std.specs.Option.{is_some}
+use Rattle.std.specs.{Option.is_some, List.AllByRecursion as AllOf}
 use Rattle.std.proofs.Math.ListN.{length-set}
 use Rattle.std.proofs.lemmas.List.{get_or-set_same, length-map, get_or-map}
 use Rattle.std.proofs.lemmas.Option.{slice_get-get_or, get_or_from_slice_get, slice_get_within}
-use Rattle.std.specs.List.{AllByRecursion as AllOf}
-use Rattle.key_terms.specs.declared.row.LadderRow.{LadderRow}
-use Rattle.key_terms.specs.Ladder.{row_of}
+use Rattle.key_terms.specs.{declared.row.LadderRow.LadderRow, Ladder.row_of}
 use Rattle.key_terms.proofs.Places.{position_first, position_nowhere}
 use Rattle.lte_machine.specs.Machines.{Kept}
 use Rattle.lte_machine.specs.Run.{RunState, Running, Stopped, GoesOn}

@@ -3,25 +3,16 @@ use Rattle.std.proofs.Common.{◌≡◌, ◌≢◌, refl, sym, ap, subst, ◌∙
 use Rattle.std.specs.Prelude.{◌⊎◌, slice_get, is_ok, IsOk, position, option_map}
 use Rattle.std.proofs.lemmas.Bool.{false≢true, eqb-true, eqb-false}
 use Rattle.std.proofs.lemmas.List.{get_or-set_other, get_or-set_same, length-map}
-use Rattle.std.proofs.Math.ListN.{length-set}
-use Rattle.std.proofs.lemmas.Option.{slice_get-get_or}
+use Rattle.std.proofs.{Math.ListN.length-set, lemmas.Option.slice_get-get_or}
 use Rattle.std.specs.List.{AllByRecursion as AllOf}
-use Rattle.lte_events.specs.Ranges.{IsEvent}
-use Rattle.lte_events.specs.declared.events.Event.{Event}
-use Rattle.lte_events.specs.declared.setups.Setup.{Setup}
+use Rattle.lte_events.specs.{Ranges.IsEvent, declared.events.Event.Event, declared.setups.Setup.Setup}
 use Rattle.key_model.specs.Term.{Term}
 use Rattle.key_terms.specs.declared.row.LadderRow.{LadderRow}
 use Rattle.key_terms.proofs.Places.{position_no}
-use Rattle.lte_machine.specs.BothRuns.{annex_b_terms, written_run}
-use Rattle.lte_machine.specs.Carried.{report_value}
-use Rattle.lte_machine.specs.Ciphers.{annex_b}
-use Rattle.lte_machine.specs.Machines.{written_machine}
-use Rattle.lte_machine.specs.Opening.{open_octets}
+use Rattle.lte_machine.specs.{BothRuns.annex_b_terms, BothRuns.written_run, Carried.report_value, Ciphers.annex_b, Machines.written_machine, Opening.open_octets, Wire.Outgoing}
 use Rattle.lte_machine.specs.Run.{RunState, Running, Stopped, turn, after, EventReport, Reported, Coincided, event_report, first_world}
 use Rattle.lte_machine.specs.Step.{next, Continues, Stops, StepResult}
-use Rattle.lte_machine.specs.Wire.{Outgoing}
-use Rattle.lte_machine.proofs.EventByEvent.{replay_snoc}
-use Rattle.lte_machine.proofs.Worlds.{TheWorld}
+use Rattle.lte_machine.proofs.{EventByEvent.replay_snoc, Worlds.TheWorld}
 use Rattle.store_laws.proofs.Adding.{Stands}
 use Rattle.fleet_world.specs.Answers.{answer, own_at, taken_by, crossing, unless_taken, unless_met, owned_if, owns_after, owns_from, no_events}
 use Rattle.fleet_world.specs.Apart.{IsEventOf, AllAnswered}

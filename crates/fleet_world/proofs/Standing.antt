@@ -1,22 +1,12 @@
 -- The worlds of a fleet are those of its phones' own events: what they tell, and one event more.
 use Rattle.std.proofs.Common.{◌≡◌, refl, sym, ap, subst, ◌∙◌, ℕ, zero, suc, ◌+◌, ◌<◌, ◌≤◌, false, List, [], ◌∷◌, ◌++◌, length, map, drop, get_or, set, Option, Some, None, Ok, Err, arith}
-use Rattle.std.specs.Prelude.{slice_get, is_ok}
-use Rattle.std.proofs.Math.ListN.{length-set}
+use Rattle.std.specs.{Prelude.slice_get, Prelude.is_ok, List.AllByRecursion as AllOf}
+use Rattle.std.proofs.{Math.ListN.length-set, lemmas.Option.slice_get-get_or}
 use Rattle.std.proofs.lemmas.List.{get_or-set_same, length-map, map-set}
-use Rattle.std.proofs.lemmas.Option.{slice_get-get_or}
-use Rattle.std.specs.List.{AllByRecursion as AllOf}
 use Rattle.lte_machine.proofs.KnownLists.{one_more}
-use Rattle.lte_events.specs.Ranges.{IsEvent, IsSetup}
-use Rattle.lte_events.specs.Scenario.{most_events, CanHappen}
-use Rattle.lte_events.specs.declared.events.Event.{Event}
-use Rattle.lte_events.specs.declared.lines.Line.{Line}
-use Rattle.lte_events.specs.declared.setups.Setup.{Setup}
+use Rattle.lte_events.specs.{Ranges.IsEvent, Ranges.IsSetup, Scenario.most_events, Scenario.CanHappen, declared.events.Event.Event, declared.lines.Line.Line, declared.setups.Setup.Setup}
 use Rattle.key_terms.specs.declared.proof.Proof.{Proof}
-use Rattle.lte_machine.specs.BothRuns.{octet_run}
-use Rattle.lte_machine.specs.Calls.{line_out}
-use Rattle.lte_machine.specs.Ciphers.{annex_b}
-use Rattle.lte_machine.specs.Machines.{machine_in_octets}
-use Rattle.lte_machine.specs.Opening.{open_octets}
+use Rattle.lte_machine.specs.{BothRuns.octet_run, Calls.line_out, Ciphers.annex_b, Machines.machine_in_octets, Opening.open_octets}
 use Rattle.lte_machine.specs.Run.{EventReport, Reported, Coincided, event_report, GoesOn}
 use Rattle.lte_world.specs.declared.faults.WorldFault.TheVariants as world_fault
 use Rattle.lte_world.specs.Whole.{Whole, run_of}
@@ -24,17 +14,14 @@ use Rattle.lte_world.specs.Whole as whole
 use Rattle.lte_world.proofs.TellsAsWritten.{told_same}
 use Rattle.store_laws.specs.Proofs.{proof_of}
 use Rattle.fleet_world.specs.declared.faults.FleetFault.TheVariants as fault
-use Rattle.fleet_world.specs.declared.lines.FleetLine.{FleetLine}
+use Rattle.fleet_world.specs.{declared.lines.FleetLine.FleetLine, Apart.IsEventOf, Apart.AllAnswered}
 use Rattle.fleet_world.specs.declared.lines.FleetLine.TheVariants as line
 use Rattle.fleet_world.specs.Answers.{answer, own_at, taken_by, crossing, cross_of, unless_taken, owned_if, owns_after, owns_from, owns_of, no_events}
-use Rattle.fleet_world.specs.Apart.{IsEventOf, AllAnswered}
 use Rattle.fleet_world.specs.Fleets.{IsOwn, Stands, world_of, most_phones}
 use Rattle.fleet_world.specs.Meeting.{Meeting, root_among, meeting_from, ladder_at}
 use Rattle.fleet_world.specs.Phones.{phone_run, phone_told, phone_rows, rows_in, without, others}
 use Rattle.fleet_world.specs.Worlds.{Goes, rows_at, ladders_in, others_in, taken_in, TakesAt, CanTakeAt}
-use Rattle.fleet_world.proofs.Ladders.{in_values}
-use Rattle.fleet_world.proofs.Separating.{goes_more}
-use Rattle.fleet_world.proofs.Together.{octets_are}
+use Rattle.fleet_world.proofs.{Ladders.in_values, Separating.goes_more, Together.octets_are}
 
 -- WHAT IS TOLD OF ONE EVENT MORE
 

@@ -1,36 +1,20 @@
 -- All phones together: uses and roots.
 use Rattle.std.proofs.Common.{◌≡◌, refl, sym, ap, subst, ◌∙◌, ℕ, zero, suc, true, List, [], ◌∷◌, length, map, take, Some, inl, inr}
-use Rattle.std.specs.Prelude.{slice_get, ⊤}
+use Rattle.std.specs.{Prelude.slice_get, Prelude.⊤, List.AllByRecursion as AllOf}
 use Rattle.std.proofs.lemmas.Option.{none-some}
-use Rattle.lte_events.specs.declared.events.Event.{Event}
-use Rattle.lte_events.specs.declared.setups.Setup.{Setup}
+use Rattle.lte_events.specs.{declared.events.Event.Event, declared.setups.Setup.Setup, Ranges.IsEvent, Ranges.IsSetup}
 use Rattle.key_model.specs.Derivable.{Derivable, in_set, by_kenb, by_nh, by_star, by_alg}
 use Rattle.key_model.specs.Term.{Term, Root, Kenb, Nh, Star, Alg}
-use Rattle.key_model.specs.Use.{map_use}
-use Rattle.key_model.specs.Value.{value_of}
-use Rattle.lte_machine.specs.BothRuns.{octet_run}
-use Rattle.lte_machine.specs.ByEvent.{in_octets}
-use Rattle.lte_machine.specs.Ciphers.{annex_b}
-use Rattle.lte_machine.specs.Distinct.{keys_of, Member}
-use Rattle.lte_machine.specs.Known.{IsReported}
+use Rattle.key_model.specs.{Use.map_use, Value.value_of}
+use Rattle.lte_machine.specs.{BothRuns.octet_run, ByEvent.in_octets, Ciphers.annex_b, Distinct.keys_of, Distinct.Member, Known.IsReported, Run.Running, Wire.KeyUse, World.Holding}
 use Rattle.lte_machine.specs.Ladder.{RowOrigin, OfRoot, row_key}
-use Rattle.std.specs.List.{AllByRecursion as AllOf}
-use Rattle.lte_events.specs.Ranges.{IsEvent, IsSetup}
-use Rattle.lte_machine.specs.Run.{Running}
-use Rattle.lte_machine.specs.Wire.{KeyUse}
-use Rattle.lte_machine.specs.World.{Holding}
-use Rattle.lte_machine.proofs.AnnexB.{annex_b_ciphers}
-use Rattle.lte_machine.proofs.WholeRun.{run_is_value}
-use Rattle.lte_machine.proofs.Worlds.{TheWorld}
+use Rattle.lte_machine.proofs.{AnnexB.annex_b_ciphers, WholeRun.run_is_value, Worlds.TheWorld}
 use Rattle.lte_properties.specs.Separation.{HeldBy}
 use Rattle.lte_properties.proofs.HeadlineHolds.{headline}
-use Rattle.fleet_world.specs.Answers.{own_at}
+use Rattle.fleet_world.specs.{Answers.own_at, Meeting.has_row, Phones.phone_run, Phones.phone_rows}
 use Rattle.fleet_world.specs.Apart.{uses_in, phone_uses, NoUseTwice, IsWorldOf, IsRootOf, HeldForOthers, ComesOfRoot, PhonesSeparate}
-use Rattle.fleet_world.specs.Meeting.{has_row}
-use Rattle.fleet_world.specs.Phones.{phone_run, phone_rows}
 use Rattle.fleet_world.proofs.Ladders.{in_values, reported, term_has_row}
-use Rattle.fleet_world.proofs.Roots.{roots_of}
-use Rattle.fleet_world.proofs.Separating.{Apart}
+use Rattle.fleet_world.proofs.{Roots.roots_of, Separating.Apart}
 
 -- THE RUN IN OCTETS
 

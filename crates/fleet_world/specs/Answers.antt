@@ -1,14 +1,12 @@
 -- What a fleet answers to an event of one of its phones, and which events are a phone's own.
 use Rattle.std.specs.Prelude.{ℕ, List, [], ◌∷◌, ◌++◌, length, drop, Option, Some, None, Result, Ok, Err, slice_set, slice_index_or, replicate}
-use Rattle.lte_events.specs.declared.events.Event.{Event}
-use Rattle.lte_events.specs.declared.setups.Setup.{Setup}
+use Rattle.lte_events.specs.{declared.events.Event.Event, declared.setups.Setup.Setup}
 use Rattle.key_terms.specs.Ladder.{row}
 use Rattle.lte_machine.specs.Calls.{line_out}
 use Rattle.lte_machine.specs.Run.{EventReport, Reported, Coincided}
 use Rattle.store_laws.specs.Proofs.{proof_of}
-use Rattle.fleet_world.specs.declared.faults.FleetFault.{FleetFault}
+use Rattle.fleet_world.specs.{declared.faults.FleetFault.FleetFault, declared.lines.FleetLine.FleetLine}
 use Rattle.fleet_world.specs.declared.faults.FleetFault.TheVariants as fault
-use Rattle.fleet_world.specs.declared.lines.FleetLine.{FleetLine}
 use Rattle.fleet_world.specs.declared.lines.FleetLine.TheVariants as line
 use Rattle.fleet_world.specs.Meeting.{Meeting, root_among, meeting_from}
 use Rattle.fleet_world.specs.Phones.{phone_told, phone_rows, others}

@@ -1,18 +1,11 @@
 -- What holds of all phones of a fleet together, where no event comes to a coincidence: no use of a key stands twice, and what
 -- stations hold for the others derives nothing that comes of a phone's root.
 use Rattle.std.specs.Prelude.{◌≡◌, ◌≢◌, ℕ, ◌<◌, List, [], ◌∷◌, ◌⊎◌, Some, slice_get, IsOk, ⊤}
-use Rattle.lte_events.specs.Ranges.{IsEvent}
-use Rattle.lte_events.specs.declared.events.Event.{Event}
-use Rattle.lte_events.specs.declared.setups.Setup.{Setup}
+use Rattle.lte_events.specs.{Ranges.IsEvent, declared.events.Event.Event, declared.setups.Setup.Setup}
 use Rattle.key_model.specs.Derivable.{Derivable}
 use Rattle.key_model.specs.Term.{Term, Root, Kenb, Nh, Star, Alg}
-use Rattle.lte_machine.specs.BothRuns.{written_run}
-use Rattle.lte_machine.specs.Distinct.{Member}
-use Rattle.lte_machine.specs.Ladder.{OfRoot}
-use Rattle.lte_machine.specs.Machines.{Kept}
+use Rattle.lte_machine.specs.{BothRuns.written_run, Distinct.Member, Ladder.OfRoot, Machines.Kept, Wire.KeyUse, Wire.Outgoing, World.World}
 use Rattle.lte_machine.specs.Run.{RunState, Running, Stopped}
-use Rattle.lte_machine.specs.Wire.{KeyUse, Outgoing}
-use Rattle.lte_machine.specs.World.{World}
 use Rattle.lte_properties.specs.Separation.{HeldBy}
 use Rattle.fleet_world.specs.Answers.{answer, own_at, owns_after}
 use Rattle.fleet_world.specs.Phones.{phone_run}

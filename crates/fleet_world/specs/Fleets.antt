@@ -1,17 +1,11 @@
 -- A fleet as a caller sees it: what it started with, the world of each phone, the events that it took, and the coincidence that ended it.
 use Rattle.std.specs.Prelude.{◌≡◌, ℕ, ◌<◌, ◌≤◌, false, List, [], ◌∷◌, ◌++◌, length, map, replicate, Option, Some, None, Result, Ok, Err}
 use Rattle.std.specs.List.{AllByRecursion as AllOf}
-use Rattle.lte_events.specs.declared.events.Event.{Event}
-use Rattle.lte_events.specs.declared.setups.Setup.{Setup}
-use Rattle.lte_events.specs.Ranges.{IsEvent, IsSetup}
-use Rattle.lte_events.specs.Scenario.{most_events, CanHappen}
+use Rattle.lte_events.specs.{declared.events.Event.Event, declared.setups.Setup.Setup, Ranges.IsEvent, Ranges.IsSetup, Scenario.most_events, Scenario.CanHappen}
 use Rattle.lte_machine.specs.Run.{GoesOn}
 use Rattle.lte_world.specs.Whole.{Whole}
-use Rattle.fleet_world.specs.declared.faults.FleetFault.{FleetFault}
-use Rattle.fleet_world.specs.declared.lines.FleetLine.{FleetLine}
+use Rattle.fleet_world.specs.{declared.faults.FleetFault.FleetFault, declared.lines.FleetLine.FleetLine, Apart.IsEventOf, Apart.AllAnswered, Phones.phone_run}
 use Rattle.fleet_world.specs.Answers.{answer, owns_of, no_events}
-use Rattle.fleet_world.specs.Apart.{IsEventOf, AllAnswered}
-use Rattle.fleet_world.specs.Phones.{phone_run}
 
 pub record Fleeted : Type 0 where
   pub setup : Setup

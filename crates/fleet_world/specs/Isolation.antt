@@ -1,14 +1,9 @@
 -- What a fleet tells of one phone is what a system of that phone's own events tells.
 use Rattle.std.specs.Prelude.{◌≡◌, ℕ, ◌<◌, ◌==◌, Bool, true, false, List, [], ◌∷◌, map, Result, Ok, Err}
-use Rattle.lte_events.specs.declared.events.Event.{Event}
-use Rattle.lte_events.specs.declared.lines.Line.{Line}
-use Rattle.lte_events.specs.declared.setups.Setup.{Setup}
-use Rattle.lte_machine.specs.BothRuns.{written_report}
-use Rattle.lte_machine.specs.Calls.{line_out}
-use Rattle.lte_machine.specs.Carried.{report_value}
+use Rattle.lte_events.specs.{declared.events.Event.Event, declared.lines.Line.Line, declared.setups.Setup.Setup}
+use Rattle.lte_machine.specs.{BothRuns.written_report, Calls.line_out, Carried.report_value}
 use Rattle.lte_machine.specs.Run.{EventReport, Reported, Coincided}
-use Rattle.fleet_world.specs.declared.faults.FleetFault.{FleetFault}
-use Rattle.fleet_world.specs.declared.lines.FleetLine.{FleetLine}
+use Rattle.fleet_world.specs.{declared.faults.FleetFault.FleetFault, declared.lines.FleetLine.FleetLine}
 use Rattle.fleet_world.specs.declared.lines.FleetLine.TheVariants as line
 use Rattle.fleet_world.specs.Answers.{answer, own, owns_after, no_events}
 

@@ -1,10 +1,7 @@
 -- Where the keys of one phone are those of another.
 use Rattle.std.specs.Prelude.{ℕ, ◌+◌, Bool, true, false, List, [], ◌∷◌, Option, Some, None, option_map, position, slice_index_or, unwrap_or}
 use Rattle.std.specs.Option.{is_some}
-use Rattle.key_terms.specs.declared.row.LadderRow.{LadderRow}
-use Rattle.key_terms.specs.declared.row.Origin.{Origin}
-use Rattle.key_terms.specs.declared.row.Origin.TheVariants.{Root}
-use Rattle.key_terms.specs.Ladder.{row_of, origin_at}
+use Rattle.key_terms.specs.{declared.row.LadderRow.LadderRow, declared.row.Origin.Origin, declared.row.Origin.TheVariants.Root, Ladder.row_of, Ladder.origin_at}
 
 -- whether a row with these octets is a root
 abbrev pub is_root : Option Origin → Bool

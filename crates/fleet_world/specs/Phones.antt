@@ -1,13 +1,8 @@
 -- The phones of a fleet, each by its own events: what its run is, which keys its ladder has, and what is told of an event more.
 use Rattle.std.specs.Prelude.{ℕ, List, [], map, slice_set}
-use Rattle.lte_events.specs.declared.events.Event.{Event}
-use Rattle.lte_events.specs.declared.setups.Setup.{Setup}
+use Rattle.lte_events.specs.{declared.events.Event.Event, declared.setups.Setup.Setup}
 use Rattle.key_terms.specs.declared.row.LadderRow.{LadderRow}
-use Rattle.lte_machine.specs.BothRuns.{annex_b_terms, written_run}
-use Rattle.lte_machine.specs.Carried.{run_value, report_value}
-use Rattle.lte_machine.specs.Ciphers.{annex_b}
-use Rattle.lte_machine.specs.Machines.{Kept, written_machine}
-use Rattle.lte_machine.specs.Opening.{open_octets}
+use Rattle.lte_machine.specs.{BothRuns.annex_b_terms, BothRuns.written_run, Carried.run_value, Carried.report_value, Ciphers.annex_b, Machines.Kept, Machines.written_machine, Opening.open_octets}
 use Rattle.lte_machine.specs.Run.{RunState, Running, Stopped, EventReport, event_report}
 use Rattle.store_laws.specs.Rows.{world_rows}
 

@@ -2,11 +2,9 @@
 use Rattle.std.specs.Prelude.{◌≡◌, ℕ, List, [], ◌∷◌, ◌++◌, Result, Ok, Err, slice_set}
 use Rattle.lte_events.specs.declared.events.Event.{Event}
 use Rattle.lte_world.specs.Whole.{Whole}
-use Rattle.fleet_world.specs.declared.faults.FleetFault.{FleetFault}
+use Rattle.fleet_world.specs.{declared.faults.FleetFault.FleetFault, declared.lines.FleetLine.FleetLine, Answers.own_at}
 use Rattle.fleet_world.specs.declared.faults.FleetFault.TheVariants as fault
-use Rattle.fleet_world.specs.declared.lines.FleetLine.{FleetLine}
 use Rattle.fleet_world.specs.declared.lines.FleetLine.TheVariants as line
-use Rattle.fleet_world.specs.Answers.{own_at}
 use Rattle.fleet_world.specs.Fleets.{Fleeted, owns_in, world_of}
 
 -- the world of phone p with one event more

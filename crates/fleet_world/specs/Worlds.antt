@@ -1,14 +1,12 @@
 -- The worlds of a fleet: their ladders, and what a step of one of them does.
 use Rattle.std.specs.Prelude.{◌≡◌, ℕ, List, [], ◌∷◌, ◌++◌, length, map, Option, Some, None, Result, Ok, Err, true, false, slice_get, slice_set}
-use Rattle.lte_events.specs.declared.events.Event.{Event}
-use Rattle.lte_events.specs.declared.lines.Line.{Line}
+use Rattle.lte_events.specs.{declared.events.Event.Event, declared.lines.Line.Line}
 use Rattle.key_terms.specs.declared.row.LadderRow.{LadderRow}
 use Rattle.lte_world.specs.declared.faults.WorldFault.{WorldFault}
 use Rattle.lte_world.specs.declared.faults.WorldFault.TheVariants as fault
 use Rattle.lte_world.specs.Whole.{Whole, run_of, told_of, CanApply}
 use Rattle.lte_machine.specs.Run.{GoesOn}
-use Rattle.fleet_world.specs.Meeting.{root_among}
-use Rattle.fleet_world.specs.Phones.{rows_in, without}
+use Rattle.fleet_world.specs.{Meeting.root_among, Phones.rows_in, Phones.without}
 
 -- no coincidence ended it
 abbrev pub Goes : Whole → Type 0

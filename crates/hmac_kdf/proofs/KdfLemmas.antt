@@ -1,8 +1,6 @@
 -- The string S of an input determines the input.
 use Rattle.std.proofs.Common.{◌≡◌, refl, ℕ, ◌<◌, ◌≤◌, ◌^◌, ◌/◌, ◌%◌, Bool, true, false, List, ◌∷◌, length, take, drop, get_or, nat_lt, cond, sym, ap, ◌∙◌, arith, length-append}
-use Rattle.std.proofs.lemmas.Bool.{ltb-false}
-use Rattle.std.proofs.lemmas.List.{append_cancel_right}
-use Rattle.std.proofs.lemmas.Nat.{from_be_bytes-to_be_bytes_2, from_be_bytes-to_be_bytes_4}
+use Rattle.std.proofs.{lemmas.Bool.ltb-false, lemmas.List.append_cancel_right, lemmas.Nat.from_be_bytes-to_be_bytes_2, lemmas.Nat.from_be_bytes-to_be_bytes_4}
 use Rattle.std.specs.Int.{w16, w32, to_be_bytes, from_be_bytes, bytes_high_first}
 use Rattle.hmac_kdf.specs.declared.input.KdfInput.{KdfInput}
 use Rattle.hmac_kdf.specs.declared.input.KdfInput.TheVariants.{Kenb, Nh, Star, Alg}

@@ -1,9 +1,8 @@
 -- The key derivation function of TS 33.220 B.2 with the inputs of TS 33.401 Annex A.
 use Rattle.std.specs.Prelude.{ℕ, ◌<◌, ◌≤◌, ◌^◌, List, [], ◌∷◌, ◌++◌, length, nat_lt, if◌then◌else◌}
 use Rattle.std.specs.Int.{w16, w32, to_be_bytes, bytes_high_first}
-use Rattle.hmac_kdf.specs.declared.input.KdfInput.{KdfInput}
+use Rattle.hmac_kdf.specs.{declared.input.KdfInput.KdfInput, Hmac.hmac}
 use Rattle.hmac_kdf.specs.declared.input.KdfInput.TheVariants.{Kenb, Nh, Star, Alg}
-use Rattle.hmac_kdf.specs.Hmac.{hmac}
 
 -- a parameter P and its length L in two octets (TS 33.220 B.2)
 abbrev pub parameter : List ℕ → List ℕ

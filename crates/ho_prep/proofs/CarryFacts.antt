@@ -1,8 +1,7 @@
 -- What a list of preparations answers is the same however its keys are read.
 use Rattle.std.proofs.Common.{◌≡◌, ℕ, Bool, true, false, cond, List, [], ◌∷◌, map, Some, find, refl, ap}
 use Rattle.std.specs.Prelude.{nat_le, not, filter, ◌||◌}
-use Rattle.std.specs.Option.{option_map}
-use Rattle.std.specs.List.{list_any}
+use Rattle.std.specs.{Option.option_map, List.list_any}
 use Rattle.ho_prep.specs.Prep.{Prep, map_prep, is_at, is_of, at_air, has_attempt, without, drop_below}
 
 -- a test that sees the same before and after keeps the same, finds the same, and passes as much

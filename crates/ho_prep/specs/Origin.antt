@@ -1,7 +1,6 @@
 -- How a preparation came.
 use Rattle.std.specs.Prelude.{◌≤◌, ◌<◌, ◌^◌, Some}
-use Rattle.ho_prep.specs.declared.origins.By.{By}
-use Rattle.ho_prep.specs.declared.origins.By.TheVariants.{Intra}
+use Rattle.ho_prep.specs.{declared.origins.By.By, declared.origins.By.TheVariants.Intra}
 
 -- the source is a station, 0 to 7, and attempts begin at 1
 abbrev pub IsOrigin : By → Type 0

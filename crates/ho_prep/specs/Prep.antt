@@ -3,13 +3,10 @@
 use Rattle.std.specs.Prelude.{ℕ, ◌==◌, nat_le, Bool, not, ◌&&◌, List, Option, None, Some, filter, find, position, remove, replicate}
 use Rattle.std.specs.List.{list_any}
 use Rattle.annex_a_keys.specs.Cell.{Place}
-use Rattle.alg_choice.specs.declared.algs.Algs.{Algs}
-use Rattle.alg_choice.specs.declared.algs.Eea.TheVariants.{Eea0}
-use Rattle.alg_choice.specs.declared.caps.Caps.{Caps}
+use Rattle.alg_choice.specs.{declared.algs.Algs.Algs, declared.algs.Eea.TheVariants.Eea0, declared.caps.Caps.Caps}
 use Rattle.nh_chain.specs.Station.{StationKey, map_station_key}
 use Rattle.pdcp_guard.specs.AsKeys.{AsKeys, map_as_keys}
-use Rattle.ho_prep.specs.declared.origins.By.{By}
-use Rattle.ho_prep.specs.declared.origins.By.TheVariants.{X2}
+use Rattle.ho_prep.specs.{declared.origins.By.By, declared.origins.By.TheVariants.X2}
 
 -- a preparation: the connection, the source station and its attempt, how it came, the target cell, the air address
 -- drawn for the phone, its key and number, the algorithms chosen, the keys of the access stratum, and the phone's

@@ -1,21 +1,15 @@
 -- What comes of a scenario that was driven.
 use Rattle.std.proofs.Common.{◌≡◌, ℕ, ◌⊎◌, inl, inr, Option, Some, None, List, ◌∷◌, ◌++◌, Result, Ok, Err, IfSome, IfOk, OnOk, OnErr, IsErrOf, refl, ap, sym, subst, ◌∙◌, append_assoc}
 use Rattle.edge_io.proofs.Known.{all_out, prefix_on, prefix_of, proper_prefix_on}
-use Rattle.edge_io.specs.Cause.{Rose}
+use Rattle.edge_io.specs.{Cause.Rose, Peers.PeersTold}
 use Rattle.edge_io.specs.Octets.{Grows, GrowsByPrefix, GrowsByProperPrefix}
-use Rattle.edge_io.specs.Peers.{PeersTold}
-use Rattle.hub_drive.proofs.Composing.{writes-append}
+use Rattle.hub_drive.proofs.{Composing.writes-append, Texts.Reports}
 use Rattle.hub_drive.proofs.Gone.{whole_made, failed_next, no_difference}
-use Rattle.hub_drive.specs.declared.faults.DriveFault.{DriveFault}
+use Rattle.hub_drive.specs.{declared.faults.DriveFault.DriveFault, Outside.Outside, Outside.outside, Peerwise.Made, Went.ActFails, Went.CutAt}
 use Rattle.hub_drive.specs.declared.faults.DriveFault.TheVariants.{Memory, PeerFault, Differs, WriteFault}
 use Rattle.hub_drive.specs.Acts.{Receiving, Act, Writing, Calling, calls, writes}
 use Rattle.hub_drive.specs.Driven.{Plan, Driven, WhereTold, FailedNext, GivesAll}
-use Rattle.hub_drive.specs.Outside.{Outside, outside}
-use Rattle.hub_drive.specs.Peerwise.{Made}
-use Rattle.hub_drive.specs.Went.{ActFails, CutAt}
-use Rattle.run_report.specs.declared.endings.Ending.{Ending}
-use Rattle.run_report.specs.Report.{Report}
-use Rattle.hub_drive.proofs.Texts.{Reports}
+use Rattle.run_report.specs.{declared.endings.Ending.Ending, Report.Report}
 
 -- THE TEXT
 

@@ -2,8 +2,7 @@
 use Rattle.std.proofs.Common.{◌≡◌, ℕ, Option, Some, None, List, [], ◌∷◌, ◌++◌, Result, Ok, Err, IfSome, refl, ap, sym, subst, ◌∙◌, append_assoc, append-nil}
 use Rattle.std.specs.Option.{option_map}
 use Rattle.edge_io.proofs.Known.{grows_twice, nothing_out}
-use Rattle.edge_io.specs.Octets.{Grows}
-use Rattle.edge_io.specs.Peers.{PeersTold}
+use Rattle.edge_io.specs.{Octets.Grows, Peers.PeersTold}
 use Rattle.hub_drive.specs.declared.faults.DriveFault.{DriveFault}
 use Rattle.hub_drive.specs.Acts.{Call, Act, Writing, Calling, calls, writes}
 use Rattle.hub_drive.specs.Outside.{Outside, done, all_done, AllGave, Did, AllDone}

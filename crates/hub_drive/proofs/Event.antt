@@ -1,37 +1,22 @@
 -- One event: what is written of it, and whom it tells.
 use Rattle.std.proofs.Common.{◌≡◌, ℕ, zero, suc, ◌<◌, Option, List, [], ◌∷◌, ◌++◌, length, get_or, All, Ok, Err, refl, sym, subst, append-nil, arith}
 use Rattle.std.specs.List.{AllByRecursion as AllOf}
-use Rattle.edge_io.specs.Octets.{Grows}
-use Rattle.edge_io.specs.Peers.{PeersTold}
-use Rattle.edge_io.specs.Told.{Told}
-use Rattle.lte_events.specs.declared.events.Event.{Event}
-use Rattle.lte_events.specs.declared.inputs.ActorIn.{ActorIn}
+use Rattle.edge_io.specs.{Octets.Grows, Peers.PeersTold, Told.Told}
+use Rattle.lte_events.specs.{declared.events.Event.Event, declared.inputs.ActorIn.ActorIn, declared.replies.ActorOut.ActorOut, declared.setups.Setup.Setup}
 use Rattle.lte_events.specs.declared.inputs.ActorIn.TheVariants as input
-use Rattle.lte_events.specs.declared.replies.ActorOut.{ActorOut}
-use Rattle.lte_events.specs.declared.setups.Setup.{Setup}
-use Rattle.lte_machine.specs.BothRuns.{octet_run}
-use Rattle.lte_machine.specs.Machines.{Kept}
+use Rattle.lte_machine.specs.{BothRuns.octet_run, Machines.Kept}
 use Rattle.lte_machine.specs.Run.{RunState, Running, Stopped, EventReport, Reported, Coincided, GoesOn}
-use Rattle.lte_world.specs.Replies.{RepliedLast, IsOfSetup}
-use Rattle.lte_world.specs.Whole.{Whole, run_of}
+use Rattle.lte_world.specs.{Replies.RepliedLast, Replies.IsOfSetup, Whole.Whole, Whole.run_of}
 use Rattle.lte_world.proofs.TellsAsWritten.{runs_octets}
-use Rattle.run_report.specs.declared.unwritten.Unwritten.{Unwritten}
+use Rattle.run_report.specs.{declared.unwritten.Unwritten.Unwritten, declared.endings.Ending.Ending, Takes.Takes, Written.Written}
 use Rattle.run_report.specs.declared.unwritten.Unwritten.TheVariants as unwritten
-use Rattle.run_report.specs.declared.endings.Ending.{Ending}
 use Rattle.run_report.specs.declared.endings.Ending.TheVariants.{Done, Chance}
 use Rattle.run_report.specs.Events.{told_of, event_text, event_ends}
-use Rattle.run_report.specs.Takes.{Takes}
-use Rattle.run_report.specs.Written.{Written}
 use Rattle.run_report.proofs.ReportByEvent.{still_goes}
 use Rattle.hub_drive.proofs.Composing.{cut_after, cut_at, cut_before, did_none, done_twice}
-use Rattle.hub_drive.specs.declared.faults.DriveFault.{DriveFault}
+use Rattle.hub_drive.specs.{declared.faults.DriveFault.DriveFault, Acts.Writing, Driven.PlanWent, Exchanges.replied, Exchanges.HasActor, Went.CutAt, Went.fault_of, Plan.event_plan, Plan.replies_at}
 use Rattle.hub_drive.specs.declared.faults.DriveFault.TheVariants.{Memory, WriteFault}
-use Rattle.hub_drive.specs.Acts.{Writing}
-use Rattle.hub_drive.specs.Driven.{PlanWent}
-use Rattle.hub_drive.specs.Exchanges.{replied, HasActor}
 use Rattle.hub_drive.specs.Outside.{Outside, outside, AllDone}
-use Rattle.hub_drive.specs.Went.{CutAt, fault_of}
-use Rattle.hub_drive.specs.Plan.{event_plan, replies_at}
 
 -- a system to which an event happened that is no coincidence
 pub goes_after : (v after : Whole) (e : Event) → event_ends (told_of (run_of v) e) ≡ Done → Takes v e after → GoesOn (run_of after)

@@ -2,12 +2,9 @@
 use Rattle.std.proofs.Common.{◌≡◌, ℕ, Option, List, [], ◌∷◌, ◌++◌, take, drop, Result, Err, refl, ap, sym, subst, ◌∙◌, take-append-drop}
 use Rattle.edge_io.specs.Peers.{PeersTold, SendFailed}
 use Rattle.hub_drive.proofs.Composing.{cut_at, went_on, cut_before}
-use Rattle.hub_drive.specs.declared.faults.DriveFault.{DriveFault}
-use Rattle.hub_drive.specs.declared.faults.DriveFault.TheVariants.{PeerFault}
+use Rattle.hub_drive.specs.{declared.faults.DriveFault.DriveFault, declared.faults.DriveFault.TheVariants.PeerFault, Exchanges.exchange, Went.CutAt, Went.Went}
 use Rattle.hub_drive.specs.Acts.{Wanted, Sending, Receiving, Act, Calling}
-use Rattle.hub_drive.specs.Exchanges.{exchange}
 use Rattle.hub_drive.specs.Outside.{Outside, outside, AllDone}
-use Rattle.hub_drive.specs.Went.{CutAt, Went}
 
 -- the two parts of a reply
 abbrev pub length_part : Option ℕ → List ℕ → List ℕ → Wanted

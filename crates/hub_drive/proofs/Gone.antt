@@ -1,18 +1,12 @@
 -- What comes of a plan, peer by peer.
 use Rattle.std.proofs.Common.{Result, ◌≡◌, ℕ, zero, suc, ◌<◌, ◌≤◌, ◌==◌, ◌⊎◌, inl, inr, Bool, true, if◌then◌else◌, Option, Some, None, List, [], ◌∷◌, ◌++◌, length, take, drop, slice_get, Ok, Err, IfSome, refl, ap, sym, subst, ◌∙◌, append_assoc, take-append-drop, arith}
-use Rattle.std.specs.Io.{StartsWith}
-use Rattle.std.specs.Option.{option_map, option_map_or}
-use Rattle.std.proofs.Math.Nat.{eq-or-lt_of_le}
-use Rattle.std.proofs.lemmas.Bool.{eq-eqb}
-use Rattle.std.proofs.lemmas.List.{append_cancel_left, take_at}
+use Rattle.std.specs.{Io.StartsWith, Option.option_map, Option.option_map_or}
+use Rattle.std.proofs.{Math.Nat.eq-or-lt_of_le, lemmas.Bool.eq-eqb, lemmas.List.append_cancel_left, lemmas.List.take_at}
 use Rattle.edge_io.proofs.Changed.{length-change}
 use Rattle.edge_io.specs.Peers.{PeerTold, PeersTold, change, to_give_of, is_stopped, failed_at, sent_to, taken_from}
-use Rattle.hub_drive.specs.declared.faults.DriveFault.{DriveFault}
-use Rattle.edge_io.specs.declared.peers.Role.{Role}
-use Rattle.edge_io.specs.declared.peers.PeerCall.TheVariants.{Start}
-use Rattle.lte_events.specs.declared.inputs.ActorIn.{ActorIn}
-use Rattle.lte_events.specs.declared.replies.ActorOut.{ActorOut}
-use Rattle.lte_events.specs.declared.setups.Setup.{Setup}
+use Rattle.hub_drive.specs.{declared.faults.DriveFault.DriveFault, Exchanges.set_ups, Exchanges.replied}
+use Rattle.edge_io.specs.{declared.peers.Role.Role, declared.peers.PeerCall.TheVariants.Start}
+use Rattle.lte_events.specs.{declared.inputs.ActorIn.ActorIn, declared.replies.ActorOut.ActorOut, declared.setups.Setup.Setup}
 use Rattle.role_wire.specs.declared.frames.RoleSetup.{RoleSetup}
 use Rattle.run_report.specs.declared.endings.Ending.{Ending}
 use Rattle.hub_drive.proofs.Composing.{calls-append}
@@ -22,7 +16,6 @@ use Rattle.hub_drive.specs.Acts.{Wanted, Call, Starting, Sending, Receiving, Act
 use Rattle.hub_drive.specs.Driven.{Plan, Driven, WhereTold, AllStopped, FailedNext, GivesAll}
 use Rattle.hub_drive.specs.Outside.{Outside, outside, all_done, Did, HasStarted, stopped_below}
 use Rattle.hub_drive.specs.Peerwise.{Made, name_of, receives, roles_started}
-use Rattle.hub_drive.specs.Exchanges.{set_ups, replied}
 use Rattle.hub_drive.specs.Went.{CallFails, ActFails, CutAt, Differed, Went}
 
 -- STOPS

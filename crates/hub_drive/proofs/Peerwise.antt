@@ -1,8 +1,7 @@
 -- Calls, peer by peer.
 use Rattle.std.proofs.Common.{◌≡◌, ◌≢◌, ℕ, zero, suc, ◌<◌, ◌==◌, Bool, true, false, if◌then◌else◌, Option, Some, None, List, [], ◌∷◌, ◌++◌, length, take, drop, slice_get, refl, ap, sym, subst, ◌∙◌, append_assoc, append-nil, take-append-drop, arith}
 use Rattle.std.specs.Option.{option_map, option_map_or}
-use Rattle.std.proofs.Math.Seq.{drop-nil}
-use Rattle.std.proofs.lemmas.Bool.{eqb-true, eqb-false}
+use Rattle.std.proofs.{Math.Seq.drop-nil, lemmas.Bool.eqb-true, lemmas.Bool.eqb-false}
 use Rattle.edge_io.proofs.Changed.{length-change}
 use Rattle.edge_io.specs.Peers.{PeerTold, PeersTold, change, sent_of, to_give_of}
 use Rattle.hub_drive.specs.Acts.{Call, Starting, Sending, Receiving}

@@ -1,38 +1,24 @@
 -- Starts and stops, and the places of the stations behind phone and core.
 use Rattle.std.proofs.Common.{◌≡◌, ◌≢◌, ℕ, zero, suc, ◌+◌, ◌-◌, ◌≤◌, ◌<◌, Option, Some, None, List, [], ◌∷◌, ◌++◌, length, map, drop, slice_get, get_or, All, Bool, true, false, ◌||◌, ◌==◌, if◌then◌else◌, IsTrue, Err, IfSome, refl, ap, sym, subst, ◌∙◌, arith, length-append}
 use Rattle.std.specs.Option.{option_map}
-use Rattle.std.proofs.Math.Seq.{drop-cons}
-use Rattle.std.proofs.lemmas.List.{drop_all, length-map}
-use Rattle.std.proofs.lemmas.List.Elements.{All-get_or}
+use Rattle.std.proofs.{Math.Seq.drop-cons, lemmas.List.drop_all, lemmas.List.length-map, lemmas.List.Elements.All-get_or}
 use Rattle.std.proofs.lemmas.Option.{slice_get-map, slice_get-get_or, slice_get_within, get_or_from_slice_get}
 use Rattle.edge_io.proofs.Changed.{slice_get-change}
-use Rattle.edge_io.specs.declared.peers.Role.{Role}
+use Rattle.edge_io.specs.{declared.peers.Role.Role, declared.peers.StartFault.StartFault}
 use Rattle.edge_io.specs.declared.peers.Role.TheVariants as role
-use Rattle.edge_io.specs.declared.peers.StartFault.{StartFault}
 use Rattle.edge_io.specs.declared.peers.StartFault.TheVariants as fault
 use Rattle.edge_io.specs.Peers.{PeersTold, IsRunning, started, stopped_at}
-use Rattle.lte_events.specs.Ranges.{has_station}
-use Rattle.lte_events.specs.Reply.{reply_of}
-use Rattle.lte_events.specs.Site.{Site}
-use Rattle.lte_events.specs.declared.answers.Answer.TheVariants.{Done}
-use Rattle.lte_events.specs.declared.inputs.ActorIn.{ActorIn}
+use Rattle.lte_events.specs.{Ranges.has_station, Reply.reply_of, Site.Site, declared.answers.Answer.TheVariants.Done, declared.inputs.ActorIn.ActorIn, declared.replies.ActorOut.ActorOut, declared.setups.Setup.Setup, declared.setups.StationSetup.StationSetup}
 use Rattle.lte_events.specs.declared.inputs.ActorIn.TheVariants as input
-use Rattle.lte_events.specs.declared.replies.ActorOut.{ActorOut}
-use Rattle.lte_events.specs.declared.setups.Setup.{Setup}
-use Rattle.lte_events.specs.declared.setups.StationSetup.{StationSetup}
 use Rattle.rec_base.proofs.Numbers.{length-octets_of}
 use Rattle.rec_base.specs.BigEndian.{octets_of}
-use Rattle.role_wire.specs.Frame.{framed, frame_spelling}
-use Rattle.role_wire.specs.Reply.{reply_spelling}
+use Rattle.role_wire.specs.{Frame.framed, Frame.frame_spelling, Reply.reply_spelling, declared.frames.RoleSetup.RoleSetup}
 use Rattle.role_wire.specs.declared.frames.FrameIn.TheVariants.{Setup as SetupFrame, Input}
-use Rattle.role_wire.specs.declared.frames.RoleSetup.{RoleSetup}
 use Rattle.role_wire.specs.declared.frames.RoleSetup.TheVariants as first
 use Rattle.hub_drive.proofs.Composing.{cut_at}
 use Rattle.hub_drive.specs.declared.faults.DriveFault.TheVariants.{Memory, PeerFault}
-use Rattle.hub_drive.specs.Acts.{Starting, Calling}
-use Rattle.hub_drive.specs.Outside.{outside, stopped_below}
+use Rattle.hub_drive.specs.{Acts.Starting, Acts.Calling, Outside.outside, Outside.stopped_below, Went.CutAt}
 use Rattle.hub_drive.specs.Exchanges.{core_seed, exchange, roles_of, seeds_of, starts, set_ups, station_peer, peer_of, replied, HasActor}
-use Rattle.hub_drive.specs.Went.{CutAt}
 
 -- behind two items stand those of a list
 behind_two : {X Y : Type 0} (a b : Y) (f : X → Y) (xs : List X) (place : ℕ) (d : X)

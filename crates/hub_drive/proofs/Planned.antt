@@ -1,47 +1,28 @@
 -- A plan, event by event.
-use Rattle.std.specs.List.{slice_get}
-use Rattle.std.specs.Option.{option_map}
+use Rattle.std.specs.{List.slice_get, Option.option_map}
 use Rattle.std.proofs.Common.{◌≡◌, ℕ, zero, suc, map, All, Some, None, IfSome, ◌+◌, ◌<◌, ◌≤◌, Option, List, [], ◌∷◌, ◌++◌, length, drop, get_or, Result, Ok, Err, refl, ap, sym, subst, ◌∙◌, append_assoc, drop_of_length-le, arith}
-use Rattle.std.proofs.lemmas.Option.{get_or_from_slice_get, slice_get_within}
-use Rattle.std.proofs.Math.Seq.{drop-cons}
+use Rattle.std.proofs.{lemmas.Option.get_or_from_slice_get, lemmas.Option.slice_get_within, Math.Seq.drop-cons}
 use Rattle.alg_choice.specs.declared.algs.Eea.{Eea}
-use Rattle.edge_io.specs.Octets.{Grows}
-use Rattle.edge_io.specs.Peers.{PeersTold}
-use Rattle.edge_io.specs.Told.{Told}
-use Rattle.edge_io.specs.declared.peers.Role.{Role}
+use Rattle.edge_io.specs.{Octets.Grows, Peers.PeersTold, Told.Told, declared.peers.Role.Role}
 use Rattle.edge_io.specs.declared.peers.Role.TheVariants as role
-use Rattle.lte_events.specs.Ranges.{IsStation}
+use Rattle.lte_events.specs.{Ranges.IsStation, Site.Site, declared.inputs.ActorIn.ActorIn, declared.replies.ActorOut.ActorOut, declared.setups.FirstNcc.FirstNcc, declared.setups.StationSetup.StationSetup, declared.events.Event.Event, declared.setups.Setup.Setup}
 use Rattle.lte_events.specs.Ranges as range
-use Rattle.lte_events.specs.Site.{Site}
-use Rattle.lte_events.specs.declared.inputs.ActorIn.{ActorIn}
-use Rattle.lte_events.specs.declared.replies.ActorOut.{ActorOut}
-use Rattle.lte_events.specs.declared.setups.FirstNcc.{FirstNcc}
 use Rattle.lte_events.specs.declared.setups.FirstNcc.TheVariants.{One, Two}
-use Rattle.lte_events.specs.declared.setups.StationSetup.{StationSetup}
-use Rattle.role_wire.specs.Ranges.{IsSetup}
-use Rattle.role_wire.specs.declared.frames.RoleSetup.{RoleSetup}
+use Rattle.role_wire.specs.{Ranges.IsSetup, declared.frames.RoleSetup.RoleSetup}
 use Rattle.role_wire.specs.declared.frames.RoleSetup.TheVariants as first
-use Rattle.run_report.specs.declared.endings.Ending.{Ending}
+use Rattle.run_report.specs.{declared.endings.Ending.Ending, Report.end_of, Events.told_of}
 use Rattle.run_report.specs.declared.endings.Ending.TheVariants.{Done, Chance}
-use Rattle.run_report.specs.Report.{end_of}
-use Rattle.lte_events.specs.declared.events.Event.{Event}
-use Rattle.lte_events.specs.declared.setups.Setup.{Setup}
 use Rattle.lte_machine.specs.Machines.{Kept}
 use Rattle.lte_machine.specs.Run.{RunState, Running, EventReport, Reported, Coincided, first_world}
-use Rattle.run_report.specs.Events.{told_of}
 use Rattle.hub_drive.proofs.Composing.{calls-append, done_twice, cut_after, cut_at, cut_before}
 use Rattle.hub_drive.proofs.Gone.{roles_started-append, started_did, started_went, replied_start}
-use Rattle.hub_drive.proofs.Running.{all_run_did, all_run_went}
-use Rattle.hub_drive.specs.declared.faults.DriveFault.{DriveFault}
-use Rattle.hub_drive.specs.declared.faults.DriveFault.TheVariants.{Memory}
+use Rattle.hub_drive.proofs.{Running.all_run_did, Running.all_run_went, Event.writing_done}
+use Rattle.hub_drive.specs.{declared.faults.DriveFault.DriveFault, declared.faults.DriveFault.TheVariants.Memory, Peerwise.roles_started, Went.CutAt}
 use Rattle.hub_drive.specs.Acts.{Starting, Act, Calling, calls}
 use Rattle.hub_drive.specs.Driven.{Plan, then_plan, PlanWent, Driven}
 use Rattle.hub_drive.specs.Exchanges.{core_seed, roles_of, starts, seeds_of, set_ups}
 use Rattle.hub_drive.specs.Outside.{Outside, outside, AllDone, AllRun, HasStarted, stopped_below}
-use Rattle.hub_drive.specs.Peerwise.{roles_started}
-use Rattle.hub_drive.specs.Went.{CutAt}
 use Rattle.hub_drive.specs.Plan.{event_plan, replies_at, turned, unless_ended, followed, events_plan, plan_of}
-use Rattle.hub_drive.proofs.Event.{writing_done}
 
 -- some of a plan is done, and this is to do
 pub record PlanGoing (whole rest : Plan) (first now : Outside) : Type 0 where

@@ -3,11 +3,9 @@ use Rattle.std.proofs.Common.{◌≡◌, ◌≢◌, ℕ, Option, List, [], ◌�
 use Rattle.std.specs.Option.{option_map}
 use Rattle.edge_io.specs.Peers.{PeersTold, ReceiveFailed, taken_from, to_give_of}
 use Rattle.hub_drive.proofs.Composing.{cut_at}
-use Rattle.hub_drive.specs.declared.faults.DriveFault.{DriveFault}
+use Rattle.hub_drive.specs.{declared.faults.DriveFault.DriveFault, Outside.outside, Went.CutAt, Went.Differed}
 use Rattle.hub_drive.specs.declared.faults.DriveFault.TheVariants.{PeerFault, Differs}
 use Rattle.hub_drive.specs.Acts.{Wanted, Receiving, Calling}
-use Rattle.hub_drive.specs.Outside.{outside}
-use Rattle.hub_drive.specs.Went.{CutAt, Differed}
 
 pub receive_failed : (written : Option (List ℕ)) (peer size : ℕ) (w : Wanted) (old new : Option PeersTold)
     → size ≡ length w.octets

@@ -1,24 +1,16 @@
 -- What the plan writes is the report.
 use Rattle.std.proofs.Common.{◌≡◌, ℕ, suc, ◌+◌, List, [], ◌∷◌, ◌++◌, length, refl, ap, sym, subst, ◌∙◌, append-nil, arith}
 use Rattle.edge_io.specs.declared.peers.Role.{Role}
-use Rattle.lte_events.specs.declared.events.Event.{Event}
-use Rattle.lte_events.specs.declared.inputs.ActorIn.{ActorIn}
-use Rattle.lte_events.specs.declared.replies.ActorOut.{ActorOut}
-use Rattle.lte_events.specs.declared.setups.Setup.{Setup}
-use Rattle.lte_machine.specs.Calls.{line_out}
-use Rattle.lte_machine.specs.Ciphers.{annex_b}
-use Rattle.lte_machine.specs.Machines.{Kept, machine_in_octets}
-use Rattle.lte_machine.specs.Opening.{open_octets}
+use Rattle.lte_events.specs.{declared.events.Event.Event, declared.inputs.ActorIn.ActorIn, declared.replies.ActorOut.ActorOut, declared.setups.Setup.Setup, Scenario.IsScenario}
+use Rattle.lte_machine.specs.{Calls.line_out, Ciphers.annex_b, Machines.Kept, Machines.machine_in_octets, Opening.open_octets}
 use Rattle.lte_machine.specs.Run.{RunState, Running, EventReport, Reported, Coincided, report, replay, first_world}
 use Rattle.report_text.specs.Line.{line_text}
 use Rattle.role_wire.specs.declared.frames.RoleSetup.{RoleSetup}
 use Rattle.run_report.specs.Events.{told_of}
-use Rattle.lte_events.specs.Scenario.{IsScenario}
 use Rattle.run_report.specs.Report.{Report, told_from, end_of, report_of}
 use Rattle.run_report.proofs.ReportByEvent.{report_from, report_is}
 use Rattle.hub_drive.proofs.Composing.{writes-append}
-use Rattle.hub_drive.specs.Acts.{Act, writes}
-use Rattle.hub_drive.specs.Driven.{Plan}
+use Rattle.hub_drive.specs.{Acts.Act, Acts.writes, Driven.Plan}
 use Rattle.hub_drive.specs.Exchanges.{roles_of, starts, seeds_of, set_ups, replied}
 use Rattle.hub_drive.specs.Plan.{event_plan, replies_at, turned, followed, events_plan, plan_of}
 

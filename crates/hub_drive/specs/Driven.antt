@@ -1,14 +1,11 @@
 -- A plan that is gone through, behind which all peers that were started are stopped; and what comes of it, peer by peer.
 use Rattle.std.specs.Prelude.{◌≡◌, ℕ, ◌<◌, true, Option, Some, List, ◌∷◌, ◌++◌, length, Result, Ok, Err, IfSome}
-use Rattle.std.specs.Io.{StartsWith}
-use Rattle.std.specs.Option.{option_map}
+use Rattle.std.specs.{Io.StartsWith, Option.option_map}
 use Rattle.edge_io.specs.Peers.{PeersTold, is_stopped, to_give_of}
 use Rattle.run_report.specs.declared.endings.Ending.{Ending}
-use Rattle.hub_drive.specs.declared.faults.DriveFault.{DriveFault}
-use Rattle.hub_drive.specs.Acts.{Call, Act}
+use Rattle.hub_drive.specs.{declared.faults.DriveFault.DriveFault, Acts.Call, Acts.Act, Went.CutAt}
 use Rattle.hub_drive.specs.Outside.{Outside, outside, AllDone, HasStarted, stopped_below}
 use Rattle.hub_drive.specs.Peerwise.{Made, name_of, receives}
-use Rattle.hub_drive.specs.Went.{CutAt}
 
 -- acts in order, and how the report ends that they write
 pub record Plan : Type 0 where

@@ -3,22 +3,12 @@ use Rattle.std.specs.Prelude.{ℕ, suc, ◌==◌, if◌then◌else◌, IsTrue, O
 use Rattle.alg_choice.specs.declared.algs.Eea.{Eea}
 use Rattle.edge_io.specs.declared.peers.Role.{Role}
 use Rattle.edge_io.specs.declared.peers.Role.TheVariants as role
-use Rattle.lte_events.specs.Ranges.{has_station}
-use Rattle.lte_events.specs.Reply.{reply_of}
-use Rattle.lte_events.specs.Site.{Site}
-use Rattle.lte_events.specs.declared.answers.Answer.TheVariants.{Done}
-use Rattle.lte_events.specs.declared.inputs.ActorIn.{ActorIn}
+use Rattle.lte_events.specs.{Ranges.has_station, Reply.reply_of, Site.Site, declared.answers.Answer.TheVariants.Done, declared.inputs.ActorIn.ActorIn, declared.replies.ActorOut.ActorOut, declared.setups.FirstNcc.FirstNcc, declared.setups.Setup.Setup, declared.setups.StationSetup.StationSetup}
 use Rattle.lte_events.specs.declared.inputs.ActorIn.TheVariants as input
-use Rattle.lte_events.specs.declared.replies.ActorOut.{ActorOut}
-use Rattle.lte_events.specs.declared.setups.FirstNcc.{FirstNcc}
 use Rattle.lte_events.specs.declared.setups.FirstNcc.TheVariants.{One, Two}
-use Rattle.lte_events.specs.declared.setups.Setup.{Setup}
-use Rattle.lte_events.specs.declared.setups.StationSetup.{StationSetup}
 use Rattle.role_wire.specs.declared.frames.FrameIn.TheVariants.{Setup as SetupFrame, Input}
-use Rattle.role_wire.specs.declared.frames.RoleSetup.{RoleSetup}
+use Rattle.role_wire.specs.{declared.frames.RoleSetup.RoleSetup, Frame.frame_spelling, Reply.reply_spelling}
 use Rattle.role_wire.specs.declared.frames.RoleSetup.TheVariants as first
-use Rattle.role_wire.specs.Frame.{frame_spelling}
-use Rattle.role_wire.specs.Reply.{reply_spelling}
 use Rattle.hub_drive.specs.Acts.{Starting, Sending, Receiving, Act, Calling}
 
 -- a frame goes to a peer, and its reply comes: the length first, and then the rest

@@ -1,8 +1,7 @@
 -- What calls do, peer by peer.
 use Rattle.std.specs.Prelude.{◌≡◌, ℕ, ◌<◌, ◌==◌, if◌then◌else◌, List, [], ◌∷◌, ◌++◌, length}
 use Rattle.edge_io.specs.Peers.{PeersTold, sent_of, to_give_of}
-use Rattle.edge_io.specs.declared.peers.Role.{Role}
-use Rattle.edge_io.specs.declared.peers.PeerCall.{PeerCall}
+use Rattle.edge_io.specs.{declared.peers.Role.Role, declared.peers.PeerCall.PeerCall}
 use Rattle.edge_io.specs.declared.peers.PeerCall.TheVariants.{Start, Send, Receive}
 use Rattle.hub_drive.specs.Acts.{Call, Starting, Sending, Receiving}
 

@@ -1,25 +1,15 @@
 -- What is done to drive a scenario: the peers are started and set up; then for each event, to the first coincidence, its line is
 -- written and the actors' peers are told its inputs; and behind the last event the end of the report is written.
 use Rattle.std.specs.Prelude.{ℕ, suc, List, [], ◌∷◌, ◌++◌}
-use Rattle.lte_events.specs.declared.events.Event.{Event}
-use Rattle.lte_events.specs.declared.inputs.ActorIn.{ActorIn}
-use Rattle.lte_events.specs.declared.replies.ActorOut.{ActorOut}
-use Rattle.lte_events.specs.declared.setups.Setup.{Setup}
-use Rattle.lte_machine.specs.Calls.{line_out}
-use Rattle.lte_machine.specs.Ciphers.{annex_b}
-use Rattle.lte_machine.specs.Machines.{Kept, machine_in_octets}
-use Rattle.lte_machine.specs.Opening.{open_octets}
+use Rattle.lte_events.specs.{declared.events.Event.Event, declared.inputs.ActorIn.ActorIn, declared.replies.ActorOut.ActorOut, declared.setups.Setup.Setup}
+use Rattle.lte_machine.specs.{Calls.line_out, Ciphers.annex_b, Machines.Kept, Machines.machine_in_octets, Opening.open_octets}
 use Rattle.lte_machine.specs.Run.{RunState, Running, Stopped, EventReport, Reported, Coincided, turn, first_world}
 use Rattle.lte_world.specs.Replies.{replies_of}
-use Rattle.report_text.specs.Coincidence.{coincidence_text}
-use Rattle.report_text.specs.Line.{line_text}
-use Rattle.run_report.specs.declared.endings.Ending.{Ending}
+use Rattle.report_text.specs.{Coincidence.coincidence_text, Line.line_text}
+use Rattle.run_report.specs.{declared.endings.Ending.Ending, Events.told_of, Report.end_of}
 use Rattle.run_report.specs.declared.endings.Ending.TheVariants.{Done, Chance}
-use Rattle.run_report.specs.Events.{told_of}
-use Rattle.run_report.specs.Report.{end_of}
 use Rattle.store_laws.specs.Proofs.{proof_of}
-use Rattle.hub_drive.specs.Acts.{Writing}
-use Rattle.hub_drive.specs.Driven.{Plan, then_plan}
+use Rattle.hub_drive.specs.{Acts.Writing, Driven.Plan, Driven.then_plan}
 use Rattle.hub_drive.specs.Exchanges.{roles_of, starts, seeds_of, set_ups, replied}
 
 -- the run with one event more

@@ -1,15 +1,13 @@
 -- How far acts went: all were done, or they were cut at one.
 use Rattle.std.specs.Prelude.{◌≡◌, ◌≢◌, ℕ, Option, List, ◌∷◌, ◌++◌, length, take, Result, Ok, Err, IfSome}
 use Rattle.std.specs.Option.{option_map}
-use Rattle.edge_io.specs.Octets.{GrowsByPrefix, GrowsByProperPrefix}
+use Rattle.edge_io.specs.{Octets.GrowsByPrefix, Octets.GrowsByProperPrefix, declared.peers.PeerCall.TheVariants.Start}
 use Rattle.edge_io.specs.Peers.{PeersTold, SendFailed, ReceiveFailed, failed_at, taken_from, to_give_of}
-use Rattle.edge_io.specs.declared.peers.PeerCall.TheVariants.{Start}
 use Rattle.run_report.specs.declared.unwritten.Unwritten.{Unwritten}
 use Rattle.run_report.specs.declared.unwritten.Unwritten.TheVariants as unwritten
-use Rattle.hub_drive.specs.declared.faults.DriveFault.{DriveFault}
+use Rattle.hub_drive.specs.{declared.faults.DriveFault.DriveFault, Outside.Outside, Outside.AllDone}
 use Rattle.hub_drive.specs.declared.faults.DriveFault.TheVariants.{Memory, PeerFault, Differs, WriteFault}
 use Rattle.hub_drive.specs.Acts.{Wanted, Call, Starting, Sending, Receiving, Act, Writing, Calling}
-use Rattle.hub_drive.specs.Outside.{Outside, AllDone}
 
 -- why a text was not written to its end
 abbrev pub fault_of : Unwritten → DriveFault

@@ -4,14 +4,10 @@ use Rattle.std.specs.List.{slice_get}
 use Rattle.std.proofs.lemmas.List.Elements.{All-get_or, All-map, All-weaker}
 use Rattle.std.proofs.lemmas.Option.{slice_get_cases}
 use Rattle.items.specs.Items.{IsDeedOf, IsItemOf, most_at_once}
-use Rattle.item_faults.specs.declared.entries.Again.{Again}
+use Rattle.item_faults.specs.{declared.entries.Again.Again, declared.entries.Entry.Entry, declared.messages.Message.Message, declared.steps.Does.Does, declared.steps.Step.Step}
 use Rattle.item_faults.specs.declared.entries.Again.TheVariants as again
-use Rattle.item_faults.specs.declared.entries.Entry.{Entry}
-use Rattle.item_faults.specs.declared.messages.Message.{Message}
 use Rattle.item_faults.specs.declared.messages.Message.TheVariants as message
-use Rattle.item_faults.specs.declared.steps.Does.{Does}
 use Rattle.item_faults.specs.declared.steps.Does.TheVariants as does
-use Rattle.item_faults.specs.declared.steps.Step.{Step}
 use Rattle.item_faults.specs.AtOnce.{is_delivered, is_sender, item_of, items_of}
 use Rattle.item_faults.specs.Laws.{AreEntries, IsAgainOf, IsEntryOf, IsStationOf, IsStep}
 use Rattle.item_faults.specs.Steps.{again_by, again_of, anew, anew_at, answer_anew, answer_at, answer_to, answered, by_ask, by_command, deed_of, entries_of, entry_of, source_of, step_of}

@@ -1,19 +1,14 @@
 -- What faults keep of the items, and how many they leave.
 use Rattle.std.proofs.Common.{◌≡◌, ℕ, ◌+◌, ◌*◌, ◌-◌, ◌<◌, ◌≤◌, nat_lt, Bool, true, false, not, List, [], ◌∷◌, ◌++◌, length, take, drop, position, All, Option, Some, None, Result, Ok, Err, IfOk, IfSome, if◌then◌else◌, ap, sym, subst, ◌∙◌, arith, length-append}
-use Rattle.std.specs.List.{slice_range}
-use Rattle.std.specs.Option.{option_map, option_and_then}
+use Rattle.std.specs.{List.slice_range, Option.option_map, Option.option_and_then}
 use Rattle.std.proofs.lemmas.List.{take-append-drop}
 use Rattle.std.proofs.lemmas.List.Elements.{All-nil, All-cons, All-head, All-tail, All-append, All-push, All-take, All-drop}
-use Rattle.item_faults.specs.declared.changes.Fault.{Fault}
-use Rattle.item_faults.specs.declared.changes.Kind.{Kind}
+use Rattle.item_faults.specs.{declared.changes.Fault.Fault, declared.changes.Kind.Kind, declared.entries.Again.Again, declared.entries.Entry.Entry, Entries.most_steps}
 use Rattle.item_faults.specs.declared.changes.Kind.TheVariants as kind
-use Rattle.item_faults.specs.declared.entries.Again.{Again}
 use Rattle.item_faults.specs.declared.entries.Again.TheVariants as again
-use Rattle.item_faults.specs.declared.entries.Entry.{Entry}
 use Rattle.item_faults.specs.Entries.{act_of, delivery_of, own, has, is_named, kept_from, moves, movers, movers_from, with_if}
 use Rattle.item_faults.specs.Changes.{changed, copy_of, edited, if_not, lost, ordered, in_order, put, put_all, put_at, repeated, sent_again, sent_by, twice, variant}
 use Rattle.item_faults.specs.Laws.{AreEntries, CanRun, IsAgainOf, IsEntryOf, at_most, most_items}
-use Rattle.item_faults.specs.Entries.{most_steps}
 
 -- A LIST THAT GROWS
 

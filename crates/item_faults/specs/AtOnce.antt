@@ -2,10 +2,8 @@
 use Rattle.std.specs.Prelude.{ℕ, ◌==◌, ◌||◌, Bool, false, List, map, if◌then◌else◌}
 use Rattle.std.specs.List.{list_any}
 use Rattle.item_faults.specs.declared.entries.Entry.{Entry}
-use Rattle.items.specs.declared.Deed.{Deed}
+use Rattle.items.specs.{declared.Deed.Deed, declared.Item.Item, Items.most_at_once}
 use Rattle.items.specs.declared.Deed.TheVariants as deed
-use Rattle.items.specs.declared.Item.{Item}
-use Rattle.items.specs.Items.{most_at_once}
 
 abbrev pub is_of : ℕ → Deed → Bool
 is_of name (deed.Act place) = false

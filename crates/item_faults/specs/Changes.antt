@@ -1,13 +1,9 @@
 -- A fault as a change of the order of items.
 use Rattle.std.specs.Prelude.{ℕ, ◌+◌, nat_lt, Bool, true, false, not, ◌&&◌, List, [], ◌∷◌, ◌++◌, take, drop, Option, Some, None, if◌then◌else◌, position}
-use Rattle.std.specs.List.{slice_range}
-use Rattle.std.specs.Option.{option_map, option_and_then}
-use Rattle.item_faults.specs.declared.changes.Fault.{Fault}
-use Rattle.item_faults.specs.declared.changes.Kind.{Kind}
+use Rattle.std.specs.{List.slice_range, Option.option_map, Option.option_and_then}
+use Rattle.item_faults.specs.{declared.changes.Fault.Fault, declared.changes.Kind.Kind, declared.entries.Again.Again, declared.entries.Entry.Entry}
 use Rattle.item_faults.specs.declared.changes.Kind.TheVariants as kind
-use Rattle.item_faults.specs.declared.entries.Again.{Again}
 use Rattle.item_faults.specs.declared.entries.Again.TheVariants as again
-use Rattle.item_faults.specs.declared.entries.Entry.{Entry}
 use Rattle.items.specs.declared.Deed.{Deed}
 use Rattle.items.specs.declared.Deed.TheVariants as deed
 use Rattle.item_faults.specs.Entries.{act_of, delivery_of, has, is_named, kept_from, movers, own}

@@ -1,11 +1,8 @@
 -- All faults of a scenario, and all choices of two and three of them.
 use Rattle.std.specs.Prelude.{ℕ, Bool, true, false, List, [], ◌∷◌, ◌++◌, map}
 use Rattle.std.specs.Option.{is_some}
-use Rattle.item_faults.specs.declared.changes.Fault.{Fault}
-use Rattle.item_faults.specs.declared.changes.Kind.{Kind}
+use Rattle.item_faults.specs.{declared.changes.Fault.Fault, declared.changes.Kind.Kind, declared.entries.Entry.Entry, Changes.put}
 use Rattle.item_faults.specs.declared.changes.Kind.TheVariants as kind
-use Rattle.item_faults.specs.declared.entries.Entry.{Entry}
-use Rattle.item_faults.specs.Changes.{put}
 
 -- a fault that the scenario can have
 abbrev pub is_fault : List Entry → Fault → Bool

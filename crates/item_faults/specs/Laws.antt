@@ -1,10 +1,7 @@
 -- What holds of the items of each variant.
 use Rattle.std.specs.Prelude.{ℕ, ◌+◌, ◌*◌, ◌<◌, ◌≤◌, List, [], ◌∷◌, length, All, Option, Some, None}
-use Rattle.item_faults.specs.declared.changes.Fault.{Fault}
-use Rattle.item_faults.specs.declared.entries.Again.{Again}
+use Rattle.item_faults.specs.{declared.changes.Fault.Fault, declared.entries.Again.Again, declared.entries.Entry.Entry, declared.steps.Step.Step}
 use Rattle.item_faults.specs.declared.entries.Again.TheVariants as again
-use Rattle.item_faults.specs.declared.entries.Entry.{Entry}
-use Rattle.item_faults.specs.declared.steps.Step.{Step}
 use Rattle.items.specs.Items.{IsDeedOf}
 
 abbrev pub IsAgainOf : ℕ → Again → Type 0

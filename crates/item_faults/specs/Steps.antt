@@ -1,16 +1,12 @@
 -- The items of a scenario, by its steps and what its run tells of them.
 use Rattle.std.specs.Prelude.{ℕ, ◌+◌, ◌*◌, ◌==◌, ◌&&◌, Bool, true, false, List, [], ◌∷◌, ◌++◌, map, slice_get, Option, Some, None, if◌then◌else◌}
 use Rattle.std.specs.Option.{is_some}
-use Rattle.item_faults.specs.declared.entries.Again.{Again}
+use Rattle.item_faults.specs.{declared.entries.Again.Again, declared.entries.Entry.Entry, declared.messages.Message.Message, declared.steps.Does.Does, declared.steps.Step.Step}
 use Rattle.item_faults.specs.declared.entries.Again.TheVariants as again
-use Rattle.item_faults.specs.declared.entries.Entry.{Entry}
 use Rattle.items.specs.declared.Deed.{Deed}
 use Rattle.items.specs.declared.Deed.TheVariants as deed
-use Rattle.item_faults.specs.declared.messages.Message.{Message}
 use Rattle.item_faults.specs.declared.messages.Message.TheVariants as message
-use Rattle.item_faults.specs.declared.steps.Does.{Does}
 use Rattle.item_faults.specs.declared.steps.Does.TheVariants as does
-use Rattle.item_faults.specs.declared.steps.Step.{Step}
 
 -- the step that sent what this one delivers
 abbrev pub source_of : Does → Option ℕ

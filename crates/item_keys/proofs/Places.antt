@@ -1,14 +1,8 @@
 -- What stands at places of lists, and that some place has a key that no station told before.
 use Rattle.std.proofs.Common.{◌≡◌, refl, sym, ap, ◌∙◌, ℕ, zero, suc, ◌<◌, arith, Bool, true, false, List, [], ◌∷◌, ◌++◌, length, map, take, Some}
-use Rattle.std.specs.Prelude.{◌||◌, slice_get}
-use Rattle.std.specs.List.{list_any}
-use Rattle.std.specs.Option.{option_map}
-use Rattle.std.proofs.Math.Bool.{or-true}
-use Rattle.std.proofs.lemmas.Bool.{ltb-true}
-use Rattle.std.proofs.lemmas.List.{append-nil, append_assoc}
-use Rattle.std.proofs.lemmas.Option.{slice_get-map}
-use Rattle.item_lines.specs.Lines.{phone_note}
-use Rattle.item_lines.specs.declared.lines.Told.{Told}
+use Rattle.std.specs.{Prelude.◌||◌, Prelude.slice_get, List.list_any, Option.option_map}
+use Rattle.std.proofs.{Math.Bool.or-true, lemmas.Bool.ltb-true, lemmas.List.append-nil, lemmas.List.append_assoc, lemmas.Option.slice_get-map}
+use Rattle.item_lines.specs.{Lines.phone_note, declared.lines.Told.Told}
 use Rattle.item_outcomes.specs.Keys.{with_if, is_untold_key, untold_from, untold, keys_differ}
 
 -- MAPPED LISTS

@@ -1,32 +1,19 @@
 -- A key of the phone that no station told before was made eight or more steps ahead.
 use Rattle.std.proofs.Common.{◌≡◌, refl, sym, ap, ◌∙◌, ℕ, ◌<◌, ◌≤◌, arith, Bool, true, false, not, List, map, take, Option, Some, None, Result, Ok, inl, inr}
-use Rattle.std.specs.Prelude.{◌⊎◌, slice_get}
-use Rattle.std.specs.List.{list_any}
-use Rattle.std.specs.Option.{option_map}
-use Rattle.std.proofs.lemmas.Bool.{cases_order}
-use Rattle.std.proofs.lemmas.Slice.Eq.{bytes_eq-Decides}
-use Rattle.key_model.specs.Term.{Term}
-use Rattle.key_model.specs.Value.{value_of}
-use Rattle.lte_events.specs.declared.events.Event.{Event}
+use Rattle.std.specs.{Prelude.◌⊎◌, Prelude.slice_get, List.list_any, Option.option_map}
+use Rattle.std.proofs.{lemmas.Bool.cases_order, lemmas.Slice.Eq.bytes_eq-Decides}
+use Rattle.key_model.specs.{Term.Term, Value.value_of}
+use Rattle.lte_events.specs.{declared.events.Event.Event, declared.lines.Who.Who, declared.replies.KeyNote.KeyNote, declared.setups.Setup.Setup}
 use Rattle.lte_events.specs.declared.lines.Line as lines
-use Rattle.lte_events.specs.declared.lines.Who.{Who}
-use Rattle.lte_events.specs.declared.replies.KeyNote.{KeyNote}
-use Rattle.lte_events.specs.declared.setups.Setup.{Setup}
-use Rattle.lte_machine.specs.BothRuns.{written_report}
-use Rattle.lte_machine.specs.ByEvent.{IsStep, Told as StepTold}
-use Rattle.lte_machine.specs.Calls.{note_out, line_out}
-use Rattle.lte_machine.specs.Carried.{map_line, report_value}
+use Rattle.lte_machine.specs.{BothRuns.written_report, ByEvent.IsStep, ByEvent.Told as StepTold, Calls.note_out, Calls.line_out, Carried.map_line, Carried.report_value, Wire.Outgoing, World.World, World.Line}
 use Rattle.lte_machine.specs.Reply.{Note, map_note, Took}
 use Rattle.lte_machine.specs.Run.{EventReport, Reported, Coincided}
-use Rattle.lte_machine.specs.Wire.{Outgoing}
-use Rattle.lte_machine.specs.World.{World, Line}
 use Rattle.lte_machine.proofs.EventByEvent.{step_told, told_step}
 use Rattle.lte_properties.specs.Agreement.{ahead, Reported as PhoneReported, TookIsTold}
 use Rattle.lte_properties.specs.BySteps.{TakesAt, TellOneKey, Follows}
 use Rattle.lte_properties.specs.Headline.{Headline}
 use Rattle.lte_properties.proofs.StepByStep.{makes_tell}
-use Rattle.lte_world.specs.Whole.{answer_of}
-use Rattle.lte_world.specs.declared.faults.WorldFault.{WorldFault}
+use Rattle.lte_world.specs.{Whole.answer_of, declared.faults.WorldFault.WorldFault}
 use Rattle.item_lines.specs.Lines.{is_key, note_at_phone, note_at_station, phone_note, station_note}
 use Rattle.item_lines.specs.declared.lines.Told.{Told}
 use Rattle.item_outcomes.specs.Keys.{is_untold_key}

@@ -1,15 +1,10 @@
 -- Where the phone came by a key that no station told before, against the headline.
 use Rattle.std.specs.Prelude.{◌≡◌, ℕ, ◌≤◌, true, List, take, slice_get, Some}
-use Rattle.key_model.specs.Term.{Term}
-use Rattle.key_model.specs.Value.{value_of}
-use Rattle.lte_events.specs.declared.events.Event.{Event}
-use Rattle.lte_events.specs.declared.setups.Setup.{Setup}
-use Rattle.lte_machine.specs.Reply.{Took}
-use Rattle.lte_machine.specs.World.{Line}
-use Rattle.lte_properties.specs.Agreement.{ahead}
-use Rattle.lte_properties.specs.BySteps.{TakesAt, Follows}
-use Rattle.item_lines.specs.Lines.{is_key, phone_note}
-use Rattle.item_lines.specs.declared.lines.Told.{Told}
+use Rattle.key_model.specs.{Term.Term, Value.value_of}
+use Rattle.lte_events.specs.{declared.events.Event.Event, declared.setups.Setup.Setup}
+use Rattle.lte_machine.specs.{Reply.Took, World.Line}
+use Rattle.lte_properties.specs.{Agreement.ahead, BySteps.TakesAt, BySteps.Follows}
+use Rattle.item_lines.specs.{Lines.is_key, Lines.phone_note, declared.lines.Told.Told}
 use Rattle.item_outcomes.specs.Keys.{is_untold_key, keys_differ}
 use Rattle.item_runs.specs.Course.{Seen}
 

@@ -1,14 +1,11 @@
 -- What is read from lines by the names of their items.
 use Rattle.std.specs.Prelude.{ℕ, ◌==◌, Bool, true, false, List, find, Option, Some, None}
-use Rattle.std.specs.Option.{option_map}
-use Rattle.std.specs.Str.{bytes_eq}
+use Rattle.std.specs.{Option.option_map, Str.bytes_eq}
 use Rattle.rec_base.specs.declared.ways.Way.{Way}
 use Rattle.rec_base.specs.declared.ways.Way.TheVariants.{Horizontal, Vertical}
-use Rattle.lte_events.specs.declared.answers.Answer.{Answer}
+use Rattle.lte_events.specs.{declared.answers.Answer.Answer, declared.lines.Who.Who, declared.replies.KeyNote.KeyNote}
 use Rattle.lte_events.specs.declared.answers.Answer.TheVariants.{Done, NoUe}
-use Rattle.lte_events.specs.declared.lines.Who.{Who}
 use Rattle.lte_events.specs.declared.lines.Who.TheVariants as who
-use Rattle.lte_events.specs.declared.replies.KeyNote.{KeyNote}
 use Rattle.item_lines.specs.declared.lines.Told.{Told}
 
 -- the first line of the item of this name

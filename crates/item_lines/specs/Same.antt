@@ -3,11 +3,8 @@ use Rattle.std.specs.Prelude.{ℕ, ◌==◌, ◌&&◌, Bool, true, false, List, 
 use Rattle.std.specs.Str.{bytes_eq}
 use Rattle.rec_base.specs.declared.ways.Way.{Way}
 use Rattle.rec_base.specs.declared.ways.Way.TheVariants as way
-use Rattle.lte_events.specs.Answer.{number_of}
-use Rattle.lte_events.specs.declared.lines.Line.{Line}
-use Rattle.lte_events.specs.declared.lines.Who.{Who}
+use Rattle.lte_events.specs.{Answer.number_of, declared.lines.Line.Line, declared.lines.Who.Who, declared.replies.KeyNote.KeyNote}
 use Rattle.lte_events.specs.declared.lines.Who.TheVariants as who
-use Rattle.lte_events.specs.declared.replies.KeyNote.{KeyNote}
 use Rattle.item_lines.specs.declared.lines.Told.{Told}
 
 abbrev pub same_who : Who → Who → Bool

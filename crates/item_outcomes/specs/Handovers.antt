@@ -3,9 +3,7 @@ use Rattle.std.specs.Prelude.{ℕ, ◌==◌, ◌&&◌, Bool, true, false, not, L
 use Rattle.std.specs.List.{list_any}
 use Rattle.item_lines.specs.declared.lines.Told.{Told}
 use Rattle.item_lines.specs.Lines.{line_of, is_done, is_no_ue, answers}
-use Rattle.item_outcomes.specs.Packets.{fates, passes}
-use Rattle.item_outcomes.specs.Probe.{down, handover}
-use Rattle.item_outcomes.specs.Standing.{Standing}
+use Rattle.item_outcomes.specs.{Packets.fates, Packets.passes, Probe.down, Probe.handover, Standing.Standing}
 
 -- CONTEXT LEFT: a station other than the serving one answers the probe's packet down otherwise than NoUe, and in the scenario NoUe
 abbrev pub has_no_ue : List Told → ℕ → Bool

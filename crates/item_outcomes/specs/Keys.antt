@@ -4,8 +4,7 @@ use Rattle.std.specs.List.{list_any}
 use Rattle.lte_events.specs.declared.replies.KeyNote.{KeyNote}
 use Rattle.item_lines.specs.declared.lines.Told.{Told}
 use Rattle.item_lines.specs.Lines.{is_key, line_of, phone_note, station_note, note_in, is_vertical, is_horizontal}
-use Rattle.item_outcomes.specs.Probe.{probe}
-use Rattle.item_outcomes.specs.Standing.{Standing}
+use Rattle.item_outcomes.specs.{Probe.probe, Standing.Standing}
 
 abbrev pub is_told : Option KeyNote → Bool
 is_told None = false

@@ -3,9 +3,7 @@ use Rattle.std.specs.Prelude.{ℕ, ◌==◌, Bool, true, false, if◌then◌else
 use Rattle.item_outcomes.specs.Handovers.{context_left, misrouted, no_handover}
 use Rattle.item_outcomes.specs.Keys.{keys_differ, not_made, weaker_key}
 use Rattle.item_outcomes.specs.Packets.{better, counts_apart, cut_off, fates, nas_apart, packet_lost, stuck}
-use Rattle.item_outcomes.specs.Same.{same}
-use Rattle.item_outcomes.specs.Standing.{Standing}
-use Rattle.item_outcomes.specs.declared.judging.Outcome.{Outcome}
+use Rattle.item_outcomes.specs.{Same.same, Standing.Standing, declared.judging.Outcome.Outcome}
 use Rattle.item_outcomes.specs.declared.judging.Outcome.TheVariants as outcome
 
 -- whether an outcome is told of a variant, with the names of its fault's own items, beside the scenario

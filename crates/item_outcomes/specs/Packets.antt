@@ -5,10 +5,8 @@ use Rattle.lte_events.specs.declared.lines.Line.{Line}
 use Rattle.item_lines.specs.declared.lines.Told.{Told}
 use Rattle.item_lines.specs.Lines.{line_of, is_done, is_text, opened_in}
 use Rattle.item_outcomes.specs.Probe.{probe, up_arrives, down_arrives, nas_up_arrives, nas_down_arrives, again_arrives, text_up, text_down, text_nas_up, text_nas_down, text_again}
-use Rattle.item_outcomes.specs.Standing.{Standing}
-use Rattle.item_outcomes.specs.declared.packets.Fate.{Fate}
+use Rattle.item_outcomes.specs.{Standing.Standing, declared.packets.Fate.Fate, declared.packets.Fates.Fates}
 use Rattle.item_outcomes.specs.declared.packets.Fate.TheVariants.{Fails, Garbled, Arrives}
-use Rattle.item_outcomes.specs.declared.packets.Fates.{Fates}
 
 -- what becomes of a text by the line of the item that is to bring it, and where there is no such line
 abbrev pub fate_in : List ℕ → Line → Fate

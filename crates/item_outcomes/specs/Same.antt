@@ -1,9 +1,7 @@
 -- Whether all goes on as in the scenario.
 use Rattle.std.specs.Prelude.{ℕ, ◌==◌, ◌&&◌, ◌||◌, Bool, not, List, length}
 use Rattle.std.specs.List.{filter, list_all}
-use Rattle.item_lines.specs.Lines.{line_of}
-use Rattle.item_lines.specs.Same.{same_told}
-use Rattle.item_lines.specs.declared.lines.Told.{Told}
+use Rattle.item_lines.specs.{Lines.line_of, Same.same_told, declared.lines.Told.Told}
 use Rattle.item_outcomes.specs.Packets.{is_own}
 
 -- SAME: each item has the same line here as in the scenario, but those of the fault itself, and there are as many lines

@@ -3,13 +3,10 @@ use Rattle.std.proofs.Common.{◌≡◌, ℕ, zero, suc, ◌+◌, ◌-◌, ◌*�
 use Rattle.std.specs.List.{flat_map}
 use Rattle.std.proofs.lemmas.List.Elements.{All-nil, All-cons, All-head, All-tail, All-append}
 use Rattle.annex_a_keys.specs.Cell.{Place}
-use Rattle.lte_events.specs.Ranges.{IsSetup, IsStation}
-use Rattle.lte_events.specs.declared.setups.Setup.{Setup}
-use Rattle.lte_events.specs.declared.setups.StationSetup.{StationSetup}
+use Rattle.lte_events.specs.{Ranges.IsSetup, Ranges.IsStation, declared.setups.Setup.Setup, declared.setups.StationSetup.StationSetup}
 use Rattle.items.specs.Items.{IsDeedOf, IsItemOf, most_at_once}
-use Rattle.items.specs.declared.Deed.{Deed}
+use Rattle.items.specs.{declared.Deed.Deed, declared.Item.Item}
 use Rattle.items.specs.declared.Deed.TheVariants as deed
-use Rattle.items.specs.declared.Item.{Item}
 use Rattle.item_faults.specs.Steps.{cancel, command, service}
 use Rattle.item_outcomes.specs.Probe as probe
 use Rattle.item_probe.specs.Acts.{other_cell}

@@ -2,20 +2,14 @@
 use Rattle.std.proofs.Common.{◌≡◌, ℕ, Bool, true, false, not, List, [], ◌∷◌, ◌++◌, All, Option, Some, None, IfSome, if◌then◌else◌, Result, Ok, Err, IfOk, length, ◌+◌, refl, sym, subst, arith, length-append, ◌==◌, ltb}
 use Rattle.std.specs.List.{find, flat_map, list_all}
 use Rattle.std.specs.Option.{option_map}
-use Rattle.std.proofs.lemmas.Bool.{ltb-true}
+use Rattle.std.proofs.{lemmas.Bool.ltb-true, lemmas.List.Sums.AllPass-from_list_all}
 use Rattle.std.proofs.lemmas.List.Elements.{All-nil, All-cons, All-head, All-tail, All-append}
-use Rattle.std.proofs.lemmas.List.Sums.{AllPass-from_list_all}
 use Rattle.annex_a_keys.specs.Cell.{IsCell, Place}
 use Rattle.rec_base.specs.Ranges.{AreOctets}
 use Rattle.lte_events.specs.Ranges.{has_station, IsSetup, IsSiteOf, IsStationAct, StationDoes}
-use Rattle.lte_events.specs.Scenario.{CanHappen}
-use Rattle.lte_events.specs.Site.{Site}
+use Rattle.lte_events.specs.{Scenario.CanHappen, Site.Site, declared.acts.StationAct.StationAct, declared.events.Event.Event, declared.setups.Setup.Setup, declared.setups.StationSetup.StationSetup}
 use Rattle.lte_events.specs.declared.acts.PhoneAct.TheVariants as phone
-use Rattle.lte_events.specs.declared.acts.StationAct.{StationAct}
-use Rattle.lte_events.specs.declared.events.Event.{Event}
 use Rattle.lte_events.specs.declared.events.Event.TheVariants as event
-use Rattle.lte_events.specs.declared.setups.Setup.{Setup}
-use Rattle.lte_events.specs.declared.setups.StationSetup.{StationSetup}
 use Rattle.item_outcomes.specs.Probe.{text_up, text_down, text_nas_up, text_nas_down, text_again}
 use Rattle.item_probe.specs.Places.{more_acts}
 use Rattle.item_probe.specs.Acts.{acts_of, all_stations, at_station, behind, begins, connects, nothing, other_cell, own_cell, packets, phone_repeats, station_repeats, station_tries, texts, tries}

@@ -1,12 +1,10 @@
 -- What stands at each place of the acts.
 use Rattle.std.proofs.Common.{◌≡◌, ℕ, zero, suc, ◌+◌, ◌*◌, ◌<◌, List, ◌++◌, length, Some, refl, ap, sym, ◌∙◌, arith, length-append}
 use Rattle.std.specs.List.{slice_get}
-use Rattle.std.proofs.lemmas.List.{get_or-append-add}
-use Rattle.std.proofs.lemmas.Option.{slice_get-get_or, slice_get_within}
+use Rattle.std.proofs.{lemmas.List.get_or-append-add, lemmas.Option.slice_get-get_or, lemmas.Option.slice_get_within}
 use Rattle.rec_base.specs.declared.bearers.Bearer.TheVariants.{Drb1}
 use Rattle.lte_events.specs.declared.acts.StationAct.TheVariants as station
-use Rattle.lte_events.specs.declared.events.Event.{Event}
-use Rattle.lte_events.specs.declared.setups.Setup.{Setup}
+use Rattle.lte_events.specs.{declared.events.Event.Event, declared.setups.Setup.Setup}
 use Rattle.item_outcomes.specs.Probe.{text_down}
 use Rattle.item_probe.specs.Acts.{AreInPlace, OfStation, StandsAt, acts_of, at_station, begins, behind, connects, other_cell, own_cell}
 

@@ -1,20 +1,15 @@
 -- The acts that variants of a scenario run over: its own events, behind them those by which messages are sent again, and behind these
 -- those of the probe. Which station serves is known only as the probe goes on, so those of a station are there for each of eight.
 use Rattle.std.specs.Prelude.{◌≡◌, ℕ, ◌<◌, ◌==◌, not, if◌then◌else◌, List, [], ◌∷◌, ◌++◌, find, slice_get, Option, Some, None}
-use Rattle.std.specs.List.{flat_map}
-use Rattle.std.specs.Option.{option_map}
+use Rattle.std.specs.{List.flat_map, Option.option_map}
 use Rattle.annex_a_keys.specs.Cell.{Place}
 use Rattle.rec_base.specs.declared.bearers.Bearer.TheVariants.{Drb1}
-use Rattle.lte_events.specs.Ranges.{has_station}
-use Rattle.lte_events.specs.Site.{Site}
+use Rattle.lte_events.specs.{Ranges.has_station, Site.Site, declared.acts.StationAct.StationAct, declared.events.Event.Event, declared.setups.Setup.Setup}
 use Rattle.lte_events.specs.declared.acts.CoreAct.TheVariants as core
 use Rattle.lte_events.specs.declared.acts.HoKind.TheVariants.{X2, Intra}
 use Rattle.lte_events.specs.declared.acts.PhoneAct.TheVariants as phone
-use Rattle.lte_events.specs.declared.acts.StationAct.{StationAct}
 use Rattle.lte_events.specs.declared.acts.StationAct.TheVariants as station
-use Rattle.lte_events.specs.declared.events.Event.{Event}
 use Rattle.lte_events.specs.declared.events.Event.TheVariants as event
-use Rattle.lte_events.specs.declared.setups.Setup.{Setup}
 use Rattle.item_faults.specs.Steps.{ask, cancel, command, resend, service}
 use Rattle.item_outcomes.specs.Probe.{text_up, text_down, text_nas_up, text_nas_down, text_again}
 use Rattle.item_probe.specs.Places.{begins_at, connects_at, go_idle, send_again, send_down, send_nas_down, send_nas_up, send_up}

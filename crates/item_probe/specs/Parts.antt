@@ -2,12 +2,9 @@
 use Rattle.std.specs.Prelude.{ℕ, zero, suc, ◌+◌, List, [], ◌∷◌, ◌++◌, Option, Some, None}
 use Rattle.std.specs.List.{flat_map}
 use Rattle.annex_a_keys.specs.Cell.{Place}
-use Rattle.lte_events.specs.declared.setups.Setup.{Setup}
-use Rattle.lte_events.specs.declared.setups.StationSetup.{StationSetup}
-use Rattle.items.specs.Items.{most_at_once}
-use Rattle.items.specs.declared.Deed.{Deed}
+use Rattle.lte_events.specs.{declared.setups.Setup.Setup, declared.setups.StationSetup.StationSetup}
+use Rattle.items.specs.{Items.most_at_once, declared.Deed.Deed, declared.Item.Item}
 use Rattle.items.specs.declared.Deed.TheVariants as deed
-use Rattle.items.specs.declared.Item.{Item}
 use Rattle.item_faults.specs.Steps.{cancel, command, service}
 use Rattle.item_outcomes.specs.Probe as probe
 use Rattle.item_probe.specs.Acts.{other_cell}

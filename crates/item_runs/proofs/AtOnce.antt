@@ -1,7 +1,6 @@
 -- An event of an item, and what is delivered at once.
 use Rattle.std.proofs.Common.{◌≡◌, refl, sym, ap, ◌∙◌, arith, ℕ, zero, suc, ◌+◌, ◌≤◌, List, [], ◌∷◌, ◌++◌, length, length-append, pos, Option, Some, None, Result, Ok, Err, OnOk}
-use Rattle.lte_events.specs.declared.events.Event.{Event}
-use Rattle.lte_events.specs.declared.lines.Line.{Line}
+use Rattle.lte_events.specs.{declared.events.Event.Event, declared.lines.Line.Line}
 use Rattle.lte_world.specs.declared.faults.WorldFault.{WorldFault}
 use Rattle.lte_world.specs.declared.faults.WorldFault.TheVariants as fault
 use Rattle.item_runs.specs.Coming.{Coming, after_told, and_then, happening, kept, number_told}

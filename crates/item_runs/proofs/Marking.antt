@@ -1,7 +1,6 @@
 -- A loop over the rows of a ladder.
 use Rattle.std.proofs.Common.{◌≡◌, sym, ap, ◌∙◌, ℕ, ◌+◌, Bool, List, [], ◌∷◌, ◌++◌, drop, slice_get, Some}
-use Rattle.std.proofs.lemmas.List.{drop_more}
-use Rattle.std.proofs.lemmas.Option.{get_or_from_slice_get, slice_get_within}
+use Rattle.std.proofs.{lemmas.List.drop_more, lemmas.Option.get_or_from_slice_get, lemmas.Option.slice_get_within}
 use Rattle.key_terms.specs.declared.row.LadderRow.{LadderRow}
 use Rattle.item_runs.specs.Reach.{is_derived, marks_from}
 

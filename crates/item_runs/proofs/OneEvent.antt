@@ -1,9 +1,7 @@
 -- What a system tells of one event more is what the written machine's run tells.
 use Rattle.std.proofs.Common.{◌≡◌, sym, ap, subst, ◌∙◌, true, Result, Ok, Err, OnOk}
 use Rattle.std.specs.List.{AllByRecursion as AllOf}
-use Rattle.lte_events.specs.Ranges.{IsEvent, IsSetup}
-use Rattle.lte_events.specs.declared.events.Event.{Event}
-use Rattle.lte_events.specs.declared.lines.Line.{Line}
+use Rattle.lte_events.specs.{Ranges.IsEvent, Ranges.IsSetup, declared.events.Event.Event, declared.lines.Line.Line}
 use Rattle.lte_machine.specs.Run.{GoesOn}
 use Rattle.lte_world.specs.Whole.{Whole, run_of, told_of, turned}
 use Rattle.lte_world.specs.declared.faults.WorldFault.{WorldFault}

@@ -1,18 +1,11 @@
 -- A run of items with one event more, and what holds of every run of items.
 use Rattle.std.proofs.Common.{◌≡◌, refl, sym, ap, subst, ◌∙◌, arith, ℕ, ◌+◌, ◌≤◌, ◌<◌, List, [], ◌∷◌, ◌++◌, length, length-append, map, Option, Some, None, Result, Ok, Err, OnOk}
-use Rattle.std.proofs.lemmas.List.{map-append}
-use Rattle.std.proofs.lemmas.List.Elements.{All-push}
-use Rattle.lte_events.specs.Ranges.{IsEvent, IsSetup}
+use Rattle.std.proofs.{lemmas.List.map-append, lemmas.List.Elements.All-push}
+use Rattle.lte_events.specs.{Ranges.IsEvent, Ranges.IsSetup, declared.events.Event.Event, declared.lines.Line.Line, declared.setups.Setup.Setup}
 use Rattle.lte_events.specs.Scenario.{most_events, CanHappen, IsScenario}
-use Rattle.lte_events.specs.declared.events.Event.{Event}
-use Rattle.lte_events.specs.declared.lines.Line.{Line}
-use Rattle.lte_events.specs.declared.setups.Setup.{Setup}
 use Rattle.lte_events.proofs.InRange.{in_range}
 use Rattle.lte_machine.specs.BothRuns.{annex_b_terms, written_run, written_report}
-use Rattle.lte_machine.specs.Carried.{report_value}
-use Rattle.lte_machine.specs.Ciphers.{annex_b}
-use Rattle.lte_machine.specs.Machines.{written_machine}
-use Rattle.lte_machine.specs.Opening.{open_octets}
+use Rattle.lte_machine.specs.{Carried.report_value, Ciphers.annex_b, Machines.written_machine, Opening.open_octets}
 use Rattle.lte_machine.specs.Run.{Running, event_report, first_world}
 use Rattle.lte_machine.proofs.EventByEvent.{tale_snoc}
 use Rattle.lte_properties.proofs.HeadlineHolds.{headline}

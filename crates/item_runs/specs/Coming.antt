@@ -2,14 +2,12 @@
 use Rattle.std.specs.Prelude.{ℕ, zero, suc, ◌==◌, pos, List, [], ◌∷◌, ◌++◌, find, slice_get, Option, Some, None, Result, Ok, Err}
 use Rattle.std.specs.Option.{option_map}
 use Rattle.key_terms.specs.declared.proof.Proof.{Proof}
-use Rattle.lte_events.specs.declared.events.Event.{Event}
-use Rattle.lte_events.specs.declared.lines.Line.{Line}
+use Rattle.lte_events.specs.{declared.events.Event.Event, declared.lines.Line.Line}
 use Rattle.lte_world.specs.declared.faults.WorldFault.{WorldFault}
 use Rattle.lte_world.specs.declared.faults.WorldFault.TheVariants as fault
 use Rattle.item_lines.specs.declared.lines.Told.{Told}
-use Rattle.items.specs.declared.Deed.{Deed}
+use Rattle.items.specs.{declared.Deed.Deed, declared.Item.Item}
 use Rattle.items.specs.declared.Deed.TheVariants as deed
-use Rattle.items.specs.declared.Item.{Item}
 use Rattle.item_runs.specs.declared.sent.Sent.{Sent}
 
 -- what items have come to

@@ -1,8 +1,7 @@
 -- At which station the core has the phone.
 use Rattle.std.specs.Prelude.{ℕ, List, Option, Some, None}
 use Rattle.key_terms.specs.declared.proof.Proof.{Proof}
-use Rattle.lte_machine.specs.BothRuns.{octet_run}
-use Rattle.lte_machine.specs.Machines.{Kept}
+use Rattle.lte_machine.specs.{BothRuns.octet_run, Machines.Kept}
 use Rattle.lte_machine.specs.Run.{RunState, Running, Stopped}
 use Rattle.lte_world.specs.Whole.{core_station_in}
 use Rattle.item_runs.specs.Course.{Seen}

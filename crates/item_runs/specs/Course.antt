@@ -1,19 +1,11 @@
 -- A run of items: what they come to in the run of the written machine.
 use Rattle.std.specs.Prelude.{◌≡◌, List, map, Option, Result, Ok}
 use Rattle.key_terms.specs.declared.proof.Proof.{Proof}
-use Rattle.lte_events.specs.Scenario.{IsScenario}
-use Rattle.lte_events.specs.declared.events.Event.{Event}
-use Rattle.lte_events.specs.declared.lines.Line.{Line}
-use Rattle.lte_events.specs.declared.setups.Setup.{Setup}
+use Rattle.lte_events.specs.{Scenario.IsScenario, declared.events.Event.Event, declared.lines.Line.Line, declared.setups.Setup.Setup}
 use Rattle.lte_machine.specs.BothRuns.{annex_b_terms, written_run, written_report}
-use Rattle.lte_machine.specs.Carried.{report_value}
-use Rattle.lte_machine.specs.Ciphers.{annex_b}
-use Rattle.lte_machine.specs.Machines.{written_machine}
-use Rattle.lte_machine.specs.Opening.{open_octets}
-use Rattle.lte_machine.specs.Run.{event_report}
+use Rattle.lte_machine.specs.{Carried.report_value, Ciphers.annex_b, Machines.written_machine, Opening.open_octets, Run.event_report}
 use Rattle.lte_properties.specs.Headline.{Headline}
-use Rattle.lte_world.specs.Whole.{Whole, answer_of}
-use Rattle.lte_world.specs.declared.faults.WorldFault.{WorldFault}
+use Rattle.lte_world.specs.{Whole.Whole, Whole.answer_of, declared.faults.WorldFault.WorldFault}
 use Rattle.item_lines.specs.declared.lines.Told.{Told}
 use Rattle.item_runs.specs.Coming.{Coming, nothing, coming_from}
 use Rattle.items.specs.declared.Item.{Item}

@@ -1,19 +1,13 @@
 -- Which stations can derive the key that the phone came by last.
 use Rattle.std.specs.Prelude.{ℕ, ◌||◌, Bool, true, false, List, [], ◌∷◌, ◌++◌, get_or, Option, Some, None}
-use Rattle.hmac_kdf.specs.declared.input.KdfInput.{KdfInput}
-use Rattle.hmac_kdf.specs.declared.input.KdfInput.TheVariants.{Star}
-use Rattle.key_terms.specs.Ladder.{row_of}
-use Rattle.key_terms.specs.declared.proof.Proof.{Proof}
-use Rattle.key_terms.specs.declared.row.LadderRow.{LadderRow}
-use Rattle.key_terms.specs.declared.row.Origin.{Origin}
+use Rattle.hmac_kdf.specs.{declared.input.KdfInput.KdfInput, declared.input.KdfInput.TheVariants.Star}
+use Rattle.key_terms.specs.{Ladder.row_of, declared.proof.Proof.Proof, declared.row.LadderRow.LadderRow, declared.row.Origin.Origin}
 use Rattle.key_terms.specs.declared.row.Origin.TheVariants.{Root, From}
 use Rattle.lte_events.specs.declared.replies.KeyNote.{KeyNote}
-use Rattle.lte_machine.specs.BothRuns.{octet_run}
-use Rattle.lte_machine.specs.Machines.{Kept}
+use Rattle.lte_machine.specs.{BothRuns.octet_run, Machines.Kept}
 use Rattle.lte_machine.specs.Run.{RunState, Running, Stopped}
 use Rattle.store_laws.specs.Rows.{world_rows}
-use Rattle.item_lines.specs.Lines.{phone_note}
-use Rattle.item_lines.specs.declared.lines.Told.{Told}
+use Rattle.item_lines.specs.{Lines.phone_note, declared.lines.Told.Told}
 use Rattle.item_runs.specs.Course.{Seen}
 
 -- THE KEY

@@ -1,9 +1,7 @@
 -- The station that serves is one of eight.
 use Rattle.std.proofs.Common.{◌≡◌, ℕ, ◌≤◌, Bool, true, false, List, [], ◌∷◌, All, ◌==◌, ◌||◌, refl, subst}
-use Rattle.std.proofs.lemmas.Bool.{eqb-true}
-use Rattle.std.proofs.lemmas.List.Elements.{All-head, All-tail}
-use Rattle.lte_events.specs.Ranges.{has_station, IsStation}
-use Rattle.lte_events.specs.declared.setups.StationSetup.{StationSetup}
+use Rattle.std.proofs.{lemmas.Bool.eqb-true, lemmas.List.Elements.All-head, lemmas.List.Elements.All-tail}
+use Rattle.lte_events.specs.{Ranges.has_station, Ranges.IsStation, declared.setups.StationSetup.StationSetup}
 
 either : (stations : List StationSetup) (s : StationSetup) (id : ℕ) (b : Bool) → IsStation s → (s.id == id) ≡ b →
     (has_station stations id ≡ true → id ≤ 7) → (b || has_station stations id) ≡ true → id ≤ 7

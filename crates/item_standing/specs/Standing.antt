@@ -1,19 +1,11 @@
 -- What the probe finds behind a run of items.
 use Rattle.std.specs.Prelude.{ℕ, if◌then◌else◌, List, Option, Some, None, is_some}
-use Rattle.lte_events.specs.Ranges.{has_station}
-use Rattle.lte_events.specs.declared.events.Event.{Event}
-use Rattle.lte_events.specs.declared.lines.Who.{Who}
+use Rattle.lte_events.specs.{Ranges.has_station, declared.events.Event.Event, declared.lines.Who.Who, declared.setups.Setup.Setup}
 use Rattle.lte_events.specs.declared.lines.Who.TheVariants as who
-use Rattle.lte_events.specs.declared.setups.Setup.{Setup}
-use Rattle.item_lines.specs.Lines.{line_of}
-use Rattle.item_lines.specs.declared.lines.Told.{Told}
-use Rattle.item_outcomes.specs.Probe.{up_arrives}
-use Rattle.item_outcomes.specs.Standing.{Standing}
+use Rattle.item_lines.specs.{Lines.line_of, declared.lines.Told.Told}
+use Rattle.item_outcomes.specs.{Probe.up_arrives, Standing.Standing}
 use Rattle.item_probe.specs.Parts.{first_part, second_part}
-use Rattle.item_runs.specs.Coming.{Coming}
-use Rattle.item_runs.specs.CoreStation.{core_station_of}
-use Rattle.item_runs.specs.Course.{Seen, going_on}
-use Rattle.item_runs.specs.Reach.{reach_of}
+use Rattle.item_runs.specs.{Coming.Coming, CoreStation.core_station_of, Course.Seen, Course.going_on, Reach.reach_of}
 
 -- WHICH STATION SERVES: the one that the phone's packet comes to. Where it comes to none of the setup, the one that serves in the scenario
 abbrev pub serving_by : Setup → ℕ → Who → ℕ

@@ -1,10 +1,8 @@
 -- There are as many steps as events, and each is one of so many, by no station or by one of eight.
 use Rattle.std.proofs.Common.{◌≡◌, ℕ, ◌+◌, ◌<◌, ◌≤◌, nat_lt, Bool, true, false, List, [], ◌∷◌, ◌++◌, length, All, Some, None, if◌then◌else◌, refl, rules, arith, length-append}
 use Rattle.std.proofs.lemmas.List.Elements.{All-nil, All-push}
-use Rattle.lte_events.specs.declared.events.Event.{Event}
-use Rattle.lte_events.specs.declared.lines.Who.{Who}
-use Rattle.item_faults.specs.declared.steps.Step.{Step}
-use Rattle.item_faults.specs.Laws.{IsStationOf, IsStep}
+use Rattle.lte_events.specs.{declared.events.Event.Event, declared.lines.Who.Who}
+use Rattle.item_faults.specs.{declared.steps.Step.Step, Laws.IsStationOf, Laws.IsStep}
 use Rattle.item_lines.specs.declared.lines.Told.{Told}
 use Rattle.item_steps.specs.Steps.{next_step, station_in, steps_from, steps_of}
 

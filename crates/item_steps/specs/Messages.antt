@@ -1,21 +1,8 @@
 -- The message that a step sends: by its act, or by the message that it delivers and who takes that.
 use Rattle.std.specs.Prelude.{ℕ, ◌&&◌, Bool, true, false, List, Option, Some, None, position}
-use Rattle.lte_events.specs.declared.acts.CoreAct.{CoreAct}
-use Rattle.lte_events.specs.declared.acts.HoKind.{HoKind}
-use Rattle.lte_events.specs.declared.acts.PhoneAct.{PhoneAct}
-use Rattle.lte_events.specs.declared.acts.StationAct.{StationAct}
-use Rattle.lte_events.specs.declared.classes.Class.{Class}
-use Rattle.lte_events.specs.declared.events.Event.{Event}
-use Rattle.lte_events.specs.declared.lines.Line.{Line}
-use Rattle.lte_events.specs.declared.lines.Who.{Who}
-use Rattle.lte_events.specs.declared.replies.KeyNote.{KeyNote}
-use Rattle.item_faults.specs.declared.messages.Message.{Message}
-use Rattle.item_faults.specs.declared.steps.Does.{Does}
-use Rattle.item_faults.specs.declared.steps.Step.{Step}
-use Rattle.item_faults.specs.Steps.{delivered, step_of}
-use Rattle.item_lines.specs.Lines.{is_done, is_key}
-use Rattle.item_lines.specs.Same.{same_who}
-use Rattle.item_lines.specs.declared.lines.Told.{Told}
+use Rattle.lte_events.specs.{declared.acts.CoreAct.CoreAct, declared.acts.HoKind.HoKind, declared.acts.PhoneAct.PhoneAct, declared.acts.StationAct.StationAct, declared.classes.Class.Class, declared.events.Event.Event, declared.lines.Line.Line, declared.lines.Who.Who, declared.replies.KeyNote.KeyNote}
+use Rattle.item_faults.specs.{declared.messages.Message.Message, declared.steps.Does.Does, declared.steps.Step.Step, Steps.delivered, Steps.step_of}
+use Rattle.item_lines.specs.{Lines.is_done, Lines.is_key, Same.same_who, declared.lines.Told.Told}
 
 -- ACTS
 

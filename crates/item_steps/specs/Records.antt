@@ -1,7 +1,6 @@
 -- Records, by the lines that tell them. Line k is of step k.
 use Rattle.std.specs.Prelude.{ℕ, ◌-◌, ◌==◌, nat_lt, Bool, false, ℤ, pos, negsuc, List, length, Option, Some, None, if◌then◌else◌, position}
-use Rattle.std.specs.List.{filter}
-use Rattle.std.specs.Option.{is_some}
+use Rattle.std.specs.{List.filter, Option.is_some}
 use Rattle.lte_events.specs.declared.classes.Class.{Class}
 use Rattle.item_lines.specs.declared.lines.Told.{Told}
 

@@ -1,15 +1,7 @@
 -- The steps of a scenario, by its events and the lines that its run told of them.
 use Rattle.std.specs.Prelude.{ℕ, nat_lt, List, [], ◌∷◌, ◌++◌, length, Option, Some, None, if◌then◌else◌}
-use Rattle.lte_events.specs.declared.acts.CoreAct.{CoreAct}
-use Rattle.lte_events.specs.declared.acts.HoKind.{HoKind}
-use Rattle.lte_events.specs.declared.acts.StationAct.{StationAct}
-use Rattle.lte_events.specs.declared.classes.Class.{Class}
-use Rattle.lte_events.specs.declared.events.Event.{Event}
-use Rattle.lte_events.specs.declared.lines.Line.{Line}
-use Rattle.lte_events.specs.declared.lines.Who.{Who}
-use Rattle.item_faults.specs.declared.messages.Message.{Message}
-use Rattle.item_faults.specs.declared.steps.Does.{Does}
-use Rattle.item_faults.specs.declared.steps.Step.{Step}
+use Rattle.lte_events.specs.{declared.acts.CoreAct.CoreAct, declared.acts.HoKind.HoKind, declared.acts.StationAct.StationAct, declared.classes.Class.Class, declared.events.Event.Event, declared.lines.Line.Line, declared.lines.Who.Who}
+use Rattle.item_faults.specs.{declared.messages.Message.Message, declared.steps.Does.Does, declared.steps.Step.Step}
 use Rattle.item_lines.specs.declared.lines.Told.{Told}
 use Rattle.item_steps.specs.Messages.{message_of}
 use Rattle.item_steps.specs.Records.{number_of, records_in, sender_of}

@@ -1,9 +1,8 @@
 -- Items: acts by their places in a list of acts, and deliveries by the name of the item that sent what is delivered. So no number
 -- of a record stands in an item.
 use Rattle.std.specs.Prelude.{ℕ, ◌<◌, ◌≤◌}
-use Rattle.items.specs.declared.Deed.{Deed}
+use Rattle.items.specs.{declared.Deed.Deed, declared.Item.Item}
 use Rattle.items.specs.declared.Deed.TheVariants as deed
-use Rattle.items.specs.declared.Item.{Item}
 
 -- so many records at most that come of an item, each of the one before, are delivered at once
 abbrev pub most_at_once : ℕ

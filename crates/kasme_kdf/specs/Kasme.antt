@@ -1,7 +1,6 @@
 -- KASME of CK and IK (TS 33.401 A.2).
 use Rattle.std.specs.Prelude.{ℕ, List, ◌∷◌, ◌++◌}
-use Rattle.hmac_kdf.specs.Hmac.{hmac}
-use Rattle.hmac_kdf.specs.Kdf.{parameter}
+use Rattle.hmac_kdf.specs.{Hmac.hmac, Kdf.parameter}
 
 -- the string S: FC, the PLMN identity of the serving network and SQN xor AK, each with its length
 unfoldable pub kasme_string : List ℕ → List ℕ → List ℕ

@@ -2,18 +2,15 @@
 use Rattle.std.proofs.Common.{◌≡◌, ℕ, zero, suc, ◌<◌, ◌⊎◌, inl, inr, Option, Some, None, List, [], length, get_or, refl, sym, ap, subst, ◌∙◌, arith, Bool, true, false}
 use Rattle.std.proofs.lemmas.Bool.{false≢true, cases_Bool}
 use Rattle.std.proofs.lemmas.Option.{slice_get-get_or, slice_get_within, none-some}
-use Rattle.std.specs.Prelude.{◌↔◌, IsTrue}
-use Rattle.std.specs.List.{slice_get}
-use Rattle.key_terms.specs.declared.row.LadderRow.{LadderRow}
+use Rattle.std.specs.{Prelude.◌↔◌, Prelude.IsTrue, List.slice_get}
+use Rattle.key_terms.specs.{declared.row.LadderRow.LadderRow, Ladder.unheld, Ladder.IsLadder}
 use Rattle.key_terms.specs.declared.row.Origin.TheVariants as origins
-use Rattle.key_terms.specs.Ladder.{unheld, IsLadder}
 use Rattle.key_audit.specs.declared.audits.AuditRow.{AuditRow}
 use Rattle.key_audit.specs.Derives.{held_by, held_in, CanDerive, key_in, IsNearest, by_itself, by_key}
 use Rattle.key_audit.specs.Exact.{can_at, from_at, Exact}
 use Rattle.key_audit.specs.Local.{above_mark, held_first, local_mark, mark_in, mark_within, exact_mark, mark_if, mark_at, FitBelow}
-use Rattle.key_audit.proofs.OneStep.{Above, one_step}
+use Rattle.key_audit.proofs.{OneStep.Above, OneStep.one_step, Fitting.Fits}
 use Rattle.key_audit.proofs.Neighbours.{above_carried, above_same, Marked, marked, mark_there, above_marked, marked_above, nearest_one, key_before}
-use Rattle.key_audit.proofs.Fitting.{Fits}
 
 -- a row that stands
 row_at : (rows : List LadderRow) (k : ℕ) → k < length rows → (r : LadderRow) × (slice_get rows k ≡ Some r)

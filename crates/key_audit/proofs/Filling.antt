@@ -1,18 +1,13 @@
 -- An audit that is filled from the first row to the last fits: a row depends on those before it alone.
 use Rattle.std.proofs.Common.{◌≡◌, ℕ, ◌+◌, ◌<◌, ◌≤◌, inl, inr, Some, List, [], ◌∷◌, ◌++◌, length, get_or, length-append, sym, ap, subst, ◌∙◌, arith}
-use Rattle.std.proofs.lemmas.Option.{slice_get-get_or}
-use Rattle.std.proofs.lemmas.Bool.{cases_lt}
+use Rattle.std.proofs.{lemmas.Option.slice_get-get_or, lemmas.Bool.cases_lt}
 use Rattle.std.specs.List.{slice_get}
-use Rattle.key_terms.specs.declared.row.LadderRow.{LadderRow}
+use Rattle.key_terms.specs.{declared.row.LadderRow.LadderRow, Ladder.unheld, Ladder.IsLadder}
 use Rattle.key_terms.specs.declared.row.Origin.TheVariants as origins
-use Rattle.key_terms.specs.Ladder.{unheld, IsLadder}
 use Rattle.key_terms.proofs.Places.{slice_get_stays, slice_get_at_end, slice_get_push}
-use Rattle.key_audit.specs.declared.audits.AuditRow.{AuditRow}
-use Rattle.key_audit.specs.Derives.{held_by}
-use Rattle.key_audit.specs.Exact.{can_in, from_in}
+use Rattle.key_audit.specs.{declared.audits.AuditRow.AuditRow, Derives.held_by, Exact.can_in, Exact.from_in}
 use Rattle.key_audit.specs.Local.{held_first, local_mark, mark_of, mark_at, IsClean, AreClean, Fills, RowFits, FitBelow}
-use Rattle.key_audit.proofs.Neighbours.{above_same}
-use Rattle.key_audit.proofs.Fitting.{Fits}
+use Rattle.key_audit.proofs.{Neighbours.above_same, Fitting.Fits}
 
 -- no station
 nobody : AuditRow

@@ -1,8 +1,7 @@
 -- An audit each of whose rows says what its neighbours do.
 use Rattle.std.specs.Prelude.{◌≡◌, List, length}
 use Rattle.key_terms.specs.declared.row.LadderRow.{LadderRow}
-use Rattle.key_audit.specs.declared.audits.AuditRow.{AuditRow}
-use Rattle.key_audit.specs.Local.{FitBelow}
+use Rattle.key_audit.specs.{declared.audits.AuditRow.AuditRow, Local.FitBelow}
 
 -- an audit of these rows, each of which fits
 pub record Fits (rows : List LadderRow) (audit : List AuditRow) : Type 0 where

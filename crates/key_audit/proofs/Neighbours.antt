@@ -1,18 +1,14 @@
 -- What the neighbours of a row say, and the nearest row that is held.
 use Rattle.std.proofs.Common.{◌≡◌, ℕ, ◌<◌, inl, inr, Option, Some, None, List, refl, sym, ap, subst, ◌∙◌, false}
-use Rattle.std.proofs.lemmas.Bool.{false≢true}
-use Rattle.std.proofs.lemmas.Option.{none-some}
+use Rattle.std.proofs.{lemmas.Bool.false≢true, lemmas.Option.none-some}
 use Rattle.std.specs.Prelude.{IsTrue, IsSome}
 use Rattle.hmac_kdf.specs.declared.input.KdfInput.{KdfInput}
-use Rattle.key_terms.specs.declared.row.LadderRow.{LadderRow}
-use Rattle.key_terms.specs.declared.row.Origin.{Origin}
+use Rattle.key_terms.specs.{declared.row.LadderRow.LadderRow, declared.row.Origin.Origin, Ladder.row_of, Ladder.IsMade}
 use Rattle.key_terms.specs.declared.row.Origin.TheVariants as origins
-use Rattle.key_terms.specs.Ladder.{row_of, IsMade}
 use Rattle.key_audit.specs.Terms.{sync_row}
 use Rattle.key_audit.specs.Derives.{holds, key_of, key_row, IsNearest, by_itself, by_key}
 use Rattle.key_audit.specs.Local.{sync_mark, and_mark, above_mark}
-use Rattle.key_audit.proofs.TermsOf.{if_before_cases}
-use Rattle.key_audit.proofs.OneStep.{AtSync, Above}
+use Rattle.key_audit.proofs.{TermsOf.if_before_cases, OneStep.AtSync, OneStep.Above}
 
 -- what holds of the rows before holds of those that a row is derived from
 sync_carried : (k : ℕ) (o : Option ℕ) (P Q : ℕ → Type 0) → ((j : ℕ) → j < k → P j → Q j) → AtSync P o → ((j : ℕ) → o ≡ Some j → j < k) → AtSync Q o

@@ -1,16 +1,12 @@
 -- A station can derive the key of a row exactly where it holds it, or can derive what it is derived from.
 use Rattle.std.proofs.Common.{◌≡◌, ℕ, ◌<◌, ◌⊎◌, inl, inr, Option, Some, None, List, length, refl, sym, ap, subst, ◌∙◌, arith}
-use Rattle.std.proofs.lemmas.Bool.{false≢true}
-use Rattle.std.proofs.lemmas.Option.{slice_get_within}
-use Rattle.std.specs.Prelude.{◌↔◌, IsTrue}
-use Rattle.std.specs.List.{slice_get}
+use Rattle.std.proofs.{lemmas.Bool.false≢true, lemmas.Option.slice_get_within}
+use Rattle.std.specs.{Prelude.◌↔◌, Prelude.IsTrue, List.slice_get}
 use Rattle.hmac_kdf.specs.declared.input.KdfInput.{KdfInput}
 use Rattle.key_model.specs.Derivable.{Derivable, in_set, by_kenb, by_nh, by_star, by_alg}
 use Rattle.key_model.specs.Term.{Term, Root, Kenb, Nh, Star, Alg}
-use Rattle.key_terms.specs.declared.row.LadderRow.{LadderRow}
-use Rattle.key_terms.specs.declared.row.Origin.{Origin}
+use Rattle.key_terms.specs.{declared.row.LadderRow.LadderRow, declared.row.Origin.Origin, Ladder.IsLadder}
 use Rattle.key_terms.specs.declared.row.Origin.TheVariants as origins
-use Rattle.key_terms.specs.Ladder.{IsLadder}
 use Rattle.key_audit.specs.Terms.{sync_row, sync_term, origin_term, term_at}
 use Rattle.key_audit.specs.Derives.{held_by, held_in, HeldTerms, CanDerive}
 use Rattle.key_audit.proofs.TermsOf.{term_is, one_row}

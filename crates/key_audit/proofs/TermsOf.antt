@@ -1,14 +1,11 @@
 -- The terms of the rows of a ladder: each is of those before it, has the octets of its row, and is of no other row.
 use Rattle.std.proofs.Common.{◌≡◌, ℕ, zero, suc, ◌<◌, ◌⊎◌, inl, inr, Option, Some, None, List, refl, sym, ap, ◌∙◌, arith}
 use Rattle.std.proofs.lemmas.Bool.{cases_lt, lt-ltb, le-ltb}
-use Rattle.std.specs.Option.{option_map}
-use Rattle.std.specs.List.{slice_get}
-use Rattle.hmac_kdf.specs.declared.input.KdfInput.{KdfInput}
-use Rattle.hmac_kdf.specs.Kdf.{kdf}
+use Rattle.std.specs.{Option.option_map, List.slice_get}
+use Rattle.hmac_kdf.specs.{declared.input.KdfInput.KdfInput, Kdf.kdf}
 use Rattle.key_model.specs.Term.{Term, Kenb, Nh, Star, Alg}
 use Rattle.key_model.specs.Value.{value_of}
-use Rattle.key_terms.specs.declared.row.LadderRow.{LadderRow}
-use Rattle.key_terms.specs.declared.row.Origin.{Origin}
+use Rattle.key_terms.specs.{declared.row.LadderRow.LadderRow, declared.row.Origin.Origin}
 use Rattle.key_terms.specs.declared.row.Origin.TheVariants as origins
 use Rattle.key_terms.specs.Ladder.{row_of, IsMade, AreMade, IsLadder}
 use Rattle.key_terms.proofs.LadderLemmas.{stands, found_row}

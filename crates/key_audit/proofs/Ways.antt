@@ -1,12 +1,8 @@
 -- The way up from a row.
 use Rattle.std.proofs.Common.{◌≡◌, ℕ, zero, suc, ◌<◌, ◌==◌, Option, Some, None, List, [], ◌∷◌, ◌++◌, ◌+◌, ◌-◌, drop, get_or, refl, sym, ap, ◌∙◌, arith}
-use Rattle.std.proofs.lemmas.Bool.{eq-eqb, ne_eqb}
-use Rattle.std.proofs.lemmas.Option.{none-some}
-use Rattle.std.proofs.lemmas.List.{append_assoc, drop_more}
-use Rattle.std.specs.Prelude.{if◌then◌else◌}
-use Rattle.std.specs.List.{slice_get}
-use Rattle.key_terms.specs.declared.row.LadderRow.{LadderRow}
-use Rattle.key_terms.specs.Ladder.{AreMade}
+use Rattle.std.proofs.{lemmas.Bool.eq-eqb, lemmas.Bool.ne_eqb, lemmas.Option.none-some, lemmas.List.append_assoc, lemmas.List.drop_more}
+use Rattle.std.specs.{Prelude.if◌then◌else◌, List.slice_get}
+use Rattle.key_terms.specs.{declared.row.LadderRow.LadderRow, Ladder.AreMade}
 use Rattle.report_text.specs.Ladder.{form_at}
 use Rattle.key_audit.specs.Derives.{key_in, key_row}
 use Rattle.key_audit.specs.Text.{on_from, way_within, way_up, for_each, stations, name_if, by_if, names_text, paths_text, line_of, row_line, row_lines}

@@ -1,9 +1,7 @@
 -- Which station can derive the key of which row by itself.
 use Rattle.std.specs.Prelude.{◌≡◌, ℕ, Bool, false, IsTrue, List, Option, Some, None, slice_get, slice_index_or}
-use Rattle.key_model.specs.Derivable.{Derivable}
-use Rattle.key_model.specs.Term.{Term}
-use Rattle.key_terms.specs.declared.row.LadderRow.{LadderRow}
-use Rattle.key_terms.specs.declared.row.Origin.{Origin}
+use Rattle.key_model.specs.{Derivable.Derivable, Term.Term}
+use Rattle.key_terms.specs.{declared.row.LadderRow.LadderRow, declared.row.Origin.Origin}
 use Rattle.key_terms.specs.declared.row.Origin.TheVariants.{Root, From}
 use Rattle.key_audit.specs.Terms.{term_at}
 

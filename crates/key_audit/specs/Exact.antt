@@ -1,8 +1,7 @@
 -- The exact audit of a ladder: which station can derive which key by itself, and from which row that it holds.
 use Rattle.std.specs.Prelude.{◌≡◌, ℕ, ◌<◌, ◌↔◌, Bool, false, IsTrue, List, Option, Some, None, length, slice_get, slice_index_or}
 use Rattle.key_terms.specs.declared.row.LadderRow.{LadderRow}
-use Rattle.key_audit.specs.declared.audits.AuditRow.{AuditRow}
-use Rattle.key_audit.specs.Derives.{CanDerive, IsNearest}
+use Rattle.key_audit.specs.{declared.audits.AuditRow.AuditRow, Derives.CanDerive, Derives.IsNearest}
 
 abbrev pub can_in : ℕ → Option AuditRow → Bool
 can_in station None = false

@@ -1,13 +1,9 @@
 -- Which station can derive which row, row by row: by the rows that a row comes from, and by who holds it.
 use Rattle.std.specs.Prelude.{◌≡◌, ℕ, zero, suc, ◌<◌, Bool, true, false, List, Option, Some, None, slice_get}
 use Rattle.hmac_kdf.specs.declared.input.KdfInput.TheVariants.{Nh}
-use Rattle.key_terms.specs.declared.row.LadderRow.{LadderRow}
-use Rattle.key_terms.specs.declared.row.Origin.{Origin}
+use Rattle.key_terms.specs.{declared.row.LadderRow.LadderRow, declared.row.Origin.Origin}
 use Rattle.key_terms.specs.declared.row.Origin.TheVariants.{Root, From}
-use Rattle.key_audit.specs.declared.audits.AuditRow.{AuditRow}
-use Rattle.key_audit.specs.Terms.{sync_row}
-use Rattle.key_audit.specs.Derives.{held_by}
-use Rattle.key_audit.specs.Exact.{can_in, from_in}
+use Rattle.key_audit.specs.{declared.audits.AuditRow.AuditRow, Terms.sync_row, Derives.held_by, Exact.can_in, Exact.from_in}
 
 -- A mark of a row says that a station can derive it, and from which row that it holds. Where `mark` gives those of the rows
 -- before: that of the SYNC-input, and of the key where the first is there

@@ -2,10 +2,8 @@
 use Rattle.std.specs.Prelude.{ℕ, zero, suc, nat_lt, if◌then◌else◌, List, [], length, Option, Some, None, slice_get}
 use Rattle.hmac_kdf.specs.declared.input.KdfInput.{KdfInput}
 use Rattle.key_model.specs.Term.{Term, Root, Kenb, Nh, Star, Alg}
-use Rattle.key_terms.specs.declared.row.LadderRow.{LadderRow}
-use Rattle.key_terms.specs.declared.row.Origin.{Origin}
+use Rattle.key_terms.specs.{declared.row.LadderRow.LadderRow, declared.row.Origin.Origin, Ladder.row_of}
 use Rattle.key_terms.specs.declared.row.Origin.TheVariants as origins
-use Rattle.key_terms.specs.Ladder.{row_of}
 
 -- a row, where it comes before row k
 abbrev pub if_before : ℕ → Option ℕ → Option ℕ

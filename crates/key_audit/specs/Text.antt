@@ -3,8 +3,7 @@ use Rattle.std.specs.Prelude.{ℕ, zero, suc, ◌==◌, if◌then◌else◌, Lis
 use Rattle.std.specs.Fmt.{decimal}
 use Rattle.key_terms.specs.declared.row.LadderRow.{LadderRow}
 use Rattle.report_text.specs.Ladder.{form_at, without_comma}
-use Rattle.key_audit.specs.Derives.{key_row}
-use Rattle.key_audit.specs.Local.{exact_mark}
+use Rattle.key_audit.specs.{Derives.key_row, Local.exact_mark}
 
 -- the rows from a row up to another, each but the first that of the key of the one before, in at most so many steps
 abbrev pub on_from : (ℕ → List ℕ) → Option ℕ → List ℕ

@@ -1,15 +1,10 @@
 -- Worked values of the definitions.
 use Rattle.std.proofs.Common.{◌≡◌, ℕ, ◌^◌, List, [], ◌∷◌, ◌++◌, refl}
 use Rattle.std.specs.Prelude.{replicate}
-use Rattle.hmac_kdf.specs.declared.input.KdfInput.{KdfInput}
-use Rattle.hmac_kdf.specs.Kdf.{kdf_string}
+use Rattle.hmac_kdf.specs.{declared.input.KdfInput.KdfInput, Kdf.kdf_string}
 use Rattle.key_model.specs.Term.{Term, Kenb, Nh, Star, same_term}
-use Rattle.key_model.specs.Chain.{nh, ncc_of}
-use Rattle.key_model.specs.Number.{chain_number}
-use Rattle.key_model.specs.Least.{least, after_steps}
+use Rattle.key_model.specs.{Chain.nh, Chain.ncc_of, Number.chain_number, Least.least, Least.after_steps, Reading.term_reading_by, Reading.octet_reading, HandoverLines.phone_keys, HandoverLines.phone_line}
 use Rattle.key_model.specs.HandoverTable.{phone_number, key_at_phone, key_from_pair}
-use Rattle.key_model.specs.Reading.{term_reading_by, octet_reading}
-use Rattle.key_model.specs.HandoverLines.{phone_keys, phone_line}
 
 -- a NAS COUNT by its sequence number, the next one being 0, 255, 256 and ffff01
 nas_counts : (least 0 255 256 ∷ least 255 255 256 ∷ least 256 255 256 ∷ least 0xffff01 0 256 ∷ []) ≡ (255 ∷ 255 ∷ 511 ∷ 2 ^ 24 ∷ [])

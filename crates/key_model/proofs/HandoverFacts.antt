@@ -1,16 +1,13 @@
 -- The lines of the handover table: in terms they are the table, and readings carry them.
 use Rattle.std.proofs.Common.{◌≡◌, ℕ, zero, suc, ◌+◌, ◌-◌, ◌<◌, Bool, true, false, ◌==◌, refl, sym, ◌∙◌, ap, arith, add-zero, add-suc}
 use Rattle.std.specs.Prelude.{◌↔◌}
-use Rattle.std.proofs.lemmas.Bool.{eq-eqb}
-use Rattle.std.proofs.lemmas.Bool.Decides.{nat_tests}
+use Rattle.std.proofs.{lemmas.Bool.eq-eqb, lemmas.Bool.Decides.nat_tests}
 use Rattle.key_model.specs.Term.{Term, Nh, Star}
-use Rattle.key_model.specs.Chain.{nh, ncc_of}
-use Rattle.key_model.specs.Number.{chain_number}
+use Rattle.key_model.specs.{Chain.nh, Chain.ncc_of, Number.chain_number}
 use Rattle.key_model.specs.Reading.{Reading, term_reading_by, Carries}
 use Rattle.key_model.specs.HandoverTable.{NumberedKey, key_from_pair, key_from_active, phone_number, key_by_number, key_at_phone}
 use Rattle.key_model.specs.HandoverLines.{map_numbered, initial_line, pair_line, star_line, change_line, PhoneKeys, map_phone, phone_keys, nh_after, steps_to, key_after, phone_line, CarriesLines}
-use Rattle.key_model.proofs.LeastFacts.{least_from_remainder, eight_ahead}
-use Rattle.key_model.proofs.TermFacts.{chain_number_nh, same_number}
+use Rattle.key_model.proofs.{LeastFacts.least_from_remainder, LeastFacts.eight_ahead, TermFacts.chain_number_nh, TermFacts.same_number}
 
 -- so many steps on from a key of the chain is the key of so much higher a number
 pub nh_after-chain : (same : Term → Term → Bool) (r : Term) (n p steps : ℕ) → nh_after (term_reading_by same) r (nh r n p) steps ≡ nh r n (p + steps)

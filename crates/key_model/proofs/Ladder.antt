@@ -3,11 +3,9 @@
 use Rattle.std.proofs.Common.{◌≡◌, [], ◌∷◌, refl}
 use Rattle.std.specs.Prelude.{replicate}
 use Rattle.sha2.specs.Sha256.{sha256, digest_bytes, hash_after, compress, rounds, schedule, first_words}
-use Rattle.hmac_kdf.specs.Hmac.{hmac}
-use Rattle.hmac_kdf.specs.Kdf.{kdf, kdf_string}
+use Rattle.hmac_kdf.specs.{Hmac.hmac, Kdf.kdf, Kdf.kdf_string}
 use Rattle.key_model.specs.Term.{Term, Root, Star, Alg}
-use Rattle.key_model.specs.Chain.{nh}
-use Rattle.key_model.specs.Value.{value_of}
+use Rattle.key_model.specs.{Chain.nh, Value.value_of}
 
 -- the KASME
 abbrev root : Term

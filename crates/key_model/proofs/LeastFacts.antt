@@ -1,7 +1,6 @@
 -- `least` is the least number with its remainder, and steps of one reach it.
 use Rattle.std.proofs.Common.{◌≡◌, ◌≢◌, ℕ, zero, suc, ◌+◌, ◌-◌, ◌*◌, ◌/◌, ◌%◌, ◌<◌, ◌≤◌, ◌⊎◌, inl, inr, refl, sym, ◌∙◌, ap, true, false, Bool, ◌==◌, if◌then◌else◌, arith, add-zero, mod-lt, mod-eq_of_lt, div-add-mod', suc-mul}
-use Rattle.std.proofs.lemmas.Nat.{mod-mul-add}
-use Rattle.std.proofs.Math.Nat.{mod-mod}
+use Rattle.std.proofs.{lemmas.Nat.mod-mul-add, Math.Nat.mod-mod}
 use Rattle.std.proofs.lemmas.Bool.{cases_lt, eqb-true, eqb-false}
 use Rattle.std.specs.Prelude.{◌↔◌}
 use Rattle.key_model.specs.Least.{least, IsLeast, after_steps}

@@ -1,8 +1,7 @@
 -- The reading in terms is carried to the reading in octets by values and NCCs.
 use Rattle.std.proofs.Common.{◌≡◌, Bool, ◌==◌, refl, ap, arith}
 use Rattle.std.specs.Prelude.{◌&&◌}
-use Rattle.key_model.specs.Chain.{ncc_of}
-use Rattle.key_model.specs.Value.{value_of}
+use Rattle.key_model.specs.{Chain.ncc_of, Value.value_of}
 use Rattle.key_model.specs.Use.{Use, map_use, same_use}
 use Rattle.key_model.specs.Reading.{Reading, Carries, octet_reading, term_reading}
 

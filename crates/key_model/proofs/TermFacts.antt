@@ -4,12 +4,9 @@ use Rattle.std.specs.Bool.{Decides}
 use Rattle.std.proofs.lemmas.Bool.Decides.{Decides-and, Decides-eqb, Decides-like}
 use Rattle.std.proofs.lemmas.Slice.Eq.{bytes_eq-Decides}
 use Rattle.sha2.proofs.Facts256.{length-sha256}
-use Rattle.hmac_kdf.specs.Hmac.{hmac}
-use Rattle.hmac_kdf.specs.Kdf.{kdf}
+use Rattle.hmac_kdf.specs.{Hmac.hmac, Kdf.kdf}
 use Rattle.key_model.specs.Term.{Term, Root, Kenb, Nh, Star, Alg, IsRoot, same_term}
-use Rattle.key_model.specs.Chain.{nh}
-use Rattle.key_model.specs.Number.{chain_number}
-use Rattle.key_model.specs.Value.{value_of, same_value}
+use Rattle.key_model.specs.{Chain.nh, Number.chain_number, Value.value_of, Value.same_value}
 
 -- the chain number of the key of number i
 pub chain_number_nh : (r : Term) (n i : ℕ) → chain_number (nh r n i) ≡ i

@@ -1,10 +1,6 @@
 -- The lines of the handover table in any reading (TS 33.401 7.2.8).
 use Rattle.std.specs.Prelude.{ℕ, zero, suc, ◌-◌, ◌≡◌}
-use Rattle.key_model.specs.Term.{Term}
-use Rattle.key_model.specs.Chain.{nh}
-use Rattle.key_model.specs.Least.{least}
-use Rattle.key_model.specs.Reading.{Reading}
-use Rattle.key_model.specs.HandoverTable.{NumberedKey}
+use Rattle.key_model.specs.{Term.Term, Chain.nh, Least.least, Reading.Reading, HandoverTable.NumberedKey}
 
 -- a key and its number, each read in another way
 abbrev pub map_numbered : {K C L D : Type 0} → (K → L) → (C → D) → NumberedKey K C → NumberedKey L D

@@ -2,9 +2,7 @@
 -- n the COUNT of its KeNB.
 use Rattle.std.specs.Prelude.{ℕ, ◌+◌, ◌==◌, Bool, true, false}
 use Rattle.key_model.specs.Term.{Term, Kenb, Star}
-use Rattle.key_model.specs.Chain.{nh, ncc_of}
-use Rattle.key_model.specs.Number.{chain_number}
-use Rattle.key_model.specs.Least.{least}
+use Rattle.key_model.specs.{Chain.nh, Chain.ncc_of, Number.chain_number, Least.least}
 
 -- a key and its chain number
 pub record NumberedKey (K C : Type 0) : Type 0 where

@@ -1,11 +1,9 @@
 -- How the keys and chain numbers of a machine are read: in octets with NCCs, or in terms with whole chain numbers.
 use Rattle.std.specs.Prelude.{◌≡◌, ℕ, ◌+◌, Bool, List}
 use Rattle.std.specs.Str.{bytes_eq}
-use Rattle.hmac_kdf.specs.declared.input.KdfInput.{KdfInput}
-use Rattle.hmac_kdf.specs.Kdf.{kdf}
+use Rattle.hmac_kdf.specs.{declared.input.KdfInput.KdfInput, Kdf.kdf}
 use Rattle.key_model.specs.Term.{Term, Kenb, Nh, Star, Alg}
-use Rattle.key_model.specs.Chain.{ncc_of}
-use Rattle.key_model.specs.Value.{same_value}
+use Rattle.key_model.specs.{Chain.ncc_of, Value.same_value}
 
 -- the derivations of TS 33.401 Annex A on keys K, and the chain numbers C of 7.2.8.1.1
 pub record Reading (K C : Type 0) : Type 0 where

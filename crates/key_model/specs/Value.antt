@@ -1,8 +1,7 @@
 -- The octets of a key.
 use Rattle.std.specs.Prelude.{ℕ, Bool, List}
 use Rattle.std.specs.Str.{bytes_eq}
-use Rattle.hmac_kdf.specs.declared.input.KdfInput.{KdfInput}
-use Rattle.hmac_kdf.specs.Kdf.{kdf}
+use Rattle.hmac_kdf.specs.{declared.input.KdfInput.KdfInput, Kdf.kdf}
 use Rattle.key_model.specs.Term.{Term, Root, Kenb, Nh, Star, Alg}
 
 -- a root's octets as given; of any other key the KDF of the key that it comes from, and of its input (Annex A)

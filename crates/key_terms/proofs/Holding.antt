@@ -1,21 +1,14 @@
 -- A row that is held by one more keeps its origin and its octets, and so the rows stay a ladder.
 use Rattle.std.proofs.Common.{◌≡◌, ℕ, zero, suc, Some, List, [], ◌∷◌, length, map, take, set, get_or, slice_get, sym, refl, ap, subst, ◌∙◌}
-use Rattle.std.specs.Option.{option_map, IsSome}
-use Rattle.std.specs.Str.{bytes_eq}
-use Rattle.std.specs.List.{position}
-use Rattle.hmac_kdf.specs.declared.input.KdfInput.{KdfInput}
+use Rattle.std.specs.{Option.option_map, Option.IsSome, Str.bytes_eq, List.position}
+use Rattle.hmac_kdf.specs.{declared.input.KdfInput.KdfInput, Kdf.kdf}
 use Rattle.hmac_kdf.specs.declared.input.KdfInput.TheVariants.{Kenb, Nh, Star, Alg}
-use Rattle.hmac_kdf.specs.Kdf.{kdf}
-use Rattle.key_terms.specs.declared.row.Holder.{Holder}
+use Rattle.key_terms.specs.{declared.row.Holder.Holder, declared.row.LadderRow.LadderRow, declared.row.Origin.Origin}
 use Rattle.key_terms.specs.declared.row.Holder.TheVariants.{Phone, Core, Station}
-use Rattle.key_terms.specs.declared.row.LadderRow.{LadderRow}
-use Rattle.key_terms.specs.declared.row.Origin.{Origin}
 use Rattle.key_terms.specs.declared.row.Origin.TheVariants.{Root, From}
 use Rattle.key_terms.specs.Ladder.{held_by, holding, row_of, HasRoot, HasSync, IsMade, IsLadder, IsIndexOf}
-use Rattle.std.proofs.lemmas.Option.{slice_get-map}
-use Rattle.std.proofs.lemmas.List.{take-map}
-use Rattle.key_terms.proofs.LadderLemmas.{stands}
-use Rattle.key_terms.proofs.Places.{position_map}
+use Rattle.std.proofs.{lemmas.Option.slice_get-map, lemmas.List.take-map}
+use Rattle.key_terms.proofs.{LadderLemmas.stands, Places.position_map}
 
 -- to hold is to write one row
 pub holding_set : (who : Holder) (k : ℕ) (rows : List LadderRow) (d : LadderRow) → set rows k (held_by who (get_or rows k d)) ≡ holding who k rows

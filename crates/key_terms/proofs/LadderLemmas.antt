@@ -1,20 +1,13 @@
 -- A row put at the end of a ladder keeps it a ladder.
 use Rattle.std.proofs.Common.{◌≡◌, ℕ, inl, inr, Option, Some, None, List, [], ◌∷◌, ◌++◌, length, get_or, sym, refl, ap, subst, ◌∙◌}
-use Rattle.std.proofs.lemmas.Bool.{false≢true}
-use Rattle.std.specs.Option.{option_map, IsSome}
-use Rattle.std.specs.List.{slice_get}
-use Rattle.std.specs.Str.{bytes_eq}
-use Rattle.hmac_kdf.specs.declared.input.KdfInput.{KdfInput}
+use Rattle.std.proofs.{lemmas.Bool.false≢true, lemmas.List.Quantifiers.position-Some, lemmas.Slice.Eq.bytes_eq-Decides}
+use Rattle.std.specs.{Option.option_map, Option.IsSome, List.slice_get, Str.bytes_eq}
+use Rattle.hmac_kdf.specs.{declared.input.KdfInput.KdfInput, Kdf.kdf}
 use Rattle.hmac_kdf.specs.declared.input.KdfInput.TheVariants.{Kenb, Nh, Star, Alg}
-use Rattle.hmac_kdf.specs.Kdf.{kdf}
-use Rattle.key_terms.specs.declared.row.Row.{Row}
-use Rattle.key_terms.specs.declared.row.LadderRow.{LadderRow}
-use Rattle.key_terms.specs.declared.row.Origin.{Origin}
+use Rattle.key_terms.specs.{declared.row.Row.Row, declared.row.LadderRow.LadderRow, declared.row.Origin.Origin}
 use Rattle.key_terms.specs.declared.row.Origin.TheVariants.{Root, From}
 use Rattle.key_terms.specs.Ladder.{unheld, row_of, AreApart, HasRoot, HasSync, IsMade, AreMade, IsLadder}
 use Rattle.std.proofs.lemmas.Option.{slice_get_cases, slice_get-get_or, slice_get_within, none-some}
-use Rattle.std.proofs.lemmas.List.Quantifiers.{position-Some}
-use Rattle.std.proofs.lemmas.Slice.Eq.{bytes_eq-Decides}
 use Rattle.key_terms.proofs.Places.{position_stays, position_at_end, slice_get_stays, slice_get_push}
 
 -- a row that has something read of it stands

@@ -1,14 +1,10 @@
 -- The index of the rows up to its mark: it answers the first row with given octets, or else the rows after it do.
 use Rattle.std.proofs.Common.{◌≡◌, ℕ, ◌<◌, ◌≤◌, ◌+◌, Bool, true, false, inl, inr, Option, Some, None, List, [], ◌∷◌, ◌++◌, length, map, take, drop, min, slice_get, sym, refl, ap, ◌∙◌, arith, ◌-◌}
-use Rattle.std.specs.Option.{option_map}
-use Rattle.std.specs.List.{position, list_any}
-use Rattle.std.specs.Str.{bytes_eq}
+use Rattle.std.specs.{Option.option_map, List.position, List.list_any, Str.bytes_eq}
 use Rattle.key_terms.specs.declared.row.LadderRow.{LadderRow}
 use Rattle.key_terms.specs.Ladder.{row_of, AreApart, IsIndexOf}
-use Rattle.std.proofs.lemmas.Bool.{cases_lt}
-use Rattle.std.proofs.lemmas.Cmp.{nat_list_eq_equiv}
+use Rattle.std.proofs.{lemmas.Bool.cases_lt, lemmas.Cmp.nat_list_eq_equiv, Math.Seq.take-length}
 use Rattle.std.proofs.lemmas.List.{take-append-drop, length-take, length-drop, length-map, take-append-le}
-use Rattle.std.proofs.Math.Seq.{take-length}
 use Rattle.std.proofs.lemmas.Option.{slice_get-map, slice_get_within, slice_get_cases}
 use Rattle.key_terms.proofs.LadderLemmas.{stands}
 use Rattle.key_terms.proofs.Places.{position_first, position_nowhere, position_hit, position_before, position_no, slice_get_stays, later_at, at_later, list_any_nowhere}

@@ -1,12 +1,10 @@
 -- The first place that passes a test, and what stands at a place, in a list with one more at its end.
 use Rattle.std.proofs.Common.{◌≡◌, ℕ, ◌<◌, ◌≤◌, ◌-◌, ◌⊎◌, inl, inr, zero, suc, Bool, true, false, not, Option, Some, None, List, [], ◌∷◌, ◌++◌, length, map, drop, get_or, cond, ltb, ◌+◌, true≢false, sym, refl, ap, ◌∙◌, arith, length-append}
 use Rattle.std.specs.List.{position, position_or_len, slice_get, list_any}
-use Rattle.std.proofs.lemmas.Bool.{lt-ltb, cases_lt}
+use Rattle.std.proofs.{lemmas.Bool.lt-ltb, lemmas.Bool.cases_lt, lemmas.List.Quantifiers.position-Some, Math.Seq.get_or-append_seam}
 use Rattle.std.proofs.lemmas.List.{get_or_append_left, length-map, length-drop, get_or-drop}
-use Rattle.std.proofs.lemmas.List.Quantifiers.{position-Some}
 use Rattle.std.proofs.lemmas.List.Sums.{position_or_len_is, fails_before_first, prefix_len-le-length}
 use Rattle.std.proofs.lemmas.Option.{slice_get_within, slice_get-get_or, get_or_from_slice_get, none-some}
-use Rattle.std.proofs.Math.Seq.{get_or-append_seam}
 
 -- a first place within the list
 position_is : {X : Type 0} (p : X → Bool) (xs : List X) (k : ℕ) → position_or_len p xs ≡ k → k < length xs → position p xs ≡ Some k

@@ -2,19 +2,13 @@
 use Rattle.std.proofs.Common.{◌≡◌, ℕ, ◌+◌, ◌^◌, ◌<◌, ◌≤◌, ◌||◌, false, cond, not, nat_lt, inl, inr, Some, None, List, [], ◌∷◌, ◌++◌, All, length, map, take, drop, get_or, sym, refl, ap, ◌∙◌, arith, length-drop, length-take}
 use Rattle.std.specs.Int.{w64, to_le_bytes, from_le_bytes}
 use Rattle.std.specs.List.{position, position_or_len, list_any}
-use Rattle.std.specs.Bool.{Decides}
-use Rattle.std.specs.Str.{bytes_eq}
+use Rattle.std.specs.{Bool.Decides, Str.bytes_eq}
 use Rattle.std.proofs.lemmas.Bool.Decides.{same_from_decides, Decides-like, Decides-and, Decides-eqb}
-use Rattle.std.proofs.lemmas.Bool.{cases_lt}
+use Rattle.std.proofs.{lemmas.Bool.cases_lt, lemmas.Nat.le_bytes_8, lemmas.Nat.from_le_bytes-to_le_bytes_8, lemmas.Slice.Eq.bytes_eq-Decides, Math.Seq.take-length}
 use Rattle.std.proofs.lemmas.List.{take-append-drop, drop-drop, get_or_past, map-append}
 use Rattle.std.proofs.lemmas.List.Elements.{All-head, All-tail, All-push, All-same, All-take, All-drop, All-get_or, All-from_get_or}
-use Rattle.std.proofs.lemmas.Nat.{le_bytes_8, from_le_bytes-to_le_bytes_8}
-use Rattle.std.proofs.lemmas.Slice.Eq.{bytes_eq-Decides}
-use Rattle.std.proofs.Math.Seq.{take-length}
 use Rattle.indexmap.specs.IndexSet.{insert_key}
-use Rattle.key_terms.specs.contracts.words.WordsPartialEq.TheImpl.{eq-value}
-use Rattle.key_terms.specs.declared.words.Words.{Words}
-use Rattle.key_terms.specs.Words.{octets_of, AreWords}
+use Rattle.key_terms.specs.{contracts.words.WordsPartialEq.TheImpl.eq-value, declared.words.Words.Words, Words.octets_of, Words.AreWords}
 use Rattle.key_terms.proofs.Places.{position_map}
 
 -- 32 octets are four times eight

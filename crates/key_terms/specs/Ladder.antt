@@ -1,20 +1,14 @@
 -- The ladder of keys: its rows stand for the derivations of TS 33.401 Annex A that were made, in the
 -- order of their first making. Roots are the KASME that no derivation made.
 use Rattle.std.specs.Prelude.{◌≡◌, ◌≢◌, ℕ, zero, suc, ◌<◌, ◌≤◌, ◌^◌, true, false, Option, Some, IsSome, List, [], ◌∷◌, length, map, take, replicate, unwrap_or, slice_get, position}
-use Rattle.std.specs.Option.{option_map}
-use Rattle.std.specs.Str.{bytes_eq}
-use Rattle.hmac_kdf.specs.declared.input.KdfInput.{KdfInput}
+use Rattle.std.specs.{Option.option_map, Str.bytes_eq}
+use Rattle.hmac_kdf.specs.{declared.input.KdfInput.KdfInput, Kdf.kdf}
 use Rattle.hmac_kdf.specs.declared.input.KdfInput.TheVariants.{Kenb, Nh, Star, Alg}
-use Rattle.hmac_kdf.specs.Kdf.{kdf}
 use Rattle.annex_a_keys.specs.declared.derived.Derived.{Derived}
-use Rattle.key_terms.specs.declared.ladder.LadderFault.{LadderFault}
+use Rattle.key_terms.specs.{declared.ladder.LadderFault.LadderFault, declared.row.Holder.Holder, declared.row.Row.Row, declared.row.LadderRow.LadderRow, declared.row.Origin.Origin}
 use Rattle.key_terms.specs.declared.ladder.LadderFault.TheVariants.{Memory, RepeatedRoot, Coincidence}
 use Rattle.std.proofs.Math.ListN.{set}
-use Rattle.key_terms.specs.declared.row.Holder.{Holder}
 use Rattle.key_terms.specs.declared.row.Holder.TheVariants.{Phone, Core, Station}
-use Rattle.key_terms.specs.declared.row.Row.{Row}
-use Rattle.key_terms.specs.declared.row.LadderRow.{LadderRow}
-use Rattle.key_terms.specs.declared.row.Origin.{Origin}
 use Rattle.key_terms.specs.declared.row.Origin.TheVariants.{Root, From}
 
 -- what a ladder holds, and for how many rows more it has room

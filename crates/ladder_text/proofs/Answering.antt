@@ -2,12 +2,9 @@
 use Rattle.std.proofs.Common.{◌≡◌, ◌≢◌, ℕ, ◌+◌, Result, Ok, Err, List, [], ◌∷◌, refl, sym, ap, subst}
 use Rattle.edge_io.specs.Told.{Told}
 use Rattle.edge_io.proofs.Known.{none_of}
-use Rattle.ladder_text.specs.declared.line.LadderLine.{LadderLine}
-use Rattle.ladder_text.specs.declared.ending.Ending.{Ending}
+use Rattle.ladder_text.specs.{declared.line.LadderLine.LadderLine, declared.ending.Ending.Ending, declared.text.TextFault.TextFault, Text.reading_of}
 use Rattle.ladder_text.specs.declared.ending.Ending.TheVariants.{Memory, Refused}
-use Rattle.ladder_text.specs.declared.text.TextFault.{TextFault}
 use Rattle.ladder_text.specs.declared.text.TextFault.TheVariants as fault
-use Rattle.ladder_text.specs.Text.{reading_of}
 use Rattle.ladder_text.specs.Report.{KeyRow, Output, Place, Again, Anew, Taken, output_of, output_from, place_in, rows_after, then_rest, Refuses, Writes}
 
 -- the output of lines, and of a bad line

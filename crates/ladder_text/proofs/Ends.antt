@@ -1,10 +1,8 @@
 -- Each text that is written for a ladder text is a line.
 use Rattle.std.proofs.Common.{◌≡◌, ℕ, true, List}
-use Rattle.std.specs.Prelude.{codes}
-use Rattle.std.specs.Fmt.{decimal}
+use Rattle.std.specs.{Prelude.codes, Fmt.decimal}
 use Rattle.hex.specs.Hex.{encode_lower}
-use Rattle.hmac_kdf.specs.declared.input.KdfInput.{KdfInput}
-use Rattle.hmac_kdf.specs.Kdf.{kdf_string}
+use Rattle.hmac_kdf.specs.{declared.input.KdfInput.KdfInput, Kdf.kdf_string}
 use Rattle.edge_io.specs.Lines.{EndsLine, are_lines}
 use Rattle.edge_io.proofs.Ending.{feed, is_lines, on}
 use Rattle.ladder_text.specs.Report.{row_text, root_coincidence_text, rows_coincidence_text, refusal_text}

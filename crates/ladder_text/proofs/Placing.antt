@@ -1,30 +1,20 @@
 -- Where the ladder puts a line's row.
 use Rattle.std.proofs.Common.{◌≡◌, ℕ, suc, ◌<◌, ◌⊎◌, Bool, true, not, Option, Some, None, Result, Ok, Err, List, [], ◌∷◌, ◌++◌, map, length, get_or, sym, refl, ap, subst, ◌∙◌, arith, inl, inr, length-append}
-use Rattle.std.proofs.lemmas.Bool.{false≢true}
+use Rattle.std.proofs.{lemmas.Bool.false≢true, lemmas.List.Folds.list_any_at, lemmas.List.Quantifiers.position-Some, lemmas.List.Sums.fails_before_first}
 use Rattle.std.proofs.lemmas.List.{length-map, get_or-map, map-append}
-use Rattle.std.proofs.lemmas.List.Folds.{list_any_at}
-use Rattle.std.proofs.lemmas.List.Quantifiers.{position-Some}
-use Rattle.std.proofs.lemmas.List.Sums.{fails_before_first}
 use Rattle.std.proofs.lemmas.Option.{none-some, slice_get-get_or, slice_get_within, get_or_from_slice_get, slice_get-map}
-use Rattle.std.specs.List.{slice_get, position}
-use Rattle.std.specs.Option.{option_map, option_map_or}
-use Rattle.std.specs.Result.{OnErr, is_err}
-use Rattle.std.specs.Str.{bytes_eq}
+use Rattle.std.specs.{List.slice_get, List.position, Option.option_map, Option.option_map_or, Result.OnErr, Result.is_err, Str.bytes_eq}
 use Rattle.annex_a_keys.specs.AlgType.{distinguisher}
 use Rattle.hmac_kdf.specs.declared.input.KdfInput.TheVariants as input
 use Rattle.hmac_kdf.specs.Kdf.{kdf}
-use Rattle.key_terms.specs.declared.ladder.LadderFault.{LadderFault}
+use Rattle.key_terms.specs.{declared.ladder.LadderFault.LadderFault, declared.row.LadderRow.LadderRow, declared.row.Origin.Origin, declared.row.Row.Row}
 use Rattle.key_terms.specs.declared.ladder.LadderFault.TheVariants as fault
-use Rattle.key_terms.specs.declared.row.LadderRow.{LadderRow}
-use Rattle.key_terms.specs.declared.row.Origin.{Origin}
 use Rattle.key_terms.specs.declared.row.Origin.TheVariants as origin
-use Rattle.key_terms.specs.declared.row.Row.{Row}
 use Rattle.key_terms.specs.Ladder.{row, unheld, octets_at, origin_at, IsLadder, Coincides, row_of as row_with}
 use Rattle.key_terms.proofs.LadderLemmas.{found_row}
 use Rattle.key_terms.proofs.Places.{position-None, slice_get_stays, slice_get_push}
-use Rattle.ladder_text.specs.declared.line.LadderLine.{LadderLine}
+use Rattle.ladder_text.specs.{declared.line.LadderLine.LadderLine, Text.same, Text.meets}
 use Rattle.ladder_text.specs.declared.line.LadderLine.TheVariants.{Root, Kenb, Nh, Star, Alg}
-use Rattle.ladder_text.specs.Text.{same, meets}
 use Rattle.ladder_text.specs.Report.{KeyRow, key_at, octets_in, Place, Again, Anew, Taken, place_by_octets, place_in, rows_after}
 use Rattle.ladder_text.specs.Rows.{origin_in, Refers, StandsFor, answer_at}
 use Rattle.ladder_text.proofs.Rows.{found_or_not, row_in, row_at, one_origin, octets_place}

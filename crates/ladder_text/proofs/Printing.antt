@@ -1,32 +1,20 @@
 -- The output, line after line.
 use Rattle.std.proofs.Common.{length-append, ◌≡◌, ◌≢◌, ℕ, suc, ◌+◌, ◌<◌, ◌≤◌, ◌⊎◌, ◌||◌, Bool, true, false, cond, Some, None, Ok, Err, List, [], ◌∷◌, ◌++◌, map, length, get_or, drop, sym, refl, ap, subst, ◌∙◌, arith, inl, inr, append_assoc, append-nil}
 use Rattle.std.proofs.lemmas.List.{length-map, get_or-map, map-append}
-use Rattle.std.proofs.lemmas.List.Folds.{list_any_at}
-use Rattle.std.proofs.lemmas.List.Quantifiers.{position-Some}
-use Rattle.std.proofs.lemmas.Option.{none-some}
-use Rattle.std.specs.List.{position, list_any}
-use Rattle.std.specs.Option.{option_map_or}
-use Rattle.std.specs.Str.{bytes_eq}
-use Rattle.std.proofs.Math.Seq.{drop-cons}
+use Rattle.std.proofs.{lemmas.List.Folds.list_any_at, lemmas.List.Quantifiers.position-Some, lemmas.Option.none-some, Math.Seq.drop-cons}
+use Rattle.std.specs.{List.position, List.list_any, Option.option_map_or, Str.bytes_eq}
 use Rattle.edge_io.proofs.Known.{nothing_out, all_out, grows_twice, proper_prefix_on}
-use Rattle.edge_io.specs.Told.{Told}
-use Rattle.edge_io.specs.Cause.{NoCountFell}
+use Rattle.edge_io.specs.{Told.Told, Cause.NoCountFell}
 use Rattle.edge_io.specs.Octets.{Grows, GrowsByPrefix, GrowsByProperPrefix}
 use Rattle.key_terms.specs.declared.ladder.LadderFault.TheVariants as fault
-use Rattle.key_terms.specs.declared.row.LadderRow.{LadderRow}
-use Rattle.key_terms.specs.declared.row.Origin.{Origin}
-use Rattle.key_terms.specs.declared.row.Row.{Row}
-use Rattle.key_terms.specs.Ladder.{row}
+use Rattle.key_terms.specs.{declared.row.LadderRow.LadderRow, declared.row.Origin.Origin, declared.row.Row.Row, Ladder.row}
 use Rattle.key_terms.proofs.Places.{slice_get_at_end, position-None}
-use Rattle.ladder_text.specs.declared.line.LadderLine.{LadderLine}
-use Rattle.ladder_text.specs.declared.ending.Ending.{Ending}
+use Rattle.ladder_text.specs.{declared.line.LadderLine.LadderLine, declared.ending.Ending.Ending, Rows.StandsFor, Rows.answer_at}
 use Rattle.ladder_text.specs.declared.ending.Ending.TheVariants.{Done, Memory, WriteFault, Coincidence}
 use Rattle.ladder_text.specs.Text.{same, meets, with_row, AreGood}
 use Rattle.ladder_text.specs.Report.{KeyRow, key_at, derived_in, octets_in, kind_of, row_text, coincidence_text, Place, Again, Anew, Taken, place_by_octets, place_in, rows_after, ends_at, text_at, Output, then_rest, output_from, TextAt, Writes}
-use Rattle.ladder_text.specs.Rows.{StandsFor, answer_at}
 use Rattle.text_lines.proofs.Ended.{none_passes}
-use Rattle.ladder_text.proofs.Rows.{row_in}
-use Rattle.ladder_text.proofs.Placing.{again_key, number_or_none}
+use Rattle.ladder_text.proofs.{Rows.row_in, Placing.again_key, Placing.number_or_none}
 
 -- the rows where one is the same derivation
 place_again : (rows : List KeyRow) (line : LadderLine) (k : ℕ) → place_in rows line ≡ Again k → position (λ r. same r.line line) rows ≡ Some k

@@ -1,12 +1,9 @@
 -- One line of a ladder text after another.
 use Rattle.std.proofs.Common.{◌≡◌, ℕ, ◌+◌, ◌<◌, ◌<◌, ltb, Bool, true, false, cond, Option, Some, None, Ok, Err, List, [], ◌∷◌, ◌++◌, length, sym, refl, ap, subst, ◌∙◌, arith}
-use Rattle.std.proofs.lemmas.Bool.{ltb-true}
-use Rattle.std.proofs.lemmas.Option.{none-some}
-use Rattle.std.specs.List.{fold}
-use Rattle.std.specs.Option.{option_map_or, option_and_then}
+use Rattle.std.proofs.{lemmas.Bool.ltb-true, lemmas.Option.none-some}
+use Rattle.std.specs.{List.fold, Option.option_map_or, Option.option_and_then}
 use Rattle.ladder_text.specs.declared.line.LadderLine.{LadderLine}
-use Rattle.text_lines.specs.Lines.{lines_of}
-use Rattle.text_lines.specs.Words.{words_of}
+use Rattle.text_lines.specs.{Lines.lines_of, Words.words_of}
 use Rattle.ladder_text.specs.Text.{line_of, meets, with_row, rows_of, next_line, reading_from, reading_of, AreGood}
 
 pub reading_begins : (text : List ℕ) (lines : List LadderLine) → lines ≡ [] → reading_of text ≡ reading_from lines (lines_of text)

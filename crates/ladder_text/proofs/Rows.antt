@@ -1,21 +1,15 @@
 -- How the rows of the ladder stand for the lines: what a line names, and where it finds its row.
 use Rattle.std.proofs.Common.{◌≡◌, ℕ, ◌+◌, ◌<◌, ◌≤◌, ◌==◌, ◌&&◌, not, ◌⊎◌, Bool, true, false, cond, Option, Some, None, List, [], ◌∷◌, map, length, sym, refl, ap, subst, ◌∙◌, arith, inl, inr}
-use Rattle.std.proofs.lemmas.Bool.{false≢true, and_parts}
+use Rattle.std.proofs.{lemmas.Bool.false≢true, lemmas.Bool.and_parts, lemmas.Bool.Decides.Decides-eqb, lemmas.Slice.Eq.bytes_eq-Decides, lemmas.List.length-map}
 use Rattle.std.proofs.lemmas.Option.{none-some, slice_get-map, slice_get_within, slice_get_cases}
-use Rattle.std.proofs.lemmas.Bool.Decides.{Decides-eqb}
-use Rattle.std.proofs.lemmas.Slice.Eq.{bytes_eq-Decides}
-use Rattle.std.proofs.lemmas.List.{length-map}
 use Rattle.std.specs.List.{slice_get, position, prefix_len}
 use Rattle.std.specs.Option.{option_map, option_map_or, is_some, unwrap_or}
 use Rattle.std.specs.Str.{bytes_eq}
 use Rattle.hmac_kdf.specs.declared.input.KdfInput.TheVariants as input
 use Rattle.hmac_kdf.specs.Kdf.{kdf}
-use Rattle.annex_a_keys.specs.AlgType.{distinguisher}
-use Rattle.annex_a_keys.specs.Derived.{derivation}
-use Rattle.annex_a_keys.specs.declared.derived.Derived.{Derived}
-use Rattle.key_terms.specs.declared.row.LadderRow.{LadderRow}
+use Rattle.annex_a_keys.specs.{AlgType.distinguisher, Derived.derivation, declared.derived.Derived.Derived}
+use Rattle.key_terms.specs.{declared.row.LadderRow.LadderRow, declared.row.Row.Row}
 use Rattle.key_terms.specs.declared.row.Origin.TheVariants as origin
-use Rattle.key_terms.specs.declared.row.Row.{Row}
 use Rattle.key_terms.specs.Ladder.{row, unheld, octets_at, origin_at, origin_of, HasRoot, HasSync, IsLadder, row_of as row_with}
 use Rattle.ladder_text.specs.declared.line.LadderLine.{LadderLine}
 use Rattle.ladder_text.specs.declared.line.LadderLine.TheVariants.{Root, Kenb, Nh, Star, Alg}

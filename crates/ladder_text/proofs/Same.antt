@@ -1,24 +1,14 @@
 -- Lines that are the same.
 use Rattle.std.proofs.Common.{◌≡◌, ℕ, ◌==◌, ◌&&◌, ◌||◌, Bool, true, false, cond, Option, Some, None, is_some, List, [], ◌∷◌, ◌++◌, map, sym, ap, subst, refl, ◌∙◌, arith}
-use Rattle.std.proofs.lemmas.Bool.{false≢true, and_parts}
-use Rattle.std.proofs.lemmas.Bool.Decides.{Decides-eqb}
-use Rattle.std.proofs.lemmas.Slice.Eq.{bytes_eq-Decides}
-use Rattle.std.proofs.lemmas.Cmp.{nat_eq_equiv, nat_list_eq_equiv}
-use Rattle.std.specs.List.{list_any}
-use Rattle.std.specs.Map.{lookup}
-use Rattle.std.proofs.lemmas.List.{map-append}
+use Rattle.std.proofs.{lemmas.Bool.false≢true, lemmas.Bool.and_parts, lemmas.Bool.Decides.Decides-eqb, lemmas.Slice.Eq.bytes_eq-Decides, lemmas.Cmp.nat_eq_equiv, lemmas.Cmp.nat_list_eq_equiv, lemmas.List.map-append}
+use Rattle.std.specs.{List.list_any, Map.lookup}
 use Rattle.indexmap.specs.IndexMap.{IndexMap, get, get_by, insert_entry}
 use Rattle.indexmap.proofs.CallerLemmas.{insert_entry-new}
-use Rattle.annex_a_keys.specs.AlgType.{distinguisher}
-use Rattle.annex_a_keys.specs.declared.alg_type.AlgType.{AlgType}
+use Rattle.annex_a_keys.specs.{AlgType.distinguisher, declared.alg_type.AlgType.AlgType}
 use Rattle.annex_a_keys.specs.declared.alg_type.AlgType.TheVariants.{NasEnc, NasInt, RrcEnc, RrcInt, UpEnc}
 use Rattle.key_terms.specs.Ladder.{row}
-use Rattle.ladder_text.specs.declared.line.LadderLine.{LadderLine}
+use Rattle.ladder_text.specs.{declared.line.LadderLine.LadderLine, Text.same, Text.with_row, Key.line_key, Key.AreKeyed, declared.key.LineKey.LineKey, contracts.key.LineKeyPartialEq.TheImpl.eq-value}
 use Rattle.ladder_text.specs.declared.line.LadderLine.TheVariants.{Root, Kenb, Nh, Star, Alg}
-use Rattle.ladder_text.specs.Text.{same, with_row}
-use Rattle.ladder_text.specs.Key.{line_key, AreKeyed}
-use Rattle.ladder_text.specs.declared.key.LineKey.{LineKey}
-use Rattle.ladder_text.specs.contracts.key.LineKeyPartialEq.TheImpl.{eq-value}
 
 -- two types with one distinguisher are one
 one_type : (a b : AlgType) → distinguisher a ≡ distinguisher b → a ≡ b

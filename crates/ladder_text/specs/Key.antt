@@ -1,9 +1,8 @@
 -- What a line says, in numbers: the key by which it is found.
 use Rattle.std.specs.Prelude.{◌≡◌, List, [], ◌∷◌}
 use Rattle.annex_a_keys.specs.AlgType.{distinguisher}
-use Rattle.ladder_text.specs.declared.key.LineKey.{LineKey}
+use Rattle.ladder_text.specs.{declared.key.LineKey.LineKey, declared.line.LadderLine.LadderLine}
 use Rattle.ladder_text.specs.declared.key.LineKey.TheVariants as key
-use Rattle.ladder_text.specs.declared.line.LadderLine.{LadderLine}
 use Rattle.ladder_text.specs.declared.line.LadderLine.TheVariants.{Root, Kenb, Nh, Star, Alg}
 
 abbrev pub line_key : LadderLine → LineKey

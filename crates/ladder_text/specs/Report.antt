@@ -1,26 +1,17 @@
 -- What is written for a ladder text.
 use Rattle.std.specs.Prelude.{◌≡◌, ◌≢◌, ℕ, ◌+◌, Option, Some, None, Result, Ok, Err, List, [], ◌∷◌, ◌++◌, length, codes, slice_get, position}
-use Rattle.std.specs.Fmt.{decimal}
-use Rattle.std.specs.Option.{option_map_or}
-use Rattle.std.specs.Str.{bytes_eq}
+use Rattle.std.specs.{Fmt.decimal, Option.option_map_or, Str.bytes_eq}
 use Rattle.hex.specs.Hex.{encode_lower}
-use Rattle.edge_io.specs.Told.{Told}
-use Rattle.edge_io.specs.Cause.{Rose}
+use Rattle.edge_io.specs.{Told.Told, Cause.Rose}
 use Rattle.edge_io.specs.Octets.{Grows, GrowsByPrefix, GrowsByProperPrefix}
-use Rattle.hmac_kdf.specs.declared.input.KdfInput.{KdfInput}
+use Rattle.hmac_kdf.specs.{declared.input.KdfInput.KdfInput, Kdf.kdf_string}
 use Rattle.hmac_kdf.specs.declared.input.KdfInput.TheVariants as input
-use Rattle.hmac_kdf.specs.Kdf.{kdf_string}
-use Rattle.annex_a_keys.specs.AlgType.{distinguisher}
-use Rattle.annex_a_keys.specs.Derived.{derivation}
-use Rattle.annex_a_keys.specs.declared.derived.Derived.{Derived}
+use Rattle.annex_a_keys.specs.{AlgType.distinguisher, Derived.derivation, declared.derived.Derived.Derived}
 use Rattle.key_terms.specs.declared.row.Row.{Row}
-use Rattle.ladder_text.specs.declared.line.LadderLine.{LadderLine}
+use Rattle.ladder_text.specs.{declared.line.LadderLine.LadderLine, declared.ending.Ending.Ending, declared.text.TextFault.TextFault, Text.same}
 use Rattle.ladder_text.specs.declared.line.LadderLine.TheVariants.{Root, Kenb, Nh, Star, Alg}
-use Rattle.ladder_text.specs.declared.ending.Ending.{Ending}
 use Rattle.ladder_text.specs.declared.ending.Ending.TheVariants.{Done, Memory, Refused, WriteFault, Coincidence}
-use Rattle.ladder_text.specs.declared.text.TextFault.{TextFault}
 use Rattle.ladder_text.specs.declared.text.TextFault.TheVariants as fault
-use Rattle.ladder_text.specs.Text.{same}
 
 -- a row of the ladder: the line that made it, and its octets
 pub record KeyRow : Type 0 where

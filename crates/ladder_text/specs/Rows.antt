@@ -2,19 +2,13 @@
 use Rattle.std.specs.Prelude.{◌≡◌, ℕ, ◌<◌, true, Some, Result, Ok, Err, List, length, map, slice_get}
 use Rattle.annex_a_keys.specs.AlgType.{distinguisher}
 use Rattle.hmac_kdf.specs.declared.input.KdfInput.TheVariants as input
-use Rattle.key_terms.specs.declared.ladder.LadderFault.{LadderFault}
+use Rattle.key_terms.specs.{declared.ladder.LadderFault.LadderFault, declared.row.LadderRow.LadderRow, declared.row.Origin.Origin, declared.row.Row.Row, Ladder.row, Ladder.unheld}
 use Rattle.key_terms.specs.declared.ladder.LadderFault.TheVariants as fault
-use Rattle.key_terms.specs.declared.row.LadderRow.{LadderRow}
-use Rattle.key_terms.specs.declared.row.Origin.{Origin}
 use Rattle.key_terms.specs.declared.row.Origin.TheVariants as origin
-use Rattle.key_terms.specs.declared.row.Row.{Row}
-use Rattle.key_terms.specs.Ladder.{row, unheld}
-use Rattle.ladder_text.specs.declared.line.LadderLine.{LadderLine}
+use Rattle.ladder_text.specs.{declared.line.LadderLine.LadderLine, declared.asked.Asked.Asked, Text.meets}
 use Rattle.ladder_text.specs.declared.line.LadderLine.TheVariants.{Root, Kenb, Nh, Star, Alg}
 use Rattle.hmac_kdf.specs.Kdf.{IsKdfInput}
-use Rattle.ladder_text.specs.declared.asked.Asked.{Asked}
 use Rattle.ladder_text.specs.declared.asked.Asked.TheVariants as asked
-use Rattle.ladder_text.specs.Text.{meets}
 use Rattle.ladder_text.specs.Report.{KeyRow, key_at, derived_in, octets_in, Place, Again, Anew, Taken}
 
 -- the origin of a line's row in the ladder

@@ -1,16 +1,13 @@
 -- What a ladder text is: which lines it has, and which line is the first bad one.
 use Rattle.std.specs.Prelude.{◌≡◌, ℕ, ◌+◌, ◌^◌, ◌==◌, nat_lt, nat_le, ◌&&◌, ◌||◌, not, Bool, true, false, if◌then◌else◌, Option, Some, None, Result, Ok, Err, List, [], ◌∷◌, ◌++◌, length, codes, slice_get}
-use Rattle.std.specs.List.{fold, list_any}
+use Rattle.std.specs.{List.fold, List.list_any, Str.bytes_eq}
 use Rattle.std.specs.Option.{option_map, option_map_or, option_and_then}
-use Rattle.std.specs.Str.{bytes_eq}
 use Rattle.text_lines.specs.Lines.{lines_of}
 use Rattle.text_lines.specs.Words.{words_of, number_of, hex_octets}
 use Rattle.annex_a_keys.specs.Cell.{Place, greatest_pci, greatest_earfcn}
-use Rattle.annex_a_keys.specs.AlgType.{distinguisher}
-use Rattle.annex_a_keys.specs.declared.alg_type.AlgType.{AlgType}
+use Rattle.annex_a_keys.specs.{AlgType.distinguisher, declared.alg_type.AlgType.AlgType}
 use Rattle.annex_a_keys.specs.declared.alg_type.AlgType.TheVariants.{NasEnc, NasInt, RrcEnc, RrcInt, UpEnc}
-use Rattle.key_terms.specs.declared.row.Row.{Row}
-use Rattle.key_terms.specs.Ladder.{row}
+use Rattle.key_terms.specs.{declared.row.Row.Row, Ladder.row}
 use Rattle.ladder_text.specs.declared.line.LadderLine.{LadderLine}
 use Rattle.ladder_text.specs.declared.line.LadderLine.TheVariants.{Root, Kenb, Nh, Star, Alg}
 

@@ -1,12 +1,9 @@
 -- The output, line after line.
 use Rattle.std.proofs.Common.{◌≡◌, ◌≢◌, ℕ, zero, suc, ◌+◌, ◌<◌, ◌≤◌, ◌&&◌, Bool, true, false, cond, List, [], ◌∷◌, ◌++◌, length, take, refl, sym, ap, subst, ◌∙◌, append_assoc, append-nil, arith}
 use Rattle.std.proofs.lemmas.Bool.{lt-ltb, le-ltb, or_parts}
-use Rattle.std.proofs.lemmas.List.Folds.{list_all-append}
-use Rattle.std.proofs.Math.Bool.{and-true, and_assoc}
-use Rattle.std.proofs.Math.Seq.{take-length}
+use Rattle.std.proofs.{lemmas.List.Folds.list_all-append, Math.Bool.and-true, Math.Bool.and_assoc, Math.Seq.take-length}
 use Rattle.edge_io.proofs.Known.{grows_twice, nothing_out}
-use Rattle.edge_io.specs.Told.{Told}
-use Rattle.edge_io.specs.Octets.{Grows}
+use Rattle.edge_io.specs.{Told.Told, Octets.Grows}
 use Rattle.calc_text.specs.Answer.{answer_to}
 use Rattle.text_lines.specs.Lines.{is_feed, has_feed, ended, last_line}
 use Rattle.text_lines.proofs.Ended.{AreWhole, ended_append}

@@ -3,10 +3,8 @@ use Rattle.std.proofs.Common.{◌≡◌, ℕ, Bool, true, false, cond, List, [],
 use Rattle.edge_io.specs.Lines.{are_lines}
 use Rattle.edge_io.proofs.Ending.{feed, is_lines, on}
 use Rattle.text_lines.specs.Words.{words_of}
-use Rattle.calc_text.specs.declared.fields.Field.{Field}
-use Rattle.calc_text.specs.declared.requests.Request.{Request}
+use Rattle.calc_text.specs.{declared.fields.Field.Field, declared.requests.Request.Request, Reading.request_of}
 use Rattle.calc_text.specs.Answer.{gives, bad_text, answered, is_silent, answer_to}
-use Rattle.calc_text.specs.Reading.{request_of}
 
 answered_is_line : (r : Result Request Field) → are_lines (answered r).text ≡ true
 answered_is_line (Ok request) = is_lines _ (on (gives request) _ feed)

@@ -1,17 +1,14 @@
 -- The run, piece after piece.
 use Rattle.std.proofs.Common.{◌≡◌, ℕ, suc, ◌+◌, ◌≤◌, ◌&&◌, Bool, true, false, Option, Some, None, List, [], ◌∷◌, ◌++◌, length, length-append, take, refl, sym, ap, subst, ◌∙◌, append_assoc, append-nil, arith, inl, inr}
-use Rattle.std.proofs.lemmas.List.{take-append-le}
-use Rattle.std.proofs.lemmas.List.Folds.{list_all-append}
+use Rattle.std.proofs.{lemmas.List.take-append-le, lemmas.List.Folds.list_all-append}
 use Rattle.std.specs.Io.KnownBytes.{IsAtEnd, prepend_known}
 use Rattle.edge_io.proofs.Known.{gives_none, gives_twice, grows_twice, nothing_out}
-use Rattle.edge_io.specs.Told.{Told, HasEnded}
-use Rattle.edge_io.specs.Octets.{Grows}
+use Rattle.edge_io.specs.{Told.Told, Told.HasEnded, Octets.Grows}
 use Rattle.calc_text.specs.Answer.{answer_to}
 use Rattle.text_lines.specs.Lines.{has_feed, lines_of, ended, last_line}
 use Rattle.text_lines.proofs.Ended.{ended_append, lines_first, lines_last, long_first}
-use Rattle.lte_calc.specs.declared.status.Status.{Status}
+use Rattle.lte_calc.specs.{declared.status.Status.Status, Output.longest_line, Output.output_of}
 use Rattle.lte_calc.specs.declared.status.Status.TheVariants.{Done, Memory, BadWords, Refused, ReadFault, WriteFault, TooLong}
-use Rattle.lte_calc.specs.Output.{longest_line, output_of}
 use Rattle.lte_calc.specs.Run.{IsLine, AreLines, BeginTooLong, Came, AllAnswered, RunAt, Run, RunIsComplete}
 use Rattle.lte_calc.specs.Lines.{ends_of, all_good, AnsweredUpTo, StoppedAt, StoppedIn, LastAt}
 use Rattle.lte_calc.proofs.Answering.{are_append, are_whole, no_output, text_append, ends_is, ends_too_long}

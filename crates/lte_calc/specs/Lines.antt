@@ -1,14 +1,11 @@
 -- What is so while the lines are answered.
 use Rattle.std.specs.Prelude.{◌≡◌, ◌&&◌, Bool, true, false, List, [], ◌∷◌, ◌++◌, ℕ, ◌<◌, length, take}
 use Rattle.std.specs.List.{list_all}
-use Rattle.edge_io.specs.Told.{Told}
-use Rattle.edge_io.specs.Cause.{Rose}
-use Rattle.edge_io.specs.Octets.{Grows, GrowsByProperPrefix}
+use Rattle.edge_io.specs.{Told.Told, Cause.Rose, Octets.Grows, Octets.GrowsByProperPrefix}
 use Rattle.calc_text.specs.Answer.{Answer, answer_to}
 use Rattle.text_lines.specs.Lines.{ended, last_line}
-use Rattle.lte_calc.specs.declared.status.Status.{Status}
+use Rattle.lte_calc.specs.{declared.status.Status.Status, Output.output_of}
 use Rattle.lte_calc.specs.declared.status.Status.TheVariants.{Done, Memory, Refused, WriteFault, TooLong}
-use Rattle.lte_calc.specs.Output.{output_of}
 use Rattle.lte_calc.specs.Run.{IsLine, AreLines, BeginTooLong}
 
 -- the status of an input that was read to its end, by whether all its lines are good

@@ -1,14 +1,11 @@
 -- What is so of a run of the program at each status.
 use Rattle.std.specs.Prelude.{◌≡◌, ℕ, ◌+◌, ◌≤◌, ◌<◌, ◌⊎◌, false, Option, Some, List, [], ◌∷◌, ◌++◌, length, take}
 use Rattle.std.specs.Io.KnownBytes.{IsAtEnd}
-use Rattle.edge_io.specs.Told.{Told, HasEnded}
-use Rattle.edge_io.specs.Cause.{Rose}
-use Rattle.edge_io.specs.Octets.{Gives, Grows}
+use Rattle.edge_io.specs.{Told.Told, Told.HasEnded, Cause.Rose, Octets.Gives, Octets.Grows}
 use Rattle.calc_text.specs.Answer.{answer_to}
 use Rattle.text_lines.specs.Lines.{has_feed, lines_of, ended, last_line}
-use Rattle.lte_calc.specs.declared.status.Status.{Status}
+use Rattle.lte_calc.specs.{declared.status.Status.Status, Output.longest_line, Output.output_of}
 use Rattle.lte_calc.specs.declared.status.Status.TheVariants.{Done, Memory, BadWords, Refused, ReadFault, WriteFault, TooLong}
-use Rattle.lte_calc.specs.Output.{longest_line, output_of}
 
 -- a line has no line feed, and at most 65,536 octets
 abbrev pub IsLine : List ℕ → Type 0

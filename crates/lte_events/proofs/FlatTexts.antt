@@ -2,8 +2,7 @@
 use Rattle.std.proofs.Common.{◌≡◌, ℕ, suc, ◌≤◌, ◌+◌, List, [], ◌∷◌, ◌++◌, length, map, take, drop, refl, ap, ◌∙◌, arith}
 use Rattle.std.proofs.lemmas.List.{take-append-le, drop-append-le, length-drop, map-append}
 use Rattle.std.proofs.Math.Seq.{take-length, drop-append_seam}
-use Rattle.lte_events.specs.declared.texts.Piece.{Piece}
-use Rattle.lte_events.specs.Texts.{item_of, AreWithin}
+use Rattle.lte_events.specs.{declared.texts.Piece.Piece, Texts.item_of, Texts.AreWithin}
 
 octets_stay : (flat more : List ℕ) (start len : ℕ) → start + len ≤ length flat → take len (drop start (flat ++ more)) ≡ take len (drop start flat)
 octets_stay flat more start len within =

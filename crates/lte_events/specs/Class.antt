@@ -1,8 +1,7 @@
 -- The interface that a record is sent on, and what of its octets tells it from others.
 use Rattle.std.specs.Prelude.{ℕ, Bool, true, false, List, drop}
-use Rattle.lte_events.specs.declared.addresses.Address.{Address}
+use Rattle.lte_events.specs.{declared.addresses.Address.Address, declared.classes.Class.Class}
 use Rattle.lte_events.specs.declared.addresses.Address.TheVariants.{Phone, PhoneNas, CoreNas, CoreS1, StationAir, StationS1, StationX2}
-use Rattle.lte_events.specs.declared.classes.Class.{Class}
 use Rattle.lte_events.specs.declared.classes.Class.TheVariants.{Nas, Air, S1, X2}
 
 -- the interface of an address

@@ -1,21 +1,14 @@
 -- The event of two parts, what it is besides its text and the octets of the text; and how long that text can be.
 use Rattle.std.specs.Prelude.{ℕ, List}
 use Rattle.rec_base.specs.Lengths.{longest_packet, longest_text, longest_record}
-use Rattle.lte_events.specs.declared.acts.PhoneAct.{PhoneAct}
+use Rattle.lte_events.specs.{declared.acts.PhoneAct.PhoneAct, declared.acts.StationAct.StationAct, declared.acts.CoreAct.CoreAct, declared.events.Event.Event, declared.heads.PhoneHead.PhoneHead, declared.heads.StationHead.StationHead, declared.heads.CoreHead.CoreHead, declared.heads.Head.Head}
 use Rattle.lte_events.specs.declared.acts.PhoneAct.TheVariants as phone
-use Rattle.lte_events.specs.declared.acts.StationAct.{StationAct}
 use Rattle.lte_events.specs.declared.acts.StationAct.TheVariants as station
-use Rattle.lte_events.specs.declared.acts.CoreAct.{CoreAct}
 use Rattle.lte_events.specs.declared.acts.CoreAct.TheVariants as core
-use Rattle.lte_events.specs.declared.events.Event.{Event}
 use Rattle.lte_events.specs.declared.events.Event.TheVariants as event
-use Rattle.lte_events.specs.declared.heads.PhoneHead.{PhoneHead}
 use Rattle.lte_events.specs.declared.heads.PhoneHead.TheVariants as phone_head
-use Rattle.lte_events.specs.declared.heads.StationHead.{StationHead}
 use Rattle.lte_events.specs.declared.heads.StationHead.TheVariants as station_head
-use Rattle.lte_events.specs.declared.heads.CoreHead.{CoreHead}
 use Rattle.lte_events.specs.declared.heads.CoreHead.TheVariants as core_head
-use Rattle.lte_events.specs.declared.heads.Head.{Head}
 use Rattle.lte_events.specs.declared.heads.Head.TheVariants as head
 
 -- the act of a phone

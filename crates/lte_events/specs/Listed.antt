@@ -1,9 +1,6 @@
 -- A list of events.
 use Rattle.std.specs.Prelude.{ℕ, ◌≤◌, List, length, All}
-use Rattle.lte_events.specs.declared.events.Event.{Event}
-use Rattle.lte_events.specs.declared.heads.Head.{Head}
-use Rattle.lte_events.specs.Texts.{Item}
-use Rattle.lte_events.specs.Joined.{joined, most}
+use Rattle.lte_events.specs.{declared.events.Event.Event, declared.heads.Head.Head, Texts.Item, Joined.joined, Joined.most}
 
 -- the events, and for how many more there is room
 pub record Listed : Type 0 where

@@ -6,17 +6,7 @@ use Rattle.annex_a_keys.specs.Cell.{IsCell}
 use Rattle.rec_base.specs.Bearer.{IsSrb, IsDrb}
 use Rattle.rec_base.specs.Lengths.{longest_packet, longest_text, longest_record}
 use Rattle.rec_base.specs.Ranges.{IsNumber, IsText, IsKey}
-use Rattle.lte_events.specs.Site.{Site}
-use Rattle.lte_events.specs.declared.acts.PhoneAct.{PhoneAct}
-use Rattle.lte_events.specs.declared.acts.CoreAct.{CoreAct}
-use Rattle.lte_events.specs.declared.acts.StationAct.{StationAct}
-use Rattle.lte_events.specs.declared.addresses.Address.{Address}
-use Rattle.lte_events.specs.declared.events.Event.{Event}
-use Rattle.lte_events.specs.declared.inputs.PhoneIn.{PhoneIn}
-use Rattle.lte_events.specs.declared.inputs.StationIn.{StationIn}
-use Rattle.lte_events.specs.declared.inputs.CoreIn.{CoreIn}
-use Rattle.lte_events.specs.declared.setups.Setup.{Setup}
-use Rattle.lte_events.specs.declared.setups.StationSetup.{StationSetup}
+use Rattle.lte_events.specs.{Site.Site, declared.acts.PhoneAct.PhoneAct, declared.acts.CoreAct.CoreAct, declared.acts.StationAct.StationAct, declared.addresses.Address.Address, declared.events.Event.Event, declared.inputs.PhoneIn.PhoneIn, declared.inputs.StationIn.StationIn, declared.inputs.CoreIn.CoreIn, declared.setups.Setup.Setup, declared.setups.StationSetup.StationSetup}
 
 -- SETUPS
 

@@ -1,7 +1,6 @@
 -- The reply of an actor.
 use Rattle.std.specs.Prelude.{false, [], None}
-use Rattle.lte_events.specs.declared.answers.Answer.{Answer}
-use Rattle.lte_events.specs.declared.replies.ActorOut.{ActorOut}
+use Rattle.lte_events.specs.{declared.answers.Answer.Answer, declared.replies.ActorOut.ActorOut}
 
 -- the reply with this answer and nothing else
 abbrev pub reply_of : Answer → ActorOut

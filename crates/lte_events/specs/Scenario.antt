@@ -1,11 +1,9 @@
 -- A scenario: what a system starts with, and the events that then happen to it.
 use Rattle.std.specs.Prelude.{ℕ, ◌≤◌, IsTrue, List, length, All}
 use Rattle.lte_events.specs.Ranges.{has_station, PhoneDoes, StationDoes, IsEvent, IsSetup}
-use Rattle.lte_events.specs.declared.addresses.Address.{Address}
+use Rattle.lte_events.specs.{declared.addresses.Address.Address, declared.events.Event.Event, declared.setups.Setup.Setup}
 use Rattle.lte_events.specs.declared.addresses.Address.TheVariants as address
-use Rattle.lte_events.specs.declared.events.Event.{Event}
 use Rattle.lte_events.specs.declared.events.Event.TheVariants as event
-use Rattle.lte_events.specs.declared.setups.Setup.{Setup}
 
 -- how many events there can be
 abbrev pub most_events : ℕ

@@ -1,13 +1,9 @@
 -- What the core's choice of a row on an act established: the one walk through its refusals. For the row that was chosen, all that
 -- the passed tests say.
 use Rattle.std.proofs.Common.{◌≡◌, refl, ℕ, false, List, Option, Some, None, option_map, Result, Ok, Err, nat_le}
-use Rattle.alg_choice.specs.Choice.{choice_of}
-use Rattle.alg_choice.specs.declared.algs.Algs.{Algs}
-use Rattle.alg_choice.specs.declared.caps.Caps.{Caps}
-use Rattle.alg_choice.specs.declared.choices.NoAlgorithm.{NoAlgorithm as NoneChosen}
+use Rattle.alg_choice.specs.{Choice.choice_of, declared.algs.Algs.Algs, declared.caps.Caps.Caps, declared.choices.NoAlgorithm.NoAlgorithm as NoneChosen}
 use Rattle.annex_a_keys.specs.Cell.{Place}
-use Rattle.lte_events.specs.Site.{station_of}
-use Rattle.lte_events.specs.declared.acts.CoreAct.{CoreAct}
+use Rattle.lte_events.specs.{Site.station_of, declared.acts.CoreAct.CoreAct}
 use Rattle.lte_events.specs.declared.acts.CoreAct.TheVariants.{StartSmc, Connect, Release, SendNas, Skip}
 use Rattle.key_model.specs.Reading.{Reading}
 use Rattle.nas_count.specs.Estimate.{nas_count_limit}
@@ -15,10 +11,8 @@ use Rattle.nas_guard.specs.Keys.{Keys, map_keys}
 use Rattle.lte_machine.specs.CoreState.{Core, CorePartial, CoreContext, CoreLink, map_core_partial, map_core_context, map_core_link}
 use Rattle.lte_machine.specs.CoreRows.{CoreActRow, ActRefused, SmcStarted, ContextSetUp, ContextReleased, NasSent, NasSkipped}
 use Rattle.lte_machine.specs.CoreChoice.{NUMBERS, smc_row, start_smc_row, connect_row, release_row, send_nas_row, skip_nas_row, core_act_row}
-use Rattle.lte_machine.specs.CoreStep.{plain_core}
-use Rattle.lte_machine.specs.Reply.{unseen}
-use Rattle.lte_machine.proofs.NasFacts.{NoNumber}
-use Rattle.lte_machine.proofs.Tests.{by_test}
+use Rattle.lte_machine.specs.{CoreStep.plain_core, Reply.unseen}
+use Rattle.lte_machine.proofs.{NasFacts.NoNumber, Tests.by_test}
 
 -- a Security Mode Command of the partial context, with its next COUNT, and no procedure is open
 pub record Starts {K C : Type 0} (s : Core K C) (act : CoreAct) (ksi : ℕ) (algs : Algs) (caps : Caps) (count : ℕ) : Type 0 where

@@ -1,22 +1,17 @@
 -- What a change of the key and a completed handover leave: preparations, connection numbers and COUNTs.
 use Rattle.std.specs.Prelude.{◌≡◌, ℕ, List, [], ◌∷◌, ◌++◌, reverse, Option, Some, None, option_map, Ok}
 use Rattle.std.proofs.Common.{refl}
-use Rattle.rec_base.specs.declared.uses.Dir.TheVariants.{Down}
-use Rattle.rec_base.specs.declared.bearers.Bearer.TheVariants.{Srb1}
-use Rattle.rec_base.specs.declared.ways.Way.{Way}
+use Rattle.rec_base.specs.{declared.uses.Dir.TheVariants.Down, declared.bearers.Bearer.TheVariants.Srb1, declared.ways.Way.Way}
 use Rattle.rec_base.specs.declared.ways.Way.TheVariants.{Given, Completed}
-use Rattle.lte_events.specs.declared.acts.StationAct.{StationAct}
-use Rattle.lte_events.specs.declared.answers.Answer.{Answer}
+use Rattle.lte_events.specs.{declared.acts.StationAct.StationAct, declared.answers.Answer.Answer, declared.events.Event.Event}
 use Rattle.lte_events.specs.declared.answers.Answer.TheVariants.{Done, OldConnection, NotAddressed}
-use Rattle.lte_events.specs.declared.events.Event.{Event}
 use Rattle.key_model.specs.Reading.{term_reading}
 use Rattle.key_model.specs.Term.{Term, Root, Kenb, Star}
 use Rattle.s1x2_rec.specs.Fields.{Fields, InitialContext, X2Request, ContextModification}
 use Rattle.lte_machine.specs.Opening.{Outcome, Opened, open_octets}
 use Rattle.lte_machine.specs.Run.{RunState, Running, Stopped, replay}
 use Rattle.lte_machine.specs.StationState.{Station, StationInput, AirPdu, StationRecord, Interface, OnS1, OnX2, first_station}
-use Rattle.lte_machine.specs.StationStep.{station_step}
-use Rattle.lte_machine.specs.Wire.{Outgoing, SealedRrc}
+use Rattle.lte_machine.specs.{StationStep.station_step, Wire.Outgoing, Wire.SealedRrc}
 use Rattle.lte_machine.proofs.KeyChanges.{changed}
 use Rattle.lte_machine.proofs.Scenario.{command, computing, intra, machine, newest, opening, place, s1, setup, start, toy, x2_to}
 

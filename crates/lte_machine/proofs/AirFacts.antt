@@ -4,24 +4,18 @@ use Rattle.std.proofs.Common.{◌≡◌, refl, sym, subst, ℕ, ◌<◌, Bool, t
 use Rattle.std.specs.Prelude.{⊤}
 use Rattle.rec_base.specs.declared.faults.RecFault.{RecFault}
 use Rattle.key_model.specs.Reading.{Reading}
-use Rattle.pdcp_guard.specs.declared.pdus.PdcpFault.{PdcpFault}
-use Rattle.pdcp_guard.specs.Srb.{srb_count}
-use Rattle.pdcp_guard.specs.Drb.{drb_count}
-use Rattle.rrc_rec.specs.declared.records.RrcRecord.{RrcRecord}
+use Rattle.pdcp_guard.specs.{declared.pdus.PdcpFault.PdcpFault, Srb.srb_count, Drb.drb_count}
+use Rattle.rrc_rec.specs.{declared.records.RrcRecord.RrcRecord, Reading.read_rrc}
 use Rattle.rrc_rec.specs.declared.records.RrcRecord.TheVariants.{SecurityModeComplete, ReconfigurationComplete, RrcData}
-use Rattle.rrc_rec.specs.Reading.{read_rrc}
 use Rattle.ho_prep.specs.declared.origins.By.{By}
 use Rattle.ho_prep.specs.Prep.{Prep, map_prep, at_air}
 use Rattle.ho_prep.proofs.CarryFacts.{at_air-map}
 use Rattle.lte_machine.specs.Bearers.{Srb, Signalling1, Signalling2, Drb, Which, OnSrb, OnDrb, srb_counts, drb_counts}
-use Rattle.lte_machine.specs.Opening.{Outcome, Opened}
-use Rattle.lte_machine.specs.Reply.{unseen}
+use Rattle.lte_machine.specs.{Opening.Outcome, Opening.Opened, Reply.unseen, StationStep.plain_station}
 use Rattle.lte_machine.specs.StationState.{Station, Context, map_context}
 use Rattle.lte_machine.specs.StationRows.{AirRow, AirRefused, SecurityStarted, RrcOpened, PacketOpened, CompletedByS1, CompletedWithin, CompletedByX2}
 use Rattle.lte_machine.specs.StationChoice.{runs_out, AirFront, AirSettled, OnStarting, OnSignalling, OnUser, OnPrepared, counted, starting_front, active_front, context_front, prepared_front, air_front_by, air_front, starting_row, rrc_row, completed_row, prepared_row, user_text, air_row}
-use Rattle.lte_machine.specs.StationStep.{plain_station}
-use Rattle.lte_machine.proofs.Tests.{by_test, same_of}
-use Rattle.lte_machine.proofs.RecordFacts.{one_left}
+use Rattle.lte_machine.proofs.{Tests.by_test, Tests.same_of, RecordFacts.one_left}
 
 -- the context at the air address, whose security starts
 pub record AtStarting {K C : Type 0} (s : Station K C) (air : ℕ) (on : Which) (pdu : List ℕ) (count : ℕ) : Type 0 where

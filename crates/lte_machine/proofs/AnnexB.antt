@@ -4,21 +4,17 @@ use Rattle.std.specs.Bool.{Decides}
 use Rattle.std.proofs.lemmas.Bool.Decides.{Decides-and, Decides-eqb}
 use Rattle.rec_base.specs.declared.uses.Dir.{Dir}
 use Rattle.rec_base.specs.declared.uses.Dir.TheVariants.{Up, Down}
-use Rattle.alg_choice.specs.declared.algs.Eea.{Eea}
+use Rattle.alg_choice.specs.{declared.algs.Eea.Eea, Algs.identity_of}
 use Rattle.alg_choice.specs.declared.algs.Eea.TheVariants.{Eea0, Eea2}
-use Rattle.alg_choice.specs.Algs.{identity_of}
 use Rattle.ctr_eea2.proofs.CombinedLemmas.{length-eea2_of}
-use Rattle.key_model.specs.Use.{map_use}
-use Rattle.key_model.specs.Value.{value_of, same_value}
+use Rattle.key_model.specs.{Use.map_use, Value.value_of, Value.same_value}
 use Rattle.key_model.proofs.TermFacts.{same_value-Decides}
 use Rattle.nas_guard.specs.Cipher.{ciphered}
 use Rattle.nas_guard.proofs.SealFacts.{ciphered-ciphered, length-mac_of}
 use Rattle.lte_machine.specs.Wire.{KeyUse, Ciphering, map_ciphering}
 use Rattle.lte_machine.specs.Ciphers.{Ciphers, annex_b, under_keys, ciphered_by}
 use Rattle.lte_machine.specs.Opening.{same_dir, same_uses, same_ciphering}
-use Rattle.lte_machine.proofs.Opens.{Respects}
-use Rattle.lte_machine.proofs.CipherLaws.{AreCiphers}
-use Rattle.lte_machine.proofs.Tests.{both_true}
+use Rattle.lte_machine.proofs.{Opens.Respects, CipherLaws.AreCiphers, Tests.both_true}
 
 length-ciphered : (eea : Eea) (key : List ℕ) (count bearer : ℕ) (dir : Dir) (text : List ℕ) → length (ciphered eea key count bearer dir text) ≡ length text
 unfolding ciphered

@@ -6,11 +6,8 @@ use Rattle.rec_base.specs.declared.ways.Way.TheVariants.{Horizontal, Vertical, G
 use Rattle.lte_events.specs.declared.answers.Answer.TheVariants.{AttemptOpen, CommandSent, NoPathSwitch, UnknownCell}
 use Rattle.lte_events.specs.declared.events.Event.{Event}
 use Rattle.key_model.specs.Term.{Term, same_term}
-use Rattle.lte_machine.specs.Wire.{KeyUse, Outgoing}
-use Rattle.lte_machine.specs.Opening.{open_octets, same_uses}
-use Rattle.lte_machine.specs.Reply.{Made}
+use Rattle.lte_machine.specs.{Wire.KeyUse, Wire.Outgoing, Opening.open_octets, Opening.same_uses, Reply.Made, World.World}
 use Rattle.lte_machine.specs.Run.{RunState, Running, Stopped, replay}
-use Rattle.lte_machine.specs.World.{World}
 use Rattle.lte_machine.proofs.Scenario.{ask, cancel, command, computing, done, from_step, intra, machine, newest, notes, opening, refuses, s1, start, toy, x2, x2_to}
 
 -- an S1 handover is cancelled: its chain step stays taken, and the source never held that NH

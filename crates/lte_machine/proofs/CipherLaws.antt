@@ -1,7 +1,6 @@
 -- What a MAC and a ciphering must do, so that what is sent opens.
 use Rattle.std.specs.Prelude.{◌≡◌, ℕ, List, length}
-use Rattle.lte_machine.specs.Wire.{KeyUse, Ciphering}
-use Rattle.lte_machine.specs.Ciphers.{Ciphers}
+use Rattle.lte_machine.specs.{Wire.KeyUse, Wire.Ciphering, Ciphers.Ciphers}
 
 -- what a MAC and a ciphering must do: a MAC has four octets, a ciphered text has the length of the text, and ciphering
 -- twice gives the text (TS 33.401 B.1.1 and B.2.1)

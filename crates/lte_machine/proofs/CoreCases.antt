@@ -3,11 +3,9 @@
 -- of a procedure, a context in use or a connection, the core of its case has it. What is known of a row comes as a predicate on
 -- cores and rows.
 use Rattle.std.proofs.Common.{ℕ, Bool, List, Option, Some, None}
-use Rattle.alg_choice.specs.declared.algs.Algs.{Algs}
-use Rattle.alg_choice.specs.declared.caps.Caps.{Caps}
+use Rattle.alg_choice.specs.{declared.algs.Algs.Algs, declared.caps.Caps.Caps}
 use Rattle.annex_a_keys.specs.Cell.{Place}
-use Rattle.lte_events.specs.declared.answers.Answer.{Answer}
-use Rattle.lte_events.specs.declared.answers.Answer.TheVariants.{Done}
+use Rattle.lte_events.specs.{declared.answers.Answer.Answer, declared.answers.Answer.TheVariants.Done}
 use Rattle.key_model.specs.Reading.{Reading}
 use Rattle.nas_guard.specs.Keys.{Keys}
 use Rattle.lte_machine.specs.Reply.{only}

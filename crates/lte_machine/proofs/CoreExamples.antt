@@ -2,32 +2,23 @@
 use Rattle.std.proofs.Common.{◌≡◌, ℕ, List, [], ◌∷◌, refl}
 use Rattle.std.specs.Prelude.{Bool, false, true, Option, Some, None, Ok, Err}
 use Rattle.alg_choice.specs.declared.algs.Eea.TheVariants.{Eea0, Eea2}
-use Rattle.alg_choice.specs.declared.caps.Caps.{Caps}
-use Rattle.alg_choice.specs.Bits.{has_bit}
-use Rattle.alg_choice.specs.Choice.{choice_of}
+use Rattle.alg_choice.specs.{declared.caps.Caps.Caps, Bits.has_bit, Choice.choice_of}
 use Rattle.annex_a_keys.specs.Cell.{Place}
-use Rattle.key_model.specs.Reading.{Reading, term_reading_by}
+use Rattle.key_model.specs.{Reading.Reading, Reading.term_reading_by, Least.least}
 use Rattle.key_model.specs.Term.{Term, Root, Kenb, Nh, Alg, same_term}
-use Rattle.key_model.specs.Least.{least}
 use Rattle.lte_events.specs.declared.acts.CoreAct.TheVariants.{StartSmc, Connect, Release, SendNas, Skip}
-use Rattle.lte_events.specs.declared.addresses.Address.TheVariants.{StationS1}
-use Rattle.lte_events.specs.declared.answers.Answer.{Answer}
+use Rattle.lte_events.specs.{declared.addresses.Address.TheVariants.StationS1, declared.answers.Answer.Answer, declared.setups.FirstNcc.FirstNcc}
 use Rattle.lte_events.specs.declared.answers.Answer.TheVariants.{Done, NoContext, MacFails, CountSpent, SmcOpen, NoAlgorithm, BadRecord, Short, BadHeader, WrongKind, NoUe, OldConnection, UnknownCell, Repeated, NumberSpent, NoTrigger, NoSmc}
-use Rattle.lte_events.specs.declared.setups.FirstNcc.{FirstNcc}
 use Rattle.nas_count.specs.Estimate.{estimate_of}
 use Rattle.nas_rec.specs.Reading.{read_nas, command_of, reject_of, bare, data_of}
 use Rattle.rec_base.specs.BigEndian.{number_of, number_at, field_at}
-use Rattle.rec_base.specs.declared.faults.RecFault.{RecFault}
+use Rattle.rec_base.specs.{declared.faults.RecFault.RecFault, declared.ways.Way.TheVariants.Chained}
 use Rattle.rec_base.specs.declared.faults.RecFault as faults
-use Rattle.rec_base.specs.declared.ways.Way.TheVariants.{Chained}
 use Rattle.rec_fields.specs.Field.{of_size, number_in, algs_at, caps_at, rest_at}
 use Rattle.s1x2_rec.specs.Fields.{Fields, InitialContext, ContextRelease, PathSwitchRequest, PathSwitchAnswer, HandoverRequired, HandoverRequest, HandoverRequestAck, HandoverCommand, HandoverNotify, HandoverCancel}
-use Rattle.lte_machine.specs.CoreChoice.{core_header}
+use Rattle.lte_machine.specs.{CoreChoice.core_header, CoreStep.core_step, Reply.Note, Wire.Outgoing, Wire.Between}
 use Rattle.lte_machine.specs.CoreState.{Core, CoreInput, CoreAuth, CoreActs, CoreNasPdu, CoreRecord, first_core}
-use Rattle.lte_machine.specs.CoreStep.{core_step}
 use Rattle.lte_machine.specs.Opening.{Outcome, Opened, Differs}
-use Rattle.lte_machine.specs.Reply.{Note}
-use Rattle.lte_machine.specs.Wire.{Outgoing, Between}
 
 abbrev reading : Reading Term ℕ
 reading = term_reading_by same_term

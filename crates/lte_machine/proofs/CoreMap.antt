@@ -1,30 +1,21 @@
 -- The core's step in one reading of keys and chain numbers, carried to another, is its step there.
 use Rattle.std.proofs.Common.{◌≡◌, ℕ, Bool, true, false, refl, ap, sym, ◌∙◌}
 use Rattle.std.specs.Prelude.{List, map, Option, Some, None, option_map, Result, Ok, Err}
-use Rattle.alg_choice.specs.Algs.{identity_of, eia2_identity}
-use Rattle.alg_choice.specs.declared.algs.Algs.{Algs}
-use Rattle.alg_choice.specs.declared.caps.Caps.{Caps}
+use Rattle.alg_choice.specs.{Algs.identity_of, Algs.eia2_identity, declared.algs.Algs.Algs, declared.caps.Caps.Caps}
 use Rattle.annex_a_keys.specs.Cell.{Place}
 use Rattle.lte_events.specs.declared.setups.FirstNcc.{FirstNcc}
 use Rattle.lte_events.specs.declared.setups.FirstNcc.TheVariants.{One, Two}
-use Rattle.key_model.specs.Derivation.{map_derivation}
-use Rattle.key_model.specs.HandoverLines.{map_numbered}
-use Rattle.key_model.specs.HandoverTable.{NumberedKey}
-use Rattle.key_model.specs.Reading.{Reading, Carries}
-use Rattle.key_model.specs.Use.{map_use}
-use Rattle.nas_guard.specs.Keys.{Keys, map_keys}
-use Rattle.nas_guard.specs.Seal.{is_ciphered}
+use Rattle.key_model.specs.{Derivation.map_derivation, HandoverLines.map_numbered, HandoverTable.NumberedKey, Reading.Reading, Reading.Carries, Use.map_use}
+use Rattle.nas_guard.specs.{Keys.Keys, Keys.map_keys, Seal.is_ciphered}
 use Rattle.s1x2_rec.specs.Content.{Content}
-use Rattle.rec_base.specs.declared.faults.RecFault.{RecFault}
-use Rattle.rec_base.specs.declared.uses.Dir.TheVariants.{Up}
+use Rattle.rec_base.specs.{declared.faults.RecFault.RecFault, declared.uses.Dir.TheVariants.Up}
 use Rattle.lte_machine.specs.CoreChoice.{CoreFront, Settled, FromNas, NasSettled, OpensComplete, OpensProtected, core_front, core_row}
 use Rattle.lte_machine.specs.CoreKeys.{sync_from, number_from, nh_kept, opens_by_procedure, opens_by_context, core_expects, authenticated, smc_started, smc_complete, key_changed, service_asked, nas_opened, sealed_reject, nas_sent, nas_skipped, context_set_up, path_switched, handover_asked, handover_notified, core_does_nas, core_does_record, core_does_act, core_does}
 use Rattle.lte_machine.specs.CoreRows.{CoreNasRow, NasRefused, PlainReject, SmcComplete, SmcChange, ServiceAsked, NasOpened, SealedReject, CoreRecordRow, PathSwitched, HandoverAsked, HandoverNotified, CoreActRow, ActRefused, SmcStarted, ContextSetUp, ContextReleased, NasSent, NasSkipped, CoreRow, OfNas, OfRecord, OfAct, OfAuth}
 use Rattle.lte_machine.specs.CoreState.{Core, CorePartial, CoreContext, CoreLink, CoreInput, CoreAuth, CoreActs, CoreNasPdu, CoreRecord, map_core_partial, map_core_context, map_core_link, map_core, map_core_input}
 use Rattle.lte_machine.specs.CoreStep.{plain_core, plain_core_input, core_front_of, core_root, core_received, core_opens, core_ends, core_step}
 use Rattle.lte_machine.specs.Opening.{Opening, OpensNothing, OpensNas, OpensSrb, OpensDrb, Outcome, Opened, Differs, accepted_of}
-use Rattle.lte_machine.specs.Reply.{unseen}
-use Rattle.lte_machine.specs.StationState.{map_read}
+use Rattle.lte_machine.specs.{Reply.unseen, StationState.map_read}
 use Rattle.lte_machine.specs.Wire.{Ciphering, map_ciphering, nas_use, ciphering_if, nas_ciphering}
 use Rattle.lte_machine.proofs.MapSteps.{map_opening, map_core_done}
 

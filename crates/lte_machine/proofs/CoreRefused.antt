@@ -2,15 +2,12 @@
 use Rattle.std.proofs.Common.{◌≡◌, ℕ, refl, ap, ◌∙◌}
 use Rattle.std.specs.Prelude.{◌≢◌, Option, Some, None}
 use Rattle.alg_choice.specs.declared.caps.Caps.{Caps}
-use Rattle.lte_events.specs.declared.answers.Answer.{Answer}
-use Rattle.lte_events.specs.declared.answers.Answer.TheVariants.{Done}
+use Rattle.lte_events.specs.{declared.answers.Answer.Answer, declared.answers.Answer.TheVariants.Done}
 use Rattle.key_model.specs.Reading.{Reading}
-use Rattle.lte_machine.specs.CoreChoice.{core_row}
+use Rattle.lte_machine.specs.{CoreChoice.core_row, CoreState.Core, CoreState.CoreInput, Opening.Outcome}
 use Rattle.lte_machine.specs.CoreKeys.{CoreDone, authenticated, core_does_nas, core_does_record, core_does_act, core_does}
 use Rattle.lte_machine.specs.CoreRows.{CoreNasRow, NasRefused, PlainReject, SmcComplete, SmcChange, ServiceAsked, NasOpened, SealedReject, CoreRecordRow, RecordRefused, PathSwitched, HandoverAsked, HandoverOrdered, HandoverNotified, HandoverCancelled, CoreActRow, ActRefused, SmcStarted, ContextSetUp, ContextReleased, NasSent, NasSkipped, CoreRow, OfNas, OfRecord, OfAct, OfAuth}
-use Rattle.lte_machine.specs.CoreState.{Core, CoreInput}
 use Rattle.lte_machine.specs.CoreStep.{plain_core, core_front_of, core_root, core_step}
-use Rattle.lte_machine.specs.Opening.{Outcome}
 use Rattle.lte_machine.proofs.CoreCases.{by_procedure, by_partial, by_context, by_link}
 use Rattle.lte_machine.proofs.Tests.{Anything}
 

@@ -3,12 +3,8 @@ use Rattle.std.specs.Prelude.{◌≡◌, ℕ, List, [], ◌∷◌, ◌++◌, dro
 use Rattle.std.proofs.Common.{refl}
 use Rattle.alg_choice.specs.declared.algs.Eea.TheVariants.{Eea0, Eea2}
 use Rattle.rec_base.specs.declared.bearers.Bearer.TheVariants.{Srb1, Srb2, Drb1}
-use Rattle.lte_events.specs.declared.acts.PhoneAct.{PhoneAct}
-use Rattle.lte_events.specs.declared.addresses.Address.{Address}
+use Rattle.lte_events.specs.{declared.acts.PhoneAct.PhoneAct, declared.addresses.Address.Address, declared.classes.Class.Class, declared.events.Event.Event, declared.setups.Setup.Setup}
 use Rattle.lte_events.specs.declared.answers.Answer.TheVariants.{CapsMismatch, CountSpent, MacFails, NoRecord, NoSmc, NumberSpent, PrepFull, RepeatedRoot, Sent, WrongKsi}
-use Rattle.lte_events.specs.declared.classes.Class.{Class}
-use Rattle.lte_events.specs.declared.events.Event.{Event}
-use Rattle.lte_events.specs.declared.setups.Setup.{Setup}
 use Rattle.lte_machine.specs.Opening.{open_octets}
 use Rattle.lte_machine.specs.Run.{Running, first_world, report}
 use Rattle.lte_machine.proofs.Scenario.{auth, briefs, cancel, computing, done, from_step, machine, newest, number, opening, refuses, setup, smc, told, toy, x2}

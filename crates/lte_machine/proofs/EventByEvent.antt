@@ -1,27 +1,18 @@
 -- A run and what it tells, event by event.
 use Rattle.std.proofs.Common.{◌≡◌, refl, sym, ap, ◌∙◌, ℕ, zero, suc, List, [], ◌∷◌, ◌++◌, take, length, Option, Some, None, subst, map}
-use Rattle.std.specs.Prelude.{slice_get}
-use Rattle.std.specs.List.{AllByRecursion as AllOf}
-use Rattle.lte_events.specs.Ranges.{IsEvent, IsSetup}
-use Rattle.lte_events.specs.declared.events.Event.{Event}
-use Rattle.lte_events.specs.declared.setups.Setup.{Setup}
-use Rattle.key_model.specs.Term.{Term}
+use Rattle.std.specs.{Prelude.slice_get, List.AllByRecursion as AllOf}
+use Rattle.lte_events.specs.{Ranges.IsEvent, Ranges.IsSetup, declared.events.Event.Event, declared.setups.Setup.Setup}
+use Rattle.key_model.specs.{Term.Term, Value.value_of}
 use Rattle.lte_machine.specs.BothRuns.{annex_b_terms, written_run, written_report, octet_run, octet_report}
 use Rattle.lte_machine.specs.ByEvent.{EndsAt, in_octets, IsValueOfRun, IsStep, Told, IsOctetStep, IsValueOfStep}
 use Rattle.lte_machine.specs.Carried.{run_value, map_line, report_value}
-use Rattle.lte_machine.specs.Ciphers.{annex_b}
-use Rattle.lte_machine.specs.Ladder.{Clash, ladder_of}
+use Rattle.lte_machine.specs.{Ciphers.annex_b, Ladder.Clash, Ladder.ladder_of, Tuples.Coincidence, Wire.Outgoing}
 use Rattle.lte_machine.specs.Machines.{Kept, written_machine, machine_in_octets}
 use Rattle.lte_machine.specs.Opening.{Opening, Outcome, open_octets}
 use Rattle.lte_machine.specs.Run.{RunState, Running, Stopped, after, turn, replay, EventReport, Reported, Coincided, reported, event_report, report, first_world}
 use Rattle.lte_machine.specs.Step.{StepResult, Continues, Stops, by_ladder, by_coincidence, opening_coincidence, attempted, next}
-use Rattle.lte_machine.specs.Tuples.{Coincidence}
-use Rattle.lte_machine.specs.Wire.{Outgoing}
 use Rattle.lte_machine.specs.World.{Machine, World, Line, happens}
-use Rattle.lte_machine.proofs.AnnexB.{annex_b_ciphers}
-use Rattle.lte_machine.proofs.WholeRun.{run_is_value, tale_is_value}
-use Rattle.key_model.specs.Value.{value_of}
-use Rattle.lte_machine.proofs.StillRun.{still_one, over_stays}
+use Rattle.lte_machine.proofs.{AnnexB.annex_b_ciphers, WholeRun.run_is_value, WholeRun.tale_is_value, StillRun.still_one, StillRun.over_stays}
 
 module _ {K C S : Type 0} (by_octets : Opening K → List ℕ → Outcome) (m : Machine K C S) where
   pub replay_snoc : (r : RunState K C S) (es : List Event) (e : Event) → replay by_octets m r (es ++ e ∷ []) ≡ turn by_octets m (replay by_octets m r es) e

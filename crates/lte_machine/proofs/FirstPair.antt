@@ -3,17 +3,12 @@
 use Rattle.std.specs.Prelude.{◌≡◌, if◌then◌else◌, List, [], ◌∷◌, ◌++◌, drop, take, replicate, Option, ℕ}
 use Rattle.std.proofs.Common.{refl}
 use Rattle.rec_base.specs.declared.ways.Way.TheVariants.{Horizontal, Vertical, Given, Completed, Chained}
-use Rattle.lte_events.specs.declared.answers.Answer.TheVariants.{MacFails}
-use Rattle.lte_events.specs.declared.classes.Class.{Class}
-use Rattle.lte_events.specs.declared.events.Event.{Event}
-use Rattle.lte_events.specs.declared.setups.FirstNcc.{FirstNcc}
+use Rattle.lte_events.specs.{declared.answers.Answer.TheVariants.MacFails, declared.classes.Class.Class, declared.events.Event.Event, declared.setups.FirstNcc.FirstNcc}
 use Rattle.key_model.specs.Term.{Term, Root, Kenb, Nh, same_term}
-use Rattle.lte_machine.specs.Opening.{open_octets}
+use Rattle.lte_machine.specs.{Opening.open_octets, Wire.Outgoing}
 use Rattle.lte_machine.specs.Run.{RunState, Running, Stopped, first_world, replay, report}
-use Rattle.lte_machine.specs.Wire.{Outgoing}
 use Rattle.lte_machine.specs.World.{Holding, Holder, AtCore, AtPhone}
-use Rattle.lte_machine.proofs.KeyChanges.{changed}
-use Rattle.lte_machine.proofs.LateAnswers.{seven_ahead}
+use Rattle.lte_machine.proofs.{KeyChanges.changed, LateAnswers.seven_ahead}
 use Rattle.lte_machine.proofs.Ordinary as ordinary
 use Rattle.lte_machine.proofs.Scenario.{Brief, Short, briefs, computing, done, machine, newest, notes, opening, refuses, s1, setup, shorts, toy, x2_to}
 

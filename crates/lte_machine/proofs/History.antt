@@ -1,8 +1,7 @@
 -- The ladder of a history that grows: without a clash its rows are the distinct terms.
 use Rattle.std.proofs.Common.{◌≡◌, Bool, true, false, List, [], ◌∷◌, ◌++◌, Option, Some, None, refl, ap, sym, ◌∙◌, subst, inl, inr}
 use Rattle.std.proofs.lemmas.List.{map-append}
-use Rattle.key_model.specs.Term.{Term}
-use Rattle.key_model.specs.Value.{same_value}
+use Rattle.key_model.specs.{Term.Term, Value.same_value}
 use Rattle.lte_machine.specs.Ladder.{RowOrigin, row_key, Clash, Ladder, add_row, add_next, add_rows, no_rows, ladder_of}
 use Rattle.lte_machine.specs.Distinct.{keys_of, Member, is_member, with_new, distinct_after, distinct_terms, OneValueOneTerm}
 use Rattle.lte_machine.proofs.Rows.{Well, Addable, add_row_grows, is_member_is, member_left, member_right}

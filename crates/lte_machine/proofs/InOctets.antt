@@ -1,27 +1,17 @@
 -- The machine over terms and the machine in octets agree; so the run in octets is the value of the run in terms.
 use Rattle.std.proofs.Common.{◌≡◌, ℕ, List, map, Option, Some, None, refl, ap, sym, ◌∙◌}
-use Rattle.std.specs.Prelude.{option_map}
-use Rattle.std.specs.List.{AllByRecursion as AllOf}
-use Rattle.lte_events.specs.Ranges.{IsEvent}
-use Rattle.lte_events.specs.declared.events.Event.{Event}
-use Rattle.key_model.specs.Chain.{ncc_of}
-use Rattle.key_model.specs.Term.{Term}
-use Rattle.key_model.specs.Use.{map_use}
-use Rattle.key_model.specs.Value.{value_of, same_value}
+use Rattle.std.specs.{Prelude.option_map, List.AllByRecursion as AllOf}
+use Rattle.lte_events.specs.{Ranges.IsEvent, declared.events.Event.Event}
+use Rattle.key_model.specs.{Chain.ncc_of, Term.Term, Use.map_use, Value.value_of, Value.same_value}
 use Rattle.key_model.proofs.ReadingFacts.{values_carry}
 use Rattle.lte_machine.specs.Wire.{KeyUse, Ciphering, map_ciphering, Outgoing, SealedNas, PlainNas, SealedRrc, UserPacket, Between, map_outgoing}
 use Rattle.lte_machine.specs.Ciphers.{Ciphers, under_keys, nas_octets, srb_octets, drb_octets}
 use Rattle.lte_machine.specs.Opening.{Opening, OpensNothing, OpensNas, OpensSrb, OpensDrb, open_octets}
-use Rattle.lte_machine.specs.Carried.{run_value, report_value}
+use Rattle.lte_machine.specs.{Carried.run_value, Carried.report_value, World.Machine, World.World}
 use Rattle.lte_machine.specs.Machines.{Kept, machine_in_octets, opening_by_octets, written_machine, written_in_values, kept_in_values}
 use Rattle.lte_machine.specs.Run.{RunState, replay, report}
-use Rattle.lte_machine.specs.World.{Machine, World}
-use Rattle.lte_machine.proofs.AnnexB.{under_keys_ciphers, values_respect}
-use Rattle.lte_machine.proofs.NextSame.{replay_same, tale_same}
+use Rattle.lte_machine.proofs.{AnnexB.under_keys_ciphers, AnnexB.values_respect, NextSame.replay_same, NextSame.tale_same, WorldMap.Agree, CipherLaws.AreCiphers, MapSteps.map_opening}
 use Rattle.lte_machine.proofs.ReplayMap.{Keeps, Holds, replay-map, report-map}
-use Rattle.lte_machine.proofs.WorldMap.{Agree}
-use Rattle.lte_machine.proofs.CipherLaws.{AreCiphers}
-use Rattle.lte_machine.proofs.MapSteps.{map_opening}
 
 module _ {K L : Type 0} (f : K → L) (c : Ciphers L) where
   nas_octets-map : (header : ℕ) (u : KeyUse K) (e : Option (Ciphering K)) (text : List ℕ)

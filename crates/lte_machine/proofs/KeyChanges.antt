@@ -4,20 +4,12 @@ use Rattle.std.proofs.Common.{refl}
 use Rattle.alg_choice.specs.declared.algs.Eea.TheVariants.{Eea2}
 use Rattle.rec_base.specs.declared.bearers.Bearer.TheVariants.{Srb1, Srb2}
 use Rattle.rec_base.specs.declared.ways.Way.TheVariants.{Initial, Given, Completed}
-use Rattle.lte_events.specs.declared.acts.PhoneAct.{PhoneAct}
-use Rattle.lte_events.specs.declared.answers.Answer.{Answer}
+use Rattle.lte_events.specs.{declared.acts.PhoneAct.PhoneAct, declared.answers.Answer.Answer, declared.classes.Class.Class, declared.events.Event.Event}
 use Rattle.lte_events.specs.declared.answers.Answer.TheVariants.{Done, MacFails, WrongKind, OldConnection, NoTrigger}
-use Rattle.lte_events.specs.declared.classes.Class.{Class}
-use Rattle.lte_events.specs.declared.events.Event.{Event}
 use Rattle.key_model.specs.Term.{Term, Root, Kenb, Star}
-use Rattle.rrc_rec.specs.declared.records.RrcRecord.{RrcRecord}
-use Rattle.rrc_rec.specs.Spelling.{spelling_of}
-use Rattle.lte_machine.specs.Opening.{Opened, open_octets}
-use Rattle.lte_machine.specs.PhoneState.{PhoneAirPdu}
-use Rattle.lte_machine.specs.PhoneStep.{phone_step}
-use Rattle.lte_machine.specs.Reply.{Took}
+use Rattle.rrc_rec.specs.{declared.records.RrcRecord.RrcRecord, Spelling.spelling_of}
+use Rattle.lte_machine.specs.{Opening.Opened, Opening.open_octets, PhoneState.PhoneAirPdu, PhoneStep.phone_step, Reply.Took, Wire.Outgoing}
 use Rattle.lte_machine.specs.Run.{RunState, Running, Stopped, replay}
-use Rattle.lte_machine.specs.Wire.{Outgoing}
 use Rattle.lte_machine.proofs.Ordinary.{done, notes, sends}
 use Rattle.lte_machine.proofs.Scenario.{Brief, auth, computing, connect, machine, newest, number, opening, place, smc, start, told, toy}
 

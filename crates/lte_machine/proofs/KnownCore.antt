@@ -3,13 +3,10 @@ use Rattle.std.proofs.Common.{refl, ℕ, Bool, Option, Some, None, inl, inr}
 use Rattle.alg_choice.specs.declared.caps.Caps.{Caps}
 use Rattle.lte_events.specs.declared.setups.FirstNcc.{FirstNcc}
 use Rattle.lte_events.specs.declared.setups.FirstNcc.TheVariants.{One, Two}
-use Rattle.key_model.specs.Term.{Term, Kenb}
-use Rattle.key_model.specs.Reading.{term_reading_by}
-use Rattle.lte_machine.specs.Reply.{Reply}
-use Rattle.lte_machine.specs.CoreState.{Core}
+use Rattle.key_model.specs.{Term.Term, Term.Kenb, Reading.term_reading_by}
+use Rattle.lte_machine.specs.{Reply.Reply, CoreState.Core, Known.CoreKnown, Known.SentKnown}
 use Rattle.lte_machine.specs.CoreRows.{CoreRow, OfNas, OfRecord, OfAct, OfAuth}
 use Rattle.lte_machine.specs.CoreKeys.{CoreDone, sync_from, nh_kept, authenticated, core_does}
-use Rattle.lte_machine.specs.Known.{CoreKnown, SentKnown}
 use Rattle.lte_machine.proofs.CoreCases.{NasCases, nas_case, RecordCases, record_case, ActCases, act_case}
 use Rattle.lte_machine.proofs.Tests.{Anything}
 use Rattle.lte_machine.proofs.KnownLists.{OfSome, Plus, Chain, AllOut, core_more}

@@ -1,9 +1,7 @@
 -- A history that grows by derivations, each from keys that stand in it or that one before it made.
 use Rattle.std.proofs.Common.{◌≡◌, Bool, true, false, List, [], ◌∷◌, ◌++◌, map, Option, Some, None, refl, ap, sym, ◌∙◌, subst, inl, inr}
 use Rattle.std.proofs.lemmas.List.{map-append}
-use Rattle.key_model.specs.Derivation.{Derivation}
-use Rattle.key_model.specs.Term.{Term}
-use Rattle.key_model.specs.Value.{same_value}
+use Rattle.key_model.specs.{Derivation.Derivation, Term.Term, Value.same_value}
 use Rattle.lte_machine.specs.Ladder.{RowOrigin, OfRoot, Of, row_key, Clash, Ladder, add_row, add_rows, no_rows, ladder_of, root_row}
 use Rattle.lte_machine.specs.Distinct.{keys_of, Member, is_member, with_new}
 use Rattle.lte_machine.proofs.Rows.{Well, add_row_grows, is_member_is, member_left, member_right}

@@ -3,10 +3,7 @@ use Rattle.std.proofs.Common.{◌≡◌, refl, ℕ, zero, suc, ◌-◌, Bool, tr
 use Rattle.std.specs.Prelude.{IfSome, ◌⊎◌, ℤ, pos, negsuc, filter, find, slice_get}
 use Rattle.std.specs.List.{AllByRecursion as AllOf}
 use Rattle.alg_choice.specs.declared.algs.Algs.{Algs}
-use Rattle.key_model.specs.Derivation.{Derivation, star_made}
-use Rattle.key_model.specs.Term.{Term, Star}
-use Rattle.key_model.specs.HandoverTable.{NumberedKey}
-use Rattle.key_model.specs.Reading.{term_reading_by}
+use Rattle.key_model.specs.{Derivation.Derivation, Derivation.star_made, Term.Term, Term.Star, HandoverTable.NumberedKey, Reading.term_reading_by}
 use Rattle.nas_guard.specs.Keys.{Keys}
 use Rattle.pdcp_guard.specs.AsKeys.{AsKeys, as_derivations}
 use Rattle.ho_prep.specs.Prep.{Prep}

@@ -3,9 +3,7 @@ use Rattle.std.proofs.Common.{◌≡◌, refl, subst, ℕ, zero, suc, Bool, List
 use Rattle.alg_choice.specs.declared.algs.Algs.{Algs}
 use Rattle.annex_a_keys.specs.Cell.{Place}
 use Rattle.key_model.specs.Term.{Term, Star, Kenb}
-use Rattle.key_model.specs.Derivation.{Derivation, nh_made}
-use Rattle.key_model.specs.HandoverLines.{nh_after, key_after}
-use Rattle.key_model.specs.Reading.{Reading, term_reading_by}
+use Rattle.key_model.specs.{Derivation.Derivation, Derivation.nh_made, HandoverLines.nh_after, HandoverLines.key_after, Reading.Reading, Reading.term_reading_by}
 use Rattle.nh_chain.specs.Chain.{nhs_made}
 use Rattle.nh_chain.specs.Reach.{phone_of, base_after, handover_made}
 use Rattle.pdcp_guard.specs.AsKeys.{as_derivations}

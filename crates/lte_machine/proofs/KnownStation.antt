@@ -1,10 +1,7 @@
 -- Each row of a station derives from keys that are known, and leaves keys that are.
 use Rattle.std.proofs.Common.{◌≡◌, refl, subst, ℕ, nat_le, Bool, [], ◌∷◌, ◌++◌, Option, Some, None, option_map}
-use Rattle.std.specs.Prelude.{not}
-use Rattle.std.specs.List.{AllByRecursion as AllOf}
-use Rattle.key_model.specs.Term.{Term}
-use Rattle.key_model.specs.HandoverTable.{NumberedKey}
-use Rattle.key_model.specs.Reading.{term_reading_by}
+use Rattle.std.specs.{Prelude.not, List.AllByRecursion as AllOf}
+use Rattle.key_model.specs.{Term.Term, HandoverTable.NumberedKey, Reading.term_reading_by}
 use Rattle.nh_chain.specs.Station.{StationKey, pair_after, restored_if, base_of}
 use Rattle.ho_prep.specs.Prep.{Prep, at_air, drop_below, is_of, is_at}
 use Rattle.lte_machine.specs.Reply.{Origin, Reply}

@@ -2,44 +2,22 @@
 use Rattle.std.proofs.Common.{◌≡◌, refl, ℕ, List, [], ◌∷◌, ◌++◌, map, Option, Some, None, option_map, inl}
 use Rattle.std.specs.List.{AllByRecursion as AllOf}
 use Rattle.alg_choice.specs.declared.caps.Caps.{Caps}
-use Rattle.lte_events.specs.declared.answers.Answer.{Answer}
-use Rattle.lte_events.specs.declared.events.Event.{Event}
-use Rattle.lte_events.specs.declared.setups.Setup.{Setup}
-use Rattle.lte_events.specs.declared.setups.StationSetup.{StationSetup}
-use Rattle.lte_events.specs.Site.{Site}
-use Rattle.key_model.specs.Derivation.{Derivation}
-use Rattle.key_model.specs.HandoverTable.{NumberedKey}
-use Rattle.key_model.specs.Reading.{Reading, term_reading_by}
-use Rattle.key_model.specs.Term.{Term}
-use Rattle.key_model.specs.Value.{same_value}
+use Rattle.lte_events.specs.{declared.answers.Answer.Answer, declared.events.Event.Event, declared.setups.Setup.Setup, declared.setups.StationSetup.StationSetup, Site.Site}
+use Rattle.key_model.specs.{Derivation.Derivation, HandoverTable.NumberedKey, Reading.Reading, Reading.term_reading_by, Term.Term, Value.same_value}
 use Rattle.lte_machine.specs.Wire.{KeyUse, Outgoing, Between}
-use Rattle.lte_machine.specs.Opening.{Opening, Outcome}
-use Rattle.lte_machine.specs.Reply.{Reply}
+use Rattle.lte_machine.specs.{Opening.Opening, Opening.Outcome, Reply.Reply, PhoneState.Phone, PhoneState.PhoneInput, PhoneRows.Authenticated, PhoneRows.OfAuth, PhoneChoice.phone_row, CoreRows.OfAuth as OfCoreAuth, CoreChoice.core_row, Machines.content_of, Machines.machine_by, Run.stations_of, Run.first_world, Distinct.keys_of, Distinct.Member}
 use Rattle.lte_machine.specs.Ladder.{RowOrigin, OfRoot, Of}
-use Rattle.lte_machine.specs.PhoneState.{Phone, PhoneInput}
-use Rattle.lte_machine.specs.PhoneRows.{Authenticated, OfAuth}
-use Rattle.lte_machine.specs.PhoneChoice.{phone_row}
 use Rattle.lte_machine.specs.PhoneStep.{plain_phone, front_of, phone_root, phone_opens, phone_pdu_in, phone_step}
 use Rattle.lte_machine.specs.StationState.{Station, StationInput, StationActs, AirPdu, StationRecord}
 use Rattle.lte_machine.specs.StationStep.{key_read, station_key, station_opens, station_pdu_in, station_row_of, station_step}
 use Rattle.lte_machine.specs.CoreState.{Core, CoreInput, CoreActs, CoreNasPdu, CoreRecord}
-use Rattle.lte_machine.specs.CoreRows.{OfAuth as OfCoreAuth}
-use Rattle.lte_machine.specs.CoreChoice.{core_row}
 use Rattle.lte_machine.specs.CoreStep.{plain_core, core_front_of, core_root, core_received, core_opens, core_pdu_in, core_step}
 use Rattle.lte_machine.specs.World.{Holder, AtPhone, AtCore, AtStation, Machine, World, holds, uses_in, phone_after, core_after, station_after, by_world, phone_turn, core_turn, turn_of, authenticated, known_root, next_root, content_in, happens}
-use Rattle.lte_machine.specs.Machines.{content_of, machine_by}
-use Rattle.lte_machine.specs.Run.{stations_of, first_world}
-use Rattle.lte_machine.specs.Distinct.{keys_of, Member}
-use Rattle.lte_machine.proofs.Mixed.{run}
+use Rattle.lte_machine.proofs.{Mixed.run, History.Laddered, History.no_history, KnownPhone.PhoneKeeps, KnownPhone.phone_does_keeps, KnownStation.StationKeeps, KnownStation.station_does_keeps, KnownCore.CoreKeeps, KnownCore.core_does_keeps, Worlds.TheWorld}
 use Rattle.lte_machine.specs.Known.{PairKnown, StationKnown, SentKnown, IsReported, AllReported}
-use Rattle.lte_machine.proofs.History.{Laddered, no_history}
 use Rattle.lte_machine.proofs.KnownLists.{OfSome, all_append, all_one, all_more, all_put, AllOut, phone_more, station_more, core_more, sent_more, uses_in_known}
 use Rattle.lte_machine.proofs.KnownLadder.{still_in, new_in, outs_in, laddered_chain, laddered_root}
-use Rattle.lte_machine.proofs.KnownPhone.{PhoneKeeps, phone_does_keeps}
-use Rattle.lte_machine.proofs.KnownStation.{StationKeeps, station_does_keeps}
-use Rattle.lte_machine.proofs.KnownCore.{CoreKeeps, core_does_keeps}
 use Rattle.lte_machine.proofs.Routing.{Turns, no_root, happens_by}
-use Rattle.lte_machine.proofs.Worlds.{TheWorld}
 
 -- a world whose keys were all reported, each derived from keys reported before
 pub record Grounds (w : World Term ℕ (Outgoing Term ℕ)) : Type 0 where

@@ -1,45 +1,31 @@
 -- The ladder of every run that has met no coincidence: its rows stand for the distinct terms, and every key has one.
 use Rattle.std.proofs.Common.{◌≡◌, refl, sym, subst, ℕ, ◌==◌, Bool, true, false, List, [], Option, Some, None, arith, map, ◌∷◌, ap, ◌∙◌}
-use Rattle.std.specs.Prelude.{◌&&◌, slice_get}
+use Rattle.std.specs.{Prelude.◌&&◌, Prelude.slice_get, Str.bytes_eq}
 use Rattle.std.proofs.lemmas.Bool.Decides.{nat_tests}
 use Rattle.rec_base.specs.declared.uses.Dir.{Dir}
 use Rattle.rec_base.specs.declared.uses.Dir.TheVariants.{Up, Down}
-use Rattle.lte_events.specs.declared.events.Event.{Event}
-use Rattle.lte_events.specs.declared.setups.Setup.{Setup}
-use Rattle.key_model.specs.HandoverTable.{NumberedKey}
-use Rattle.key_model.specs.Term.{Term, Root}
-use Rattle.key_model.specs.Value.{value_of, same_value}
+use Rattle.lte_events.specs.{declared.events.Event.Event, declared.setups.Setup.Setup}
+use Rattle.key_model.specs.{HandoverTable.NumberedKey, Term.Term, Term.Root, Value.value_of, Value.same_value}
 use Rattle.key_model.proofs.TermFacts.{same_value-Decides}
-use Rattle.nas_guard.specs.Keys.{Keys}
-use Rattle.nas_guard.specs.Seal.{is_ciphered}
+use Rattle.nas_guard.specs.{Keys.Keys, Seal.is_ciphered}
 use Rattle.ho_prep.specs.Prep.{Prep, at_air, is_at}
 use Rattle.s1x2_rec.specs.Fields.{Fields}
-use Rattle.lte_machine.specs.Bearers.{Srb, Drb}
+use Rattle.lte_machine.specs.{Bearers.Srb, Bearers.Drb, Ciphers.Ciphers, Ciphers.octets_of, PhoneKeys.signalling_expects, StationState.Station, StationState.Context, CoreState.Core, CoreState.CoreContext, World.World, Machines.sender_of, Standing.RowsStandForTerms, Standing.OctetRowsStand}
 use Rattle.lte_machine.specs.Wire.{KeyUse, Ciphering, Outgoing, ciphering_if}
-use Rattle.lte_machine.specs.Ciphers.{Ciphers, octets_of}
 use Rattle.lte_machine.specs.Opening.{Opening, OpensNothing, OpensNas, OpensSrb, OpensDrb, Outcome, same_dir, same_uses}
 use Rattle.lte_machine.specs.Ladder.{RowOrigin, ladder_of, map_row, row_key}
 use Rattle.lte_machine.specs.PhoneState.{Radio, Idle, Connecting, Connected}
-use Rattle.lte_machine.specs.PhoneKeys.{signalling_expects}
-use Rattle.lte_machine.specs.StationState.{Station, Context}
 use Rattle.lte_machine.specs.StationChoice.{AirSettled as StationSettled, OnStarting, OnSignalling, OnUser, OnPrepared, StationFront, Settled as SettledHere, FromAir as FromStationAir}
 use Rattle.lte_machine.specs.StationKeys.{starting_expects, signalling_expects as context_expects, user_expects, prepared_expects, station_expects}
-use Rattle.lte_machine.specs.CoreState.{Core, CoreContext}
 use Rattle.lte_machine.specs.CoreChoice.{CoreFront, NasSettled as CoreNasSettled, OpensComplete, OpensProtected, Settled as CoreSettled, FromNas as FromCoreNas}
 use Rattle.lte_machine.specs.CoreKeys.{opens_by_procedure, opens_by_context, core_expects}
-use Rattle.lte_machine.specs.World.{World}
-use Rattle.lte_machine.specs.Machines.{sender_of}
 use Rattle.lte_machine.specs.Run.{Running, replay, first_world}
 use Rattle.lte_machine.specs.Distinct.{keys_of, Member, OneValueOneTerm}
-use Rattle.lte_machine.proofs.Mixed.{run, written_with}
-use Rattle.lte_machine.specs.Standing.{RowsStandForTerms, OctetRowsStand}
+use Rattle.lte_machine.proofs.{Mixed.run, Mixed.written_with, LadderMap.row_key-map, LadderMap.rows-map, StillRun.still_is_run, StillRun.still_calm}
 use Rattle.lte_machine.specs.Known.{IsReported, RadioKnown, ContextKnown, PrepKnown, StationKnown, ProcedureKnown, CoreContextKnown, CoreKnown, CipheringKnown, AllReported}
-use Rattle.std.specs.Str.{bytes_eq}
-use Rattle.lte_machine.proofs.LadderMap.{row_key-map, rows-map}
 use Rattle.lte_machine.proofs.History.{Laddered, among_distinct, one_value_one_term as one_of_history}
 use Rattle.lte_machine.proofs.KnownLists.{OfSome, all_find, all_get}
 use Rattle.lte_machine.proofs.KnownWorld.{Grounds, run_grounds, first_grounds}
-use Rattle.lte_machine.proofs.StillRun.{still_is_run, still_calm}
 
 -- what a receiver expects
 abbrev pub OpeningKnown : (Term → Type 0) → Opening Term → Type 0

@@ -5,14 +5,12 @@ use Rattle.rec_base.specs.declared.ways.Way.TheVariants.{Horizontal, Vertical, G
 use Rattle.lte_events.specs.declared.answers.Answer.TheVariants.{MacFails, NoUe, Stale}
 use Rattle.lte_events.specs.declared.events.Event.{Event}
 use Rattle.key_model.specs.Term.{Term, same_term, Root, Kenb, Nh}
-use Rattle.lte_machine.specs.Opening.{open_octets}
+use Rattle.lte_machine.specs.{Opening.open_octets, Wire.Outgoing, World.Holder, World.AtStation}
 use Rattle.lte_machine.specs.Reply.{Made, Took, Came, Commanded}
 use Rattle.lte_machine.specs.Run.{RunState, Running, Stopped, replay}
-use Rattle.lte_machine.specs.Wire.{Outgoing}
 use Rattle.lte_machine.proofs.Scenario.{ask, computing, done, from_step, machine, newest, notes, number, refuses, start, toy, x2_to}
 use Rattle.lte_machine.proofs.Ordinary.{ordinary}
 use Rattle.std.specs.List.{list_any}
-use Rattle.lte_machine.specs.World.{Holder, AtStation}
 
 -- the answer to the path switch is late: the next handover is horizontal, and the late answer finds no context
 late_answer : from_step 17 (take 17 ordinary ++ x2_to 1 0 ++ newest ∷ newest ∷ newest ∷ number 11 ∷ []) ≡ (

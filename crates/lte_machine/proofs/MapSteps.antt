@@ -1,15 +1,9 @@
 -- What a step opens, leaves and gives out, its keys and chain numbers read in another way.
 use Rattle.std.specs.Prelude.{map, option_map}
-use Rattle.key_model.specs.Derivation.{map_derivation}
-use Rattle.key_model.specs.Use.{map_use}
-use Rattle.lte_machine.specs.Wire.{map_ciphering, map_outgoing}
+use Rattle.key_model.specs.{Derivation.map_derivation, Use.map_use}
+use Rattle.lte_machine.specs.{Wire.map_ciphering, Wire.map_outgoing, PhoneState.map_phone, PhoneKeys.PhoneDone, CoreState.map_core, CoreKeys.CoreDone, StationState.Station, StationState.map_station}
 use Rattle.lte_machine.specs.Opening.{Opening, OpensNothing, OpensNas, OpensSrb, OpensDrb}
 use Rattle.lte_machine.specs.Reply.{Reply, map_note, map_made, map_tried, map_took}
-use Rattle.lte_machine.specs.PhoneState.{map_phone}
-use Rattle.lte_machine.specs.PhoneKeys.{PhoneDone}
-use Rattle.lte_machine.specs.CoreState.{map_core}
-use Rattle.lte_machine.specs.CoreKeys.{CoreDone}
-use Rattle.lte_machine.specs.StationState.{Station, map_station}
 
 -- the opening, its keys read in another way
 abbrev pub map_opening : {K L : Type 0} → (K → L) → Opening K → Opening L

@@ -1,15 +1,10 @@
 -- The written machine, where a PDU of an SRB opens by its sender's use as a term.
 use Rattle.std.specs.Prelude.{ℕ, List, Option}
-use Rattle.key_model.specs.HandoverTable.{NumberedKey}
-use Rattle.key_model.specs.Term.{Term, same_term}
-use Rattle.key_model.specs.Value.{same_value}
+use Rattle.key_model.specs.{HandoverTable.NumberedKey, Term.Term, Term.same_term, Value.same_value}
 use Rattle.s1x2_rec.specs.Fields.{Fields}
-use Rattle.lte_machine.specs.Wire.{Outgoing}
-use Rattle.lte_machine.specs.Ciphers.{Ciphers}
+use Rattle.lte_machine.specs.{Wire.Outgoing, Ciphers.Ciphers, World.Machine, Machines.machine_over}
 use Rattle.lte_machine.specs.Opening.{Opening, OpensSrb, Outcome, open_by_uses}
-use Rattle.lte_machine.specs.World.{Machine}
 pub use Rattle.lte_machine.specs.Run.{run}
-use Rattle.lte_machine.specs.Machines.{machine_over}
 
 -- on an SRB two uses are one where their keys are one term, and elsewhere where their keys have one value
 abbrev pub by_terms : Ciphers Term → Opening Term → List ℕ → Option (Outgoing Term ℕ) → Outcome

@@ -1,26 +1,17 @@
 -- A run that has met no coincidence is that of the machine where a use on an SRB is one with its sender's as a term.
 use Rattle.std.proofs.Common.{◌≡◌, refl, sym, ap, ◌∙◌, ℕ, ◌==◌, Bool, true, false, List, [], ◌∷◌, ◌++◌, map, Option, Some, None, inl, inr}
-use Rattle.std.specs.Prelude.{◌⊎◌, ◌&&◌}
-use Rattle.std.specs.List.{position_from}
-use Rattle.alg_choice.specs.declared.algs.Algs.{Algs}
-use Rattle.alg_choice.specs.Algs.{identity_of}
-use Rattle.alg_choice.specs.declared.caps.Caps.{Caps}
+use Rattle.std.specs.{Prelude.◌⊎◌, Prelude.◌&&◌, List.position_from}
+use Rattle.alg_choice.specs.{declared.algs.Algs.Algs, Algs.identity_of, declared.caps.Caps.Caps}
 use Rattle.rec_base.specs.declared.uses.Dir.TheVariants.{Down}
-use Rattle.lte_events.specs.declared.addresses.Address.{Address}
+use Rattle.lte_events.specs.{declared.addresses.Address.Address, declared.events.Event.Event, declared.setups.Setup.Setup, Class.class_of}
 use Rattle.lte_events.specs.declared.answers.Answer.TheVariants.{MacFails, NotAddressed}
-use Rattle.lte_events.specs.declared.events.Event.{Event}
-use Rattle.lte_events.specs.declared.setups.Setup.{Setup}
-use Rattle.key_model.specs.Derivation.{Derivation}
-use Rattle.key_model.specs.HandoverTable.{NumberedKey}
-use Rattle.key_model.specs.Reading.{Reading, term_reading_by}
+use Rattle.key_model.specs.{Derivation.Derivation, HandoverTable.NumberedKey, Reading.Reading, Reading.term_reading_by, Value.value_of, Value.same_value}
 use Rattle.key_model.specs.Term.{Term, Root, same_term}
-use Rattle.key_model.specs.Value.{value_of, same_value}
 use Rattle.key_model.proofs.TermFacts.{same_term-Decides, same_value-Decides}
 use Rattle.pdcp_guard.specs.AsKeys.{as_keys_of, as_derivations}
 use Rattle.s1x2_rec.specs.Fields.{Fields}
-use Rattle.lte_machine.specs.Bearers.{Signalling1, Drb}
+use Rattle.lte_machine.specs.{Bearers.Signalling1, Bearers.Drb, Ciphers.Ciphers, Ciphers.octets_of, Machines.sender_of, Machines.machine_over}
 use Rattle.lte_machine.specs.Wire.{KeyUse, Ciphering, Outgoing, SealedNas, SealedRrc, srb_use, address_of}
-use Rattle.lte_machine.specs.Ciphers.{Ciphers, octets_of}
 use Rattle.lte_machine.specs.Opening.{Opening, OpensSrb, Outcome, Opened, Differs, same_dir, same_uses, same_ciphering, judged, srb_sender, open_case, open_foreign, open_by_uses, srb_wanted, srb_got}
 use Rattle.lte_machine.specs.Reply.{Reply, only, finished}
 use Rattle.lte_machine.specs.Ladder.{RowOrigin, Of, ladder_of}
@@ -32,20 +23,16 @@ use Rattle.lte_machine.specs.StationState.{Station, StationInput, StationActs, A
 use Rattle.lte_machine.specs.StationStep.{station_front_of, station_opens, station_pdu_in, station_step}
 use Rattle.lte_machine.specs.CoreState.{CoreInput, CoreActs, CoreNasPdu, CoreRecord}
 use Rattle.lte_machine.specs.CoreStep.{core_front_of, core_opens, core_pdu_in, core_step}
-use Rattle.lte_events.specs.Class.{class_of}
 use Rattle.lte_machine.specs.World.{Machine, phone_after, core_after, station_after, phone_turn, core_turn, station_of_id, turn_of, station_turn, auth_unless, known_root, next_root, content_in, arrives, record_at, delivery, is_sent, injected, happens}
-use Rattle.lte_machine.specs.Machines.{sender_of, machine_over}
 use Rattle.lte_machine.specs.Run.{Running, replay, first_world}
 use Rattle.lte_machine.specs.Distinct.{keys_of, Member, OneValueOneTerm}
 use Rattle.lte_machine.proofs.Mixed.{run, by_terms, mixed}
 use Rattle.lte_machine.specs.Known.{RadioKnown, StationKnown, CipheringKnown, SentKnown, IsReported}
-use Rattle.lte_machine.proofs.History.{one_value_one_term}
+use Rattle.lte_machine.proofs.{History.one_value_one_term, StillRun.goes_on, StillRun.still_one, Worlds.TheWorld}
 use Rattle.lte_machine.proofs.KnownLists.{OfSome, all_find, all_chosen, as_chain}
 use Rattle.lte_machine.proofs.KnownLadder.{still_in, new_in, laddered_chain}
 use Rattle.lte_machine.proofs.KnownWorld.{Grounds, happens_grounds, first_grounds}
-use Rattle.lte_machine.proofs.StillRun.{goes_on, still_one}
 use Rattle.lte_machine.proofs.LadderRun.{OpeningKnown, core_opens_known, station_opens_known, link_opens_known}
-use Rattle.lte_machine.proofs.Worlds.{TheWorld}
 
 -- TWO KEYS BY VALUE AND BY TERM
 

@@ -5,21 +5,16 @@ use Rattle.std.specs.Prelude.{⊤, IfSome, drop}
 use Rattle.rec_base.specs.declared.faults.RecFault.{RecFault}
 use Rattle.lte_events.specs.declared.answers.Answer.{Answer}
 use Rattle.lte_events.specs.declared.answers.Answer.TheVariants.{OldConnection, Repeated}
-use Rattle.key_model.specs.Least.{least}
-use Rattle.key_model.specs.Reading.{Reading}
-use Rattle.nas_count.specs.Estimate.{estimate_of, nas_count_limit}
-use Rattle.nas_count.specs.declared.sending.CountSpent.{CountSpent as NoneLeft}
-use Rattle.nas_guard.specs.Keys.{Keys, map_keys}
-use Rattle.nas_guard.specs.Open.{first_in, sn_in}
-use Rattle.nas_rec.specs.Reading.{read_nas}
-use Rattle.nas_rec.specs.declared.records.NasRecord.{NasRecord}
+use Rattle.key_model.specs.{Least.least, Reading.Reading}
+use Rattle.nas_count.specs.{Estimate.estimate_of, Estimate.nas_count_limit, declared.sending.CountSpent.CountSpent as NoneLeft}
+use Rattle.nas_guard.specs.{Keys.Keys, Keys.map_keys, Open.first_in, Open.sn_in}
+use Rattle.nas_rec.specs.{Reading.read_nas, declared.records.NasRecord.NasRecord}
 use Rattle.nas_rec.specs.declared.records.NasRecord.TheVariants.{SecurityModeComplete, SecurityModeReject, ServiceRequest, NasData}
 use Rattle.lte_machine.specs.CoreState.{Core, CoreContext, CoreLink, map_core_context, map_core_link}
 use Rattle.lte_machine.specs.CoreRows.{CoreNasRow, NasRefused, PlainReject, SmcComplete, SmcChange, ServiceAsked, NasOpened, SealedReject}
 use Rattle.lte_machine.specs.CoreChoice.{CoreNasFront, NasSettled, OpensComplete, OpensProtected, core_takes, core_header, plain_text_row, plain_row, opens_complete, complete_front, opens_protected, protected_front, core_nas_front, NUMBERS, completed_row, complete_row, reject_row, protected_row, core_nas_row}
-use Rattle.lte_machine.specs.CoreStep.{plain_core}
+use Rattle.lte_machine.specs.{CoreStep.plain_core, Reply.unseen}
 use Rattle.lte_machine.specs.Opening.{Outcome, Opened, Differs}
-use Rattle.lte_machine.specs.Reply.{unseen}
 use Rattle.lte_machine.proofs.Tests.{by_test, same_of}
 
 -- what a message comes to before it is opened, and its row

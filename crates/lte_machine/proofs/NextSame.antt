@@ -2,26 +2,20 @@
 -- which the two differ is a coincidence.
 use Rattle.std.proofs.Common.{◌≡◌, ℕ, Bool, List, [], ◌∷◌, Option, Some, None, refl, ap, sym, ◌∙◌}
 use Rattle.std.specs.List.{position_from}
-use Rattle.lte_events.specs.declared.addresses.Address.{Address}
-use Rattle.lte_events.specs.declared.events.Event.{Event}
-use Rattle.key_model.specs.HandoverTable.{NumberedKey}
-use Rattle.key_model.specs.Term.{Term}
+use Rattle.lte_events.specs.{declared.addresses.Address.Address, declared.events.Event.Event, Class.class_of}
+use Rattle.key_model.specs.{HandoverTable.NumberedKey, Term.Term}
 use Rattle.s1x2_rec.specs.Fields.{Fields}
-use Rattle.lte_machine.specs.Wire.{Outgoing}
-use Rattle.lte_machine.specs.Ciphers.{Ciphers, octets_of}
+use Rattle.lte_machine.specs.{Wire.Outgoing, Ciphers.Ciphers, Ciphers.octets_of, Tuples.Coincidence, Machines.machine_over, Machines.opening_by_octets}
 use Rattle.lte_machine.specs.Opening.{Opening, open_octets, open_by_uses}
-use Rattle.lte_machine.specs.Tuples.{Coincidence}
 use Rattle.lte_machine.specs.PhoneState.{PhoneInput, PhoneActs, PhoneNasPdu, PhoneAirPdu}
 use Rattle.lte_machine.specs.PhoneStep.{phone_step, phone_opens, phone_pdu_in}
 use Rattle.lte_machine.specs.StationState.{Station, StationInput, StationActs, AirPdu, StationRecord, OnS1, OnX2}
 use Rattle.lte_machine.specs.StationStep.{station_step, station_opens, station_pdu_in}
 use Rattle.lte_machine.specs.CoreState.{CoreInput, CoreActs, CoreNasPdu}
 use Rattle.lte_machine.specs.CoreStep.{core_step, core_opens, core_pdu_in}
-use Rattle.lte_events.specs.Class.{class_of}
 use Rattle.lte_machine.specs.World.{Machine, World, phone_after, core_after, station_after, phone_turn, core_turn, turn_of, station_of_id, content_in, arrives, record_at, delivery, injected, is_sent, happens}
 use Rattle.lte_machine.specs.Step.{attempted, arrival_attempts, attempts_at, delivery_attempts, injection_attempts, opening_coincidence, by_coincidence, next}
 use Rattle.lte_machine.specs.Run.{RunState, Running, Stopped, turn, replay, event_report, report, after, reported}
-use Rattle.lte_machine.specs.Machines.{machine_over, opening_by_octets}
 use Rattle.lte_machine.proofs.Opens.{Respects, unsent_alike, sent_alike}
 use Rattle.lte_machine.proofs.CipherLaws.{AreCiphers}
 

@@ -3,8 +3,7 @@ use Rattle.std.proofs.Common.{◌≡◌, ℕ, ◌+◌, ◌-◌, ◌%◌, Bool, t
 use Rattle.std.specs.Str.{bytes_eq}
 use Rattle.std.proofs.lemmas.Slice.Eq.{bytes_eq-Decides}
 use Rattle.std.proofs.lemmas.List.{take_at, drop_at, length-append}
-use Rattle.nas_guard.specs.Seal.{first_octet}
-use Rattle.nas_guard.specs.Open.{mac_in, sent_in}
+use Rattle.nas_guard.specs.{Seal.first_octet, Open.mac_in, Open.sent_in}
 use Rattle.lte_machine.specs.Wire.{KeyUse, Ciphering, Outgoing, SealedNas, PlainNas, SealedRrc, UserPacket, Between, integrity_of}
 use Rattle.lte_machine.specs.Ciphers.{Ciphers, ciphered_by, nas_octets, srb_octets, drb_octets, octets_of}
 use Rattle.key_model.specs.HandoverTable.{NumberedKey}

@@ -1,14 +1,9 @@
 -- The ordinary scenario: authentication, Security Mode, initial context, packets, an X2 handover there and another back.
 use Rattle.std.specs.Prelude.{◌≡◌, ℕ, List, [], ◌∷◌, ◌++◌, Option, Some, None}
 use Rattle.std.proofs.Common.{refl}
-use Rattle.rec_base.specs.declared.bearers.Bearer.TheVariants.{Drb1}
-use Rattle.rec_base.specs.declared.ways.Way.{Way}
+use Rattle.rec_base.specs.{declared.bearers.Bearer.TheVariants.Drb1, declared.ways.Way.Way}
 use Rattle.rec_base.specs.declared.ways.Way.TheVariants.{Initial, Horizontal, Vertical, Given, Completed, Chained}
-use Rattle.lte_events.specs.declared.acts.PhoneAct.{PhoneAct}
-use Rattle.lte_events.specs.declared.acts.StationAct.{StationAct}
-use Rattle.lte_events.specs.declared.answers.Answer.TheVariants.{Done}
-use Rattle.lte_events.specs.declared.classes.Class.{Class}
-use Rattle.lte_events.specs.declared.events.Event.{Event}
+use Rattle.lte_events.specs.{declared.acts.PhoneAct.PhoneAct, declared.acts.StationAct.StationAct, declared.answers.Answer.TheVariants.Done, declared.classes.Class.Class, declared.events.Event.Event}
 use Rattle.lte_machine.proofs.Scenario.{Brief, command, computing, newest, opening, told, x2}
 
 abbrev pub ordinary : List Event

@@ -2,9 +2,8 @@
 -- the passed tests say.
 use Rattle.std.proofs.Common.{◌≡◌, refl, sym, ◌∙◌, ℕ, Bool, true, false, List, Option, Some, None, option_map, nat_le}
 use Rattle.std.specs.Prelude.{⊤}
-use Rattle.lte_events.specs.Ranges.{IsPhoneAct}
+use Rattle.lte_events.specs.{Ranges.IsPhoneAct, declared.acts.PhoneAct.PhoneAct}
 use Rattle.lte_events.specs.declared.acts.PhoneAct as acts
-use Rattle.lte_events.specs.declared.acts.PhoneAct.{PhoneAct}
 use Rattle.key_model.specs.Reading.{Reading}
 use Rattle.nas_count.specs.Estimate.{nas_count_limit}
 use Rattle.rec_base.specs.declared.bearers.Bearer.{Bearer}
@@ -12,8 +11,7 @@ use Rattle.lte_machine.specs.Bearers.{Srb, Drb, Which, OnSrb, OnDrb, which, srb_
 use Rattle.lte_machine.specs.PhoneChoice.{unless_spent, under_context, service_row, resend_row, idle_row, packet_sent_row, rrc_sent_row, nas_skipped_row, bearer_skipped_row, act_row}
 use Rattle.lte_machine.specs.PhoneRows.{ActRow, ActRefused, ServiceRequested, CompleteResent, WentIdle, PacketSent, RrcSent, NasSent, NasSkipped, BearerSkipped}
 use Rattle.lte_machine.specs.PhoneState.{NasContext, Link, Radio, Idle, Connecting, Connected, Phone, map_context, map_radio}
-use Rattle.lte_machine.specs.PhoneStep.{plain_phone}
-use Rattle.lte_machine.specs.Reply.{unseen}
+use Rattle.lte_machine.specs.{PhoneStep.plain_phone, Reply.unseen}
 use Rattle.lte_machine.proofs.Tests.{by_test}
 
 -- the context in use, which has an uplink COUNT left

@@ -3,26 +3,19 @@
 use Rattle.std.proofs.Common.{◌≡◌, refl, ap, ℕ, Bool, true, false, ◌==◌, ◌&&◌, List, take, Result, Ok, Err, arith}
 use Rattle.std.proofs.lemmas.Bool.Decides.{nat_tests}
 use Rattle.std.specs.Prelude.{⊤}
-use Rattle.alg_choice.specs.Choice.{are_supported}
-use Rattle.alg_choice.specs.declared.algs.Algs.{Algs}
+use Rattle.alg_choice.specs.{Choice.are_supported, declared.algs.Algs.Algs}
 use Rattle.annex_a_keys.specs.Cell.{Place}
-use Rattle.key_model.specs.HandoverLines.{steps_to}
-use Rattle.key_model.specs.Reading.{Reading}
-use Rattle.pdcp_guard.specs.Drb.{drb_count}
-use Rattle.pdcp_guard.specs.Srb.{srb_count}
-use Rattle.pdcp_guard.specs.declared.pdus.PdcpFault.{PdcpFault}
-use Rattle.rec_base.specs.Lengths.{longest_packet}
-use Rattle.rec_base.specs.declared.faults.RecFault.{RecFault}
-use Rattle.rrc_rec.specs.Reading.{read_rrc}
-use Rattle.rrc_rec.specs.declared.records.RrcRecord.{RrcRecord}
+use Rattle.key_model.specs.{HandoverLines.steps_to, Reading.Reading}
+use Rattle.pdcp_guard.specs.{Drb.drb_count, Srb.srb_count, declared.pdus.PdcpFault.PdcpFault}
+use Rattle.rec_base.specs.{Lengths.longest_packet, declared.faults.RecFault.RecFault}
+use Rattle.rrc_rec.specs.{Reading.read_rrc, declared.records.RrcRecord.RrcRecord}
 use Rattle.rrc_rec.specs.declared.records.RrcRecord.TheVariants.{SecurityModeCommand, Reconfiguration, RrcData, KeyChange}
 use Rattle.lte_machine.specs.Bearers.{Srb, Signalling1, Signalling2, Drb, Which, OnSrb, OnDrb, srb_counts, drb_counts}
 use Rattle.lte_machine.specs.Opening.{Outcome, Opened, Differs}
 use Rattle.lte_machine.specs.PhoneChoice.{unciphered_text, AirFront, AirSettled, AtStart, AtSignalling, AtPacket, start_read, start_at, waiting_front, signalling_at, packet_at, linked_front, air_front, command_taken, change_taken, signalling_read, air_row}
 use Rattle.lte_machine.specs.PhoneRows.{AirRow, AirRefused, LinkSecured, HandedOver, KeyChanged, RrcOpened, PacketOpened}
 use Rattle.lte_machine.specs.PhoneState.{Waiting, Link, Radio, Idle, Connecting, Connected, Phone, map_radio, map_link}
-use Rattle.lte_machine.specs.PhoneStep.{plain_phone}
-use Rattle.lte_machine.specs.Reply.{unseen}
+use Rattle.lte_machine.specs.{PhoneStep.plain_phone, Reply.unseen}
 use Rattle.lte_machine.proofs.Tests.{by_test}
 
 -- what a test on station and air address says

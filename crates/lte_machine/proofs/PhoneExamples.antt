@@ -2,38 +2,28 @@
 use Rattle.std.proofs.Common.{◌≡◌, ℕ, List, [], ◌∷◌, ◌++◌, Option, Some, None, refl}
 use Rattle.std.specs.Option.{option_and_then}
 use Rattle.std.specs.Prelude.{map, option_map, replicate, length, ◌-◌, ◌^◌}
-use Rattle.alg_choice.specs.Bits.{has_bit}
-use Rattle.alg_choice.specs.Choice.{are_supported}
-use Rattle.alg_choice.specs.declared.algs.Eea.TheVariants.{Eea2}
-use Rattle.alg_choice.specs.declared.caps.Caps.{Caps}
+use Rattle.alg_choice.specs.{Bits.has_bit, Choice.are_supported, declared.algs.Eea.TheVariants.Eea2, declared.caps.Caps.Caps}
 use Rattle.rec_base.specs.BigEndian.{number_of, field_at, number_at}
 use Rattle.rec_base.specs.declared.bearers.Bearer.TheVariants.{Srb1, Srb2, Drb1}
 use Rattle.rec_base.specs.declared.ways.Way.{Way}
 use Rattle.rec_base.specs.declared.ways.Way.TheVariants.{Initial, Horizontal, Vertical}
 use Rattle.rec_fields.specs.Field.{of_size, number_in, algs_at, caps_at, cell_at, rest_at}
 use Rattle.key_model.specs.Term.{Term, Root, Kenb, Nh, Star, Alg, same_term}
-use Rattle.key_model.specs.Least.{least}
-use Rattle.key_model.specs.Reading.{Reading, term_reading_by}
-use Rattle.key_model.specs.Derivation.{Derivation}
+use Rattle.key_model.specs.{Least.least, Reading.Reading, Reading.term_reading_by, Derivation.Derivation}
 use Rattle.nas_count.specs.Estimate.{estimate_of}
 use Rattle.nas_rec.specs.Reading as nas_reading
 use Rattle.nas_rec.specs.Spelling as nas_texts
 use Rattle.rrc_rec.specs.Reading as rrc_reading
 use Rattle.rrc_rec.specs.Spelling as rrc_texts
-use Rattle.pdcp_guard.specs.Counts.{in_32_bits}
-use Rattle.pdcp_guard.specs.Srb.{srb_count}
-use Rattle.pdcp_guard.specs.Drb.{drb_count}
-use Rattle.lte_events.specs.declared.acts.PhoneAct.{PhoneAct}
+use Rattle.pdcp_guard.specs.{Counts.in_32_bits, Srb.srb_count, Drb.drb_count}
+use Rattle.lte_events.specs.{declared.acts.PhoneAct.PhoneAct, declared.answers.Answer.Answer}
 use Rattle.lte_events.specs.declared.acts.PhoneAct.TheVariants.{ServiceRequest, ResendComplete, GoIdle, SendUser, SendRrc, SendNas, Skip}
-use Rattle.lte_events.specs.declared.answers.Answer.{Answer}
 use Rattle.lte_events.specs.declared.answers.Answer.TheVariants.{Done, NoContext, WrongKsi, CapsMismatch, AlgUnsupported, MacFails, CountSpent, BadRecord, Short, BadHeader, WrongKind, NotConnected, NotAddressed, NothingToResend, AlreadyConnected}
 use Rattle.rec_base.specs.declared.faults.RecFault.TheVariants as faults
 use Rattle.lte_machine.specs.Wire.{KeyUse, Outgoing, SealedNas, PlainNas, SealedRrc, UserPacket, Between, integrity_of}
 use Rattle.lte_machine.specs.Opening.{Outcome, Opened, Differs}
-use Rattle.lte_machine.specs.Reply.{Reply, Note}
+use Rattle.lte_machine.specs.{Reply.Reply, Reply.Note, PhoneChoice.header_for_phone, PhoneStep.phone_step}
 use Rattle.lte_machine.specs.PhoneState.{Phone, first_phone, PhoneInput, PhoneAuth, PhoneActs, PhoneNasPdu, PhoneAirPdu}
-use Rattle.lte_machine.specs.PhoneChoice.{header_for_phone}
-use Rattle.lte_machine.specs.PhoneStep.{phone_step}
 
 abbrev terms : Reading Term ℕ
 terms = term_reading_by same_term

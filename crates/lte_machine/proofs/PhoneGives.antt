@@ -2,16 +2,13 @@
 -- of the connection from then on.
 use Rattle.std.proofs.Common.{◌≡◌, refl, ℕ, Bool, Option, Some, None}
 use Rattle.std.specs.Prelude.{⊤}
-use Rattle.key_model.specs.Term.{Term}
-use Rattle.key_model.specs.Reading.{term_reading_by}
-use Rattle.lte_machine.specs.Wire.{Outgoing, Between}
-use Rattle.lte_machine.specs.Reply.{Note, Took}
+use Rattle.key_model.specs.{Term.Term, Reading.term_reading_by, Chain.ncc_of}
+use Rattle.lte_machine.specs.{Wire.Outgoing, Wire.Between, Reply.Note, Reply.Took}
 use Rattle.lte_machine.specs.PhoneState.{Radio, Connected, Phone}
 use Rattle.lte_machine.specs.PhoneRows.{AuthRow, Authenticated, PhoneRow, OfAuth, OfNas, OfAir, OfAct}
 use Rattle.lte_machine.specs.PhoneKeys.{PhoneDone, auth_does, phone_does}
 use Rattle.lte_machine.proofs.PhoneCases.{NasCases, nas_case, AirCases, air_case, ActCases, act_case}
 use Rattle.lte_machine.proofs.Tests.{Anything}
-use Rattle.key_model.specs.Chain.{ncc_of}
 
 -- nothing on S1 and X2
 abbrev pub NotBetween : Option (Outgoing Term ℕ) → Type 0

@@ -2,26 +2,20 @@
 -- were chosen, all that the passed tests say.
 use Rattle.std.proofs.Common.{◌≡◌, refl, subst, ℕ, true, ◌==◌, List, Option, Some, None, option_map, Result, Ok, Err, nat_le}
 use Rattle.std.specs.Prelude.{⊤}
-use Rattle.alg_choice.specs.Choice.{are_supported}
-use Rattle.alg_choice.specs.declared.algs.Algs.{Algs}
-use Rattle.alg_choice.specs.declared.caps.Caps.{Caps}
+use Rattle.alg_choice.specs.{Choice.are_supported, declared.algs.Algs.Algs, declared.caps.Caps.Caps}
 use Rattle.rec_base.specs.declared.faults.RecFault.{RecFault}
 use Rattle.lte_events.specs.declared.answers.Answer.{Answer}
 use Rattle.key_model.specs.Reading.{Reading}
-use Rattle.nas_count.specs.Estimate.{estimate_of, nas_count_limit}
-use Rattle.nas_count.specs.declared.sending.CountSpent.{CountSpent as NoneLeft}
+use Rattle.nas_count.specs.{Estimate.estimate_of, Estimate.nas_count_limit, declared.sending.CountSpent.CountSpent as NoneLeft}
 use Rattle.nas_guard.specs.Open.{sn_in, sent_in}
-use Rattle.nas_rec.specs.Reading.{read_nas}
-use Rattle.nas_rec.specs.declared.records.NasRecord.{NasRecord}
+use Rattle.nas_rec.specs.{Reading.read_nas, declared.records.NasRecord.NasRecord}
 use Rattle.nas_rec.specs.declared.records.NasRecord.TheVariants.{SecurityModeCommand, NasData}
 use Rattle.lte_machine.specs.Opening.{Outcome, Opened, Differs}
 use Rattle.lte_machine.specs.PhoneChoice.{NasFront, NasSettled, AtCommand, AtMessage, header_for_phone, rejected, rejected_unspecified, capabilities_mismatch, command_at, command_read, command_front, message_at, message_front, nas_by_header, context_row, same_caps, command_row, message_read, nas_row}
 use Rattle.lte_machine.specs.PhoneRows.{NasRow, NasRefused, RejectedPlain, RejectedUnder, ContextTaken, ContextTakenConnected, NasOpened}
 use Rattle.lte_machine.specs.PhoneState.{Partial, NasContext, Link, Radio, Idle, Connecting, Connected, Phone, map_partial, map_context, map_radio}
-use Rattle.lte_machine.specs.PhoneStep.{plain_phone}
-use Rattle.lte_machine.specs.Reply.{unseen}
-use Rattle.lte_machine.proofs.PhoneActFacts.{HasCount}
-use Rattle.lte_machine.proofs.Tests.{by_test, same_of}
+use Rattle.lte_machine.specs.{PhoneStep.plain_phone, Reply.unseen}
+use Rattle.lte_machine.proofs.{PhoneActFacts.HasCount, Tests.by_test, Tests.same_of}
 
 -- what a message comes to before it is opened
 abbrev pub phone_nas : {K C : Type 0} → Reading K C → Phone K C → List ℕ → NasFront

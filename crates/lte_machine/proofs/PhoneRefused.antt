@@ -3,11 +3,9 @@ use Rattle.std.proofs.Common.{◌≡◌, ℕ, Option, Some, None, refl}
 use Rattle.std.specs.Prelude.{◌≢◌}
 use Rattle.lte_events.specs.declared.answers.Answer.TheVariants.{Done}
 use Rattle.key_model.specs.Reading.{Reading}
-use Rattle.lte_machine.specs.Opening.{Outcome, accepted_of}
+use Rattle.lte_machine.specs.{Opening.Outcome, Opening.accepted_of, PhoneState.Phone, PhoneState.PhoneInput, PhoneChoice.phone_row}
 use Rattle.lte_machine.specs.Reply.{Reply, finished, only}
-use Rattle.lte_machine.specs.PhoneState.{Phone, PhoneInput}
 use Rattle.lte_machine.specs.PhoneRows.{Authenticated, PhoneRow, OfAuth, OfNas, OfAir, OfAct}
-use Rattle.lte_machine.specs.PhoneChoice.{phone_row}
 use Rattle.lte_machine.specs.PhoneKeys.{PhoneDone, authenticated, phone_does}
 use Rattle.lte_machine.specs.PhoneStep.{phone_root, plain_phone, front_of, phone_opens, phone_step, after_refusal, IsReject}
 use Rattle.lte_machine.proofs.PhoneCases.{NasCases, nas_case, AirCases, air_case, ActCases, act_case}

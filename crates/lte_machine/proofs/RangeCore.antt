@@ -1,22 +1,15 @@
 -- The core's step keeps its state in range, and what it sends on S1 is in range.
 use Rattle.std.proofs.Common.{◌≡◌, sym, subst, ℕ, ◌+◌, ◌<◌, ◌≤◌, ◌^◌, Bool, false, nat_le, List, Option, Some, None, option_map, Ok, Err, arith}
 use Rattle.std.proofs.lemmas.Bool.Decides.{nat_tests}
-use Rattle.alg_choice.specs.declared.caps.Caps.{Caps}
+use Rattle.alg_choice.specs.{declared.caps.Caps.Caps, Caps.IsCaps}
 use Rattle.annex_a_keys.specs.Cell.{Place, IsCell}
-use Rattle.lte_events.specs.Ranges.{IsCoreAct}
-use Rattle.lte_events.specs.declared.acts.CoreAct.{CoreAct}
-use Rattle.key_model.specs.Reading.{Reading, term_reading_by}
-use Rattle.key_model.specs.Term.{Term}
-use Rattle.s1x2_rec.specs.Fields.{Fields}
+use Rattle.lte_events.specs.{Ranges.IsCoreAct, declared.acts.CoreAct.CoreAct}
+use Rattle.key_model.specs.{Reading.Reading, Reading.term_reading_by, Term.Term}
+use Rattle.s1x2_rec.specs.{Fields.Fields, Spelling.FieldsInRange}
 use Rattle.rec_base.specs.Ranges.{IsNumber}
-use Rattle.alg_choice.specs.Caps.{IsCaps}
-use Rattle.s1x2_rec.specs.Spelling.{FieldsInRange}
-use Rattle.lte_machine.specs.Opening.{Outcome}
-use Rattle.lte_machine.specs.Reply.{unseen}
+use Rattle.lte_machine.specs.{Opening.Outcome, Reply.unseen, CoreKeys.CoreDone, CoreStep.plain_core, CoreStep.core_step}
 use Rattle.lte_machine.specs.CoreState.{Core, CoreContext, CoreLink, CoreInput, CoreAuth, CoreActs, CoreNasPdu, CoreRecord, map_core_context}
 use Rattle.lte_machine.specs.CoreChoice.{NUMBERS, caps_in_use, core_fields_row, core_act_row}
-use Rattle.lte_machine.specs.CoreKeys.{CoreDone}
-use Rattle.lte_machine.specs.CoreStep.{plain_core, core_step}
 use Rattle.lte_machine.proofs.CoreCases.{with_procedure, with_context, with_link, NasCases, nas_case, RecordCases, record_case, ActCases, act_case}
 use Rattle.lte_machine.proofs.ActFacts.{ActHas, SetsUp, act_has}
 use Rattle.lte_machine.proofs.NasFacts.{NasHas, Changes, nas_row, nas_has}

@@ -1,26 +1,18 @@
 -- What of the actors and of what was sent is in range, in every world of every run.
 use Rattle.std.proofs.Common.{ℕ, ◌≤◌, Option, Some, None, option_map, Result, Ok, Err}
 use Rattle.std.specs.List.{AllByRecursion as AllOf}
-use Rattle.rec_base.specs.declared.faults.RecFault.{RecFault}
-use Rattle.key_model.specs.Chain.{ncc_of}
-use Rattle.key_model.specs.HandoverTable.{NumberedKey}
-use Rattle.key_model.specs.Term.{Term}
-use Rattle.s1x2_rec.specs.Content.{Content}
+use Rattle.rec_base.specs.{declared.faults.RecFault.RecFault, Ranges.IsNumber}
+use Rattle.key_model.specs.{Chain.ncc_of, HandoverTable.NumberedKey, Term.Term}
+use Rattle.s1x2_rec.specs.{Content.Content, Spelling.FieldsInRange}
 use Rattle.s1x2_rec.specs.Fields.{Fields, InitialContext, PathSwitchAnswer, HandoverRequest, X2Request, ContextModification}
-use Rattle.rec_base.specs.Ranges.{IsNumber}
 use Rattle.alg_choice.specs.Caps.{IsCaps}
-use Rattle.s1x2_rec.specs.Spelling.{FieldsInRange}
 use Rattle.annex_a_keys.specs.Cell.{IsCell}
-use Rattle.ho_prep.specs.declared.origins.By.{By}
-use Rattle.ho_prep.specs.Prep.{Prep}
+use Rattle.ho_prep.specs.{declared.origins.By.By, Prep.Prep}
 use Rattle.lte_events.specs.Ranges.{IsStationAct, IsCoreAct}
-use Rattle.lte_machine.specs.Reply.{Origin}
-use Rattle.lte_machine.specs.Wire.{Outgoing, Between}
+use Rattle.lte_machine.specs.{Reply.Origin, Wire.Outgoing, Wire.Between, World.World}
 use Rattle.lte_machine.specs.StationState.{Station, Context, Attempt, StationInput, StationActs, AirPdu, StationRecord}
 use Rattle.lte_machine.specs.CoreState.{Core, CorePartial, CoreContext, CoreLink, CoreInput, CoreAuth, CoreActs, CoreNasPdu, CoreRecord}
-use Rattle.lte_machine.specs.World.{World}
-use Rattle.lte_machine.proofs.RangeKeys.{IsDerived}
-use Rattle.lte_machine.proofs.KnownLists.{OfSome}
+use Rattle.lte_machine.proofs.{RangeKeys.IsDerived, KnownLists.OfSome}
 
 -- the key of a record is derived, and its NCC is at most this
 abbrev pub HasKey : ℕ → Option (NumberedKey Term ℕ) → Type 0

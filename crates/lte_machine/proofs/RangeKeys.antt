@@ -1,10 +1,8 @@
 -- The octets of a derived key: 32, each below 256.
 use Rattle.std.proofs.Common.{◌≡◌, ℕ, zero, suc, List, [], ◌∷◌, ◌++◌, length, arith}
-use Rattle.std.specs.Prelude.{slice_index}
-use Rattle.std.specs.Int.{w32, to_be_bytes}
+use Rattle.std.specs.{Prelude.slice_index, Int.w32, Int.to_be_bytes}
 use Rattle.sha2.specs.Sha256.{digest_bytes, sha256}
-use Rattle.hmac_kdf.specs.Hmac.{hmac}
-use Rattle.hmac_kdf.specs.Kdf.{kdf}
+use Rattle.hmac_kdf.specs.{Hmac.hmac, Kdf.kdf}
 use Rattle.rec_base.proofs.Numbers.{AreOctets}
 use Rattle.key_model.specs.Term.{Term, Root, IsRoot}
 use Rattle.key_model.specs.Value.{value_of}

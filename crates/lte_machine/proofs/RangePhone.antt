@@ -1,13 +1,8 @@
 -- The phone sends nothing on S1 or X2.
 use Rattle.std.proofs.Common.{Bool, ℕ, Option, Some}
-use Rattle.key_model.specs.Reading.{term_reading_by}
-use Rattle.key_model.specs.Term.{Term}
-use Rattle.lte_machine.specs.PhoneKeys.{phone_does}
-use Rattle.lte_machine.specs.PhoneRows.{PhoneRow}
-use Rattle.lte_machine.specs.PhoneState.{Phone}
-use Rattle.lte_machine.specs.Wire.{Outgoing, Between}
-use Rattle.lte_machine.proofs.PhoneGives.{NotBetween, phone_gives}
-use Rattle.lte_machine.proofs.RangeHolds.{SentRanged}
+use Rattle.key_model.specs.{Reading.term_reading_by, Term.Term}
+use Rattle.lte_machine.specs.{PhoneKeys.phone_does, PhoneRows.PhoneRow, PhoneState.Phone, Wire.Outgoing, Wire.Between}
+use Rattle.lte_machine.proofs.{PhoneGives.NotBetween, PhoneGives.phone_gives, RangeHolds.SentRanged}
 
 nothing_ranged : (o : Option (Outgoing Term ℕ)) → NotBetween o → SentRanged o
 nothing_ranged (Some (Between to fields key)) h = absurd h

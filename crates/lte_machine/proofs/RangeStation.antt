@@ -3,27 +3,19 @@ use Rattle.std.proofs.Common.{◌≡◌, sym, subst, ℕ, ◌+◌, ◌≤◌, �
 use Rattle.std.specs.Prelude.{filter, not, nat_le}
 use Rattle.std.specs.List.{AllByRecursion as AllOf}
 use Rattle.annex_a_keys.specs.Cell.{Place, IsCell}
-use Rattle.lte_events.specs.Ranges.{IsStationAct}
-use Rattle.lte_events.specs.declared.acts.HoKind.{HoKind}
-use Rattle.lte_events.specs.declared.acts.StationAct.{StationAct}
-use Rattle.key_model.specs.Chain.{ncc_of}
-use Rattle.key_model.specs.Reading.{Reading, term_reading_by}
-use Rattle.key_model.specs.Term.{Term}
-use Rattle.s1x2_rec.specs.Content.{map_content}
+use Rattle.lte_events.specs.{Ranges.IsStationAct, declared.acts.HoKind.HoKind, declared.acts.StationAct.StationAct}
+use Rattle.key_model.specs.{Chain.ncc_of, Reading.Reading, Reading.term_reading_by, Term.Term}
+use Rattle.s1x2_rec.specs.{Content.map_content, Spelling.FieldsInRange}
 use Rattle.s1x2_rec.specs.Fields.{Fields, InitialContext, ContextModification}
 use Rattle.rec_base.specs.Ranges.{IsNumber}
 use Rattle.alg_choice.specs.Caps.{IsCaps}
-use Rattle.s1x2_rec.specs.Spelling.{FieldsInRange}
 use Rattle.ho_prep.specs.declared.origins.By.{By}
 use Rattle.ho_prep.specs.Prep.{Prep, at_air, is_of, is_at}
-use Rattle.lte_machine.specs.Bearers.{Which, which}
-use Rattle.lte_machine.specs.Opening.{Outcome}
+use Rattle.lte_machine.specs.{Bearers.Which, Bearers.which, Opening.Outcome, StationRows.Admitted, StationStep.plain_station, StationStep.station_step}
 use Rattle.lte_machine.specs.Reply.{Origin, Reply, unseen}
 use Rattle.lte_machine.specs.StationState.{Station, Context, Via, OverX2, OverS1, Interface, StationInput, StationActs, AirPdu, StationRecord}
-use Rattle.lte_machine.specs.StationRows.{Admitted}
 use Rattle.lte_machine.specs.StationKeys.{given_up, with_security, with_rrc_taken, with_packet_taken, with_skipped}
 use Rattle.lte_machine.specs.StationRecords.{with_pair, with_answer, source_release}
-use Rattle.lte_machine.specs.StationStep.{plain_station, station_step}
 use Rattle.lte_machine.specs.StationChoice.{record_row, air_front, air_row, act_row}
 use Rattle.lte_machine.proofs.RangeHolds.{SentRanged, OriginRanged, ByRanged, AttemptRanged, ContextRanged, PrepRanged, StationRanged, StationInputRanged}
 use Rattle.lte_machine.proofs.Tests.{changed_so}

@@ -2,41 +2,25 @@
 use Rattle.std.proofs.Common.{◌≡◌, ℕ, Bool, List, [], ◌∷◌, Option, Some, None, option_map, Ok}
 use Rattle.std.proofs.lemmas.List.Elements.{recursion_from_All}
 use Rattle.std.specs.List.{AllByRecursion as AllOf}
-use Rattle.lte_events.specs.declared.events.Event.{Event}
-use Rattle.lte_events.specs.declared.setups.Setup.{Setup}
-use Rattle.lte_events.specs.declared.setups.StationSetup.{StationSetup}
-use Rattle.lte_events.specs.Site.{Site}
+use Rattle.lte_events.specs.{declared.events.Event.Event, declared.setups.Setup.Setup, declared.setups.StationSetup.StationSetup, Site.Site}
 use Rattle.lte_events.specs.Ranges.{IsEvent, IsStation, IsSetup}
-use Rattle.key_model.specs.Chain.{ncc_of}
-use Rattle.key_model.specs.HandoverLines.{map_numbered}
-use Rattle.key_model.specs.HandoverTable.{NumberedKey}
-use Rattle.key_model.specs.Term.{Term}
-use Rattle.key_model.specs.Value.{value_of}
+use Rattle.key_model.specs.{Chain.ncc_of, HandoverLines.map_numbered, HandoverTable.NumberedKey, Term.Term, Value.value_of}
 use Rattle.s1x2_rec.specs.Fields.{Fields, InitialContext, PathSwitchAnswer, HandoverRequest, X2Request, ContextModification}
 use Rattle.s1x2_rec.specs.Reading.{read_core}
 use Rattle.s1x2_rec.specs.Spelling.{FieldsInRange, IsKey, IsNoKey, KeyInRange}
 use Rattle.s1x2_rec.proofs.Contents.{content_again}
 use Rattle.lte_machine.specs.Wire.{KeyUse, Outgoing, Between}
-use Rattle.lte_machine.specs.Ciphers.{written}
+use Rattle.lte_machine.specs.{Ciphers.written, PhoneState.PhoneInput, PhoneChoice.phone_row, Machines.machine_by, Machines.content_of, Run.stations_of, Run.first_world}
 use Rattle.lte_machine.specs.Opening.{Opening, Outcome, Opened}
-use Rattle.lte_machine.specs.PhoneState.{PhoneInput}
-use Rattle.lte_machine.specs.PhoneChoice.{phone_row}
 use Rattle.lte_machine.specs.PhoneStep.{plain_phone, front_of, phone_root, phone_opens, phone_pdu_in, phone_step}
 use Rattle.lte_machine.specs.StationState.{Station, StationInput, StationActs, AirPdu, StationRecord}
 use Rattle.lte_machine.specs.StationStep.{station_opens, station_pdu_in, station_step}
 use Rattle.lte_machine.specs.CoreState.{CoreInput, CoreAuth, CoreActs, CoreNasPdu, CoreRecord}
 use Rattle.lte_machine.specs.CoreStep.{core_opens, core_pdu_in, core_step}
 use Rattle.lte_machine.specs.World.{Machine, phone_turn, core_turn, turn_of, next_root, content_in, happens}
-use Rattle.lte_machine.specs.Machines.{machine_by, content_of}
-use Rattle.lte_machine.specs.Run.{stations_of, first_world}
-use Rattle.lte_machine.proofs.RangeKeys.{octets_value, length_value}
+use Rattle.lte_machine.proofs.{RangeKeys.octets_value, RangeKeys.length_value, RangeStation.station_step_ranged, RangeCore.core_step_ranged, RangePhone.phone_does_sends, Routing.Turns, Routing.happens_by, Worlds.TheWorld}
 use Rattle.lte_machine.proofs.RangeHolds.{HasKey, HasNoKey, KeyRanged, RecordRanged, StationRanged, ReadRanged, StationInputRanged, CoreInputRanged, Ranged}
-use Rattle.lte_machine.proofs.RangeStation.{station_step_ranged}
-use Rattle.lte_machine.proofs.RangeCore.{core_step_ranged}
-use Rattle.lte_machine.proofs.RangePhone.{phone_does_sends}
 use Rattle.lte_machine.proofs.KnownLists.{OfSome, all_one, all_put}
-use Rattle.lte_machine.proofs.Routing.{Turns, happens_by}
-use Rattle.lte_machine.proofs.Worlds.{TheWorld}
 
 -- what was sent, as it is read
 read_ranged : (x : Outgoing Term ℕ) → RecordRanged x → ReadRanged (content_of x)

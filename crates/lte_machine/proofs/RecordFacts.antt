@@ -3,10 +3,7 @@
 use Rattle.std.proofs.Common.{◌≡◌, refl, sym, subst, ◌∙◌, ap, ℕ, ◌+◌, ◌<◌, ◌≤◌, Bool, true, false, not, ◌&&◌, ◌==◌, nat_le, nat_lt, slice_index, Option, Some, None, option_map, Result, Ok, Err, arith}
 use Rattle.std.specs.Prelude.{⊤}
 use Rattle.std.proofs.lemmas.Bool.Decides.{nat_tests}
-use Rattle.alg_choice.specs.Choice.{choice_of}
-use Rattle.alg_choice.specs.declared.algs.Algs.{Algs}
-use Rattle.alg_choice.specs.declared.caps.Caps.{Caps}
-use Rattle.alg_choice.specs.declared.choices.NoAlgorithm.{NoAlgorithm as Unmatched}
+use Rattle.alg_choice.specs.{Choice.choice_of, declared.algs.Algs.Algs, declared.caps.Caps.Caps, declared.choices.NoAlgorithm.NoAlgorithm as Unmatched}
 use Rattle.annex_a_keys.specs.Cell.{Place}
 use Rattle.lte_events.specs.Site.{station_of}
 use Rattle.key_model.specs.Reading.{Reading}
@@ -14,12 +11,10 @@ use Rattle.s1x2_rec.specs.Content.{Content, map_content}
 use Rattle.s1x2_rec.specs.Fields.{Fields, InitialContext, ContextRelease, PathSwitchAnswer, HandoverRequest, HandoverCommand, HandoverCancel, X2Request, X2Ack, X2Cancel, X2Release, ContextModification}
 use Rattle.ho_prep.specs.Prep.{has_attempt}
 use Rattle.x2_handover.specs.declared.orders.Order.{Order}
-use Rattle.lte_machine.specs.Bearers.{is_spent}
-use Rattle.lte_machine.specs.Reply.{Origin, unseen}
+use Rattle.lte_machine.specs.{Bearers.is_spent, Reply.Origin, Reply.unseen, StationStep.plain_station}
 use Rattle.lte_machine.specs.StationState.{Station, Context, Via, OverX2, OverS1, Progress, Open, Ready, Commanded, Attempt, Interface, OnS1, OnX2, map_context, map_attempt, map_source_keys}
 use Rattle.lte_machine.specs.StationRows.{Admitted, RecordRow, RecordRefused, ContextGiven, ContextReleased, PairTaken, PreparedByS1, PreparedByX2, AttemptAnswered, PreparationCancelled, SourceReleased, KeyRenewed}
 use Rattle.lte_machine.specs.StationChoice.{runs_out, is_station, is_own, is_full, initial_choice, initial_row, release_row, answer_row_by, answer_row, admitted_choice, admitted_row, order_of, is_over_x2, is_over_s1, star_ncc, answered_row, s1_acked_row, s1_ack_row, x2_acked_row, x2_ack_row, cancel_row, released_row, x2_released_row, x2_release_row, renewed_alone, modification_row, s1_row, x2_row, record_row}
-use Rattle.lte_machine.specs.StationStep.{plain_station}
 use Rattle.lte_machine.proofs.Tests.{by_test, both_true, above_of, at_least_of, same_of}
 
 -- numbers that may be drawn have 32 bits

@@ -2,31 +2,20 @@
 use Rattle.std.proofs.Common.{◌≡◌, ℕ, Bool, true, false, List, [], ◌∷◌, map, Option, Some, None, refl, ap, sym, ◌∙◌}
 use Rattle.std.specs.Prelude.{option_map, ◌&&◌, ◌==◌}
 use Rattle.std.specs.List.{position_from, AllByRecursion as AllOf}
-use Rattle.lte_events.specs.declared.addresses.Address.{Address}
-use Rattle.lte_events.specs.declared.events.Event.{Event}
+use Rattle.lte_events.specs.{declared.addresses.Address.Address, declared.events.Event.Event, Class.class_of, Ranges.IsEvent}
 use Rattle.key_model.specs.Use.{map_use}
-use Rattle.lte_machine.specs.Wire.{KeyUse}
+use Rattle.lte_machine.specs.{Wire.KeyUse, Ladder.Clash, Ladder.ladder_of, PhoneStep.phone_pdu_in, StationStep.station_pdu_in, CoreStep.core_pdu_in}
 use Rattle.lte_machine.specs.Opening.{Opening, OpensNothing, OpensNas, OpensSrb, OpensDrb, Outcome, Opened, Differs, accepted_of, same_dir, same_uses}
-use Rattle.lte_machine.specs.Ladder.{Clash, ladder_of}
 use Rattle.lte_machine.specs.Tuples.{Coincidence, tuples_unless, same_sender, tuple_coincidence}
 use Rattle.lte_machine.specs.PhoneState.{PhoneInput, PhoneActs, PhoneNasPdu, PhoneAirPdu, map_phone_input}
-use Rattle.lte_machine.specs.PhoneStep.{phone_pdu_in}
 use Rattle.lte_machine.specs.StationState.{Station, StationInput, StationActs, AirPdu, StationRecord, OnS1, OnX2, map_station, map_station_input}
-use Rattle.lte_machine.specs.StationStep.{station_pdu_in}
 use Rattle.lte_machine.specs.CoreState.{CoreInput, CoreActs, CoreNasPdu, CoreRecord, map_core_input}
-use Rattle.lte_machine.specs.CoreStep.{core_pdu_in}
-use Rattle.lte_events.specs.Class.{class_of}
-use Rattle.lte_events.specs.Ranges.{IsEvent}
 use Rattle.lte_machine.specs.World.{Machine, World, Line, station_of_id, content_in, record_at, is_sent, happens}
 use Rattle.lte_machine.specs.Step.{Attempted, attempted, phone_attempts, core_attempts, attempts_at, station_attempts, arrival_attempts, delivery_attempts, injection_attempts, opening_coincidence, StepResult, Continues, Stops, by_ladder, by_coincidence, next}
 use Rattle.lte_machine.specs.Run.{RunState, Running, Stopped, after, turn, replay, reported, event_report, report}
 use Rattle.lte_machine.specs.Carried.{map_world, map_line, map_clash, map_coincidence, map_run_state, map_report}
-use Rattle.lte_machine.proofs.PhoneMap.{phone_opens_map}
-use Rattle.lte_machine.proofs.CoreMap.{core_opens_map}
-use Rattle.lte_machine.proofs.StationMap.{station_opens_map}
-use Rattle.lte_machine.proofs.LadderMap.{ladder_of-map}
+use Rattle.lte_machine.proofs.{PhoneMap.phone_opens_map, CoreMap.core_opens_map, StationMap.station_opens_map, LadderMap.ladder_of-map, MapSteps.map_opening}
 use Rattle.lte_machine.proofs.WorldMap.{Agree, map_told, station_of_id-map, chosen-map, found-map, BackAt, BackIf, BackOf, happens-map}
-use Rattle.lte_machine.proofs.MapSteps.{map_opening}
 
 abbrev map_attempted : {K S L T : Type 0} → (K → L) → (S → T) → Attempted K S → Attempted L T
 map_attempted f z a = record { opening = map_opening f a.opening; octets = a.octets; came = option_map z a.came }

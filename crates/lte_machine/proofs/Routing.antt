@@ -4,17 +4,12 @@ use Rattle.std.specs.List.{position_from, AllByRecursion as AllOf}
 use Rattle.std.proofs.lemmas.Bool.{eqb-true}
 use Rattle.alg_choice.specs.declared.caps.Caps.{Caps}
 use Rattle.rec_base.specs.declared.bearers.Bearer.{Bearer}
-use Rattle.lte_events.specs.declared.acts.CoreAct.{CoreAct}
-use Rattle.lte_events.specs.declared.acts.StationAct.{StationAct}
-use Rattle.lte_events.specs.declared.addresses.Address.{Address}
-use Rattle.lte_events.specs.declared.answers.Answer.{Answer}
+use Rattle.lte_events.specs.{declared.acts.CoreAct.CoreAct, declared.acts.StationAct.StationAct, declared.addresses.Address.Address, declared.answers.Answer.Answer, declared.events.Event.Event, Class.class_of}
 use Rattle.lte_events.specs.declared.answers.Answer.TheVariants.{NoUe, NoRecord, Sent, RepeatedRoot}
-use Rattle.lte_events.specs.declared.events.Event.{Event}
 use Rattle.lte_machine.specs.PhoneState.{PhoneInput, PhoneAuth, PhoneActs, PhoneNasPdu, PhoneAirPdu}
 use Rattle.lte_machine.specs.PhoneStep.{phone_root}
 use Rattle.lte_machine.specs.StationState.{Station, StationInput, StationActs, AirPdu, StationRecord, Interface, OnS1, OnX2}
 use Rattle.lte_machine.specs.CoreState.{CoreInput, CoreActs, CoreNasPdu, CoreRecord}
-use Rattle.lte_events.specs.Class.{class_of}
 use Rattle.lte_machine.specs.World.{Machine, World, Line, by_world, phone_turn, core_turn, station_of_id, turn_of, authenticated, auth_unless, known_root, next_root, content_in, arrives, record_at, delivery, is_sent, injected, happens}
 use Rattle.lte_machine.specs.Step.{Attempted, opens_none, phone_attempts, core_attempts, attempts_at, arrival_attempts, delivery_attempts, injection_attempts, attempted}
 use Rattle.lte_machine.proofs.KnownLists.{OfSome, all_find, all_chosen, all_each}

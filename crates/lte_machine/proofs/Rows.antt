@@ -1,9 +1,7 @@
 -- The rows of a ladder stand for the distinct terms, each with a value of its own, where no clash has come.
 use Rattle.std.proofs.Common.{◌≡◌, ℕ, ◌+◌, Bool, true, false, List, [], ◌∷◌, ◌++◌, Option, Some, None, refl, ap, sym, ◌∙◌, subst, inl, inr}
-use Rattle.std.specs.Prelude.{◌⊎◌, ◌||◌}
-use Rattle.std.proofs.lemmas.Bool.Decides.{Decides-and, Decides-eqb}
-use Rattle.std.proofs.lemmas.List.{map-append}
-use Rattle.std.specs.List.{AllByRecursion as AllOf}
+use Rattle.std.specs.{Prelude.◌⊎◌, Prelude.◌||◌, List.AllByRecursion as AllOf}
+use Rattle.std.proofs.{lemmas.Bool.Decides.Decides-and, lemmas.Bool.Decides.Decides-eqb, lemmas.List.map-append}
 use Rattle.key_model.specs.Derivation.{Input, FromCount, FromSync, FromCell, FromAlg, Derivation}
 use Rattle.key_model.specs.Term.{Term, Kenb, Nh, Star, Alg, same_term}
 use Rattle.key_model.specs.Value.{value_of, same_value}

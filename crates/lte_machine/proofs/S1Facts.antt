@@ -4,17 +4,14 @@ use Rattle.std.proofs.Common.{◌≡◌, refl, sym, ap, subst, ℕ, Bool, false,
 use Rattle.std.specs.Prelude.{⊤}
 use Rattle.alg_choice.specs.declared.caps.Caps.{Caps}
 use Rattle.annex_a_keys.specs.Cell.{Place}
-use Rattle.lte_events.specs.Site.{station_of}
-use Rattle.lte_events.specs.declared.answers.Answer.{Answer}
+use Rattle.lte_events.specs.{Site.station_of, declared.answers.Answer.Answer}
 use Rattle.lte_events.specs.declared.answers.Answer.TheVariants.{OldConnection, Repeated}
 use Rattle.key_model.specs.Reading.{Reading}
 use Rattle.s1x2_rec.specs.Fields.{Fields, PathSwitchRequest, HandoverRequired, HandoverRequestAck, HandoverNotify, HandoverCancel}
 use Rattle.lte_machine.specs.CoreState.{Core, CoreLink, map_core_context, map_core_link}
 use Rattle.lte_machine.specs.CoreRows.{CoreRecordRow, RecordRefused, PathSwitched, HandoverAsked, HandoverOrdered, HandoverNotified, HandoverCancelled}
 use Rattle.lte_machine.specs.CoreChoice.{caps_in_use, asked_at, cancelled_at, of_link, core_fields_row}
-use Rattle.lte_machine.specs.CoreStep.{plain_core}
-use Rattle.lte_machine.specs.PhoneChoice.{same_caps}
-use Rattle.lte_machine.specs.Reply.{unseen}
+use Rattle.lte_machine.specs.{CoreStep.plain_core, PhoneChoice.same_caps, Reply.unseen}
 use Rattle.lte_machine.proofs.Tests.{by_test, same_of}
 
 -- the core's connection has this number

@@ -2,40 +2,24 @@
 use Rattle.std.specs.Prelude.{ℕ, ◌+◌, ◌==◌, ◌&&◌, Bool, false, List, [], ◌∷◌, drop, pos, negsuc, replicate, Option, Some, None, option_map}
 use Rattle.std.specs.Str.{bytes_eq}
 use Rattle.alg_choice.specs.declared.algs.Eea.TheVariants.{Eea0, Eea2}
-use Rattle.alg_choice.specs.Bits.{has_bit}
-use Rattle.alg_choice.specs.Choice.{choice_of, are_supported}
+use Rattle.alg_choice.specs.{Bits.has_bit, Choice.choice_of, Choice.are_supported}
 use Rattle.annex_a_keys.specs.Cell.{Place}
 use Rattle.rec_base.specs.BigEndian.{number_at, number_of, field_at, octets_of}
 use Rattle.rec_base.specs.declared.ways.Way.{Way}
 use Rattle.rec_fields.specs.Field.{of_size, number_in, algs_at, caps_at, cell_at, rest_at}
-use Rattle.lte_events.specs.declared.acts.HoKind.{HoKind}
-use Rattle.lte_events.specs.declared.acts.StationAct.{StationAct}
-use Rattle.lte_events.specs.declared.acts.CoreAct.{CoreAct}
-use Rattle.lte_events.specs.declared.answers.Answer.{Answer}
+use Rattle.lte_events.specs.{declared.acts.HoKind.HoKind, declared.acts.StationAct.StationAct, declared.acts.CoreAct.CoreAct, declared.answers.Answer.Answer, declared.classes.Class.Class, declared.events.Event.Event, declared.setups.FirstNcc.FirstNcc, declared.setups.Setup.Setup}
 use Rattle.lte_events.specs.declared.answers.Answer.TheVariants.{Done, MacFails}
-use Rattle.lte_events.specs.declared.classes.Class.{Class}
-use Rattle.lte_events.specs.declared.events.Event.{Event}
-use Rattle.lte_events.specs.declared.setups.FirstNcc.{FirstNcc}
-use Rattle.lte_events.specs.declared.setups.Setup.{Setup}
-use Rattle.key_model.specs.Least.{least}
-use Rattle.key_model.specs.HandoverTable.{NumberedKey}
+use Rattle.key_model.specs.{Least.least, HandoverTable.NumberedKey}
 use Rattle.key_model.specs.Term.{Term, Root, Kenb, Nh, Star, Alg}
 use Rattle.nas_count.specs.Estimate.{estimate_of}
 use Rattle.nas_rec.specs.Reading as nas_reading
 use Rattle.nas_rec.specs.Spelling as nas_texts
-use Rattle.pdcp_guard.specs.Counts.{in_32_bits}
-use Rattle.pdcp_guard.specs.Drb.{drb_count}
-use Rattle.pdcp_guard.specs.Srb.{srb_count}
+use Rattle.pdcp_guard.specs.{Counts.in_32_bits, Drb.drb_count, Srb.srb_count}
 use Rattle.rrc_rec.specs.Reading as rrc_reading
 use Rattle.rrc_rec.specs.Spelling as rrc_texts
 use Rattle.s1x2_rec.specs.Fields.{Fields, kind_of}
-use Rattle.lte_machine.specs.Wire.{Outgoing}
+use Rattle.lte_machine.specs.{Wire.Outgoing, Opening.open_octets, Opening.open_foreign, CoreChoice.core_header, PhoneChoice.header_for_phone, Machines.machine_over, World.Machine, World.Line}
 use Rattle.lte_machine.specs.Ciphers.{Ciphers, nas_octets, srb_octets, drb_octets}
-use Rattle.lte_machine.specs.Opening.{open_octets, open_foreign}
-use Rattle.lte_machine.specs.CoreChoice.{core_header}
-use Rattle.lte_machine.specs.PhoneChoice.{header_for_phone}
-use Rattle.lte_machine.specs.Machines.{machine_over}
-use Rattle.lte_machine.specs.World.{Machine, Line}
 use Rattle.lte_machine.specs.Run.{RunState, Running, EventReport, Reported, Coincided, report, first_world}
 
 -- a number by which the keys of a scenario differ

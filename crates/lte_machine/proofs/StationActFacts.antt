@@ -4,19 +4,16 @@ use Rattle.std.proofs.Common.{◌≡◌, refl, sym, subst, ap, ◌∙◌, ℕ, �
 use Rattle.std.specs.Prelude.{⊤}
 use Rattle.annex_a_keys.specs.Cell.{Place}
 use Rattle.rec_base.specs.declared.bearers.Bearer.{Bearer}
-use Rattle.lte_events.specs.Site.{station_of}
-use Rattle.lte_events.specs.declared.acts.HoKind.{HoKind}
-use Rattle.lte_events.specs.declared.acts.StationAct.{StationAct}
+use Rattle.lte_events.specs.{Site.station_of, declared.acts.HoKind.HoKind, declared.acts.StationAct.StationAct}
 use Rattle.lte_events.specs.declared.acts.StationAct.TheVariants.{Start, Command, Cancel, Ask, SendUser, SendRrc, Skip}
 use Rattle.key_model.specs.Reading.{Reading}
 use Rattle.pdcp_guard.specs.Counts.{Counts}
 use Rattle.x2_handover.specs.declared.orders.Order.{Order}
 use Rattle.lte_machine.specs.Bearers.{Srb, Drb, Which, OnSrb, OnDrb, which, srb_counts, drb_counts, is_spent}
-use Rattle.lte_machine.specs.Reply.{Origin, unseen}
+use Rattle.lte_machine.specs.{Reply.Origin, Reply.unseen, StationStep.plain_station}
 use Rattle.lte_machine.specs.StationState.{Station, Context, Via, OverX2, OverS1, Within, Renewing, Progress, Open, Ready, Commanded, Attempt, map_context, map_attempt}
 use Rattle.lte_machine.specs.StationRows.{ActRow, ActRefused, StartedByX2, StartedByS1, StartedWithin, OrderSent, CancelledByX2, CancelledByS1, CancelledWithin, PathSwitchAsked, PacketSent, RrcSent, BearerSkipped}
 use Rattle.lte_machine.specs.StationChoice.{runs_out, is_full, is_misplaced, active_row, unless_spent, begun_row, target_row, start_row, ordered_row, attempt_command_row, command_row, unless_commanded, cancelled_row, attempt_cancel_row, give_up_row, came_row, ask_row, packet_row, send_rrc_row, skip_row, act_row}
-use Rattle.lte_machine.specs.StationStep.{plain_station}
 use Rattle.lte_machine.proofs.Tests.{by_test}
 use Rattle.lte_machine.proofs.RecordFacts.{one_left, two_left, same_unless}
 

@@ -1,16 +1,12 @@
 -- What a station does, case by case: a property of what it does holds of any row, if it holds where nothing changes and in each case that
 -- changes something. What is known of a row comes as a predicate on rows.
 use Rattle.std.proofs.Common.{◌≡◌, refl, ℕ, List, Option, Some, None, Ok, Err}
-use Rattle.alg_choice.specs.declared.algs.Algs.{Algs}
-use Rattle.alg_choice.specs.declared.caps.Caps.{Caps}
+use Rattle.alg_choice.specs.{declared.algs.Algs.Algs, declared.caps.Caps.Caps}
 use Rattle.annex_a_keys.specs.Cell.{Place}
-use Rattle.lte_events.specs.declared.answers.Answer.{Answer}
+use Rattle.lte_events.specs.{declared.answers.Answer.Answer, declared.acts.StationAct.StationAct}
 use Rattle.lte_events.specs.declared.answers.Answer.TheVariants.{Done, BadRecord}
-use Rattle.lte_events.specs.declared.acts.StationAct.{StationAct}
-use Rattle.key_model.specs.HandoverTable.{NumberedKey}
-use Rattle.key_model.specs.Reading.{Reading}
-use Rattle.s1x2_rec.specs.Content.{map_content}
-use Rattle.s1x2_rec.specs.Fields.{Fields, ContextRelease}
+use Rattle.key_model.specs.{HandoverTable.NumberedKey, Reading.Reading}
+use Rattle.s1x2_rec.specs.{Content.map_content, Fields.Fields, Fields.ContextRelease}
 use Rattle.ho_prep.specs.Prep.{Prep, at_air}
 use Rattle.x2_handover.specs.declared.orders.Order.{Order}
 use Rattle.lte_machine.specs.Bearers.{Srb, Drb, Which, which}
@@ -22,10 +18,7 @@ use Rattle.lte_machine.specs.StationRecords.{context_given, pair_taken, prepared
 use Rattle.lte_machine.specs.StationKeys.{completed_by_s1, completed_within, completed_by_x2, air_does, started_by_x2, started_by_s1, started_within, commands, asks_again, sends_packet, sends_rrc, act_does, station_does}
 use Rattle.lte_machine.specs.StationChoice.{record_row, air_front, air_row, act_row}
 use Rattle.lte_machine.specs.StationStep.{plain_station, station_row_of, station_key}
-use Rattle.lte_machine.proofs.Tests.{Anything}
-use Rattle.lte_machine.proofs.RecordFacts.{RecordHas, record_has}
-use Rattle.lte_machine.proofs.AirFacts.{AirHas, air_has}
-use Rattle.lte_machine.proofs.StationActFacts.{StationActHas, station_act_has}
+use Rattle.lte_machine.proofs.{Tests.Anything, RecordFacts.RecordHas, RecordFacts.record_has, AirFacts.AirHas, AirFacts.air_has, StationActFacts.StationActHas, StationActFacts.station_act_has}
 
 -- by a record
 pub record RecordCases {K C : Type 0} (r : Reading K C) (s : Station K C) (Known : RecordRow → Option (NumberedKey K C) → Type 0)

@@ -1,29 +1,20 @@
 -- Short runs of one station in terms, input by input: what it answers, and the key of each note.
 use Rattle.std.specs.Prelude.{◌≡◌, ℕ, ◌+◌, ◌-◌, zero, suc, List, [], ◌∷◌, ◌++◌, Option, Some, None, option_map, Ok}
 use Rattle.std.proofs.Common.{refl}
-use Rattle.alg_choice.specs.declared.algs.Algs.{Algs}
+use Rattle.alg_choice.specs.{declared.algs.Algs.Algs, declared.caps.Caps.Caps, Bits.has_bit, Choice.choice_of}
 use Rattle.alg_choice.specs.declared.algs.Eea.TheVariants.{Eea0, Eea2}
-use Rattle.alg_choice.specs.declared.caps.Caps.{Caps}
-use Rattle.alg_choice.specs.Bits.{has_bit}
-use Rattle.alg_choice.specs.Choice.{choice_of}
 use Rattle.annex_a_keys.specs.Cell.{Place}
 use Rattle.rec_base.specs.declared.bearers.Bearer.TheVariants.{Srb1, Srb2, Drb1}
 use Rattle.rec_base.specs.declared.ways.Way.{Way}
 use Rattle.rec_base.specs.declared.ways.Way.TheVariants.{Given, Horizontal, Vertical, Completed}
 use Rattle.rec_base.specs.BigEndian.{number_at, number_of, field_at}
 use Rattle.rec_fields.specs.Field.{of_size, rest_at}
-use Rattle.lte_events.specs.declared.acts.HoKind.{HoKind}
-use Rattle.lte_events.specs.declared.acts.StationAct.{StationAct}
+use Rattle.lte_events.specs.{declared.acts.HoKind.HoKind, declared.acts.StationAct.StationAct, declared.answers.Answer.Answer, Site.Site}
 use Rattle.lte_events.specs.declared.acts.StationAct.TheVariants.{Start, Command, Cancel, Ask, SendUser, SendRrc, Skip}
-use Rattle.lte_events.specs.declared.answers.Answer.{Answer}
 use Rattle.lte_events.specs.declared.answers.Answer.TheVariants.{Done, BadHeader, MacFails, CountSpent, NoAlgorithm, WrongKind, NotAddressed, NoUe, Stale, OldConnection, NotActive, UnknownCell, NoPathSwitch, AttemptOpen, NoAttempt, CommandSent, Repeated, PrepFull, NotReady, NumberSpent}
-use Rattle.lte_events.specs.Site.{Site}
-use Rattle.key_model.specs.Least.{least}
+use Rattle.key_model.specs.{Least.least, Reading.term_reading}
 use Rattle.key_model.specs.Term.{Term, Root, Kenb, Nh, Star}
-use Rattle.key_model.specs.Reading.{term_reading}
-use Rattle.pdcp_guard.specs.Counts.{in_32_bits}
-use Rattle.pdcp_guard.specs.Drb.{drb_count}
-use Rattle.pdcp_guard.specs.Srb.{srb_count}
+use Rattle.pdcp_guard.specs.{Counts.in_32_bits, Drb.drb_count, Srb.srb_count}
 use Rattle.rrc_rec.specs.Reading.{read_rrc, command_of, reconfiguration_of, bare, data_of}
 use Rattle.s1x2_rec.specs.Fields.{Fields, InitialContext, ContextRelease, PathSwitchAnswer, HandoverRequest, HandoverCommand, HandoverCancel, X2Request, X2Ack, X2Cancel, X2Release}
 use Rattle.lte_machine.specs.Opening.{Outcome, Opened, Differs}

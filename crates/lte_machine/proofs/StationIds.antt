@@ -3,13 +3,10 @@ use Rattle.std.proofs.Common.{◌≡◌, refl, sym, ap, ◌∙◌, ℕ, ◌==◌
 use Rattle.std.proofs.lemmas.Bool.{eqb-true}
 use Rattle.lte_events.specs.declared.events.Event.{Event}
 use Rattle.key_model.specs.Reading.{Reading}
-use Rattle.lte_machine.proofs.StationCases.{station_case}
-use Rattle.lte_machine.specs.Opening.{Outcome}
-use Rattle.lte_machine.specs.StationState.{Station, StationInput}
+use Rattle.lte_machine.proofs.{StationCases.station_case, Routing.happens_each}
+use Rattle.lte_machine.specs.{Opening.Outcome, StationState.Station, StationState.StationInput, Run.run}
 use Rattle.lte_machine.specs.StationStep.{station_row_of, station_key, station_step, station_opens, station_pdu_in}
-use Rattle.lte_machine.specs.Run.{run}
 use Rattle.lte_machine.specs.World.{Machine, World, put_if, put_station, station_of_id, happens}
-use Rattle.lte_machine.proofs.Routing.{happens_each}
 
 module _ {K C : Type 0} (r : Reading K C) (s : Station K C) where
   pub station_step_id : (i : StationInput K C) (outcome : Outcome) → (station_step r s i outcome).0.id ≡ s.id

@@ -1,13 +1,10 @@
 -- One step of a station, its keys read in another way, is the step of the station read so: opening and keys alike.
 use Rattle.std.specs.Prelude.{◌≡◌, ℕ, List, [], ◌∷◌, Option, Some, None, option_map, Result, Ok, Err}
 use Rattle.std.proofs.Common.{refl, sym, ap, ◌∙◌}
-use Rattle.alg_choice.specs.declared.algs.Algs.{Algs}
-use Rattle.alg_choice.specs.declared.caps.Caps.{Caps}
-use Rattle.alg_choice.specs.Algs.{identity_of, eia2_identity}
+use Rattle.alg_choice.specs.{declared.algs.Algs.Algs, declared.caps.Caps.Caps, Algs.identity_of, Algs.eia2_identity}
 use Rattle.annex_a_keys.specs.Cell.{Place}
 use Rattle.rec_base.specs.declared.faults.RecFault.{RecFault}
-use Rattle.key_model.specs.Reading.{Reading, Carries}
-use Rattle.key_model.specs.HandoverTable.{NumberedKey}
+use Rattle.key_model.specs.{Reading.Reading, Reading.Carries, HandoverTable.NumberedKey, Use.map_use}
 use Rattle.key_model.specs.HandoverLines.{map_numbered, star_line, change_line}
 use Rattle.key_model.specs.Derivation.{Derivation, map_derivation, star_made}
 use Rattle.nh_chain.specs.Station.{StationKey, map_station_key, map_pair, restored_if, Opened, opened}
@@ -16,21 +13,18 @@ use Rattle.ho_prep.specs.Prep.{Prep, map_prep, at_air, drop_below}
 use Rattle.ho_prep.specs.declared.origins.By.{By}
 use Rattle.x2_handover.specs.declared.orders.Order.{Order}
 use Rattle.lte_machine.specs.Bearers.{Srb, Drb, Which}
-use Rattle.lte_machine.specs.Wire.{map_outgoing}
+use Rattle.lte_machine.specs.{Wire.map_outgoing, Reply.Origin, Reply.finished}
 use Rattle.lte_machine.specs.Opening.{Opening, OpensNothing, OpensNas, OpensSrb, OpensDrb, Outcome, Opened as Came, Differs, accepted_of}
-use Rattle.key_model.specs.Use.{map_use}
-use Rattle.lte_machine.specs.Reply.{Origin, finished}
 use Rattle.lte_machine.specs.StationState.{Station, Context, Via, Attempt, SourceKeys, StationInput, StationActs, AirPdu, StationRecord, map_source_keys, map_attempt, map_context, map_station, map_read, map_station_input}
 use Rattle.lte_machine.specs.StationRows.{Admitted, RecordRow, ContextGiven, PairTaken, PreparedByS1, PreparedByX2, AttemptAnswered, PreparationCancelled, AirRow, AirRefused, SecurityStarted, RrcOpened, PacketOpened, CompletedByS1, CompletedWithin, CompletedByX2, ActRow, ActRefused, StartedByX2, StartedByS1, StartedWithin, OrderSent, CancelledByX2, CancelledByS1, CancelledWithin, PathSwitchAsked, PacketSent, RrcSent, BearerSkipped, StationRow, OfRecord, OfAir, OfAct, KeyRenewed}
 use Rattle.lte_machine.specs.StationChoice.{AirFront, AirSettled, OnStarting, OnSignalling, OnUser, OnPrepared, StationFront, Settled, FromAir, station_front, station_row}
 use Rattle.lte_machine.specs.StationKeys as keys
 use Rattle.lte_machine.specs.StationRecords as record_keys
 use Rattle.lte_machine.specs.StationStep.{key_read, station_key, station_front_of, station_opens, station_row_of, station_step}
-use Rattle.lte_machine.proofs.StationPlain.{station_plain, input_plain}
+use Rattle.lte_machine.proofs.{StationPlain.station_plain, StationPlain.input_plain, MapSteps.map_opening, MapSteps.map_station_done}
 use Rattle.nh_chain.proofs.CarryFacts.{map_opened}
 use Rattle.ho_prep.proofs.CarryFacts.{at_air-map, without-map, drop_below-map}
 use Rattle.std.proofs.lemmas.List.{map-append}
-use Rattle.lte_machine.proofs.MapSteps.{map_opening, map_station_done}
 
 module _ {K C L D : Type 0} {r : Reading K C} {q : Reading L D} {f : K → L} {g : C → D} (c : Carries r q f g) where
   -- OPENING

@@ -1,16 +1,13 @@
 -- A station and its inputs look the same to the choice of a row in every reading.
 use Rattle.std.specs.Prelude.{◌≡◌, List, [], ◌∷◌, Option, Some, None, option_map, Result, Ok, Err}
 use Rattle.std.proofs.Common.{refl, ap}
-use Rattle.key_model.specs.Reading.{Reading, Carries}
-use Rattle.key_model.specs.HandoverTable.{NumberedKey}
-use Rattle.key_model.specs.HandoverLines.{map_numbered}
+use Rattle.key_model.specs.{Reading.Reading, Reading.Carries, HandoverTable.NumberedKey, HandoverLines.map_numbered}
 use Rattle.rec_base.specs.declared.faults.RecFault.{RecFault}
 use Rattle.nh_chain.specs.Station.{StationKey, map_pair, map_station_key}
 use Rattle.s1x2_rec.specs.Content.{Content, map_content}
 use Rattle.ho_prep.specs.Prep.{Prep, map_prep}
-use Rattle.lte_machine.specs.Reply.{unseen}
+use Rattle.lte_machine.specs.{Reply.unseen, StationStep.plain_station}
 use Rattle.lte_machine.specs.StationState.{Context, Attempt, SourceKeys, Station, StationInput, StationActs, AirPdu, StationRecord, map_source_keys, map_attempt, map_context, map_preps, map_station, map_read, map_station_input}
-use Rattle.lte_machine.specs.StationStep.{plain_station}
 
 module _ {K C L D : Type 0} {r : Reading K C} {q : Reading L D} {f : K → L} {g : C → D} (c : Carries r q f g) where
   pair_plain : (pair : Option (NumberedKey K C)) → map_pair unseen q.ncc (map_pair f g pair) ≡ map_pair unseen r.ncc pair

@@ -2,12 +2,8 @@
 use Rattle.std.specs.Prelude.{◌≡◌, ◌≢◌, Option}
 use Rattle.std.proofs.Common.{refl, ap}
 use Rattle.lte_events.specs.declared.answers.Answer.TheVariants.{Done}
-use Rattle.key_model.specs.Reading.{Reading}
-use Rattle.key_model.specs.HandoverTable.{NumberedKey}
-use Rattle.lte_machine.specs.Opening.{Outcome}
-use Rattle.lte_machine.specs.Reply.{Reply, only}
-use Rattle.lte_machine.specs.StationState.{Station, StationInput}
-use Rattle.lte_machine.specs.StationRows.{StationRow}
+use Rattle.key_model.specs.{Reading.Reading, HandoverTable.NumberedKey}
+use Rattle.lte_machine.specs.{Opening.Outcome, Reply.Reply, Reply.only, StationState.Station, StationState.StationInput, StationRows.StationRow}
 use Rattle.lte_machine.specs.StationKeys as keys
 use Rattle.lte_machine.proofs.StationCases.{station_case}
 use Rattle.lte_machine.specs.StationStep.{station_key, station_row_of, station_step}

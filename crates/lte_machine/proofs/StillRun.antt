@@ -1,9 +1,7 @@
 -- Where a replay has met no coincidence, it is the plain run, and its ladder has no clash.
 use Rattle.std.proofs.Common.{◌≡◌, refl, sym, ap, ◌∙◌, ℕ, List, [], ◌∷◌, Option, Some, None}
 use Rattle.lte_events.specs.declared.events.Event.{Event}
-use Rattle.lte_machine.specs.Opening.{Opening, Outcome}
-use Rattle.lte_machine.specs.Ladder.{Clash, ladder_of}
-use Rattle.lte_machine.specs.Tuples.{Coincidence, Rows}
+use Rattle.lte_machine.specs.{Opening.Opening, Opening.Outcome, Ladder.Clash, Ladder.ladder_of, Tuples.Coincidence, Tuples.Rows}
 use Rattle.lte_machine.specs.World.{Machine, World, Line, happens}
 use Rattle.lte_machine.specs.Step.{by_ladder, by_coincidence, opening_coincidence, attempted}
 use Rattle.lte_machine.specs.Run.{Running, Stopped, after, turn, replay}

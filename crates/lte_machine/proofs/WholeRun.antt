@@ -2,29 +2,20 @@
 use Rattle.std.proofs.Common.{◌≡◌, refl, ap, sym, ◌∙◌, ℕ, List, [], ◌∷◌, map, Option, Some, None}
 use Rattle.std.specs.List.{AllByRecursion as AllOf}
 use Rattle.rec_base.specs.declared.uses.Dir.TheVariants.{Up, Down}
-use Rattle.lte_events.specs.declared.addresses.Address.{Address}
-use Rattle.lte_events.specs.declared.events.Event.{Event}
-use Rattle.lte_events.specs.declared.setups.Setup.{Setup}
-use Rattle.lte_events.specs.declared.setups.StationSetup.{StationSetup}
-use Rattle.lte_events.specs.Site.{Site}
-use Rattle.lte_events.specs.Ranges.{IsEvent, IsSetup}
-use Rattle.key_model.specs.Chain.{ncc_of}
-use Rattle.key_model.specs.Term.{Term, Root}
-use Rattle.key_model.specs.Value.{value_of, same_value}
+use Rattle.lte_events.specs.{declared.addresses.Address.Address, declared.events.Event.Event, declared.setups.Setup.Setup, declared.setups.StationSetup.StationSetup, Site.Site, Ranges.IsEvent, Ranges.IsSetup}
+use Rattle.key_model.specs.{Chain.ncc_of, Term.Term, Term.Root, Value.value_of, Value.same_value}
 use Rattle.lte_machine.specs.Wire.{Outgoing, SealedNas, PlainNas, SealedRrc, UserPacket, Between, address_of}
 use Rattle.lte_machine.specs.Ciphers.{Ciphers, under_keys, octets_of}
-use Rattle.lte_machine.specs.Opening.{open_octets}
-use Rattle.lte_machine.specs.StationState.{first_station}
+use Rattle.lte_machine.specs.{Opening.open_octets, StationState.first_station}
 use Rattle.lte_machine.specs.Carried.{map_stations, run_value, report_value}
 use Rattle.lte_machine.specs.Machines.{Kept, machine_in_octets, sender_of, opening_by_octets, written_machine, written_in_values, kept_in_values}
 use Rattle.lte_machine.specs.Run.{Running, replay, report, stations_of, first_world}
 use Rattle.lte_machine.specs.World.{Machine, World, record_at}
 use Rattle.lte_machine.proofs.InOctets.{agree, KeepsBack, run_in_octets, tale_in_octets}
 use Rattle.lte_machine.proofs.RangeHolds.{RecordRanged, SentRanged, Ranged}
-use Rattle.lte_machine.proofs.KnownLists.{all_chosen}
+use Rattle.lte_machine.proofs.{KnownLists.all_chosen, CipherLaws.AreCiphers}
 use Rattle.lte_machine.proofs.RangeWorld.{ranged_keeps, first_ranged, reads_back}
 use Rattle.lte_machine.proofs.WorldMap.{BackAt, BackIf, BackOf}
-use Rattle.lte_machine.proofs.CipherLaws.{AreCiphers}
 
 -- THE FIRST WORLD
 

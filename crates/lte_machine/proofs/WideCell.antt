@@ -2,12 +2,10 @@
 use Rattle.std.specs.Prelude.{◌≡◌, ℕ, List, [], ◌∷◌, ◌++◌, drop, take}
 use Rattle.std.proofs.Common.{refl}
 use Rattle.annex_a_keys.specs.Cell.{Place}
-use Rattle.lte_events.specs.declared.events.Event.{Event}
-use Rattle.lte_events.specs.declared.setups.Setup.{Setup}
+use Rattle.lte_events.specs.{declared.events.Event.Event, declared.setups.Setup.Setup}
 use Rattle.key_model.specs.Term.{Term}
-use Rattle.lte_machine.specs.Opening.{open_octets}
+use Rattle.lte_machine.specs.{Opening.open_octets, Wire.Outgoing}
 use Rattle.lte_machine.specs.Run.{RunState, Running, report, first_world}
-use Rattle.lte_machine.specs.Wire.{Outgoing}
 use Rattle.lte_machine.proofs.Ordinary.{ordinary, ordinary_report}
 use Rattle.lte_machine.proofs.Scenario.{briefs, computing, machine, place, setup, toy, x2_at}
 

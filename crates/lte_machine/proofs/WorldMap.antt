@@ -1,19 +1,12 @@
 -- A machine in one reading goes as the same machine in another: one event.
 use Rattle.std.proofs.Common.{◌≡◌, ℕ, zero, suc, ◌+◌, ◌-◌, ◌==◌, nat_lt, Bool, true, false, List, [], ◌∷◌, ◌++◌, length, map, Option, Some, None, refl, ap, sym, ◌∙◌}
 use Rattle.std.specs.Prelude.{cond, ◌&&◌, ℤ, pos, negsuc, filter, slice_get, option_map}
-use Rattle.std.specs.List.{position_from}
+use Rattle.std.specs.{List.position_from, Str.bytes_eq}
 use Rattle.std.proofs.lemmas.List.{map-append}
-use Rattle.std.specs.Str.{bytes_eq}
 use Rattle.alg_choice.specs.declared.caps.Caps.{Caps}
-use Rattle.lte_events.specs.declared.addresses.Address.{Address}
-use Rattle.lte_events.specs.declared.answers.Answer.{Answer}
+use Rattle.lte_events.specs.{declared.addresses.Address.Address, declared.answers.Answer.Answer, declared.classes.Class.Class, declared.events.Event.Event, declared.lines.Who.Who}
 use Rattle.lte_events.specs.declared.answers.Answer.TheVariants.{Done, NoUe, NoRecord, Sent, RepeatedRoot}
-use Rattle.lte_events.specs.declared.classes.Class.{Class}
-use Rattle.lte_events.specs.declared.events.Event.{Event}
-use Rattle.lte_events.specs.declared.lines.Who.{Who}
-use Rattle.key_model.specs.Derivation.{Derivation, map_derivation}
-use Rattle.key_model.specs.Reading.{Carries}
-use Rattle.key_model.specs.Use.{map_use}
+use Rattle.key_model.specs.{Derivation.Derivation, Derivation.map_derivation, Reading.Carries, Use.map_use}
 use Rattle.lte_machine.specs.Wire.{Ciphering, map_ciphering, Outgoing, SealedNas, SealedRrc, map_outgoing, ciphering_use}
 use Rattle.lte_machine.specs.Opening.{Opening, Opened}
 use Rattle.lte_machine.specs.Reply.{map_note, map_made, map_tried, map_took, Reply, only}
@@ -27,10 +20,7 @@ use Rattle.lte_machine.specs.CoreStep.{core_step, core_opens, core_pdu_in}
 use Rattle.lte_events.specs.Class.{class_of, told_in, same_class}
 use Rattle.lte_machine.specs.World.{Machine, World, Line, Holder, AtPhone, AtCore, AtStation, with_one, uses_in, holds, world_with, sent_line, line_of, phone_after, core_after, put_if, put_station, station_after, by_world, phone_turn, core_turn, station_of_id, turn_of, station_turn, authenticated, auth_unless, is_root_row, next_root, known_root, content_in, arrives, newest_if, record_at, delivery, is_sent, injected, happens}
 use Rattle.lte_machine.specs.Carried.{map_holding, map_stations, map_world, map_line}
-use Rattle.lte_machine.proofs.PhoneMap.{phone_opens_map, phone_step_map}
-use Rattle.lte_machine.proofs.CoreMap.{core_opens_map, core_step_map}
-use Rattle.lte_machine.proofs.StationMap.{station_opens_map, station_step_map}
-use Rattle.lte_machine.proofs.LadderMap.{root_row-map, rows-map}
+use Rattle.lte_machine.proofs.{PhoneMap.phone_opens_map, PhoneMap.phone_step_map, CoreMap.core_opens_map, CoreMap.core_step_map, StationMap.station_opens_map, StationMap.station_step_map, LadderMap.root_row-map, LadderMap.rows-map}
 use Rattle.lte_machine.proofs.MapSteps.{map_opening, map_reply, map_phone_step}
 
 -- f on keys, g on chain numbers and z on what is kept of a record carry one machine to another

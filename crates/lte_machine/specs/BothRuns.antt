@@ -1,15 +1,12 @@
 -- From a setup and a list of events: the run of the written machine, and the run in octets, under the algorithms of TS
 -- 33.401 Annex B.
 use Rattle.std.specs.Prelude.{ℕ, List}
-use Rattle.lte_events.specs.declared.events.Event.{Event}
-use Rattle.lte_events.specs.declared.setups.Setup.{Setup}
-use Rattle.key_model.specs.Term.{Term}
-use Rattle.key_model.specs.Value.{value_of}
+use Rattle.lte_events.specs.{declared.events.Event.Event, declared.setups.Setup.Setup}
+use Rattle.key_model.specs.{Term.Term, Value.value_of}
 use Rattle.lte_machine.specs.Ciphers.{Ciphers, annex_b, under_keys}
 use Rattle.lte_machine.specs.Machines.{Kept, machine_in_octets, written_machine}
-use Rattle.lte_machine.specs.Opening.{open_octets}
+use Rattle.lte_machine.specs.{Opening.open_octets, Wire.Outgoing}
 use Rattle.lte_machine.specs.Run.{RunState, Running, replay, EventReport, report, first_world}
-use Rattle.lte_machine.specs.Wire.{Outgoing}
 
 -- the algorithms under the octets of a key term
 abbrev pub annex_b_terms : Ciphers Term

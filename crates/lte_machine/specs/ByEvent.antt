@@ -1,19 +1,12 @@
 -- A run event by event: the world before an event, the event, the world after it and its line.
 use Rattle.std.specs.Prelude.{◌≡◌, ℕ, List, ◌∷◌, ◌++◌, take, slice_get, Some}
-use Rattle.lte_events.specs.declared.events.Event.{Event}
-use Rattle.lte_events.specs.declared.setups.Setup.{Setup}
-use Rattle.key_model.specs.Chain.{ncc_of}
-use Rattle.key_model.specs.Term.{Term}
-use Rattle.key_model.specs.Value.{value_of}
+use Rattle.lte_events.specs.{declared.events.Event.Event, declared.setups.Setup.Setup}
+use Rattle.key_model.specs.{Chain.ncc_of, Term.Term, Value.value_of}
 use Rattle.lte_machine.specs.BothRuns.{annex_b_terms, written_run, octet_run}
-use Rattle.lte_machine.specs.Carried.{map_world, map_line}
-use Rattle.lte_machine.specs.Ciphers.{annex_b}
+use Rattle.lte_machine.specs.{Carried.map_world, Carried.map_line, Ciphers.annex_b, Run.Running, Run.replay, Tuples.Coincidence, Wire.Outgoing}
 use Rattle.lte_machine.specs.Machines.{Kept, machine_in_octets, kept_in_values, written_machine}
 use Rattle.lte_machine.specs.Opening.{Opening, Outcome, open_octets}
-use Rattle.lte_machine.specs.Run.{Running, replay}
 use Rattle.lte_machine.specs.Step.{Continues, Stops, next}
-use Rattle.lte_machine.specs.Tuples.{Coincidence}
-use Rattle.lte_machine.specs.Wire.{Outgoing}
 use Rattle.lte_machine.specs.World.{Machine, World, Line}
 
 -- a run that is over: the events before its coincidence, after which it went on, and the event at which it came

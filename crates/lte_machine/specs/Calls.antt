@@ -2,31 +2,26 @@
 -- TS 33.401 Annex B.
 use Rattle.std.specs.Prelude.{ℕ, List, map, Option, Some, None, option_map}
 use Rattle.rec_base.specs.declared.uses.Use as uses
-use Rattle.key_model.specs.Derivation.{derived_of}
-use Rattle.key_model.specs.Reading.{octet_reading}
+use Rattle.key_model.specs.{Derivation.derived_of, Reading.octet_reading}
 use Rattle.s1x2_rec.specs.Reading.{read_core}
 use Rattle.lte_events.specs.declared.inputs.PhoneIn as phone_in
 use Rattle.lte_events.specs.declared.inputs.StationIn as station_in
 use Rattle.lte_events.specs.declared.inputs.CoreIn as core_in
-use Rattle.lte_events.specs.declared.classes.Class.{Class}
+use Rattle.lte_events.specs.{declared.classes.Class.Class, declared.lines.Who.Who, declared.answers.Answer.TheVariants.Done}
 use Rattle.lte_events.specs.declared.lines.Line as lines
-use Rattle.lte_events.specs.declared.lines.Who.{Who}
 use Rattle.lte_events.specs.declared.replies.ActorOut as replies
 use Rattle.lte_events.specs.declared.replies.KeyNote as notes
 use Rattle.lte_events.specs.declared.replies.Record as records
-use Rattle.lte_events.specs.declared.answers.Answer.TheVariants.{Done}
 use Rattle.lte_machine.specs.Ciphers.{annex_b, octets_of, written}
 use Rattle.lte_machine.specs.CoreState.{Core, CoreInput, CoreAuth, CoreActs, CoreNasPdu, CoreRecord}
 use Rattle.lte_machine.specs.CoreStep.{core_step, core_opens, core_pdu_in}
-use Rattle.lte_machine.specs.Machines.{Kept}
-use Rattle.lte_machine.specs.Opening.{open_octets}
+use Rattle.lte_machine.specs.{Machines.Kept, Opening.open_octets, World.Line, World.uses_in}
 use Rattle.lte_machine.specs.PhoneState.{Phone, PhoneInput, PhoneAuth, PhoneActs, PhoneNasPdu, PhoneAirPdu}
 use Rattle.lte_machine.specs.PhoneStep.{phone_step, phone_opens, phone_pdu_in}
 use Rattle.lte_machine.specs.Reply.{Note, Reply, only}
 use Rattle.lte_machine.specs.StationState.{Station, StationInput, StationActs, AirPdu, StationRecord, OnS1, OnX2}
 use Rattle.lte_machine.specs.StationStep.{station_step, station_opens, station_pdu_in}
 use Rattle.lte_machine.specs.Wire.{KeyUse, Outgoing, address_of, integrity_of}
-use Rattle.lte_machine.specs.World.{Line, uses_in}
 
 -- INPUTS, a record on S1 or X2 as it reads
 

@@ -1,20 +1,11 @@
 -- A world, a run and what is told of it, in another reading of keys, chain numbers and records that were sent.
 use Rattle.std.specs.Prelude.{ℕ, List, [], ◌∷◌, map, option_map}
-use Rattle.key_model.specs.Chain.{ncc_of}
-use Rattle.key_model.specs.Term.{Term}
-use Rattle.key_model.specs.Use.{map_use}
-use Rattle.key_model.specs.Value.{value_of}
-use Rattle.lte_machine.specs.Wire.{Outgoing}
-use Rattle.lte_machine.specs.Ciphers.{Ciphers}
+use Rattle.key_model.specs.{Chain.ncc_of, Term.Term, Use.map_use, Value.value_of}
+use Rattle.lte_machine.specs.{Wire.Outgoing, Ciphers.Ciphers, Ladder.Clash, Ladder.map_row, PhoneState.map_phone, StationState.Station, StationState.map_station, CoreState.map_core, Machines.Kept, Machines.kept_in_values}
 use Rattle.lte_machine.specs.Reply.{map_note, map_made, map_tried, map_took}
-use Rattle.lte_machine.specs.Ladder.{Clash, map_row}
 use Rattle.lte_machine.specs.Tuples.{Coincidence, Tuples, Rows}
-use Rattle.lte_machine.specs.PhoneState.{map_phone}
-use Rattle.lte_machine.specs.StationState.{Station, map_station}
-use Rattle.lte_machine.specs.CoreState.{map_core}
 use Rattle.lte_machine.specs.World.{World, Line, Holding}
 use Rattle.lte_machine.specs.Run.{RunState, Running, Stopped, EventReport, Reported, Coincided}
-use Rattle.lte_machine.specs.Machines.{Kept, kept_in_values}
 
 abbrev pub map_holding : {K L : Type 0} → (K → L) → Holding K → Holding L
 map_holding f h = record { holder = h.holder; key = f h.key }

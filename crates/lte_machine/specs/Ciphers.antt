@@ -1,12 +1,9 @@
 -- The octets of what is sent, by a MAC and a ciphering (TS 24.301 9.1, TS 36.323 6.2).
 use Rattle.std.specs.Prelude.{ℕ, ◌%◌, List, ◌∷◌, ◌++◌, Option, Some, None}
-use Rattle.key_model.specs.Use.{map_use}
-use Rattle.key_model.specs.HandoverTable.{NumberedKey}
-use Rattle.nas_guard.specs.Cipher.{ciphered, mac_of}
-use Rattle.nas_guard.specs.Seal.{first_octet}
+use Rattle.key_model.specs.{Use.map_use, HandoverTable.NumberedKey}
+use Rattle.nas_guard.specs.{Cipher.ciphered, Cipher.mac_of, Seal.first_octet}
 use Rattle.pdcp_guard.specs.Drb.{drb_first_octet, drb_second_octet}
-use Rattle.s1x2_rec.specs.Fields.{Fields}
-use Rattle.s1x2_rec.specs.Spelling.{spelling_of}
+use Rattle.s1x2_rec.specs.{Fields.Fields, Spelling.spelling_of}
 use Rattle.lte_machine.specs.Wire.{KeyUse, Ciphering, map_ciphering, Outgoing, SealedNas, PlainNas, SealedRrc, UserPacket, Between}
 
 -- a MAC of a text by a use of a key, and a text ciphered or deciphered

@@ -1,25 +1,16 @@
 -- The choice of the core's row: what it refuses, in the order of its table, and what it does. The state and the input
 -- are seen without keys and chain numbers, so that the choice is one in each reading of them.
 use Rattle.std.specs.Prelude.{ℕ, ◌/◌, ◌%◌, Bool, not, ◌==◌, ◌&&◌, ◌||◌, nat_lt, nat_le, if◌then◌else◌, List, drop, length, slice_index, Option, Some, None, Result, Ok, Err}
-use Rattle.alg_choice.specs.Choice.{choice_of}
-use Rattle.alg_choice.specs.declared.algs.Algs.{Algs}
-use Rattle.alg_choice.specs.declared.algs.Eea.{Eea}
-use Rattle.alg_choice.specs.declared.caps.Caps.{Caps}
-use Rattle.alg_choice.specs.declared.choices.NoAlgorithm.{NoAlgorithm as NoneChosen}
+use Rattle.alg_choice.specs.{Choice.choice_of, declared.algs.Algs.Algs, declared.algs.Eea.Eea, declared.caps.Caps.Caps, declared.choices.NoAlgorithm.NoAlgorithm as NoneChosen}
 use Rattle.annex_a_keys.specs.Cell.{Place}
 use Rattle.rec_base.specs.declared.faults.RecFault.{RecFault}
-use Rattle.lte_events.specs.declared.acts.CoreAct.{CoreAct}
+use Rattle.lte_events.specs.{declared.acts.CoreAct.CoreAct, declared.answers.Answer.Answer, Site.station_of}
 use Rattle.lte_events.specs.declared.acts.CoreAct.TheVariants.{StartSmc, Connect, Release, SendNas, Skip}
-use Rattle.lte_events.specs.declared.answers.Answer.{Answer}
 use Rattle.lte_events.specs.declared.answers.Answer.TheVariants.{NoContext, MacFails, CountSpent, SmcOpen, NoAlgorithm, BadRecord, Short, BadHeader, WrongKind, NoUe, OldConnection, UnknownCell, Repeated, NumberSpent, NoTrigger, NoSmc}
-use Rattle.lte_events.specs.Site.{station_of}
-use Rattle.nas_count.specs.Estimate.{nas_count_limit, estimate_of}
-use Rattle.nas_count.specs.declared.sending.CountSpent.{CountSpent as NoneLeft}
+use Rattle.nas_count.specs.{Estimate.nas_count_limit, Estimate.estimate_of, declared.sending.CountSpent.CountSpent as NoneLeft}
 use Rattle.nas_guard.specs.Keys.{Keys}
 use Rattle.nas_guard.specs.Open.{first_in, header_in, sn_in}
-use Rattle.nas_rec.specs.Reading.{read_nas}
-use Rattle.nas_rec.specs.Spelling.{kind_of as nas_kind}
-use Rattle.nas_rec.specs.declared.records.NasRecord.{NasRecord}
+use Rattle.nas_rec.specs.{Reading.read_nas, Spelling.kind_of as nas_kind, declared.records.NasRecord.NasRecord}
 use Rattle.nas_rec.specs.declared.records.NasRecord.TheVariants.{SecurityModeComplete, SecurityModeReject, ServiceRequest, NasData}
 use Rattle.s1x2_rec.specs.Content.{Content}
 use Rattle.s1x2_rec.specs.Fields.{Fields, PathSwitchRequest, HandoverRequired, HandoverRequestAck, HandoverNotify, HandoverCancel, kind_of}

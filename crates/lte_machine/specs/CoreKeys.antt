@@ -1,33 +1,25 @@
 -- What the core does with keys: each new key is derived from one that it holds, or is such a key moved (TS 33.401 6.2,
 -- 7.2.8 and Annex A).
 use Rattle.std.specs.Prelude.{ℕ, ◌+◌, Bool, false, List, [], ◌∷◌, slice_set, Option, Some, None}
-use Rattle.alg_choice.specs.Algs.{eia2_identity}
-use Rattle.alg_choice.specs.declared.algs.Algs.{Algs}
-use Rattle.alg_choice.specs.declared.caps.Caps.{Caps}
+use Rattle.alg_choice.specs.{Algs.eia2_identity, declared.algs.Algs.Algs, declared.caps.Caps.Caps}
 use Rattle.annex_a_keys.specs.Cell.{Place}
 use Rattle.rec_base.specs.declared.uses.Dir.TheVariants.{Up, Down}
 use Rattle.rec_base.specs.declared.ways.Way.TheVariants.{Initial, Chained}
-use Rattle.lte_events.specs.declared.addresses.Address.TheVariants.{StationS1}
-use Rattle.lte_events.specs.declared.answers.Answer.{Answer}
-use Rattle.lte_events.specs.declared.answers.Answer.TheVariants.{Done}
+use Rattle.lte_events.specs.{declared.addresses.Address.TheVariants.StationS1, declared.answers.Answer.Answer, declared.answers.Answer.TheVariants.Done, declared.setups.FirstNcc.FirstNcc}
 use Rattle.key_model.specs.Derivation.{Derivation, kenb_made, nh_made}
-use Rattle.key_model.specs.Reading.{Reading}
+use Rattle.key_model.specs.{Reading.Reading, HandoverTable.NumberedKey}
 use Rattle.nas_count.specs.Estimate.{nas_count_limit}
-use Rattle.nas_guard.specs.Keys.{Keys}
-use Rattle.nas_guard.specs.Seal.{is_ciphered}
+use Rattle.nas_guard.specs.{Keys.Keys, Seal.is_ciphered}
 use Rattle.nas_rec.specs.Spelling.{spelling_of}
 use Rattle.nas_rec.specs.declared.records.NasRecord.TheVariants.{SecurityModeCommand, NasData}
-use Rattle.lte_events.specs.declared.setups.FirstNcc.{FirstNcc}
 use Rattle.lte_events.specs.declared.setups.FirstNcc.TheVariants.{One, Two}
 use Rattle.nh_chain.specs.Chain.{ChainState, stepped, present_pair}
 use Rattle.s1x2_rec.specs.Fields.{Fields, InitialContext, ContextRelease, PathSwitchAnswer, HandoverRequest, HandoverCommand, HandoverCancel, ContextModification}
-use Rattle.key_model.specs.HandoverTable.{NumberedKey}
-use Rattle.lte_machine.specs.Bearers.{skipped}
+use Rattle.lte_machine.specs.{Bearers.skipped, PhoneState.nas_keys_of, PhoneState.nas_derivations}
 use Rattle.lte_machine.specs.CoreChoice.{CoreFront, Settled, FromNas, CoreNasFront, NasSettled, OpensComplete, OpensProtected}
 use Rattle.lte_machine.specs.CoreRows.{CoreNasRow, NasRefused, PlainReject, SmcComplete, SmcChange, ServiceAsked, NasOpened, SealedReject, CoreRecordRow, RecordRefused, PathSwitched, HandoverAsked, HandoverOrdered, HandoverNotified, HandoverCancelled, CoreActRow, ActRefused, SmcStarted, ContextSetUp, ContextReleased, NasSent, NasSkipped, CoreRow, OfNas, OfRecord, OfAct, OfAuth}
 use Rattle.lte_machine.specs.CoreState.{Core, CorePartial, CoreContext, CoreLink}
 use Rattle.lte_machine.specs.Opening.{Opening, OpensNothing, OpensNas}
-use Rattle.lte_machine.specs.PhoneState.{nas_keys_of, nas_derivations}
 use Rattle.lte_machine.specs.Reply.{Note, Reply, only}
 use Rattle.lte_machine.specs.Wire.{Outgoing, SealedNas, Between, nas_use, nas_ciphering, ciphering_if}
 

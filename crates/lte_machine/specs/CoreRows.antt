@@ -1,8 +1,7 @@
 -- The rows of the core's table: what one step of the core does, each with the plain numbers that it needs (TS 24.301
 -- 5.4.3 and 5.6.1, TS 33.401 7.2.4.4 and 7.2.8, TS 36.413 8.3 and 8.4).
 use Rattle.std.specs.Prelude.{ℕ, Bool, List}
-use Rattle.alg_choice.specs.declared.algs.Algs.{Algs}
-use Rattle.alg_choice.specs.declared.caps.Caps.{Caps}
+use Rattle.alg_choice.specs.{declared.algs.Algs.Algs, declared.caps.Caps.Caps}
 use Rattle.annex_a_keys.specs.Cell.{Place}
 use Rattle.lte_events.specs.declared.answers.Answer.{Answer}
 

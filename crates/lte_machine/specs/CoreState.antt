@@ -1,16 +1,12 @@
 -- The core: what it keeps of the phone (TS 24.301 4.4 and 5.4.3, TS 33.401 7.2.8), in keys K and chain numbers C.
 use Rattle.std.specs.Prelude.{ℕ, List, replicate, Option, None, option_map, Result}
-use Rattle.alg_choice.specs.declared.algs.Eea.{Eea}
-use Rattle.alg_choice.specs.declared.caps.Caps.{Caps}
+use Rattle.alg_choice.specs.{declared.algs.Eea.Eea, declared.caps.Caps.Caps}
 use Rattle.rec_base.specs.declared.faults.RecFault.{RecFault}
-use Rattle.lte_events.specs.declared.acts.CoreAct.{CoreAct}
-use Rattle.lte_events.specs.declared.setups.FirstNcc.{FirstNcc}
-use Rattle.lte_events.specs.Site.{Site}
+use Rattle.lte_events.specs.{declared.acts.CoreAct.CoreAct, declared.setups.FirstNcc.FirstNcc, Site.Site}
 use Rattle.nas_guard.specs.Keys.{Keys, map_keys}
 use Rattle.nh_chain.specs.Chain.{ChainState, map_chain}
 use Rattle.s1x2_rec.specs.Content.{Content}
-use Rattle.lte_machine.specs.PhoneState.{NasContext, map_context}
-use Rattle.lte_machine.specs.StationState.{map_read}
+use Rattle.lte_machine.specs.{PhoneState.NasContext, PhoneState.map_context, StationState.map_read}
 
 -- a partial context: what an authentication left (TS 24.301 4.4.2)
 pub record CorePartial (K : Type 0) : Type 0 where

@@ -5,8 +5,7 @@ use Rattle.lte_machine.specs.CoreChoice.{PlainCore, PlainCoreInput, CoreFront, c
 use Rattle.lte_machine.specs.CoreKeys.{CoreDone, core_expects, core_does}
 use Rattle.lte_machine.specs.CoreState.{Core, CoreInput, CoreAuth, CoreNasPdu, CoreRecord, map_core, map_core_input}
 use Rattle.lte_machine.specs.Opening.{Opening, Outcome, accepted_of}
-use Rattle.lte_machine.specs.Reply.{finished, unseen}
-use Rattle.lte_machine.specs.Wire.{KeyUse}
+use Rattle.lte_machine.specs.{Reply.finished, Reply.unseen, Wire.KeyUse}
 
 -- what the choice sees
 abbrev pub plain_core : {K C : Type 0} → Reading K C → Core K C → PlainCore

@@ -1,8 +1,7 @@
 -- The distinct terms of a run: what the rows of the ladder stand for.
 use Rattle.std.specs.Prelude.{◌≡◌, Bool, true, false, ◌⊎◌, List, [], ◌∷◌, ◌++◌, map}
 use Rattle.std.specs.List.{list_any}
-use Rattle.key_model.specs.Term.{Term, same_term}
-use Rattle.key_model.specs.Value.{value_of}
+use Rattle.key_model.specs.{Term.Term, Term.same_term, Value.value_of}
 use Rattle.lte_machine.specs.Ladder.{RowOrigin, row_key}
 
 -- the keys of authentications and derivations, in order

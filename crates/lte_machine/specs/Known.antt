@@ -1,19 +1,16 @@
 -- All keys of a world: what the phone, the stations and the core hold, what was sent, and what was used.
 use Rattle.std.specs.Prelude.{ℕ, Option, Some, None}
 use Rattle.std.specs.List.{AllByRecursion as AllOf}
-use Rattle.key_model.specs.Term.{Term}
-use Rattle.key_model.specs.HandoverTable.{NumberedKey}
+use Rattle.key_model.specs.{Term.Term, HandoverTable.NumberedKey}
 use Rattle.nas_guard.specs.Keys.{Keys}
-use Rattle.nh_chain.specs.Chain.{ChainState}
-use Rattle.nh_chain.specs.Station.{StationKey}
+use Rattle.nh_chain.specs.{Chain.ChainState, Station.StationKey}
 use Rattle.pdcp_guard.specs.AsKeys.{AsKeys}
 use Rattle.ho_prep.specs.Prep.{Prep}
 use Rattle.lte_machine.specs.Wire.{Ciphering, Outgoing, SealedNas, PlainNas, SealedRrc, UserPacket, Between}
 use Rattle.lte_machine.specs.PhoneState.{Partial, NasContext, Radio, Idle, Connecting, Connected, Phone}
 use Rattle.lte_machine.specs.StationState.{Station, Context, Attempt, SourceKeys}
 use Rattle.lte_machine.specs.CoreState.{Core, CorePartial, CoreContext, CoreLink}
-use Rattle.lte_machine.specs.World.{World}
-use Rattle.lte_machine.specs.Distinct.{keys_of, Member}
+use Rattle.lte_machine.specs.{World.World, Distinct.keys_of, Distinct.Member}
 
 -- each of the three keys of the access stratum is so, and each of the two NAS keys (TS 33.401 6.2)
 abbrev pub AsKnown : (Term → Type 0) → AsKeys Term → Type 0

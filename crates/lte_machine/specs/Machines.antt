@@ -2,15 +2,8 @@
 use Rattle.std.specs.Prelude.{ℕ, Bool, List, Option, Some, None, option_map, Result, Ok, Err}
 use Rattle.rec_base.specs.declared.faults.RecFault.{RecFault}
 use Rattle.lte_events.specs.declared.addresses.Address.{Address}
-use Rattle.key_model.specs.Chain.{ncc_of}
-use Rattle.key_model.specs.HandoverLines.{map_numbered}
-use Rattle.key_model.specs.HandoverTable.{NumberedKey}
-use Rattle.key_model.specs.Reading.{octet_reading, term_reading_by}
-use Rattle.key_model.specs.Term.{Term, Root}
-use Rattle.key_model.specs.Value.{value_of, same_value}
-use Rattle.s1x2_rec.specs.Content.{Content}
-use Rattle.s1x2_rec.specs.Fields.{Fields}
-use Rattle.s1x2_rec.specs.Reading.{read_core}
+use Rattle.key_model.specs.{Chain.ncc_of, HandoverLines.map_numbered, HandoverTable.NumberedKey, Reading.octet_reading, Reading.term_reading_by, Term.Term, Term.Root, Value.value_of, Value.same_value}
+use Rattle.s1x2_rec.specs.{Content.Content, Fields.Fields, Reading.read_core}
 use Rattle.lte_machine.specs.Wire.{KeyUse, Outgoing, Between, integrity_of, address_of, map_outgoing}
 use Rattle.lte_machine.specs.Ciphers.{Ciphers, under_keys, octets_of, written}
 use Rattle.lte_machine.specs.Opening.{Opening, Outcome, open_octets, open_by_uses}

@@ -1,32 +1,21 @@
 -- What the phone does on an input, as far as no key tells: it sees its state without keys, and chain numbers by their NCC.
 -- First the refusals before a record is opened, and then those after, in the order in which they are tried.
 use Rattle.std.specs.Prelude.{ℕ, ◌-◌, ◌/◌, ◌%◌, ◌==◌, ◌&&◌, nat_le, nat_lt, Bool, true, false, if◌then◌else◌, List, drop, length, take, Option, Some, None, Result, Ok, Err}
-use Rattle.alg_choice.specs.declared.algs.Algs.{Algs}
-use Rattle.alg_choice.specs.declared.caps.Caps.{Caps}
-use Rattle.alg_choice.specs.Choice.{are_supported}
+use Rattle.alg_choice.specs.{declared.algs.Algs.Algs, declared.caps.Caps.Caps, Choice.are_supported}
 use Rattle.annex_a_keys.specs.Cell.{Place}
 use Rattle.key_model.specs.HandoverLines.{steps_to}
-use Rattle.rec_base.specs.declared.faults.RecFault.{RecFault}
-use Rattle.rec_base.specs.Lengths.{longest_packet}
-use Rattle.lte_events.specs.declared.answers.Answer.{Answer}
+use Rattle.rec_base.specs.{declared.faults.RecFault.RecFault, Lengths.longest_packet}
+use Rattle.lte_events.specs.{declared.answers.Answer.Answer, declared.acts.PhoneAct.PhoneAct}
 use Rattle.lte_events.specs.declared.answers.Answer.TheVariants.{Done, NoContext, WrongKsi, CapsMismatch, AlgUnsupported, MacFails, CountSpent, BadRecord, Short, BadHeader, WrongKind, NotConnected, NotAddressed, NothingToResend, AlreadyConnected}
 use Rattle.lte_events.specs.declared.acts.PhoneAct as acts
-use Rattle.lte_events.specs.declared.acts.PhoneAct.{PhoneAct}
 use Rattle.nas_count.specs.declared.sending.CountSpent as spent
 use Rattle.nas_count.specs.Estimate.{nas_count_limit, estimate_of}
 use Rattle.nas_guard.specs.Open.{first_in, header_in, sn_in, sent_in}
 use Rattle.nas_rec.specs.declared.records.NasRecord as nas
-use Rattle.nas_rec.specs.declared.records.NasRecord.{NasRecord}
-use Rattle.nas_rec.specs.Reading.{read_nas}
-use Rattle.nas_rec.specs.Spelling.{kind_of as nas_kind}
+use Rattle.nas_rec.specs.{declared.records.NasRecord.NasRecord, Reading.read_nas, Spelling.kind_of as nas_kind}
 use Rattle.rrc_rec.specs.declared.records.RrcRecord as rrc
-use Rattle.rrc_rec.specs.declared.records.RrcRecord.{RrcRecord}
-use Rattle.rrc_rec.specs.Forms.{reconfiguration, key_change}
-use Rattle.rrc_rec.specs.Reading.{read_rrc}
-use Rattle.rrc_rec.specs.Spelling.{kind_of as rrc_kind}
-use Rattle.pdcp_guard.specs.declared.pdus.PdcpFault.{PdcpFault}
-use Rattle.pdcp_guard.specs.Srb.{srb_count}
-use Rattle.pdcp_guard.specs.Drb.{drb_count}
+use Rattle.rrc_rec.specs.{declared.records.RrcRecord.RrcRecord, Forms.reconfiguration, Forms.key_change, Reading.read_rrc, Spelling.kind_of as rrc_kind}
+use Rattle.pdcp_guard.specs.{declared.pdus.PdcpFault.PdcpFault, Srb.srb_count, Drb.drb_count}
 use Rattle.lte_machine.specs.Bearers.{Srb, Signalling1, Signalling2, Drb, Which, OnSrb, OnDrb, which, srb_counts, drb_counts, is_spent}
 use Rattle.lte_machine.specs.Opening.{Outcome, Opened, Differs}
 use Rattle.lte_machine.specs.Refusals.{of_pdcp}

@@ -7,20 +7,14 @@ use Rattle.rec_base.specs.declared.uses.Dir.TheVariants.{Up, Down}
 use Rattle.rec_base.specs.declared.ways.Way.TheVariants.{Initial}
 use Rattle.lte_events.specs.declared.answers.Answer.{Answer}
 use Rattle.lte_events.specs.declared.answers.Answer.TheVariants.{Done, NoTrigger}
-use Rattle.key_model.specs.Reading.{Reading}
-use Rattle.key_model.specs.Derivation.{kenb_made, star_made}
-use Rattle.key_model.specs.HandoverLines.{change_line}
+use Rattle.key_model.specs.{Reading.Reading, Derivation.kenb_made, Derivation.star_made, HandoverLines.change_line}
 use Rattle.nas_count.specs.Estimate.{nas_count_limit}
-use Rattle.nas_guard.specs.Keys.{Keys}
-use Rattle.nas_guard.specs.Seal.{is_ciphered, first_octet}
+use Rattle.nas_guard.specs.{Keys.Keys, Seal.is_ciphered, Seal.first_octet}
 use Rattle.nas_rec.specs.declared.records.NasRecord as nas
-use Rattle.nas_rec.specs.declared.records.NasRecord.{NasRecord}
-use Rattle.nas_rec.specs.Spelling.{spelling_of as nas_spelling}
+use Rattle.nas_rec.specs.{declared.records.NasRecord.NasRecord, Spelling.spelling_of as nas_spelling}
 use Rattle.rrc_rec.specs.declared.records.RrcRecord as rrc
-use Rattle.rrc_rec.specs.declared.records.RrcRecord.{RrcRecord}
-use Rattle.rrc_rec.specs.Spelling.{spelling_of as rrc_spelling}
-use Rattle.nh_chain.specs.Chain.{begun}
-use Rattle.nh_chain.specs.Reach.{Reached, reached_after}
+use Rattle.rrc_rec.specs.{declared.records.RrcRecord.RrcRecord, Spelling.spelling_of as rrc_spelling}
+use Rattle.nh_chain.specs.{Chain.begun, Reach.Reached, Reach.reached_after}
 use Rattle.pdcp_guard.specs.AsKeys.{AsKeys, as_keys_of, as_derivations}
 use Rattle.lte_machine.specs.Bearers.{Srb, Signalling1, Drb, Which, Bearers, new_bearers, srb_counts, drb_counts, srb_sent, drb_sent, srb_taken, drb_taken, skipped_on, skipped}
 use Rattle.lte_machine.specs.Wire.{nas_use, srb_use, nas_ciphering, srb_ciphering, drb_ciphering, Outgoing, SealedNas, PlainNas, SealedRrc, UserPacket, ciphering_if}

@@ -1,12 +1,9 @@
 -- The phone: what it keeps (TS 24.301 4.4, TS 36.331 5.3, TS 33.401 6.2 and 7.2.8), in keys K and chain numbers C.
 use Rattle.std.specs.Prelude.{ℕ, Bool, List, [], ◌∷◌, Option, None, option_map}
-use Rattle.alg_choice.specs.declared.algs.Algs.{Algs}
-use Rattle.alg_choice.specs.Algs.{identity_of, eia2_identity}
-use Rattle.alg_choice.specs.declared.caps.Caps.{Caps}
+use Rattle.alg_choice.specs.{declared.algs.Algs.Algs, Algs.identity_of, Algs.eia2_identity, declared.caps.Caps.Caps}
 use Rattle.rec_base.specs.declared.bearers.Bearer.{Bearer}
 use Rattle.lte_events.specs.declared.acts.PhoneAct.{PhoneAct}
-use Rattle.key_model.specs.Reading.{Reading}
-use Rattle.key_model.specs.Derivation.{Derivation, alg_made}
+use Rattle.key_model.specs.{Reading.Reading, Derivation.Derivation, Derivation.alg_made}
 use Rattle.nas_guard.specs.Keys.{Keys, map_keys}
 use Rattle.nh_chain.specs.Chain.{ChainState, map_chain}
 use Rattle.pdcp_guard.specs.AsKeys.{AsKeys, map_as_keys}

@@ -1,7 +1,6 @@
 -- Faults of the layers below as answers of an actor.
-use Rattle.lte_events.specs.declared.answers.Answer.{Answer}
+use Rattle.lte_events.specs.{declared.answers.Answer.Answer, declared.answers.Answer.TheVariants.MacFails}
 use Rattle.lte_events.specs.declared.answers.Answer as answers
-use Rattle.lte_events.specs.declared.answers.Answer.TheVariants.{MacFails}
 use Rattle.pdcp_guard.specs.declared.pdus.PdcpFault.{PdcpFault}
 use Rattle.pdcp_guard.specs.declared.pdus.PdcpFault as faults
 

@@ -4,9 +4,7 @@ use Rattle.alg_choice.specs.declared.algs.Algs.{Algs}
 use Rattle.annex_a_keys.specs.Cell.{Place}
 use Rattle.rec_base.specs.declared.ways.Way.{Way}
 use Rattle.lte_events.specs.declared.answers.Answer.{Answer}
-use Rattle.key_model.specs.Derivation.{Derivation}
-use Rattle.key_model.specs.HandoverTable.{NumberedKey}
-use Rattle.key_model.specs.HandoverLines.{map_numbered}
+use Rattle.key_model.specs.{Derivation.Derivation, HandoverTable.NumberedKey, HandoverLines.map_numbered}
 use Rattle.lte_machine.specs.Wire.{KeyUse, Outgoing}
 
 -- the key of a step: its NCC, how the actor came by it, and the key itself

@@ -1,15 +1,8 @@
 -- A run: one event after the other, to the first coincidence.
 use Rattle.std.specs.Prelude.{ℕ, List, [], ◌∷◌}
-use Rattle.lte_events.specs.declared.events.Event.{Event}
-use Rattle.lte_events.specs.declared.setups.Setup.{Setup}
-use Rattle.lte_events.specs.declared.setups.StationSetup.{StationSetup}
-use Rattle.lte_events.specs.Site.{Site}
-use Rattle.lte_machine.specs.Opening.{Opening, Outcome}
-use Rattle.lte_machine.specs.PhoneState.{first_phone}
-use Rattle.lte_machine.specs.StationState.{Station, first_station}
-use Rattle.lte_machine.specs.CoreState.{first_core}
+use Rattle.lte_events.specs.{declared.events.Event.Event, declared.setups.Setup.Setup, declared.setups.StationSetup.StationSetup, Site.Site}
+use Rattle.lte_machine.specs.{Opening.Opening, Opening.Outcome, PhoneState.first_phone, StationState.Station, StationState.first_station, CoreState.first_core, Tuples.Coincidence}
 use Rattle.lte_machine.specs.World.{Machine, World, Line, happens}
-use Rattle.lte_machine.specs.Tuples.{Coincidence}
 use Rattle.lte_machine.specs.Step.{StepResult, Continues, Stops, next}
 
 -- a run goes on in a world, or is over for good

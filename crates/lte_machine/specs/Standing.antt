@@ -1,17 +1,11 @@
 -- What the rows of a run's ladder stand for, and which keys have one.
 use Rattle.std.specs.Prelude.{◌≡◌, ℕ, List, map, None}
 use Rattle.std.specs.Str.{bytes_eq}
-use Rattle.lte_events.specs.declared.events.Event.{Event}
-use Rattle.lte_events.specs.declared.setups.Setup.{Setup}
-use Rattle.key_model.specs.Term.{Term}
-use Rattle.key_model.specs.Value.{value_of, same_value}
-use Rattle.lte_machine.specs.Wire.{Outgoing}
-use Rattle.lte_machine.specs.Ciphers.{Ciphers, under_keys}
-use Rattle.lte_machine.specs.Opening.{open_octets}
+use Rattle.lte_events.specs.{declared.events.Event.Event, declared.setups.Setup.Setup}
+use Rattle.key_model.specs.{Term.Term, Value.value_of, Value.same_value}
+use Rattle.lte_machine.specs.{Wire.Outgoing, Ciphers.Ciphers, Ciphers.under_keys, Opening.open_octets, World.World, Machines.written_machine}
 use Rattle.lte_machine.specs.Ladder.{RowOrigin, map_row, row_key, ladder_of}
 use Rattle.lte_machine.specs.Distinct.{keys_of, Member, distinct_terms, OneValueOneTerm}
-use Rattle.lte_machine.specs.World.{World}
-use Rattle.lte_machine.specs.Machines.{written_machine}
 use Rattle.lte_machine.specs.Run.{Running, replay, first_world}
 
 -- the keys of the rows of a history's ladder

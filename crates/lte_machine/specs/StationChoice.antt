@@ -1,26 +1,15 @@
 -- The choice of a station's row: refusals in their order, the first that applies. It sees no key, and of a chain number
 -- its NCC. Where a PDU is to be opened, the choice stops, and goes on with the outcome.
 use Rattle.std.specs.Prelude.{ℕ, ◌+◌, ◌==◌, nat_le, nat_lt, Bool, true, false, not, ◌&&◌, if◌then◌else◌, List, length, take, slice_index, Option, Some, None, option_map, Result, Ok, Err}
-use Rattle.alg_choice.specs.declared.algs.Algs.{Algs}
-use Rattle.alg_choice.specs.declared.caps.Caps.{Caps}
-use Rattle.alg_choice.specs.declared.choices.NoAlgorithm.{NoAlgorithm as Unmatched}
-use Rattle.alg_choice.specs.Choice.{choice_of}
+use Rattle.alg_choice.specs.{declared.algs.Algs.Algs, declared.caps.Caps.Caps, declared.choices.NoAlgorithm.NoAlgorithm as Unmatched, Choice.choice_of}
 use Rattle.annex_a_keys.specs.Cell.{Place}
-use Rattle.rec_base.specs.declared.faults.RecFault.{RecFault}
-use Rattle.rec_base.specs.Lengths.{longest_packet}
+use Rattle.rec_base.specs.{declared.faults.RecFault.RecFault, Lengths.longest_packet}
 use Rattle.lte_events.specs.declared.answers.Answer.TheVariants.{Done, MacFails, CountSpent, NoAlgorithm, BadRecord, WrongKind, NotAddressed, NoUe, Stale, OldConnection, NotActive, UnknownCell, NoPathSwitch, AttemptOpen, NoAttempt, CommandSent, Repeated, PrepFull, NotReady, NumberSpent}
-use Rattle.lte_events.specs.declared.acts.StationAct.{StationAct}
+use Rattle.lte_events.specs.{declared.acts.StationAct.StationAct, declared.acts.HoKind.HoKind, Site.station_of}
 use Rattle.lte_events.specs.declared.acts.StationAct.TheVariants.{Start, Command, Cancel, Ask, SendUser, SendRrc, Skip}
-use Rattle.lte_events.specs.declared.acts.HoKind.{HoKind}
-use Rattle.lte_events.specs.Site.{station_of}
-use Rattle.pdcp_guard.specs.declared.pdus.PdcpFault.{PdcpFault}
-use Rattle.pdcp_guard.specs.Counts.{Counts}
-use Rattle.pdcp_guard.specs.Srb.{srb_count}
-use Rattle.pdcp_guard.specs.Drb.{drb_count}
-use Rattle.rrc_rec.specs.declared.records.RrcRecord.{RrcRecord}
+use Rattle.pdcp_guard.specs.{declared.pdus.PdcpFault.PdcpFault, Counts.Counts, Srb.srb_count, Drb.drb_count}
+use Rattle.rrc_rec.specs.{declared.records.RrcRecord.RrcRecord, Reading.read_rrc, Spelling.kind_of as rrc_kind}
 use Rattle.rrc_rec.specs.declared.records.RrcRecord.TheVariants.{SecurityModeComplete, ReconfigurationComplete, RrcData}
-use Rattle.rrc_rec.specs.Reading.{read_rrc}
-use Rattle.rrc_rec.specs.Spelling.{kind_of as rrc_kind}
 use Rattle.s1x2_rec.specs.Fields.{Fields, kind_of, InitialContext, ContextRelease, PathSwitchAnswer, HandoverRequest, HandoverCommand, HandoverCancel, X2Request, X2Ack, X2Cancel, X2Release, ContextModification}
 use Rattle.s1x2_rec.specs.Content.{Content}
 use Rattle.ho_prep.specs.declared.origins.By.{By}
@@ -28,8 +17,7 @@ use Rattle.ho_prep.specs.Prep.{Prep, at_air, has_attempt, most_preparations}
 use Rattle.x2_handover.specs.declared.orders.Order.{Order}
 use Rattle.lte_machine.specs.Bearers.{Srb, Signalling1, Drb, Which, OnSrb, OnDrb, which, Bearers, srb_counts, drb_counts, is_spent}
 use Rattle.lte_machine.specs.Opening.{Outcome, Opened, Differs}
-use Rattle.lte_machine.specs.Refusals.{of_pdcp}
-use Rattle.lte_machine.specs.Reply.{Origin}
+use Rattle.lte_machine.specs.{Refusals.of_pdcp, Reply.Origin}
 use Rattle.lte_machine.specs.StationState.{Station, Context, Via, OverX2, OverS1, Within, Renewing, Progress, Open, Ready, Commanded, SourceKeys, Attempt, Interface, OnS1, OnX2, StationInput, StationActs, AirPdu, StationRecord}
 use Rattle.lte_machine.specs.StationRows.{Admitted, RecordRow, RecordRefused, ContextGiven, ContextReleased, PairTaken, PreparedByS1, PreparedByX2, AttemptAnswered, PreparationCancelled, SourceReleased, KeyRenewed, AirRow, AirRefused, SecurityStarted, RrcOpened, PacketOpened, CompletedByS1, CompletedWithin, CompletedByX2, ActRow, ActRefused, StartedByX2, StartedByS1, StartedWithin, OrderSent, CancelledByX2, CancelledByS1, CancelledWithin, PathSwitchAsked, PacketSent, RrcSent, BearerSkipped, StationRow, OfRecord, OfAir, OfAct}
 

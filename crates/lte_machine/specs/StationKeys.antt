@@ -2,16 +2,12 @@
 -- holds, or is such a key moved (TS 33.401 7.2.8.4 and Annex A).
 use Rattle.std.specs.Prelude.{ℕ, ◌+◌, false, List, [], ◌∷◌, ◌++◌, Option, Some, None, option_map}
 use Rattle.annex_a_keys.specs.Cell.{Place}
-use Rattle.rec_base.specs.declared.uses.Dir.TheVariants.{Up}
-use Rattle.rec_base.specs.declared.ways.Way.TheVariants.{Completed}
-use Rattle.lte_events.specs.declared.addresses.Address.TheVariants.{StationX2}
-use Rattle.lte_events.specs.declared.answers.Answer.TheVariants.{Done}
-use Rattle.key_model.specs.Reading.{Reading}
-use Rattle.key_model.specs.HandoverTable.{NumberedKey}
+use Rattle.rec_base.specs.{declared.uses.Dir.TheVariants.Up, declared.ways.Way.TheVariants.Completed}
+use Rattle.lte_events.specs.{declared.addresses.Address.TheVariants.StationX2, declared.answers.Answer.TheVariants.Done}
+use Rattle.key_model.specs.{Reading.Reading, HandoverTable.NumberedKey}
 use Rattle.nh_chain.specs.Station.{StationKey, restored_if, Opened, opened}
 use Rattle.pdcp_guard.specs.AsKeys.{AsKeys, as_derivations}
-use Rattle.rrc_rec.specs.declared.records.RrcRecord.TheVariants.{RrcData}
-use Rattle.rrc_rec.specs.Spelling.{spelling_of}
+use Rattle.rrc_rec.specs.{declared.records.RrcRecord.TheVariants.RrcData, Spelling.spelling_of}
 use Rattle.s1x2_rec.specs.Fields.{PathSwitchRequest, HandoverRequired, HandoverNotify, HandoverCancel, X2Request, X2Cancel}
 use Rattle.ho_prep.specs.Prep.{Prep, at_air, without}
 use Rattle.x2_handover.specs.declared.orders.Order.{Order}

@@ -1,23 +1,17 @@
 -- What a station sends, and what it does on a record, with its keys: every key is a derivation of a key that it holds or that the
 -- record gave it.
 use Rattle.std.specs.Prelude.{ℕ, ◌+◌, true, List, [], ◌∷◌, ◌++◌, slice_set, Option, Some, None, option_map}
-use Rattle.alg_choice.specs.declared.algs.Algs.{Algs}
-use Rattle.alg_choice.specs.declared.caps.Caps.{Caps}
+use Rattle.alg_choice.specs.{declared.algs.Algs.Algs, declared.caps.Caps.Caps}
 use Rattle.annex_a_keys.specs.Cell.{Place}
-use Rattle.rec_base.specs.declared.uses.Dir.TheVariants.{Down}
-use Rattle.rec_base.specs.declared.ways.Way.{Way}
+use Rattle.rec_base.specs.{declared.uses.Dir.TheVariants.Down, declared.ways.Way.Way}
 use Rattle.rec_base.specs.declared.ways.Way.TheVariants.{Vertical, Given}
 use Rattle.lte_events.specs.declared.addresses.Address.TheVariants.{CoreS1, StationX2}
 use Rattle.lte_events.specs.declared.answers.Answer.TheVariants.{Done}
-use Rattle.key_model.specs.Reading.{Reading}
-use Rattle.key_model.specs.HandoverTable.{NumberedKey}
-use Rattle.key_model.specs.HandoverLines.{star_line, change_line}
-use Rattle.key_model.specs.Derivation.{Derivation, star_made}
+use Rattle.key_model.specs.{Reading.Reading, HandoverTable.NumberedKey, HandoverLines.star_line, HandoverLines.change_line, Derivation.Derivation, Derivation.star_made}
 use Rattle.nh_chain.specs.Station.{initial_key, given_key, stored}
 use Rattle.pdcp_guard.specs.AsKeys.{AsKeys, as_keys_of, as_derivations}
-use Rattle.rrc_rec.specs.declared.records.RrcRecord.{RrcRecord}
+use Rattle.rrc_rec.specs.{declared.records.RrcRecord.RrcRecord, Spelling.spelling_of}
 use Rattle.rrc_rec.specs.declared.records.RrcRecord.TheVariants.{SecurityModeCommand, Reconfiguration, KeyChange}
-use Rattle.rrc_rec.specs.Spelling.{spelling_of}
 use Rattle.s1x2_rec.specs.Fields.{Fields, HandoverRequestAck, X2Ack, X2Release}
 use Rattle.ho_prep.specs.declared.origins.By.{By}
 use Rattle.ho_prep.specs.Prep.{Prep, without, drop_below}

@@ -1,14 +1,12 @@
 -- What a station does with an input, row by row (TS 33.401 7.2.8.4, TS 36.331 5.3, TS 36.423 8.2, TS 36.413 8.3 and
 -- 8.4). A row has what its choice found out that is no key.
 use Rattle.std.specs.Prelude.{ℕ, List, Option}
-use Rattle.alg_choice.specs.declared.algs.Algs.{Algs}
-use Rattle.alg_choice.specs.declared.caps.Caps.{Caps}
+use Rattle.alg_choice.specs.{declared.algs.Algs.Algs, declared.caps.Caps.Caps}
 use Rattle.annex_a_keys.specs.Cell.{Place}
 use Rattle.lte_events.specs.declared.answers.Answer.{Answer}
 use Rattle.x2_handover.specs.declared.orders.Order.{Order}
 use Rattle.lte_machine.specs.Bearers.{Srb, Drb, Which}
-use Rattle.lte_machine.specs.Reply.{Origin}
-use Rattle.lte_machine.specs.StationState.{Via}
+use Rattle.lte_machine.specs.{Reply.Origin, StationState.Via}
 
 -- a handover request that is taken (TS 36.413 8.4.2, TS 36.423 8.2.1): connection, source and attempt, cell,
 -- capabilities, the algorithms chosen (TS 33.401 7.2.4.2.2 and 7.2.4.2.3) and the air address drawn

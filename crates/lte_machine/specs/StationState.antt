@@ -1,22 +1,16 @@
 -- A base station: what it keeps of the phone (TS 33.401 7.2.8, TS 36.331 5.3, TS 36.423), in keys K and chain numbers C.
 use Rattle.std.specs.Prelude.{ℕ, Bool, List, [], map, replicate, Option, None, option_map, Result, Ok, Err}
-use Rattle.alg_choice.specs.declared.algs.Algs.{Algs}
-use Rattle.alg_choice.specs.declared.algs.Eea.{Eea}
-use Rattle.alg_choice.specs.declared.caps.Caps.{Caps}
+use Rattle.alg_choice.specs.{declared.algs.Algs.Algs, declared.algs.Eea.Eea, declared.caps.Caps.Caps}
 use Rattle.annex_a_keys.specs.Cell.{Place}
-use Rattle.rec_base.specs.declared.bearers.Bearer.{Bearer}
-use Rattle.rec_base.specs.declared.faults.RecFault.{RecFault}
-use Rattle.lte_events.specs.declared.acts.StationAct.{StationAct}
-use Rattle.lte_events.specs.Site.{Site}
-use Rattle.key_model.specs.HandoverTable.{NumberedKey}
-use Rattle.key_model.specs.HandoverLines.{map_numbered}
+use Rattle.rec_base.specs.{declared.bearers.Bearer.Bearer, declared.faults.RecFault.RecFault}
+use Rattle.lte_events.specs.{declared.acts.StationAct.StationAct, Site.Site}
+use Rattle.key_model.specs.{HandoverTable.NumberedKey, HandoverLines.map_numbered}
 use Rattle.nh_chain.specs.Station.{StationKey, map_station_key, map_pair}
 use Rattle.pdcp_guard.specs.AsKeys.{AsKeys, map_as_keys}
 use Rattle.ho_prep.specs.Prep.{Prep, map_prep}
 use Rattle.x2_handover.specs.declared.orders.Order.{Order}
 use Rattle.s1x2_rec.specs.Content.{Content, map_content}
-use Rattle.lte_machine.specs.Bearers.{Bearers}
-use Rattle.lte_machine.specs.Reply.{Origin}
+use Rattle.lte_machine.specs.{Bearers.Bearers, Reply.Origin}
 
 -- which way an attempt goes: a handover over X2, over S1 or within the station, or a change of the context's key
 pub data Via : Type 0 where

@@ -1,15 +1,13 @@
 -- One step of a station: the choice of its row, and what the row does.
 use Rattle.std.specs.Prelude.{ℕ, List, [], Option, None, option_map, Result, Ok, Err}
 use Rattle.rec_base.specs.declared.faults.RecFault.{RecFault}
-use Rattle.key_model.specs.Reading.{Reading}
-use Rattle.key_model.specs.HandoverTable.{NumberedKey}
+use Rattle.key_model.specs.{Reading.Reading, HandoverTable.NumberedKey}
 use Rattle.s1x2_rec.specs.Content.{Content}
 use Rattle.lte_machine.specs.Opening.{Opening, Outcome, accepted_of}
 use Rattle.lte_machine.specs.Reply.{Reply, finished, unseen}
 use Rattle.lte_machine.specs.StationState.{Station, StationInput, StationActs, AirPdu, StationRecord, map_station, map_station_input}
-use Rattle.lte_machine.specs.StationRows.{StationRow}
+use Rattle.lte_machine.specs.{StationRows.StationRow, StationKeys.station_expects, StationKeys.station_does}
 use Rattle.lte_machine.specs.StationChoice.{PlainStation, StationFront, station_front, station_row}
-use Rattle.lte_machine.specs.StationKeys.{station_expects, station_does}
 
 -- the key of a record with its number, if it reads and holds one
 abbrev pub key_read : {K C : Type 0} → Result (Content K C) RecFault → Option (NumberedKey K C)

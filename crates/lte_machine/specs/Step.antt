@@ -1,18 +1,13 @@
 -- One event, where a coincidence ends the run.
 use Rattle.std.specs.Prelude.{ℕ, Bool, List, [], Option, Some, None}
-use Rattle.lte_events.specs.declared.addresses.Address.{Address}
-use Rattle.lte_events.specs.declared.events.Event.{Event}
+use Rattle.lte_events.specs.{declared.addresses.Address.Address, declared.events.Event.Event, Class.class_of}
 use Rattle.std.specs.List.{position_from}
 use Rattle.lte_machine.specs.Opening.{Opening, OpensNothing, Outcome, accepted_of}
 use Rattle.lte_machine.specs.Tuples.{Coincidence, Rows, tuple_coincidence}
-use Rattle.lte_machine.specs.Ladder.{Clash, ladder_of}
+use Rattle.lte_machine.specs.{Ladder.Clash, Ladder.ladder_of, PhoneStep.phone_opens, PhoneStep.phone_pdu_in, StationStep.station_opens, StationStep.station_pdu_in, CoreStep.core_opens, CoreStep.core_pdu_in}
 use Rattle.lte_machine.specs.PhoneState.{PhoneInput, PhoneActs, PhoneNasPdu, PhoneAirPdu}
-use Rattle.lte_machine.specs.PhoneStep.{phone_opens, phone_pdu_in}
 use Rattle.lte_machine.specs.StationState.{Station, StationInput, StationActs, AirPdu, StationRecord, OnS1, OnX2}
-use Rattle.lte_machine.specs.StationStep.{station_opens, station_pdu_in}
 use Rattle.lte_machine.specs.CoreState.{CoreInput, CoreActs, CoreNasPdu, CoreRecord}
-use Rattle.lte_machine.specs.CoreStep.{core_opens, core_pdu_in}
-use Rattle.lte_events.specs.Class.{class_of}
 use Rattle.lte_machine.specs.World.{Machine, World, Line, station_of_id, content_in, record_at, is_sent, happens}
 
 -- what an event opens: what the receiver expects, the octets, and what came

@@ -1,8 +1,6 @@
 -- Coincidences: what no one shows to be impossible. Each ends a run with its two values.
 use Rattle.std.specs.Prelude.{Bool, true, false, Option, Some, None}
-use Rattle.lte_machine.specs.Wire.{KeyUse}
-use Rattle.lte_machine.specs.Opening.{same_uses}
-use Rattle.lte_machine.specs.Ladder.{Clash}
+use Rattle.lte_machine.specs.{Wire.KeyUse, Opening.same_uses, Ladder.Clash}
 
 -- the two values of a coincidence
 pub data Coincidence (K : Type 0) : Type 0 where

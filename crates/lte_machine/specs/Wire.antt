@@ -1,18 +1,13 @@
 -- What the actors send, and under which keys: generic in keys K and chain numbers C.
 use Rattle.std.specs.Prelude.{ℕ, Bool, true, false, List, [], ◌∷◌, ◌++◌, Option, Some, None, option_map}
 use Rattle.alg_choice.specs.declared.algs.Eea.{Eea}
-use Rattle.rec_base.specs.declared.uses.Dir.{Dir}
+use Rattle.rec_base.specs.{declared.uses.Dir.Dir, declared.bearers.Bearer.Bearer, Bearer.bearer5_of}
 use Rattle.rec_base.specs.declared.uses.Dir.TheVariants.{Up, Down}
-use Rattle.rec_base.specs.declared.bearers.Bearer.{Bearer}
-use Rattle.rec_base.specs.Bearer.{bearer5_of}
-use Rattle.nas_guard.specs.Keys.{Keys}
-use Rattle.nas_guard.specs.Seal.{nas_bearer}
+use Rattle.nas_guard.specs.{Keys.Keys, Seal.nas_bearer}
 use Rattle.pdcp_guard.specs.AsKeys.{AsKeys}
 use Rattle.lte_events.specs.declared.addresses.Address.{Address}
 use Rattle.lte_events.specs.declared.addresses.Address.TheVariants.{Phone, PhoneNas, CoreNas, StationAir}
-use Rattle.key_model.specs.HandoverTable.{NumberedKey}
-use Rattle.key_model.specs.HandoverLines.{map_numbered}
-use Rattle.key_model.specs.Use.{Use, map_use}
+use Rattle.key_model.specs.{HandoverTable.NumberedKey, HandoverLines.map_numbered, Use.Use, Use.map_use}
 use Rattle.s1x2_rec.specs.Fields.{Fields}
 use Rattle.lte_machine.specs.Bearers.{Srb, Drb, of_srb, of_drb}
 

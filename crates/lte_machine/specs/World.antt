@@ -1,19 +1,13 @@
 -- The network: all actors, every record ever sent, and what one event does. Any record may be delivered at any later time,
 -- again, or never; nothing orders the events.
 use Rattle.std.specs.Prelude.{ℕ, ◌+◌, ◌-◌, ◌==◌, ◌&&◌, nat_lt, Bool, true, false, ℤ, pos, negsuc, List, [], ◌∷◌, ◌++◌, length, map, filter, find, Option, Some, None, slice_get, Result, Err}
-use Rattle.std.specs.List.{position_from}
-use Rattle.std.specs.Str.{bytes_eq}
+use Rattle.std.specs.{List.position_from, Str.bytes_eq}
 use Rattle.alg_choice.specs.declared.caps.Caps.{Caps}
 use Rattle.rec_base.specs.declared.faults.RecFault.{RecFault}
-use Rattle.lte_events.specs.declared.addresses.Address.{Address}
+use Rattle.lte_events.specs.{declared.addresses.Address.Address, declared.answers.Answer.Answer, declared.classes.Class.Class, declared.events.Event.Event, declared.lines.Who.Who}
 use Rattle.lte_events.specs.Class.{class_of, same_class, told_in}
-use Rattle.lte_events.specs.declared.answers.Answer.{Answer}
 use Rattle.lte_events.specs.declared.answers.Answer.TheVariants.{Done, NoUe, NoRecord, Sent, RepeatedRoot}
-use Rattle.lte_events.specs.declared.classes.Class.{Class}
-use Rattle.lte_events.specs.declared.events.Event.{Event}
-use Rattle.lte_events.specs.declared.lines.Who.{Who}
-use Rattle.key_model.specs.Derivation.{Derivation}
-use Rattle.key_model.specs.Reading.{Reading}
+use Rattle.key_model.specs.{Derivation.Derivation, Reading.Reading}
 use Rattle.s1x2_rec.specs.Content.{Content}
 use Rattle.lte_machine.specs.Wire.{KeyUse, Outgoing, uses_of}
 use Rattle.lte_machine.specs.Opening.{Opening, Outcome, Opened}

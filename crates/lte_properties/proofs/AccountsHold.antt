@@ -1,20 +1,15 @@
 -- The uses of a world are those of the records sent, and its holders those who derived a key or received it.
 use Rattle.std.proofs.Common.{◌≡◌, refl, sym, ap, ◌∙◌, subst, ℕ, Bool, List, [], ◌∷◌, ◌++◌, map, Option, Some, None, option_map, Result, Ok, Err}
 use Rattle.std.specs.List.{flat_map, position_from, AllByRecursion as AllOf}
-use Rattle.std.proofs.lemmas.List.{append-nil}
-use Rattle.std.proofs.lemmas.Grind.{flat_map-append}
+use Rattle.std.proofs.{lemmas.List.append-nil, lemmas.Grind.flat_map-append}
 use Rattle.alg_choice.specs.declared.caps.Caps.{Caps}
 use Rattle.rec_base.specs.declared.faults.RecFault.{RecFault}
-use Rattle.lte_events.specs.declared.addresses.Address.{Address}
-use Rattle.lte_events.specs.declared.answers.Answer.{Answer}
+use Rattle.lte_events.specs.{declared.addresses.Address.Address, declared.answers.Answer.Answer, declared.events.Event.Event, Class.class_of}
 use Rattle.lte_events.specs.declared.answers.Answer.TheVariants.{NoUe, NoRecord, Sent, RepeatedRoot}
-use Rattle.lte_events.specs.declared.events.Event.{Event}
 use Rattle.s1x2_rec.specs.Content.{Content}
-use Rattle.key_model.specs.Derivation.{Derivation}
-use Rattle.key_model.specs.Term.{Term}
+use Rattle.key_model.specs.{Derivation.Derivation, Term.Term}
 use Rattle.lte_machine.specs.Ladder.{OfRoot, Of, row_key}
-use Rattle.lte_machine.specs.Opening.{Opening, Outcome}
-use Rattle.lte_machine.specs.Reply.{Reply}
+use Rattle.lte_machine.specs.{Opening.Opening, Opening.Outcome, Reply.Reply, Machines.machine_by, Run.run}
 use Rattle.lte_machine.specs.PhoneState.{Phone, PhoneInput, PhoneActs, PhoneNasPdu, PhoneAirPdu}
 use Rattle.lte_machine.specs.PhoneStep.{phone_step, phone_opens, phone_pdu_in}
 use Rattle.lte_machine.specs.StationState.{Station, StationInput, StationActs, AirPdu, StationRecord, OnS1, OnX2}
@@ -22,12 +17,8 @@ use Rattle.lte_machine.specs.StationStep.{key_read, station_key, station_step, s
 use Rattle.lte_machine.specs.CoreState.{Core, CoreInput, CoreActs, CoreNasPdu, CoreRecord}
 use Rattle.lte_machine.specs.CoreStep.{core_step, core_opens, core_pdu_in, core_received}
 use Rattle.lte_machine.specs.Wire.{KeyUse, Outgoing, uses_of}
-use Rattle.lte_events.specs.Class.{class_of}
 use Rattle.lte_machine.specs.World.{Machine, World, Holder, AtPhone, AtCore, AtStation, holds, with_one, uses_in, phone_after, core_after, station_after, by_world, phone_turn, core_turn, turn_of, station_of_id, auth_unless, known_root, next_root, content_in, arrives, record_at, delivery, is_sent, injected, happens}
-use Rattle.lte_machine.specs.Machines.{machine_by}
-use Rattle.lte_machine.specs.Run.{run}
-use Rattle.lte_machine.proofs.Routing.{happens_each}
-use Rattle.lte_machine.proofs.KnownLists.{all_append}
+use Rattle.lte_machine.proofs.{Routing.happens_each, KnownLists.all_append}
 use Rattle.lte_properties.specs.Accounts.{UsesAreThoseSent, IsRowOf, key_at, key_of_record, key_delivered, with_read, each_holds, Gains, HoldersGain}
 
 -- USES

@@ -1,29 +1,14 @@
 -- What the lines of every run of the written machine tell of keys.
 use Rattle.std.proofs.Common.{ℕ, List, take, refl, sym, subst}
 use Rattle.std.specs.List.{AllByRecursion as AllOf}
-use Rattle.lte_events.specs.Ranges.{IsEvent, IsSetup}
-use Rattle.lte_events.specs.declared.events.Event.{Event}
-use Rattle.lte_events.specs.declared.setups.Setup.{Setup}
-use Rattle.key_model.specs.Term.{Term, Root}
-use Rattle.key_model.specs.Value.{value_of, same_value}
-use Rattle.lte_machine.specs.Wire.{Outgoing}
+use Rattle.lte_events.specs.{Ranges.IsEvent, Ranges.IsSetup, declared.events.Event.Event, declared.setups.Setup.Setup}
+use Rattle.key_model.specs.{Term.Term, Term.Root, Value.value_of, Value.same_value}
+use Rattle.lte_machine.specs.{Wire.Outgoing, Opening.open_by_uses, World.World, Run.first_world, Standing.RunsTo}
 use Rattle.lte_machine.specs.Ciphers.{Ciphers, under_keys, octets_of}
-use Rattle.lte_machine.specs.Opening.{open_by_uses}
-use Rattle.lte_machine.specs.World.{World}
 use Rattle.lte_machine.specs.Machines.{sender_of, written_machine, written_in_values}
-use Rattle.lte_machine.specs.Run.{first_world}
-use Rattle.lte_machine.proofs.Mixed.{by_terms}
-use Rattle.lte_machine.specs.Standing.{RunsTo}
-use Rattle.lte_machine.proofs.AnnexB.{under_keys_ciphers}
+use Rattle.lte_machine.proofs.{Mixed.by_terms, AnnexB.under_keys_ciphers, EventByEvent.each_of_first, CipherLaws.AreCiphers}
 use Rattle.lte_properties.specs.Agreement.{CompletedLines, KeysTold}
-use Rattle.lte_properties.proofs.Agreement.Whole.{always_ok}
-use Rattle.lte_properties.proofs.Agreement.Lines.{lines_of}
-use Rattle.lte_properties.proofs.Agreement.Noted.{keys_told}
-use Rattle.lte_properties.proofs.EveryRun.{way_is}
-use Rattle.lte_properties.proofs.SameKeys.{reflexive}
-use Rattle.lte_properties.proofs.Agreement.World.{Conns, WorldOk}
-use Rattle.lte_machine.proofs.EventByEvent.{each_of_first}
-use Rattle.lte_machine.proofs.CipherLaws.{AreCiphers}
+use Rattle.lte_properties.proofs.{Agreement.Whole.always_ok, Agreement.Lines.lines_of, Agreement.Noted.keys_told, EveryRun.way_is, SameKeys.reflexive, Agreement.World.Conns, Agreement.World.WorldOk}
 
 -- what is made and taken is told, in every run
 pub keys_are_told : (c : Ciphers (List ℕ)) (setup : Setup) (events : List Event) → KeysTold (written_machine c) (first_world setup) events

@@ -2,43 +2,21 @@
 -- the same worlds.
 use Rattle.std.proofs.Common.{◌≡◌, ℕ, zero, suc, List, [], ◌∷◌, map, take, refl, ap, sym, ◌∙◌, subst}
 use Rattle.std.specs.List.{AllByRecursion as AllOf}
-use Rattle.lte_events.specs.Ranges.{IsEvent, IsSetup}
-use Rattle.lte_events.specs.declared.events.Event.{Event}
-use Rattle.lte_events.specs.declared.setups.Setup.{Setup}
-use Rattle.key_model.specs.Term.{Term}
-use Rattle.key_model.specs.Use.{map_use}
-use Rattle.key_model.specs.Value.{value_of, same_value}
-use Rattle.lte_machine.specs.Wire.{Outgoing}
+use Rattle.lte_events.specs.{Ranges.IsEvent, Ranges.IsSetup, declared.events.Event.Event, declared.setups.Setup.Setup}
+use Rattle.key_model.specs.{Term.Term, Use.map_use, Value.value_of, Value.same_value}
+use Rattle.lte_machine.specs.{Wire.Outgoing, Standing.RunsTo}
 use Rattle.lte_machine.specs.Ciphers.{Ciphers, under_keys, octets_of}
 use Rattle.lte_machine.specs.Opening.{Opening, Outcome, open_octets, open_by_uses}
 use Rattle.lte_machine.specs.World.{Machine, World, happens}
 use Rattle.lte_machine.specs.Machines.{sender_of, written_machine, written_in_values}
 use Rattle.lte_machine.specs.Run.{Running, replay, run, first_world}
-use Rattle.lte_machine.proofs.Mixed.{by_terms, mixed}
-use Rattle.lte_machine.specs.Standing.{RunsTo}
-use Rattle.lte_machine.proofs.AnnexB.{under_keys_ciphers}
-use Rattle.lte_machine.proofs.LadderRun.{uses_apart}
-use Rattle.lte_machine.proofs.MixedRun.{run_by_terms}
+use Rattle.lte_machine.proofs.{Mixed.by_terms, Mixed.mixed, AnnexB.under_keys_ciphers, LadderRun.uses_apart, MixedRun.run_by_terms, KnownWorld.first_grounds, CipherLaws.AreCiphers}
 use Rattle.lte_machine.proofs.StillRun.{goes_on, still_is_run, turns_to}
-use Rattle.lte_properties.specs.ChainHolds.{core_numbers, noted}
-use Rattle.lte_properties.specs.Chains.{AreChains, ChainsHold}
+use Rattle.lte_properties.specs.{ChainHolds.core_numbers, ChainHolds.noted, Chains.AreChains, Chains.ChainsHold, Freshness.NoUseTwice, SharedKeys.SharedApart, Packets.OpensToSent, SecondCase.SecondAtStarting, Reach.AllReach}
 use Rattle.lte_properties.specs.Agreement.{Agrees, NoneThere, NoneEver}
-use Rattle.lte_properties.specs.Freshness.{NoUseTwice}
-use Rattle.lte_properties.proofs.Freshness.Premises.{ValuesApart}
-use Rattle.lte_properties.specs.SharedKeys.{SharedApart}
-use Rattle.lte_machine.proofs.KnownWorld.{first_grounds}
-use Rattle.lte_properties.specs.Packets.{OpensToSent}
-use Rattle.lte_properties.proofs.Opening.Opens.{by_uses_open}
-use Rattle.lte_properties.proofs.Opening.Sender.{roots_along}
+use Rattle.lte_properties.proofs.{Freshness.Premises.ValuesApart, Opening.Opens.by_uses_open, Opening.Sender.roots_along, Freshness.Whole.no_use_twice_by_terms, Freshness.Whole.no_value_twice_by_terms, KeySeparation.Ever.sharing_holds_by, Agreement.Openings.OpensByTerms, SameKeys.reflexive}
 use Rattle.lte_properties.proofs.Opening.Whole.{second_case, all_reach, packets_open}
 use Rattle.lte_properties.proofs.Agreement.Whole.{agreement_over, chains_over, AgreementHolds}
-use Rattle.lte_properties.proofs.Freshness.Whole.{no_use_twice_by_terms, no_value_twice_by_terms}
-use Rattle.lte_properties.proofs.KeySeparation.Ever.{sharing_holds_by}
-use Rattle.lte_properties.proofs.Agreement.Openings.{OpensByTerms}
-use Rattle.lte_properties.proofs.SameKeys.{reflexive}
-use Rattle.lte_properties.specs.SecondCase.{SecondAtStarting}
-use Rattle.lte_properties.specs.Reach.{AllReach}
-use Rattle.lte_machine.proofs.CipherLaws.{AreCiphers}
 
 -- each world on the way of a run that meets no coincidence is one of such a run
 on_the_way : {K C S : Type 0} (by_octets : Opening K → List ℕ → Outcome) (m : Machine K C S) (w : World K C S) (es : List Event) (u : World K C S)

@@ -1,39 +1,20 @@
 -- Where the phone obeyed an order eight or more chain steps ahead, no context of any world of the run, in octets, has that air
 -- address.
 use Rattle.std.proofs.Common.{◌≡◌, refl, sym, ap, ◌∙◌, subst, ℕ, suc, ◌-◌, ◌<◌, ◌≤◌, arith, Bool, true, false, List, [], ◌∷◌, ◌++◌, take, Option, Some, None, option_map, inl, inr}
-use Rattle.std.specs.Prelude.{nat_lt}
-use Rattle.std.proofs.lemmas.Bool.Decides.{nat_tests}
-use Rattle.std.proofs.lemmas.List.{take-take}
-use Rattle.std.specs.List.{AllByRecursion as AllOf}
-use Rattle.lte_events.specs.Ranges.{IsEvent, IsSetup}
-use Rattle.lte_events.specs.declared.events.Event.{Event}
-use Rattle.lte_events.specs.declared.setups.Setup.{Setup}
-use Rattle.key_model.specs.Chain.{ncc_of}
-use Rattle.key_model.specs.Term.{Term}
-use Rattle.key_model.specs.Value.{value_of}
-use Rattle.lte_machine.specs.BothRuns.{annex_b_terms, written_run}
-use Rattle.lte_machine.specs.ByEvent.{IsValueOfRun}
-use Rattle.lte_machine.specs.Carried.{map_stations}
-use Rattle.lte_machine.specs.Ciphers.{annex_b}
-use Rattle.lte_machine.specs.Distinct.{Member}
-use Rattle.lte_machine.specs.Machines.{written_machine}
-use Rattle.lte_machine.specs.Opening.{open_octets}
-use Rattle.lte_machine.specs.Reply.{Made, Took}
+use Rattle.std.specs.{Prelude.nat_lt, List.AllByRecursion as AllOf}
+use Rattle.std.proofs.{lemmas.Bool.Decides.nat_tests, lemmas.List.take-take}
+use Rattle.lte_events.specs.{Ranges.IsEvent, Ranges.IsSetup, declared.events.Event.Event, declared.setups.Setup.Setup}
+use Rattle.key_model.specs.{Chain.ncc_of, Term.Term, Value.value_of}
+use Rattle.lte_machine.specs.{BothRuns.annex_b_terms, BothRuns.written_run, ByEvent.IsValueOfRun, Carried.map_stations, Ciphers.annex_b, Distinct.Member, Machines.written_machine, Opening.open_octets, Reply.Made, Reply.Took, StationState.Station, StationState.Context, World.Line}
 use Rattle.lte_machine.specs.Run.{Running, run, first_world}
-use Rattle.lte_machine.specs.StationState.{Station, Context}
 use Rattle.lte_machine.specs.StationState as station
-use Rattle.lte_machine.specs.World.{Line}
-use Rattle.lte_machine.proofs.AnnexB.{annex_b_ciphers}
+use Rattle.lte_machine.proofs.{AnnexB.annex_b_ciphers, StillRun.still_is_run, Worlds.TheWorld}
 use Rattle.lte_machine.proofs.EventByEvent.{step_takes, written_still, each_of_first}
-use Rattle.lte_machine.proofs.StillRun.{still_is_run}
-use Rattle.lte_machine.proofs.Worlds.{TheWorld}
 use Rattle.lte_properties.specs.Agreement.{is_made_at, made_at, ContextAt, EachStation, IsFar, NoneThere, MadeIsTold, TookIsTold, MadeOnce}
 use Rattle.lte_properties.specs.BySteps.{MakesAt, TakesAt}
 use Rattle.lte_properties.specs.InOctets.{TakesFar, NoContextAt, FarNeverThere}
-use Rattle.lte_properties.proofs.Agreement.Holds.{of_each}
+use Rattle.lte_properties.proofs.{Agreement.Holds.of_each, EveryRun.agrees, EveryRun.none_ever, StepByStep.step_tells, StepByStep.holds_on}
 use Rattle.lte_properties.proofs.Agreement.Later.{found_later, in_front, in_last}
-use Rattle.lte_properties.proofs.EveryRun.{agrees, none_ever}
-use Rattle.lte_properties.proofs.StepByStep.{step_tells, holds_on}
 
 -- IN OCTETS
 

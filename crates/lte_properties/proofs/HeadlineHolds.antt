@@ -1,30 +1,17 @@
 -- The headline holds of every setup and events in range.
 use Rattle.std.proofs.Common.{◌≡◌, refl, sym, subst, ℕ, List, take}
 use Rattle.std.specs.List.{AllByRecursion as AllOf}
-use Rattle.lte_events.specs.Ranges.{IsEvent, IsSetup}
-use Rattle.lte_events.specs.declared.events.Event.{Event}
-use Rattle.lte_events.specs.declared.setups.Setup.{Setup}
-use Rattle.key_model.specs.Term.{Root}
-use Rattle.key_model.specs.Value.{same_value}
+use Rattle.lte_events.specs.{Ranges.IsEvent, Ranges.IsSetup, declared.events.Event.Event, declared.setups.Setup.Setup}
+use Rattle.key_model.specs.{Term.Root, Value.same_value}
 use Rattle.lte_machine.specs.BothRuns.{annex_b_terms, written_run, octet_run}
-use Rattle.lte_machine.specs.ByEvent.{IsValueOfRun}
-use Rattle.lte_machine.specs.Ciphers.{annex_b, octets_of}
+use Rattle.lte_machine.specs.{ByEvent.IsValueOfRun, Ciphers.annex_b, Ciphers.octets_of, Opening.open_octets, Opening.open_by_uses, World.World}
 use Rattle.lte_machine.specs.Machines.{Kept, machine_in_octets, sender_of, written_machine, written_in_values}
-use Rattle.lte_machine.specs.Opening.{open_octets, open_by_uses}
 use Rattle.lte_machine.specs.Run.{Running, run, first_world}
-use Rattle.lte_machine.specs.World.{World}
-use Rattle.lte_machine.proofs.AnnexB.{annex_b_ciphers}
+use Rattle.lte_machine.proofs.{AnnexB.annex_b_ciphers, StillRun.still_is_run, WholeRun.tale_is_value, Worlds.TheWorld}
 use Rattle.lte_machine.proofs.EventByEvent.{written_still, ends_at, each_of_first, step_of_value}
-use Rattle.lte_machine.proofs.StillRun.{still_is_run}
-use Rattle.lte_machine.proofs.WholeRun.{tale_is_value}
-use Rattle.lte_machine.proofs.Worlds.{TheWorld}
-use Rattle.lte_properties.specs.Accounts.{UsesAreThoseSent}
-use Rattle.lte_properties.specs.Agreement.{NoneThere, Agrees}
-use Rattle.lte_properties.specs.Headline.{Headline}
-use Rattle.lte_properties.specs.Separation.{Separates}
-use Rattle.lte_properties.proofs.AccountsHold.{uses_are_sent}
+use Rattle.lte_properties.specs.{Accounts.UsesAreThoseSent, Agreement.NoneThere, Agreement.Agrees, Headline.Headline, Separation.Separates}
+use Rattle.lte_properties.proofs.{AccountsHold.uses_are_sent, KeySeparation.Ever.separation_holds}
 use Rattle.lte_properties.proofs.EveryRun.{agrees, none_ever, shared}
-use Rattle.lte_properties.proofs.KeySeparation.Ever.{separation_holds}
 use Rattle.lte_properties.proofs.OctetLaws.{uses_octets, joined_octets, no_kasme_octets, packet_told}
 use Rattle.lte_properties.proofs.StepByStep.{follows, step_tells, step_completed}
 

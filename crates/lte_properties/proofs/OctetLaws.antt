@@ -1,44 +1,26 @@
 -- Agreement, freshness, separation and opening, of a run in octets.
 use Rattle.std.proofs.Common.{◌≡◌, refl, sym, ap, ◌∙◌, subst, ℕ, zero, suc, List, [], ◌∷◌, map, take, Option, Some, None, option_map, inl, inr}
-use Rattle.std.specs.Prelude.{slice_get, ⊤}
-use Rattle.std.specs.List.{AllByRecursion as AllOf}
-use Rattle.lte_events.specs.Ranges.{IsEvent, IsSetup}
-use Rattle.lte_events.specs.declared.events.Event.{Event}
-use Rattle.lte_events.specs.declared.setups.Setup.{Setup}
-use Rattle.key_model.specs.Chain.{ncc_of}
-use Rattle.key_model.specs.Term.{Term}
-use Rattle.key_model.specs.Value.{value_of, same_value}
+use Rattle.std.specs.{Prelude.slice_get, Prelude.⊤, List.AllByRecursion as AllOf}
+use Rattle.lte_events.specs.{Ranges.IsEvent, Ranges.IsSetup, declared.events.Event.Event, declared.setups.Setup.Setup}
+use Rattle.key_model.specs.{Chain.ncc_of, Term.Term, Value.value_of, Value.same_value}
 use Rattle.pdcp_guard.specs.AsKeys.{map_as_keys}
 use Rattle.lte_machine.specs.BothRuns.{annex_b_terms, written_run, written_report}
-use Rattle.lte_machine.specs.ByEvent.{in_octets, IsValueOfRun}
+use Rattle.lte_machine.specs.{ByEvent.in_octets, ByEvent.IsValueOfRun, Ciphers.annex_b, Distinct.Member, Distinct.keys_of, Known.AllReported, Known.IsReported, Opening.open_octets, Opening.open_by_uses, Standing.RowsStandForTerms, StationState.Station, StationState.Context}
 use Rattle.lte_machine.specs.Carried.{map_holding, map_stations, map_line, report_value}
-use Rattle.lte_machine.specs.Ciphers.{annex_b}
-use Rattle.lte_machine.specs.Distinct.{Member, keys_of}
-use Rattle.lte_machine.specs.Known.{AllReported, IsReported}
 use Rattle.lte_machine.specs.Ladder.{RowOrigin, OfRoot, Of, row_key, map_row}
 use Rattle.lte_machine.specs.Machines.{Kept, written_machine, written_in_values}
-use Rattle.lte_machine.specs.Opening.{open_octets, open_by_uses}
 use Rattle.lte_machine.specs.PhoneState.{Link, Radio, Idle, Connecting, Connected, map_radio, map_link}
 use Rattle.lte_machine.specs.Run.{Running, Reported, run, first_world}
-use Rattle.lte_machine.specs.Standing.{RowsStandForTerms}
-use Rattle.lte_machine.specs.StationState.{Station, Context}
 use Rattle.lte_machine.specs.StationState as station
 use Rattle.lte_machine.specs.World.{World, Line, AtStation, Holding, happens}
-use Rattle.lte_machine.proofs.AnnexB.{annex_b_ciphers}
+use Rattle.lte_machine.proofs.{AnnexB.annex_b_ciphers, LadderRun.ladder_always, LadderRun.all_reported, StillRun.still_is_run, WholeRun.tale_is_value, Worlds.TheWorld}
 use Rattle.lte_machine.proofs.EventByEvent.{step_told, step_happens, each_of_first}
-use Rattle.lte_machine.proofs.LadderRun.{ladder_always, all_reported}
-use Rattle.lte_machine.proofs.StillRun.{still_is_run}
-use Rattle.lte_machine.proofs.WholeRun.{tale_is_value}
-use Rattle.lte_machine.proofs.Worlds.{TheWorld}
-use Rattle.lte_properties.specs.Accounts.{IsRowOf}
+use Rattle.lte_properties.specs.{Accounts.IsRowOf, Freshness.NoUseTwice, Packets.OpensTo}
 use Rattle.lte_properties.specs.Agreement.{ContextAt, Agree, JoinedBy, JoinedAgree}
-use Rattle.lte_properties.specs.Freshness.{NoUseTwice}
 use Rattle.lte_properties.specs.InOctets.{NoKasmeHeld, BringsPacket, TellsText}
-use Rattle.lte_properties.specs.Packets.{OpensTo}
 use Rattle.lte_properties.specs.Separation.{IsStationOf, HeldBy, NoRootHeld}
-use Rattle.lte_properties.proofs.AccountsHold.{rows_are}
+use Rattle.lte_properties.proofs.{AccountsHold.rows_are, KeySeparation.Ever.separation_holds}
 use Rattle.lte_properties.proofs.EveryRun.{agrees, values_differ, packets}
-use Rattle.lte_properties.proofs.KeySeparation.Ever.{separation_holds}
 
 -- WHERE PHONE AND STATION ARE AT ONE ADDRESS
 

@@ -1,33 +1,16 @@
 -- Each step of a legal run reaches an actor of its setup.
 use Rattle.std.proofs.Common.{◌≡◌, sym, subst, ℕ, List, take, Some}
-use Rattle.std.specs.Prelude.{All, IsTrue}
+use Rattle.std.specs.{Prelude.All, Prelude.IsTrue, List.AllByRecursion as AllOf}
 use Rattle.std.proofs.lemmas.List.Elements.{recursion_from_All}
-use Rattle.std.specs.List.{AllByRecursion as AllOf}
 use Rattle.lte_events.specs.Ranges.{has_station, IsEvent, IsSetup}
-use Rattle.lte_events.specs.Scenario.{CanHappen}
-use Rattle.lte_events.specs.declared.events.Event.{Event}
-use Rattle.lte_events.specs.declared.setups.Setup.{Setup}
+use Rattle.lte_events.specs.{Scenario.CanHappen, declared.events.Event.Event, declared.setups.Setup.Setup}
 use Rattle.lte_events.proofs.InRange.{in_range}
-use Rattle.key_model.specs.Term.{Term, Root}
-use Rattle.key_model.specs.Value.{same_value}
-use Rattle.lte_machine.specs.BothRuns.{annex_b_terms}
-use Rattle.lte_machine.specs.ByEvent.{IsStep}
-use Rattle.lte_machine.specs.Ciphers.{annex_b, octets_of}
+use Rattle.key_model.specs.{Term.Term, Term.Root, Value.same_value}
+use Rattle.lte_machine.specs.{BothRuns.annex_b_terms, ByEvent.IsStep, Ciphers.annex_b, Ciphers.octets_of, Opening.open_octets, Opening.open_by_uses, Run.run, Run.first_world, StationState.Station, Wire.Outgoing, World.Line, World.station_of_id}
 use Rattle.lte_machine.specs.Machines.{sender_of, written_machine, written_in_values}
-use Rattle.lte_machine.specs.Opening.{open_octets, open_by_uses}
-use Rattle.lte_machine.specs.Run.{run, first_world}
-use Rattle.lte_machine.specs.StationState.{Station}
-use Rattle.lte_machine.specs.Wire.{Outgoing}
-use Rattle.lte_machine.specs.World.{Line, station_of_id}
-use Rattle.lte_machine.proofs.AnnexB.{annex_b_ciphers}
-use Rattle.lte_machine.proofs.EventByEvent.{step_happens, each_of_first}
-use Rattle.lte_machine.proofs.StationIds.{run_ids, still_here}
-use Rattle.lte_machine.proofs.StillRun.{still_is_run}
-use Rattle.lte_machine.proofs.KnownLists.{OfSome, all_get}
-use Rattle.lte_machine.proofs.Worlds.{TheWorld}
+use Rattle.lte_machine.proofs.{AnnexB.annex_b_ciphers, EventByEvent.step_happens, EventByEvent.each_of_first, StationIds.run_ids, StationIds.still_here, StillRun.still_is_run, KnownLists.OfSome, KnownLists.all_get, Worlds.TheWorld}
 use Rattle.lte_properties.specs.Reach.{AllReach, ReachesActor}
-use Rattle.lte_properties.proofs.EveryRun.{reach}
-use Rattle.lte_properties.proofs.Named.Reaches.{first_here, happens_reaches}
+use Rattle.lte_properties.proofs.{EveryRun.reach, Named.Reaches.first_here, Named.Reaches.happens_reaches}
 
 module _ (setup : Setup) (events : List Event) (set : IsSetup setup) (happen : All (CanHappen setup) events) where
   are : AllOf IsEvent events

@@ -1,7 +1,6 @@
 -- Tests of keys by which each key is one with itself.
 use Rattle.std.proofs.Common.{◌≡◌, Bool, true, refl}
-use Rattle.key_model.specs.Term.{Term}
-use Rattle.key_model.specs.Value.{same_value}
+use Rattle.key_model.specs.{Term.Term, Value.same_value}
 use Rattle.key_model.proofs.TermFacts.{same_value-Decides}
 
 abbrev pub IsReflexive : (Term → Term → Bool) → Type 0

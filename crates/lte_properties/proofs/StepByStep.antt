@@ -1,36 +1,20 @@
 -- What the phone takes at a step was made at an earlier one.
 use Rattle.std.proofs.Common.{◌≡◌, refl, sym, ap, ◌∙◌, subst, ℕ, zero, suc, ◌+◌, ◌<◌, arith, Bool, true, false, cond, List, [], ◌∷◌, ◌++◌, take, Option, Some, None, inl, inr}
 use Rattle.std.specs.Prelude.{◌⊎◌, slice_get, find}
-use Rattle.std.specs.Option.{option_or}
+use Rattle.std.specs.{Option.option_or, List.AllByRecursion as AllOf}
 use Rattle.std.proofs.lemmas.List.Folds.{find-append}
-use Rattle.std.specs.List.{AllByRecursion as AllOf}
-use Rattle.lte_events.specs.Ranges.{IsEvent, IsSetup}
-use Rattle.lte_events.specs.declared.events.Event.{Event}
-use Rattle.lte_events.specs.declared.lines.Who.{Who}
-use Rattle.lte_events.specs.declared.setups.Setup.{Setup}
-use Rattle.key_model.specs.Chain.{ncc_of}
-use Rattle.key_model.specs.Term.{Term, Root}
-use Rattle.key_model.specs.Value.{same_value}
-use Rattle.lte_machine.specs.BothRuns.{annex_b_terms, written_run}
-use Rattle.lte_machine.specs.ByEvent.{IsStep}
-use Rattle.lte_machine.specs.Ciphers.{annex_b, octets_of}
+use Rattle.lte_events.specs.{Ranges.IsEvent, Ranges.IsSetup, declared.events.Event.Event, declared.lines.Who.Who, declared.setups.Setup.Setup}
+use Rattle.key_model.specs.{Chain.ncc_of, Term.Term, Term.Root, Value.same_value}
+use Rattle.lte_machine.specs.{BothRuns.annex_b_terms, BothRuns.written_run, ByEvent.IsStep, Ciphers.annex_b, Ciphers.octets_of, Opening.open_octets, Opening.open_by_uses, Wire.Outgoing, World.Line, World.happens}
 use Rattle.lte_machine.specs.Machines.{sender_of, written_machine, written_in_values}
-use Rattle.lte_machine.specs.Opening.{open_octets, open_by_uses}
 use Rattle.lte_machine.specs.Reply.{Made, Came, Secured, Commanded, Changed, Took}
 use Rattle.lte_machine.specs.Run.{Running, Stopped, after, turn, run, first_world}
 use Rattle.lte_machine.specs.Step.{StepResult, Continues, Stops, next}
-use Rattle.lte_machine.specs.Wire.{Outgoing}
-use Rattle.lte_machine.specs.World.{Line, happens}
-use Rattle.lte_machine.proofs.AnnexB.{annex_b_ciphers}
+use Rattle.lte_machine.proofs.{AnnexB.annex_b_ciphers, StillRun.still_is_run, StillRun.still_one, Worlds.TheWorld}
 use Rattle.lte_machine.proofs.EventByEvent.{step_takes, step_happens, prefix_goes_on, replay_snoc, take_more, each_of_first}
-use Rattle.lte_machine.proofs.StillRun.{still_is_run, still_one}
-use Rattle.lte_machine.proofs.Worlds.{TheWorld}
 use Rattle.lte_properties.specs.Agreement.{is_made_at, made_at, ahead, ObeysMade, Obeys, Reported, MadeIsTold, TookIsTold, TellsNote, CompletedLines}
 use Rattle.lte_properties.specs.BySteps.{MakesAt, TakesAt, TellOneKey, Follows}
-use Rattle.lte_properties.proofs.Agreement.Noted.{keys_told, BothTold}
-use Rattle.lte_properties.proofs.Agreement.ToldIsFound.{made_there}
-use Rattle.lte_properties.proofs.EveryLine.{lines_completed}
-use Rattle.lte_properties.proofs.EveryRun.{agrees}
+use Rattle.lte_properties.proofs.{Agreement.Noted.keys_told, Agreement.Noted.BothTold, Agreement.ToldIsFound.made_there, EveryLine.lines_completed, EveryRun.agrees}
 
 module _ (setup : Setup) (events : List Event) where
   abbrev start : TheWorld

@@ -3,14 +3,11 @@
 use Rattle.std.specs.Prelude.{◌≡◌, ℕ, List, [], ◌∷◌, ◌++◌, map, Option, Some, None, option_map, Result, ⊤}
 use Rattle.std.specs.List.{flat_map, AllByRecursion as AllOf}
 use Rattle.rec_base.specs.declared.faults.RecFault.{RecFault}
-use Rattle.lte_events.specs.declared.addresses.Address.{Address}
-use Rattle.lte_events.specs.declared.events.Event.{Event}
-use Rattle.lte_events.specs.declared.lines.Who.{Who}
+use Rattle.lte_events.specs.{declared.addresses.Address.Address, declared.events.Event.Event, declared.lines.Who.Who}
 use Rattle.s1x2_rec.specs.Content.{Content}
 use Rattle.key_model.specs.Term.{Term}
 use Rattle.lte_machine.specs.Ladder.{RowOrigin, OfRoot, Of, row_key}
-use Rattle.lte_machine.specs.StationStep.{key_read}
-use Rattle.lte_machine.specs.Wire.{Outgoing, uses_of}
+use Rattle.lte_machine.specs.{StationStep.key_read, Wire.Outgoing, Wire.uses_of}
 use Rattle.lte_machine.specs.World.{Machine, World, Line, Holder, AtPhone, AtCore, AtStation, Holding, record_at, happens}
 
 -- the uses are what the records sent were ciphered and sealed with, in order

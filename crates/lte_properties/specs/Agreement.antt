@@ -5,17 +5,12 @@ use Rattle.key_model.specs.Term.{Term, Kenb, Star, same_term}
 use Rattle.ho_prep.specs.Prep.{Prep}
 use Rattle.lte_machine.specs.Reply.{Note, Origin, From, BySetup, ByAttempt, ByChange, Made, Before, Came, Secured, Commanded, Changed, Took}
 use Rattle.lte_machine.specs.PhoneState.{Link, Radio, Idle, Connecting, Connected}
-use Rattle.lte_machine.specs.StationState.{Station, Context}
-use Rattle.lte_machine.specs.Wire.{Outgoing}
+use Rattle.lte_machine.specs.{StationState.Station, StationState.Context, Wire.Outgoing, Distinct.Member}
 use Rattle.lte_machine.specs.World.{Machine, World, Line, happens}
-use Rattle.lte_events.specs.declared.lines.Who.{Who}
+use Rattle.lte_events.specs.{declared.lines.Who.Who, declared.events.Event.Event}
 use Rattle.rec_base.specs.declared.ways.Way.{Way}
 use Rattle.key_model.specs.Chain.{nh, ncc_of}
-use Rattle.lte_events.specs.declared.events.Event.{Event}
-use Rattle.lte_properties.specs.ChainBelow.{AllOf}
-use Rattle.lte_properties.specs.ChainHolds.{run}
-use Rattle.lte_properties.specs.Origins.{root_of, nas_count_of}
-use Rattle.lte_machine.specs.Distinct.{Member}
+use Rattle.lte_properties.specs.{ChainBelow.AllOf, ChainHolds.run, Origins.root_of, Origins.nas_count_of}
 
 -- what a station made for an air address that it drew: a context or a preparation
 abbrev pub is_made_at : ℕ → ℕ → Made Term ℕ → Bool

@@ -1,12 +1,9 @@
 -- Agreement step by step: at which step the phone took a key, and at which the station there had made one.
 use Rattle.std.specs.Prelude.{◌≡◌, ℕ, ◌<◌, List, [], ◌∷◌, ◌++◌, Some}
-use Rattle.lte_events.specs.declared.events.Event.{Event}
-use Rattle.lte_events.specs.declared.setups.Setup.{Setup}
+use Rattle.lte_events.specs.{declared.events.Event.Event, declared.setups.Setup.Setup}
 use Rattle.key_model.specs.Term.{Term}
-use Rattle.lte_machine.specs.ByEvent.{IsStep}
+use Rattle.lte_machine.specs.{ByEvent.IsStep, Wire.Outgoing, World.World, World.Line}
 use Rattle.lte_machine.specs.Reply.{Note, Made, Took}
-use Rattle.lte_machine.specs.Wire.{Outgoing}
-use Rattle.lte_machine.specs.World.{World, Line}
 use Rattle.lte_properties.specs.Agreement.{ahead, ObeysMade}
 
 -- at step k a station draws an air address and makes this for it

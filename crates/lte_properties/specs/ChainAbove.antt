@@ -2,13 +2,10 @@
 -- above all numbers of its context (TS 33.401 7.2.8.4.2).
 use Rattle.std.specs.Prelude.{◌≡◌, ℕ, ◌<◌, Option, Some, None, ⊤}
 use Rattle.key_model.specs.Term.{Term}
-use Rattle.lte_events.specs.declared.addresses.Address.{Address}
-use Rattle.lte_events.specs.declared.addresses.Address.TheVariants.{StationS1}
+use Rattle.lte_events.specs.{declared.addresses.Address.Address, declared.addresses.Address.TheVariants.StationS1}
 use Rattle.s1x2_rec.specs.Fields.{PathSwitchRequest, PathSwitchAnswer}
 use Rattle.ho_prep.specs.Prep.{Prep}
-use Rattle.lte_machine.specs.Wire.{Outgoing, Between}
-use Rattle.lte_machine.specs.StationState.{Station, Context}
-use Rattle.lte_machine.specs.StationKeys.{spent_in}
+use Rattle.lte_machine.specs.{Wire.Outgoing, Wire.Between, StationState.Station, StationState.Context, StationKeys.spent_in}
 use Rattle.lte_properties.specs.ChainBelow.{AllOf, OfPair, EachNumber, IsUnder, IsAbove}
 
 -- the number of a stored pair, and of one that moved into the attempt, is above that of the context's KeNB

@@ -2,14 +2,11 @@
 -- number for it (TS 33.401 7.2.8).
 use Rattle.std.specs.Prelude.{◌≡◌, ℕ, ◌≤◌, ◌<◌, Option, Some, None, ⊤}
 pub use Rattle.std.specs.List.{AllByRecursion as AllOf}
-use Rattle.key_model.specs.Term.{Term}
-use Rattle.key_model.specs.HandoverTable.{NumberedKey}
+use Rattle.key_model.specs.{Term.Term, HandoverTable.NumberedKey}
 use Rattle.s1x2_rec.specs.Fields.{Fields, InitialContext, ContextRelease, PathSwitchRequest, PathSwitchAnswer, HandoverRequired, HandoverRequest, HandoverRequestAck, HandoverCommand, HandoverNotify, HandoverCancel, X2Request, X2Ack, X2Cancel, X2Release, ContextModification}
 use Rattle.ho_prep.specs.Prep.{Prep}
-use Rattle.lte_machine.specs.Wire.{Outgoing, Between}
+use Rattle.lte_machine.specs.{Wire.Outgoing, Wire.Between, StationKeys.spent_in, CoreState.Core, CoreState.CoreLink}
 use Rattle.lte_machine.specs.StationState.{Station, Context, Attempt, SourceKeys}
-use Rattle.lte_machine.specs.StationKeys.{spent_in}
-use Rattle.lte_machine.specs.CoreState.{Core, CoreLink}
 
 -- P holds of a pair's number, if there is a pair
 abbrev pub OfPair : (ℕ → Type 0) → Option (NumberedKey Term ℕ) → Type 0

@@ -1,12 +1,9 @@
 -- What holds of the chain numbers in every world of every run (TS 33.401 7.2.8).
 use Rattle.std.specs.Prelude.{ℕ, ◌==◌, if◌then◌else◌, List, [], ◌∷◌, Option, Some, None}
-use Rattle.lte_events.specs.declared.events.Event.{Event}
-use Rattle.lte_events.specs.declared.setups.Setup.{Setup}
+use Rattle.lte_events.specs.{declared.events.Event.Event, declared.setups.Setup.Setup}
 use Rattle.key_model.specs.Term.{Term}
-use Rattle.lte_machine.specs.Wire.{Outgoing}
-use Rattle.lte_machine.specs.CoreState.{CoreLink}
+use Rattle.lte_machine.specs.{Wire.Outgoing, CoreState.CoreLink, Run.first_world}
 use Rattle.lte_machine.specs.World.{Machine, World, happens}
-use Rattle.lte_machine.specs.Run.{first_world}
 use Rattle.lte_properties.specs.ChainBelow.{AllOf, StationBelow, RecordBelow, CoreTop}
 use Rattle.lte_properties.specs.ChainAbove.{StationAbove, InFlight}
 pub use Rattle.lte_machine.specs.Run.{run}

@@ -1,24 +1,16 @@
 -- For each connection number one KASME and one KeNB, of whose chain all its keys are (TS 33.401 7.2.8.1.1 and 7.2.9.2).
 use Rattle.std.specs.Prelude.{◌≡◌, ℕ, ◌<◌, ◌≤◌, ◌⊎◌, List, Option, Some, None, ⊤}
 use Rattle.key_model.specs.Term.{Term, Root, Kenb, Nh, Star, Alg}
-use Rattle.key_model.specs.Chain.{nh}
-use Rattle.key_model.specs.HandoverTable.{NumberedKey}
+use Rattle.key_model.specs.{Chain.nh, HandoverTable.NumberedKey}
 use Rattle.s1x2_rec.specs.Fields.{InitialContext, PathSwitchAnswer, HandoverRequest, X2Request, ContextModification}
 use Rattle.ho_prep.specs.Prep.{Prep}
 use Rattle.x2_handover.specs.declared.orders.Order.{Order}
-use Rattle.lte_events.specs.declared.events.Event.{Event}
-use Rattle.lte_events.specs.declared.setups.Setup.{Setup}
+use Rattle.lte_events.specs.{declared.events.Event.Event, declared.setups.Setup.Setup}
 use Rattle.lte_machine.specs.Reply.{From, BySetup, ByAttempt, ByChange, Made, Tried, Came, Changed, Took, Handover, BySource, ByTarget}
 use Rattle.lte_machine.specs.StationState.{Context, Via, Renewing, Commanded, Attempt}
-use Rattle.lte_machine.specs.CoreState.{CoreLink}
-use Rattle.lte_machine.specs.Wire.{Outgoing, Between}
-use Rattle.lte_machine.specs.World.{Machine, World}
-use Rattle.lte_machine.specs.Run.{first_world}
+use Rattle.lte_machine.specs.{CoreState.CoreLink, Wire.Outgoing, Wire.Between, World.Machine, World.World, Run.first_world, Distinct.Member}
 use Rattle.lte_properties.specs.Agreement.{made_at, ahead, HadTaken}
-use Rattle.lte_properties.specs.Origins.{root_of, nas_count_of}
-use Rattle.lte_properties.specs.ChainBelow.{AllOf}
-use Rattle.lte_properties.specs.ChainHolds.{core_numbers, run}
-use Rattle.lte_machine.specs.Distinct.{Member}
+use Rattle.lte_properties.specs.{Origins.root_of, Origins.nas_count_of, ChainBelow.AllOf, ChainHolds.core_numbers, ChainHolds.run}
 
 -- the key of a chain, an NH or the KeNB that it begins with, from which a KeNB comes by KeNB* steps
 abbrev pub chain_key : Term → Term

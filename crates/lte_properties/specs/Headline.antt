@@ -1,27 +1,15 @@
 -- The headline of a setup and its events, sentence by sentence. It speaks of every step and world by which the run goes on:
 -- of all of them where no event is a coincidence, and else of those before it.
 use Rattle.std.specs.Prelude.{◌≡◌, ℕ, List, map, take}
-use Rattle.lte_events.specs.declared.events.Event.{Event}
-use Rattle.lte_events.specs.declared.setups.Setup.{Setup}
+use Rattle.lte_events.specs.{declared.events.Event.Event, declared.setups.Setup.Setup}
 use Rattle.key_model.specs.Term.{Term}
 use Rattle.lte_machine.specs.BothRuns.{written_run, written_report, octet_run, octet_report}
 use Rattle.lte_machine.specs.ByEvent.{EndsAt, IsStep, IsValueOfRun, IsOctetStep, IsValueOfStep}
-use Rattle.lte_machine.specs.Carried.{report_value}
-use Rattle.lte_machine.specs.Ciphers.{annex_b}
-use Rattle.lte_machine.specs.Machines.{Kept, machine_in_octets}
-use Rattle.lte_machine.specs.Opening.{open_octets}
-use Rattle.lte_machine.specs.Reply.{Took}
+use Rattle.lte_machine.specs.{Carried.report_value, Ciphers.annex_b, Machines.Kept, Machines.machine_in_octets, Opening.open_octets, Reply.Took, Tuples.Coincidence, Wire.Outgoing, World.World, World.Line}
 use Rattle.lte_machine.specs.Run.{Running, Stopped, first_world}
-use Rattle.lte_machine.specs.Tuples.{Coincidence}
-use Rattle.lte_machine.specs.Wire.{Outgoing}
-use Rattle.lte_machine.specs.World.{World, Line}
-use Rattle.lte_properties.specs.Accounts.{UsesAreThoseSent}
+use Rattle.lte_properties.specs.{Accounts.UsesAreThoseSent, BySteps.TakesAt, BySteps.Follows, Freshness.NoUseTwice, Separation.Separates, SharedKeys.SharedApart}
 use Rattle.lte_properties.specs.Agreement.{MadeIsTold, TookIsTold, NoneThere, JoinedAgree, TellsNote, Agrees}
-use Rattle.lte_properties.specs.BySteps.{TakesAt, Follows}
-use Rattle.lte_properties.specs.Freshness.{NoUseTwice}
 use Rattle.lte_properties.specs.InOctets.{EachWorld, NoKasmeHeld, BringsPacket, TellsText}
-use Rattle.lte_properties.specs.Separation.{Separates}
-use Rattle.lte_properties.specs.SharedKeys.{SharedApart}
 
 -- in each world over terms by which the run goes on
 abbrev pub EachWritten : Setup → List Event → (World Term ℕ (Outgoing Term ℕ) → Type 0) → Type 0

@@ -1,22 +1,12 @@
 -- What is said of a run in octets: of the worlds by which it goes on, and of what it tells.
 use Rattle.std.specs.Prelude.{◌≡◌, ℕ, ◌<◌, ◌≤◌, ℤ, List, take, slice_get, Some}
-use Rattle.lte_events.specs.declared.answers.Answer.TheVariants.{Done}
-use Rattle.lte_events.specs.declared.events.Event.{Event}
-use Rattle.lte_events.specs.declared.setups.Setup.{Setup}
+use Rattle.lte_events.specs.{declared.answers.Answer.TheVariants.Done, declared.events.Event.Event, declared.setups.Setup.Setup}
 use Rattle.key_model.specs.Term.{Term}
-use Rattle.lte_machine.specs.BothRuns.{octet_run, octet_report}
-use Rattle.lte_machine.specs.ByEvent.{IsStep}
-use Rattle.lte_machine.specs.Ladder.{OfRoot}
-use Rattle.lte_machine.specs.Machines.{Kept}
-use Rattle.lte_machine.specs.Reply.{Made, Took}
-use Rattle.lte_machine.specs.Run.{Running, Reported}
-use Rattle.lte_machine.specs.Wire.{Outgoing}
+use Rattle.lte_machine.specs.{BothRuns.octet_run, BothRuns.octet_report, ByEvent.IsStep, Ladder.OfRoot, Machines.Kept, Reply.Made, Reply.Took, Run.Running, Run.Reported, Wire.Outgoing, Distinct.Member}
 use Rattle.lte_machine.specs.World.{World, Line, AtStation, record_at}
 use Rattle.lte_properties.specs.Agreement as agreement
-use Rattle.lte_properties.specs.Agreement.{ahead, ContextAt}
-use Rattle.lte_properties.specs.BySteps.{MakesAt, TakesAt}
+use Rattle.lte_properties.specs.{Agreement.ahead, Agreement.ContextAt, BySteps.MakesAt, BySteps.TakesAt}
 use Rattle.lte_properties.specs.Packets.{IsPacket, IsReady, InWindow, next_for, count_of, window_of}
-use Rattle.lte_machine.specs.Distinct.{Member}
 
 -- in each world by which the run in octets goes on
 abbrev pub EachWorld : Setup → List Event → (World (List ℕ) ℕ Kept → Type 0) → Type 0

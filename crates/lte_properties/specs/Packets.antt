@@ -2,18 +2,14 @@
 use Rattle.std.specs.Prelude.{◌≡◌, ℤ, ℕ, ◌+◌, ◌<◌, ◌≤◌, List, Option, Some, None, false}
 use Rattle.rec_base.specs.declared.uses.Dir.TheVariants.{Up, Down}
 use Rattle.alg_choice.specs.Algs.{eia2_identity}
-use Rattle.lte_events.specs.declared.answers.Answer.TheVariants.{Done}
-use Rattle.lte_events.specs.declared.events.Event.{Event}
+use Rattle.lte_events.specs.{declared.answers.Answer.TheVariants.Done, declared.events.Event.Event}
 use Rattle.key_model.specs.Term.{Term, Alg}
-use Rattle.nas_rec.specs.declared.records.NasRecord.TheVariants.{NasData}
-use Rattle.nas_rec.specs.Spelling.{spelling_of as nas_spelling}
-use Rattle.rrc_rec.specs.declared.records.RrcRecord.TheVariants.{RrcData}
-use Rattle.rrc_rec.specs.Spelling.{spelling_of as rrc_spelling}
+use Rattle.nas_rec.specs.{declared.records.NasRecord.TheVariants.NasData, Spelling.spelling_of as nas_spelling}
+use Rattle.rrc_rec.specs.{declared.records.RrcRecord.TheVariants.RrcData, Spelling.spelling_of as rrc_spelling}
 use Rattle.lte_machine.specs.Bearers.{Bearers, srb_counts, drb_counts}
 use Rattle.lte_machine.specs.Wire.{KeyUse, Outgoing, SealedNas, SealedRrc, UserPacket}
 use Rattle.lte_machine.specs.PhoneState.{NasContext, Radio, Connected}
-use Rattle.lte_machine.specs.StationState.{Station, Context}
-use Rattle.lte_machine.specs.CoreState.{CoreContext}
+use Rattle.lte_machine.specs.{StationState.Station, StationState.Context, CoreState.CoreContext}
 use Rattle.lte_machine.specs.World.{Machine, World, station_of_id, record_at, happens}
 
 -- a record that carries these data: a user packet, an RRC text of data, a NAS text of data

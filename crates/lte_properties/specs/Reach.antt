@@ -1,13 +1,8 @@
 -- To whom records go: where it is a station, the setup has it.
 use Rattle.std.specs.Prelude.{◌≡◌, ◌≢◌, ℕ, IsTrue, ⊤}
-use Rattle.lte_events.specs.Ranges.{has_station}
-use Rattle.lte_events.specs.declared.addresses.Address.{Address}
-use Rattle.lte_events.specs.declared.answers.Answer.TheVariants.{NoUe}
-use Rattle.lte_events.specs.declared.lines.Who.{Who}
-use Rattle.lte_events.specs.declared.setups.Setup.{Setup}
+use Rattle.lte_events.specs.{Ranges.has_station, declared.addresses.Address.Address, declared.answers.Answer.TheVariants.NoUe, declared.lines.Who.Who, declared.setups.Setup.Setup}
 use Rattle.key_model.specs.Term.{Term}
-use Rattle.lte_machine.specs.Wire.{Outgoing, address_of}
-use Rattle.lte_machine.specs.World.{World, Line}
+use Rattle.lte_machine.specs.{Wire.Outgoing, Wire.address_of, World.World, World.Line}
 use Rattle.lte_properties.specs.ChainBelow.{AllOf}
 
 -- an address is not of a station, or of one of these

@@ -1,13 +1,10 @@
 -- The second of the three cases of opening a sealed record (`open_case`): the sender's integrity use is the one that the receiver
 -- expects, and its ciphering is another, so that the octets decide.
 use Rattle.std.specs.Prelude.{◌≡◌, ℕ, true, Option, Some}
-use Rattle.lte_events.specs.declared.events.Event.{Event}
-use Rattle.lte_events.specs.declared.lines.Who.{Who}
+use Rattle.lte_events.specs.{declared.events.Event.Event, declared.lines.Who.Who}
 use Rattle.key_model.specs.Term.{Term, same_term}
 use Rattle.lte_machine.specs.Opening.{Opening, OpensNas, OpensSrb, Sender, CipheredElse, SentElse, nas_sender, srb_sender}
-use Rattle.lte_machine.specs.StationState.{Station, Context}
-use Rattle.lte_machine.specs.Step.{attempted}
-use Rattle.lte_machine.specs.Wire.{Outgoing}
+use Rattle.lte_machine.specs.{StationState.Station, StationState.Context, Step.attempted, Wire.Outgoing}
 use Rattle.lte_machine.specs.World.{Machine, World, Line, station_of_id, happens}
 
 -- how the sender's uses stand to those that the receiver expects, with keys compared as terms

@@ -1,21 +1,14 @@
 -- Who can derive which key (TS 33.401 7.2.8): no station but two can derive the key of a handover, and no station has a KASME.
 use Rattle.std.specs.Prelude.{◌≡◌, ℕ, Bool, IsTrue, ◌⊎◌, ◌↔◌, List, [], ◌∷◌, Some, ⊤}
 use Rattle.annex_a_keys.specs.Cell.{Place}
-use Rattle.lte_events.specs.declared.addresses.Address.TheVariants.{StationS1}
-use Rattle.lte_events.specs.declared.events.Event.{Event}
-use Rattle.lte_events.specs.declared.setups.Setup.{Setup}
-use Rattle.lte_events.specs.Site.{Site, station_of}
+use Rattle.lte_events.specs.{declared.addresses.Address.TheVariants.StationS1, declared.events.Event.Event, declared.setups.Setup.Setup, Site.Site, Site.station_of}
 use Rattle.key_model.specs.Term.{Term, Root, Star, IsWellFormed}
 use Rattle.key_model.specs.Chain.{nh}
 use Rattle.key_model.specs.Derivable.{Derivable, HasNoRoot, ComesFrom}
-use Rattle.lte_machine.specs.Wire.{Outgoing, Between}
+use Rattle.lte_machine.specs.{Wire.Outgoing, Wire.Between, Distinct.keys_of, Distinct.Member, Known.StationKnown, Run.first_world}
 use Rattle.lte_machine.specs.Reply.{From, BySetup, ByAttempt, ByChange, Made, Tried, Handover, BySource, ByTarget}
-use Rattle.lte_machine.specs.Distinct.{keys_of, Member}
-use Rattle.lte_machine.specs.Known.{StationKnown}
 use Rattle.lte_machine.specs.World.{Machine, World, Holder, AtPhone, AtCore, AtStation, Holding}
-use Rattle.lte_machine.specs.Run.{first_world}
-use Rattle.lte_properties.specs.ChainBelow.{AllOf}
-use Rattle.lte_properties.specs.ChainHolds.{run}
+use Rattle.lte_properties.specs.{ChainBelow.AllOf, ChainHolds.run}
 
 -- some item of a list is so
 abbrev pub AnyOf : {A : Type 0} → (A → Type 0) → List A → Type 0

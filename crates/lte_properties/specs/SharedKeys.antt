@@ -2,14 +2,11 @@
 use Rattle.std.specs.Prelude.{◌≡◌, ℕ, ◌<◌, Bool, List, Some, ⊤}
 use Rattle.annex_a_keys.specs.Cell.{Place}
 use Rattle.key_model.specs.Term.{Term, Root, Star}
-use Rattle.key_model.specs.Chain.{nh}
-use Rattle.key_model.specs.Derivable.{Derivable}
-use Rattle.lte_machine.specs.Wire.{Outgoing}
+use Rattle.key_model.specs.{Chain.nh, Derivable.Derivable}
+use Rattle.lte_machine.specs.{Wire.Outgoing, World.World}
 use Rattle.lte_machine.specs.Reply.{From, ByAttempt, Made, Came, Secured, Commanded, Changed, Took, Handover, BySource, ByTarget}
 use Rattle.lte_events.specs.Site.{Site, station_of}
-use Rattle.lte_machine.specs.World.{World}
-use Rattle.lte_properties.specs.ChainBelow.{AllOf}
-use Rattle.lte_properties.specs.Agreement.{made_at, ahead}
+use Rattle.lte_properties.specs.{ChainBelow.AllOf, Agreement.made_at, Agreement.ahead}
 use Rattle.lte_properties.specs.Separation.{AnyOf, HeldBy, Those, GivenTo, GivenAt}
 
 -- a set of stations without source and target; over S1, where the source made no KeNB*, without the target alone

@@ -1,21 +1,14 @@
 -- What holds of an audited scenario, at each status.
 use Rattle.std.proofs.Common.{◌≡◌, ◌∙◌, ℕ, List, Result, Ok, Err, refl}
 use Rattle.std.specs.Prelude.{IfOk}
-use Rattle.audit_report.specs.Alone.{EachAlone}
-use Rattle.audit_report.specs.AuditReport.{audit_report_of}
-use Rattle.audit_report.specs.Audited.{AuditIsExact}
-use Rattle.audit_report.specs.OfRun.{AuditIsOfRun}
-use Rattle.lte_events.specs.declared.events.Event.{Event}
-use Rattle.lte_events.specs.declared.setups.Setup.{Setup}
+use Rattle.audit_report.specs.{Alone.EachAlone, AuditReport.audit_report_of, Audited.AuditIsExact, OfRun.AuditIsOfRun}
+use Rattle.lte_events.specs.{declared.events.Event.Event, declared.setups.Setup.Setup}
 use Rattle.lte_properties.specs.Headline.{Headline}
-use Rattle.run_report.specs.declared.endings.Ending.{Ending}
+use Rattle.run_report.specs.{declared.endings.Ending.Ending, declared.unwritten.Unwritten.Unwritten}
 use Rattle.run_report.specs.declared.endings.Ending.TheVariants as ending
-use Rattle.run_report.specs.declared.unwritten.Unwritten.{Unwritten}
 use Rattle.run_report.specs.declared.unwritten.Unwritten.TheVariants as unwritten
 use Rattle.scenario_file.specs.Reading.{reading_of}
-use Rattle.lte_sec_app.specs.Audit.{HasAudit}
-use Rattle.lte_sec_app.specs.Run.{WhereRun}
-use Rattle.lte_sec_app.specs.Scenario.{status_of}
+use Rattle.lte_sec_app.specs.{Audit.HasAudit, Run.WhereRun, Scenario.status_of}
 
 module _ (octets : List ℕ) (setup : Setup) (events : List Event) (reads : reading_of octets ≡ Ok (setup, events))
     (heads : Headline setup events) (alone : EachAlone setup events) where

@@ -1,17 +1,11 @@
 -- What is so of `drive` at each status.
 use Rattle.std.proofs.Common.{◌≡◌, ◌≢◌, ◌⊎◌, ℕ, ◌<◌, inl, inr, Option, Some, None, List, length, Result, Ok, Err, refl, sym, subst, arith}
-use Rattle.std.specs.Option.{IfSome}
-use Rattle.std.specs.Prelude.{IfErr}
-use Rattle.edge_io.specs.Told.{Told}
-use Rattle.edge_io.specs.Cause.{Rose}
-use Rattle.edge_io.specs.Peers.{PeersTold}
+use Rattle.std.specs.{Option.IfSome, Prelude.IfErr}
+use Rattle.edge_io.specs.{Told.Told, Cause.Rose, Peers.PeersTold}
 use Rattle.edge_io.proofs.Known.{none_of}
-use Rattle.lte_events.specs.declared.events.Event.{Event}
-use Rattle.lte_events.specs.declared.setups.Setup.{Setup}
-use Rattle.scenario_file.specs.declared.faults.ScenarioFault.{ScenarioFault}
+use Rattle.lte_events.specs.{declared.events.Event.Event, declared.setups.Setup.Setup}
+use Rattle.scenario_file.specs.{declared.faults.ScenarioFault.ScenarioFault, Reading.reading_of, Refused.refused_text}
 use Rattle.scenario_file.specs.declared.faults.ScenarioFault.TheVariants as fault
-use Rattle.scenario_file.specs.Reading.{reading_of}
-use Rattle.scenario_file.specs.Refused.{refused_text}
 use Rattle.lte_sec_app.specs.declared.status.Status.{Status}
 use Rattle.lte_sec_app.specs.declared.status.Status.TheVariants.{Done, Memory, Refused, ReadFault, WriteFault, Coincidence, TooLong}
 use Rattle.lte_sec_app.specs.Run.{Output, most_octets, CommandAt, WritesAt}

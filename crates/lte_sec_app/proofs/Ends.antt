@@ -1,14 +1,11 @@
 -- Each line that the program writes by itself is a line.
 use Rattle.std.proofs.Common.{◌≡◌, ℕ, true, Option, List}
-use Rattle.std.specs.Prelude.{codes}
-use Rattle.std.specs.Fmt.{decimal}
+use Rattle.std.specs.{Prelude.codes, Fmt.decimal}
 use Rattle.hex.specs.Hex.{encode_lower}
 use Rattle.edge_io.specs.Lines.{EndsLine, are_lines}
 use Rattle.edge_io.proofs.Ending.{feed, is_lines, on}
-use Rattle.scenario_file.specs.declared.faults.ScenarioFault.{ScenarioFault}
-use Rattle.scenario_file.specs.Refused.{fault_text, refused_text}
-use Rattle.lte_sec_app.specs.Drive.{wanted_text, difference_text}
-use Rattle.lte_sec_app.specs.Serve.{bad_frame_text}
+use Rattle.scenario_file.specs.{declared.faults.ScenarioFault.ScenarioFault, Refused.fault_text, Refused.refused_text}
+use Rattle.lte_sec_app.specs.{Drive.wanted_text, Drive.difference_text, Serve.bad_frame_text}
 
 refused_ends : (fault : ScenarioFault) → EndsLine (refused_text fault)
 unfolding refused_text

@@ -5,13 +5,12 @@ use Rattle.edge_io.specs.Told.{Told}
 use Rattle.edge_io.proofs.Known.{none_of}
 use Rattle.scenario_file.specs.declared.faults.ScenarioFault.{ScenarioFault}
 use Rattle.scenario_file.specs.declared.faults.ScenarioFault.TheVariants as fault
-use Rattle.lte_sec_app.specs.declared.status.Status.{Status}
+use Rattle.lte_sec_app.specs.{declared.status.Status.Status, Ladder.status_of as ladder_status}
 use Rattle.lte_sec_app.specs.declared.status.Status.TheVariants.{Memory, Refused}
 use Rattle.ladder_text.specs.declared.ending.Ending.{Ending as LadderEnding}
 use Rattle.ladder_text.specs.declared.ending.Ending.TheVariants as ladder
 use Rattle.run_report.specs.declared.endings.Ending.{Ending}
 use Rattle.run_report.specs.declared.endings.Ending.TheVariants as ending
-use Rattle.lte_sec_app.specs.Ladder.{status_of as ladder_status}
 use Rattle.lte_sec_app.specs.Run.{Output, UsesSink, WritesAt, WritesOutput}
 use Rattle.lte_sec_app.specs.Scenario.{RefusedBy, IsRefused, report_status, refusal_output}
 

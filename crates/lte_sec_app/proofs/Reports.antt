@@ -1,8 +1,6 @@
 -- The headline of a scenario that was read.
 use Rattle.std.proofs.Common.{◌≡◌, ℕ, List, Ok}
-use Rattle.lte_events.specs.Scenario.{IsScenario}
-use Rattle.lte_events.specs.declared.events.Event.{Event}
-use Rattle.lte_events.specs.declared.setups.Setup.{Setup}
+use Rattle.lte_events.specs.{Scenario.IsScenario, declared.events.Event.Event, declared.setups.Setup.Setup}
 use Rattle.lte_events.proofs.InRange.{in_range}
 use Rattle.lte_properties.specs.Headline.{Headline}
 use Rattle.lte_properties.proofs.HeadlineHolds.{headline}

@@ -1,8 +1,7 @@
 -- What is so of a command that reads a text, at each status.
 use Rattle.std.proofs.Common.{◌≡◌, ℕ, ◌<◌, Some, List, length, inl, inr, refl, sym, subst, arith}
 use Rattle.std.specs.Option.{IfSome}
-use Rattle.edge_io.specs.Told.{Told}
-use Rattle.edge_io.specs.Octets.{Grows}
+use Rattle.edge_io.specs.{Told.Told, Octets.Grows}
 use Rattle.lte_sec_app.specs.declared.status.Status.{Status}
 use Rattle.lte_sec_app.specs.declared.status.Status.TheVariants.{Done, Memory, Refused, ReadFault, WriteFault, Coincidence, TooLong}
 use Rattle.lte_sec_app.specs.Run.{Output, most_octets, Answers, CommandAt, CommandIsComplete, WhereRun}

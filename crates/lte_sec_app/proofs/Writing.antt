@@ -6,10 +6,8 @@ use Rattle.lte_properties.specs.Headline.{Headline}
 use Rattle.lte_properties.proofs.HeadlineHolds.{headline}
 use Rattle.scenario_file.specs.Draws.{generated_setup, generated}
 use Rattle.scenario_file.proofs.GeneratedFits.{can_start, can_happen}
-use Rattle.lte_sec_app.specs.declared.status.Status.{Status}
+use Rattle.lte_sec_app.specs.{declared.status.Status.Status, Run.Output, Run.WritesAt, Generated.WritingIsComplete}
 use Rattle.lte_sec_app.specs.declared.status.Status.TheVariants.{Done, Memory, Refused, WriteFault, Coincidence}
-use Rattle.lte_sec_app.specs.Run.{Output, WritesAt}
-use Rattle.lte_sec_app.specs.Generated.{WritingIsComplete}
 
 pub writing_is_complete : (output : Output) (status : Status) (out out' : Told) → WritesAt output status out out' → WritingIsComplete output status out out'
 writing_is_complete output Memory out out' at write = inr refl

@@ -1,17 +1,11 @@
 -- What `audit` writes for a scenario, and what holds of it.
 use Rattle.std.specs.Prelude.{◌≡◌, ℕ, List, Result, Ok, Err}
-use Rattle.audit_report.specs.Alone.{EachAlone}
-use Rattle.audit_report.specs.AuditReport.{audit_report_of}
-use Rattle.audit_report.specs.Audited.{AuditIsExact}
-use Rattle.audit_report.specs.OfRun.{AuditIsOfRun}
-use Rattle.lte_events.specs.declared.events.Event.{Event}
-use Rattle.lte_events.specs.declared.setups.Setup.{Setup}
+use Rattle.audit_report.specs.{Alone.EachAlone, AuditReport.audit_report_of, Audited.AuditIsExact, OfRun.AuditIsOfRun}
+use Rattle.lte_events.specs.{declared.events.Event.Event, declared.setups.Setup.Setup}
 use Rattle.lte_properties.specs.Headline.{Headline}
 use Rattle.run_report.specs.declared.endings.Ending.TheVariants.{Done}
-use Rattle.scenario_file.specs.declared.faults.ScenarioFault.{ScenarioFault}
-use Rattle.scenario_file.specs.Reading.{reading_of}
-use Rattle.lte_sec_app.specs.Run.{Output}
-use Rattle.lte_sec_app.specs.Scenario.{output_of_report, refusal_output}
+use Rattle.scenario_file.specs.{declared.faults.ScenarioFault.ScenarioFault, Reading.reading_of}
+use Rattle.lte_sec_app.specs.{Run.Output, Scenario.output_of_report, Scenario.refusal_output}
 
 -- the audit of a scenario, or the refusal of a text that is none
 abbrev pub output_of : Result (Setup × List Event) ScenarioFault → Output

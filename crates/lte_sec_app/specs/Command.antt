@@ -1,16 +1,11 @@
 -- The words that the program takes.
 use Rattle.std.specs.Prelude.{ℕ, ◌≤◌, nat_lt, ◌||◌, String, Option, Some, None, List, [], ◌∷◌, codes, if◌then◌else◌}
-use Rattle.std.specs.declared.alloc.Global.{Global}
-use Rattle.std.specs.Option.{option_map, option_and_then}
-use Rattle.std.specs.Str.{bytes_eq}
-use Rattle.std.specs.String.{string_bytes}
+use Rattle.std.specs.{declared.alloc.Global.Global, Option.option_map, Option.option_and_then, Str.bytes_eq, String.string_bytes}
 use Rattle.text_lines.specs.Words.{number_of}
-use Rattle.lte_sec_app.specs.declared.command.Command.{Command}
+use Rattle.lte_sec_app.specs.{declared.command.Command.Command, declared.command.TextCommand.TextCommand, Roles.role_of}
 use Rattle.lte_sec_app.specs.declared.command.Command.TheVariants.{Text, Drive, Serve, Gen}
-use Rattle.lte_sec_app.specs.declared.command.TextCommand.{TextCommand}
 use Rattle.lte_sec_app.specs.declared.command.TextCommand.TheVariants.{Ladder, Run, Fleet, Two, Audit}
 use Rattle.role_wire.specs.Ranges.{IsRole}
-use Rattle.lte_sec_app.specs.Roles.{role_of}
 
 -- the greatest number of steps of a generated scenario
 abbrev pub most_steps : ℕ

@@ -2,29 +2,17 @@
 use Rattle.std.specs.Prelude.{◌≡◌, ◌≢◌, ◌⊎◌, ℕ, ◌+◌, ◌<◌, ◌≤◌, ◌++◌, Option, Some, None, List, length, codes, Result, Ok, Err, IfSome}
 use Rattle.std.specs.Fmt.{decimal}
 use Rattle.hex.specs.Hex.{encode_lower}
-use Rattle.edge_io.specs.Told.{Told, HasEnded}
-use Rattle.edge_io.specs.Cause.{Rose}
+use Rattle.edge_io.specs.{Told.Told, Told.HasEnded, Cause.Rose, Peers.PeersTold}
 use Rattle.edge_io.specs.Octets.{Grows, GrowsByPrefix, GrowsByProperPrefix, LosesWithin}
-use Rattle.edge_io.specs.Peers.{PeersTold}
-use Rattle.lte_events.specs.declared.events.Event.{Event}
-use Rattle.lte_events.specs.declared.setups.Setup.{Setup}
-use Rattle.hub_drive.specs.declared.faults.DriveFault.{DriveFault}
+use Rattle.lte_events.specs.{declared.events.Event.Event, declared.setups.Setup.Setup}
+use Rattle.hub_drive.specs.{declared.faults.DriveFault.DriveFault, Acts.Call, Acts.calls, Outside.outside, Peerwise.Made, Plan.plan_of}
 use Rattle.hub_drive.specs.declared.faults.DriveFault.TheVariants as fault
-use Rattle.hub_drive.specs.Acts.{Call, calls}
 use Rattle.hub_drive.specs.Driven.{AllStopped, Driven, WhereTold, FailedNext, GivesAll}
-use Rattle.hub_drive.specs.Outside.{outside}
-use Rattle.hub_drive.specs.Peerwise.{Made}
-use Rattle.hub_drive.specs.Plan.{plan_of}
-use Rattle.run_report.specs.declared.endings.Ending.{Ending}
+use Rattle.run_report.specs.{declared.endings.Ending.Ending, Report.report_of}
 use Rattle.run_report.specs.declared.endings.Ending.TheVariants as ending
-use Rattle.run_report.specs.Report.{report_of}
-use Rattle.scenario_file.specs.declared.faults.ScenarioFault.{ScenarioFault}
-use Rattle.scenario_file.specs.Reading.{reading_of}
-use Rattle.scenario_file.specs.Refused.{refused_text}
-use Rattle.lte_sec_app.specs.declared.status.Status.{Status}
+use Rattle.scenario_file.specs.{declared.faults.ScenarioFault.ScenarioFault, Reading.reading_of, Refused.refused_text}
+use Rattle.lte_sec_app.specs.{declared.status.Status.Status, Run.most_octets, Run.WritesAt, Scenario.report_status}
 use Rattle.lte_sec_app.specs.declared.status.Status.TheVariants.{Done, Memory, Refused, ReadFault, WriteFault, PeerFault, Coincidence, Differs, TooLong}
-use Rattle.lte_sec_app.specs.Run.{most_octets, WritesAt}
-use Rattle.lte_sec_app.specs.Scenario.{report_status}
 
 -- where a reply was wanted: at the event with this number, or where a peer was set up
 abbrev pub wanted_text : Option ℕ → List ℕ

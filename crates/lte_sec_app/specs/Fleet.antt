@@ -1,13 +1,10 @@
 -- What `fleet` writes for a scenario of many phones, and what holds of it.
 use Rattle.std.specs.Prelude.{◌≡◌, ℕ, List, Result, Ok, Err}
-use Rattle.lte_events.specs.declared.events.Event.{Event}
-use Rattle.lte_events.specs.declared.setups.Setup.{Setup}
+use Rattle.lte_events.specs.{declared.events.Event.Event, declared.setups.Setup.Setup}
 use Rattle.fleet_report.specs.Promises as promises
 use Rattle.fleet_report.specs.Report.{fleet_report_of}
-use Rattle.scenario_file.specs.declared.faults.ScenarioFault.{ScenarioFault}
-use Rattle.scenario_file.specs.Reading.{fleet_reading_of}
-use Rattle.lte_sec_app.specs.Run.{Output}
-use Rattle.lte_sec_app.specs.Scenario.{output_of_report, refusal_output}
+use Rattle.scenario_file.specs.{declared.faults.ScenarioFault.ScenarioFault, Reading.fleet_reading_of}
+use Rattle.lte_sec_app.specs.{Run.Output, Scenario.output_of_report, Scenario.refusal_output}
 
 -- the report of a fleet, or the refusal of a text that is none
 abbrev pub output_of : Result (Setup × ℕ × List (ℕ × Event)) ScenarioFault → Output

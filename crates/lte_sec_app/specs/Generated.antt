@@ -1,14 +1,9 @@
 -- What `gen` writes.
 use Rattle.std.specs.Prelude.{◌≡◌, ◌⊎◌, ℕ}
-use Rattle.edge_io.specs.Told.{Told}
-use Rattle.edge_io.specs.Cause.{Rose}
-use Rattle.edge_io.specs.Octets.{Grows}
+use Rattle.edge_io.specs.{Told.Told, Cause.Rose, Octets.Grows}
 use Rattle.run_report.specs.Summary.{summary_of}
 use Rattle.scenario_file.specs.Draws.{generated_setup, generated}
-use Rattle.lte_sec_app.specs.declared.status.Status.{Status}
-use Rattle.lte_sec_app.specs.declared.status.Status.TheVariants.{Memory}
-use Rattle.lte_sec_app.specs.Run.{Output}
-use Rattle.lte_sec_app.specs.Scenario.{output_of_report}
+use Rattle.lte_sec_app.specs.{declared.status.Status.Status, declared.status.Status.TheVariants.Memory, Run.Output, Scenario.output_of_report}
 
 -- the summary of the scenario that a seed gives
 abbrev pub gen_output : ℕ → ℕ → Output

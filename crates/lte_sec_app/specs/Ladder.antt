@@ -1,12 +1,9 @@
 -- What `ladder` writes for a text.
 use Rattle.std.specs.Prelude.{ℕ, List}
-use Rattle.ladder_text.specs.declared.ending.Ending.{Ending}
+use Rattle.ladder_text.specs.{declared.ending.Ending.Ending, Text.reading_of, Report.output_of}
 use Rattle.ladder_text.specs.declared.ending.Ending.TheVariants as ending
-use Rattle.ladder_text.specs.Text.{reading_of}
-use Rattle.ladder_text.specs.Report.{output_of}
-use Rattle.lte_sec_app.specs.declared.status.Status.{Status}
+use Rattle.lte_sec_app.specs.{declared.status.Status.Status, Run.Output}
 use Rattle.lte_sec_app.specs.declared.status.Status.TheVariants.{Done, Memory, Refused, WriteFault, Coincidence}
-use Rattle.lte_sec_app.specs.Run.{Output}
 
 -- the status of an ending
 abbrev pub status_of : Ending → Status

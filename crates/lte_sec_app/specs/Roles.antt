@@ -1,9 +1,6 @@
 -- The words for a role: `phone`, `station` and its number, `core`.
 use Rattle.std.specs.Prelude.{ℕ, ◌-◌, ◌&&◌, nat_le, String, Option, Some, None, List, [], ◌∷◌, codes, if◌then◌else◌}
-use Rattle.std.specs.declared.alloc.Global.{Global}
-use Rattle.std.specs.Option.{option_map}
-use Rattle.std.specs.Str.{bytes_eq}
-use Rattle.std.specs.String.{string_bytes}
+use Rattle.std.specs.{declared.alloc.Global.Global, Option.option_map, Str.bytes_eq, String.string_bytes}
 use Rattle.edge_io.specs.declared.peers.Role.{Role}
 
 -- the number of a station: one digit, 0 to 7

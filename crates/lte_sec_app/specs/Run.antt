@@ -1,9 +1,7 @@
 -- What is so of a command that reads a text and writes its output, at each status of the program.
 use Rattle.std.specs.Prelude.{◌≡◌, ◌≢◌, ◌⊎◌, ℕ, ◌+◌, ◌<◌, ◌≤◌, Some, IfSome, List, length}
-use Rattle.edge_io.specs.Told.{Told, HasEnded}
-use Rattle.edge_io.specs.Cause.{NoFault, Rose}
+use Rattle.edge_io.specs.{Told.Told, Told.HasEnded, Cause.NoFault, Cause.Rose, Used.UsedAsSink}
 use Rattle.edge_io.specs.Octets.{Grows, GrowsByPrefix, GrowsByProperPrefix, LosesWithin}
-use Rattle.edge_io.specs.Used.{UsedAsSink}
 use Rattle.growth.specs.Growth.{WasRefused}
 use Rattle.lte_sec_app.specs.declared.status.Status.{Status}
 use Rattle.lte_sec_app.specs.declared.status.Status.TheVariants.{Done, Memory, Refused, ReadFault, WriteFault, Coincidence, TooLong}

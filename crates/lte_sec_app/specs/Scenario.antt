@@ -1,21 +1,15 @@
 -- What `run` writes for a scenario, and what holds of it.
 use Rattle.std.specs.Prelude.{◌≡◌, ◌≢◌, ℕ, List, Result, Ok, Err}
 use Rattle.edge_io.specs.Told.{Told}
-use Rattle.lte_events.specs.declared.events.Event.{Event}
-use Rattle.lte_events.specs.declared.setups.Setup.{Setup}
+use Rattle.lte_events.specs.{declared.events.Event.Event, declared.setups.Setup.Setup}
 use Rattle.lte_properties.specs.Headline.{Headline}
-use Rattle.run_report.specs.declared.endings.Ending.{Ending}
+use Rattle.run_report.specs.{declared.endings.Ending.Ending, declared.unwritten.Unwritten.Unwritten, Report.Report, Report.report_of}
 use Rattle.run_report.specs.declared.endings.Ending.TheVariants as ending
-use Rattle.run_report.specs.declared.unwritten.Unwritten.{Unwritten}
 use Rattle.run_report.specs.declared.unwritten.Unwritten.TheVariants as unwritten
-use Rattle.run_report.specs.Report.{Report, report_of}
-use Rattle.scenario_file.specs.declared.faults.ScenarioFault.{ScenarioFault}
+use Rattle.scenario_file.specs.{declared.faults.ScenarioFault.ScenarioFault, Reading.reading_of, Refused.refused_text}
 use Rattle.scenario_file.specs.declared.faults.ScenarioFault.TheVariants as fault
-use Rattle.scenario_file.specs.Reading.{reading_of}
-use Rattle.scenario_file.specs.Refused.{refused_text}
-use Rattle.lte_sec_app.specs.declared.status.Status.{Status}
+use Rattle.lte_sec_app.specs.{declared.status.Status.Status, Run.Output, Run.WritesAt}
 use Rattle.lte_sec_app.specs.declared.status.Status.TheVariants.{Done, Memory, Refused, WriteFault, Coincidence}
-use Rattle.lte_sec_app.specs.Run.{Output, WritesAt}
 
 -- the status of a report that ends so
 abbrev pub report_status : Ending → Status

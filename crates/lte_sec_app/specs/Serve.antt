@@ -1,15 +1,9 @@
 -- What is so of `serve` at each status, by the port and the output before and after.
 use Rattle.std.specs.Prelude.{◌≡◌, ◌⊎◌, ℕ, ◌++◌, true, Some, List, codes}
 use Rattle.std.specs.Fmt.{decimal}
-use Rattle.edge_io.specs.Told.{Told}
-use Rattle.edge_io.specs.Cause.{Rose}
-use Rattle.edge_io.specs.Octets.{Grows, GrowsByProperPrefix}
-use Rattle.edge_io.specs.declared.peers.Role.{Role}
-use Rattle.role_wire.specs.declared.frames.FrameIn.{FrameIn}
-use Rattle.role_wire.specs.declared.frames.FrameFault.{FrameFault}
-use Rattle.role_wire.specs.Frame.{frame_fault_number}
-use Rattle.role_node.specs.declared.serving.ServeEnd.{ServeEnd}
-use Rattle.role_node.specs.Actor.{replies}
+use Rattle.edge_io.specs.{Told.Told, Cause.Rose, Octets.Grows, Octets.GrowsByProperPrefix, declared.peers.Role.Role}
+use Rattle.role_wire.specs.{declared.frames.FrameIn.FrameIn, declared.frames.FrameFault.FrameFault, Frame.frame_fault_number}
+use Rattle.role_node.specs.{declared.serving.ServeEnd.ServeEnd, Actor.replies}
 use Rattle.role_node.specs.Session.{AreFrames, spelled, Session}
 use Rattle.lte_sec_app.specs.declared.status.Status.{Status}
 use Rattle.lte_sec_app.specs.declared.status.Status.TheVariants.{Done, WriteFault, PeerFault, BadFrame}

@@ -1,15 +1,8 @@
 -- What a command writes for the text that it reads, and what holds of that text.
 use Rattle.std.specs.Prelude.{ℕ, List, IfSome}
 use Rattle.edge_io.specs.Told.{Told}
-use Rattle.lte_sec_app.specs.declared.command.TextCommand.{TextCommand}
+use Rattle.lte_sec_app.specs.{declared.command.TextCommand.TextCommand, declared.status.Status.Status, Run.Output, Run.WhereRun, Ladder.ladder_output, Scenario.run_output, Scenario.HasHeadline, Fleet.fleet_output, Fleet.HasFleet, Two.two_output, Two.HasTwo, Audit.audit_output, Audit.HasAudit}
 use Rattle.lte_sec_app.specs.declared.command.TextCommand.TheVariants.{Ladder, Run, Fleet, Two, Audit}
-use Rattle.lte_sec_app.specs.declared.status.Status.{Status}
-use Rattle.lte_sec_app.specs.Run.{Output, WhereRun}
-use Rattle.lte_sec_app.specs.Ladder.{ladder_output}
-use Rattle.lte_sec_app.specs.Scenario.{run_output, HasHeadline}
-use Rattle.lte_sec_app.specs.Fleet.{fleet_output, HasFleet}
-use Rattle.lte_sec_app.specs.Two.{two_output, HasTwo}
-use Rattle.lte_sec_app.specs.Audit.{audit_output, HasAudit}
 
 abbrev pub text_output : TextCommand → List ℕ → Output
 text_output Ladder = ladder_output

@@ -1,13 +1,9 @@
 -- What `two` writes for a scenario of two cores, and what holds of it.
 use Rattle.std.specs.Prelude.{◌≡◌, ℕ, List, Result, Ok, Err}
-use Rattle.core_relocation.specs.Promises.{TwoHeadline}
-use Rattle.core_relocation.specs.Report.{two_report_of}
-use Rattle.lte_events.specs.declared.events.Event.{Event}
-use Rattle.lte_events.specs.declared.setups.Setup.{Setup}
-use Rattle.scenario_file.specs.declared.faults.ScenarioFault.{ScenarioFault}
-use Rattle.scenario_file.specs.Reading.{two_reading_of}
-use Rattle.lte_sec_app.specs.Run.{Output}
-use Rattle.lte_sec_app.specs.Scenario.{output_of_report, refusal_output}
+use Rattle.core_relocation.specs.{Promises.TwoHeadline, Report.two_report_of}
+use Rattle.lte_events.specs.{declared.events.Event.Event, declared.setups.Setup.Setup}
+use Rattle.scenario_file.specs.{declared.faults.ScenarioFault.ScenarioFault, Reading.two_reading_of}
+use Rattle.lte_sec_app.specs.{Run.Output, Scenario.output_of_report, Scenario.refusal_output}
 
 -- the report of a run with two cores, or the refusal of a text that is none
 abbrev pub output_of : Result (Setup × List ℕ × List Event) ScenarioFault → Output

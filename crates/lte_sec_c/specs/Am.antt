@@ -1,18 +1,10 @@
 -- PDUs of a data radio bearer on RLC AM (TS 36.323 5.1.2.1.2).
 use Rattle.std.specs.Prelude.{ℕ, ◌+◌, ◌-◌, ◌==◌, ◌&&◌, nat_lt, Bool, not, false, if◌then◌else◌, List, length, Result, Ok, Err}
-use Rattle.pdu_guard.specs.Am.{am_count_of}
-use Rattle.pdu_guard.specs.Drb.{drb_pdu_text, values_of}
-use Rattle.pdu_guard.specs.Nas.{NasOpening}
-use Rattle.pdu_guard.specs.declared.am.AmFate.{AmFate}
+use Rattle.pdu_guard.specs.{Am.am_count_of, Drb.drb_pdu_text, Drb.values_of, Nas.NasOpening, declared.am.AmFate.AmFate, declared.am.AmFault.AmFault, declared.am.AmFound.AmFound}
 use Rattle.pdu_guard.specs.declared.am.AmFate.TheVariants.{New, Late, Discarded}
-use Rattle.pdu_guard.specs.declared.am.AmFault.{AmFault}
-use Rattle.pdu_guard.specs.declared.am.AmFound.{AmFound}
-use Rattle.lte_sec_c.specs.declared.drb.DrbContext.{DrbContext}
-use Rattle.lte_sec_c.specs.declared.fault.Fault.{Fault}
+use Rattle.lte_sec_c.specs.{declared.drb.DrbContext.DrbContext, declared.fault.Fault.Fault, Ranges.dir_of, Ranges.is_direction, Status.of_am}
 use Rattle.lte_sec_c.specs.declared.fault.Fault.TheVariants.{OutOfRange, NoRoom}
 use Rattle.lte_sec_c.specs.Drb.{drb_expects, drb_header, drb_keys_in, is_drb, numbers_by}
-use Rattle.lte_sec_c.specs.Ranges.{dir_of, is_direction}
-use Rattle.lte_sec_c.specs.Status.{of_am}
 
 -- what a receiver needs: a bearer whose sequence numbers are of RLC AM, of more than 7 bits, and a Last_Submitted_PDCP_RX_SN
 -- and a DIRECTION in range

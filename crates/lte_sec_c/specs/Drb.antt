@@ -1,18 +1,12 @@
 -- PDUs of a data radio bearer that C holds (TS 36.323 5.6).
 use Rattle.std.specs.Prelude.{ℕ, ◌+◌, ◌-◌, ◌==◌, ◌&&◌, ◌||◌, nat_le, nat_lt, Bool, if◌then◌else◌, List, length, Result, Ok, Err}
 use Rattle.pdcp_guard.specs.Counts.{count_limit}
-use Rattle.pdu_guard.specs.Nas.{NasOpening}
+use Rattle.pdu_guard.specs.{Nas.NasOpening, declared.drb.DrbKeys.DrbKeys, declared.drb.Numbers.Numbers}
 use Rattle.pdu_guard.specs.Drb.{drb_count_of, drb_pdu_opened, header_octets}
-use Rattle.pdu_guard.specs.declared.drb.DrbKeys.{DrbKeys}
-use Rattle.pdu_guard.specs.declared.drb.Numbers.{Numbers}
 use Rattle.pdu_guard.specs.declared.drb.Numbers.TheVariants.{Seven, Twelve, Fifteen, Eighteen}
-use Rattle.lte_sec_c.specs.declared.fault.Fault.{Fault}
+use Rattle.lte_sec_c.specs.{declared.fault.Fault.Fault, declared.drb.DrbContext.DrbContext, Found.drb_answer, Srb.is_other, Status.done, Status.status_of}
 use Rattle.lte_sec_c.specs.declared.fault.Fault.TheVariants.{OutOfRange, CountSpent, NoRoom, OtherCount}
-use Rattle.lte_sec_c.specs.declared.drb.DrbContext.{DrbContext}
-use Rattle.lte_sec_c.specs.Found.{drb_answer}
 use Rattle.lte_sec_c.specs.Ranges.{dir_of, eea_of, is_direction, is_identity}
-use Rattle.lte_sec_c.specs.Srb.{is_other}
-use Rattle.lte_sec_c.specs.Status.{done, status_of}
 
 -- the bits of the sequence numbers (TS 36.323 6.3.2)
 abbrev pub is_bits : ℕ → Bool

@@ -1,13 +1,9 @@
 -- What a call leaves of an opening: its status, the text's octets and what is told beside it.
 use Rattle.std.specs.Prelude.{ℕ, Bool, true, false, List, [], ◌∷◌, ◌++◌, drop, length, Result, Ok, Err}
 use Rattle.nas_guard.specs.declared.opening.OpenFault.{OpenFault}
-use Rattle.pdcp_guard.specs.declared.pdus.PdcpOpened.{PdcpOpened}
-use Rattle.pdcp_guard.specs.declared.pdus.PdcpFault.{PdcpFault}
-use Rattle.pdu_guard.specs.Nas.{NasOpening}
-use Rattle.pdu_guard.specs.Srb.{SrbOpening}
-use Rattle.lte_sec_c.specs.declared.fault.Fault.{Fault}
-use Rattle.lte_sec_c.specs.declared.fault.Fault.TheVariants.{MacFails}
-use Rattle.lte_sec_c.specs.declared.found.Found.{Found}
+use Rattle.pdcp_guard.specs.{declared.pdus.PdcpOpened.PdcpOpened, declared.pdus.PdcpFault.PdcpFault}
+use Rattle.pdu_guard.specs.{Nas.NasOpening, Srb.SrbOpening}
+use Rattle.lte_sec_c.specs.{declared.fault.Fault.Fault, declared.fault.Fault.TheVariants.MacFails, declared.found.Found.Found}
 use Rattle.lte_sec_c.specs.Status.{done, of_nas, of_pdcp, status_of}
 
 -- what a NAS message opens to, and a PDCP PDU, which has no header type; nothing is checked on a DRB

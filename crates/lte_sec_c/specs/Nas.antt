@@ -3,14 +3,10 @@ use Rattle.std.specs.Prelude.{ℕ, ◌+◌, ◌-◌, ◌==◌, ◌&&◌, nat_le,
 use Rattle.nas_count.specs.Estimate.{nas_count_limit}
 use Rattle.nas_guard.specs.declared.opening.OpenFault.{OpenFault}
 use Rattle.pdu_guard.specs.Nas.{NasOpening, nas_head_of, nas_opened}
-use Rattle.pdu_guard.specs.declared.nas.NasHead.{NasHead}
-use Rattle.pdu_guard.specs.declared.nas.NasKeys.{NasKeys}
-use Rattle.lte_sec_c.specs.declared.fault.Fault.{Fault}
+use Rattle.pdu_guard.specs.{declared.nas.NasHead.NasHead, declared.nas.NasKeys.NasKeys}
+use Rattle.lte_sec_c.specs.{declared.fault.Fault.Fault, declared.nas.NasContext.NasContext, Found.nas_answer, Status.done, Status.status_of}
 use Rattle.lte_sec_c.specs.declared.fault.Fault.TheVariants.{OutOfRange, CountSpent, NoRoom, OtherCount}
-use Rattle.lte_sec_c.specs.declared.nas.NasContext.{NasContext}
-use Rattle.lte_sec_c.specs.Found.{nas_answer}
 use Rattle.lte_sec_c.specs.Ranges.{dir_of, eea_of, eia_of, is_direction, is_identity}
-use Rattle.lte_sec_c.specs.Status.{done, status_of}
 
 -- a context in range
 abbrev pub is_nas : NasContext → Bool

@@ -3,8 +3,7 @@ use Rattle.std.specs.Prelude.{ℕ, ◌&&◌, nat_le, Bool, List}
 use Rattle.annex_a_keys.specs.Cell.{greatest_earfcn, greatest_pci}
 use Rattle.key_model.specs.HandoverLines.{PhoneKeys, nh_after, phone_line, steps_to}
 use Rattle.key_model.specs.Reading.{octet_reading}
-use Rattle.lte_sec_c.specs.declared.phone.PhoneContext.{PhoneContext}
-use Rattle.lte_sec_c.specs.declared.phone.ReachedKeys.{ReachedKeys}
+use Rattle.lte_sec_c.specs.{declared.phone.PhoneContext.PhoneContext, declared.phone.ReachedKeys.ReachedKeys}
 
 -- an NCC of a phone and one that it is given, of 3 bits, and a cell in range
 abbrev pub is_reaching : PhoneContext → ℕ → ℕ → ℕ → Bool

@@ -1,13 +1,9 @@
 -- What a check of a Service Request comes to (TS 24.301 8.2.25).
 use Rattle.std.specs.Prelude.{ℕ, ◌&&◌, nat_le, if◌then◌else◌, List, [], ◌∷◌, ◌++◌, Result, Ok, Err}
 use Rattle.nas_count.specs.Estimate.{nas_count_limit}
-use Rattle.pdu_guard.specs.Nas.{NasOpening}
-use Rattle.pdu_guard.specs.ShortMacs.{service_checked}
-use Rattle.pdu_guard.specs.declared.short_macs.ServiceFound.{ServiceFound}
-use Rattle.pdu_guard.specs.declared.short_macs.ServiceFault.{ServiceFault}
+use Rattle.pdu_guard.specs.{Nas.NasOpening, ShortMacs.service_checked, declared.short_macs.ServiceFound.ServiceFound, declared.short_macs.ServiceFault.ServiceFault}
 use Rattle.pdu_guard.specs.declared.short_macs.ServiceFault as service
-use Rattle.lte_sec_c.specs.declared.fault.Fault.{Fault}
-use Rattle.lte_sec_c.specs.Ranges.{eia_of, is_identity}
+use Rattle.lte_sec_c.specs.{declared.fault.Fault.Fault, Ranges.eia_of, Ranges.is_identity}
 use Rattle.lte_sec_c.specs.declared.fault.Fault.TheVariants.{OutOfRange, CountSpent, BadHeader, MacFails}
 
 -- a short MAC of two octets, in the place of four

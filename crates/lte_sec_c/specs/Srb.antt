@@ -1,17 +1,10 @@
 -- PDUs of a signalling radio bearer that C holds (TS 36.323 5.6 and 5.7).
 use Rattle.std.specs.Prelude.{ℕ, ◌+◌, ◌-◌, ◌==◌, ◌&&◌, nat_le, nat_lt, Bool, false, not, if◌then◌else◌, List, length, Result, Ok, Err}
-use Rattle.pdcp_guard.specs.Counts.{count_limit}
-use Rattle.pdcp_guard.specs.Srb.{srb_count}
-use Rattle.pdcp_guard.specs.declared.pdus.PdcpFault.{PdcpFault}
-use Rattle.pdu_guard.specs.Nas.{NasOpening}
-use Rattle.pdu_guard.specs.Srb.{longest_sdu, srb_pdu_opened}
-use Rattle.pdu_guard.specs.declared.srb.SrbKeys.{SrbKeys}
-use Rattle.lte_sec_c.specs.declared.fault.Fault.{Fault}
+use Rattle.pdcp_guard.specs.{Counts.count_limit, Srb.srb_count, declared.pdus.PdcpFault.PdcpFault}
+use Rattle.pdu_guard.specs.{Nas.NasOpening, Srb.longest_sdu, Srb.srb_pdu_opened, declared.srb.SrbKeys.SrbKeys}
+use Rattle.lte_sec_c.specs.{declared.fault.Fault.Fault, declared.srb.SrbContext.SrbContext, Found.srb_answer, Status.done, Status.status_of}
 use Rattle.lte_sec_c.specs.declared.fault.Fault.TheVariants.{OutOfRange, CountSpent, NoRoom, OtherCount}
-use Rattle.lte_sec_c.specs.declared.srb.SrbContext.{SrbContext}
-use Rattle.lte_sec_c.specs.Found.{srb_answer}
 use Rattle.lte_sec_c.specs.Ranges.{dir_of, eea_of, eia_of, is_direction, is_identity}
-use Rattle.lte_sec_c.specs.Status.{done, status_of}
 
 -- a bearer in range
 abbrev pub is_srb : SrbContext → Bool

@@ -1,18 +1,13 @@
 -- Each line that the program writes is a line.
 use Rattle.std.proofs.Common.{◌≡◌, ℕ, true, List}
-use Rattle.std.specs.Prelude.{codes}
-use Rattle.std.specs.Fmt.{decimal}
+use Rattle.std.specs.{Prelude.codes, Fmt.decimal}
 use Rattle.edge_io.specs.Lines.{EndsLine, are_lines}
 use Rattle.edge_io.proofs.Ending.{feed, is_lines, on}
-use Rattle.item_faults.specs.declared.changes.Fault.{Fault}
-use Rattle.item_faults.specs.declared.messages.Message.{Message}
+use Rattle.item_faults.specs.{declared.changes.Fault.Fault, declared.messages.Message.Message}
 use Rattle.item_outcomes.specs.declared.judging.Outcome.{Outcome}
-use Rattle.scenario_file.specs.Refused.{fault_text, refused_text}
-use Rattle.scenario_file.specs.declared.faults.ScenarioFault.{ScenarioFault}
-use Rattle.variant_text.specs.Faults.{faults_text}
+use Rattle.scenario_file.specs.{Refused.fault_text, Refused.refused_text, declared.faults.ScenarioFault.ScenarioFault}
+use Rattle.variant_text.specs.{Faults.faults_text, Messages.message_name, Outcomes.outcomes_text}
 use Rattle.variant_text.specs.Lines.{end_line, message_line, scenario_line, variant_line}
-use Rattle.variant_text.specs.Messages.{message_name}
-use Rattle.variant_text.specs.Outcomes.{outcomes_text}
 
 refused_ends : (fault : ScenarioFault) → EndsLine (refused_text fault)
 unfolding refused_text

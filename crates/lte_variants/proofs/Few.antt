@@ -2,23 +2,13 @@
 use Rattle.std.proofs.Common.{ℕ, suc, ◌+◌, ◌*◌, ◌^◌, ◌<◌, ◌≤◌, ◌==◌, Bool, true, false, if◌then◌else◌, List, [], ◌∷◌, length, map, arith, length-append}
 use Rattle.std.specs.Prelude.{◌%◌}
 use Rattle.std.proofs.lemmas.List.{length-map}
-use Rattle.item_faults.specs.Entries.{most_steps}
+use Rattle.item_faults.specs.{Entries.most_steps, declared.changes.Fault.Fault, declared.changes.Kind.Kind, declared.entries.Entry.Entry, declared.steps.Step.Step}
 use Rattle.item_faults.specs.Faults.{at_places, fault_at, faults_of, is_fault, of_kind, of_message, of_messages, pair, pairs, triples, with_fault}
 use Rattle.item_faults.specs.Steps.{counts, delivered, entry_of, messages_from, messages_of, with_number}
-use Rattle.item_faults.specs.declared.changes.Fault.{Fault}
-use Rattle.item_faults.specs.declared.changes.Kind.{Kind}
 use Rattle.item_faults.specs.declared.changes.Kind.TheVariants as kind
-use Rattle.item_faults.specs.declared.entries.Entry.{Entry}
-use Rattle.item_faults.specs.declared.steps.Step.{Step}
-use Rattle.variant_runs.specs.Judged.{entries}
-use Rattle.variant_runs.specs.Original.{Original}
+use Rattle.variant_runs.specs.{Judged.entries, Original.Original}
 use Rattle.lte_variants.specs.Choices.{alone, choices_of, share_from}
-use Rattle.lte_variants.specs.Kinds.{happening, happens}
-use Rattle.lte_variants.specs.Report.{asked}
-use Rattle.lte_variants.specs.declared.kinds.Kinds.{Kinds}
-use Rattle.lte_variants.specs.declared.request.Request.{Request}
-use Rattle.lte_variants.specs.declared.request.Share.{Share}
-use Rattle.lte_variants.specs.declared.request.Together.{Together}
+use Rattle.lte_variants.specs.{Kinds.happening, Kinds.happens, Report.asked, declared.kinds.Kinds.Kinds, declared.request.Request.Request, declared.request.Share.Share, declared.request.Together.Together}
 use Rattle.lte_variants.specs.declared.request.Together.TheVariants.{One, Pairs, Triples}
 
 -- MESSAGES: no more than steps

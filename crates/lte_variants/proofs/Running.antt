@@ -1,22 +1,16 @@
 -- What is so of a run at each status.
 use Rattle.std.proofs.Common.{◌≡◌, ◌∙◌, ℕ, ◌<◌, ◌≤◌, nat_lt, false, if◌then◌else◌, Some, Result, Ok, Err, List, length, inl, inr, refl, sym, ap, subst, arith}
 use Rattle.std.specs.Option.{IfSome}
-use Rattle.std.proofs.lemmas.Bool.{eq-eqb}
-use Rattle.std.proofs.lemmas.Bool.Decides.{nat_tests}
-use Rattle.edge_io.specs.Told.{Told}
-use Rattle.edge_io.specs.Octets.{Grows}
+use Rattle.std.proofs.{lemmas.Bool.eq-eqb, lemmas.Bool.Decides.nat_tests}
+use Rattle.edge_io.specs.{Told.Told, Octets.Grows}
 use Rattle.item_faults.specs.Entries.{most_steps}
-use Rattle.lte_events.specs.declared.events.Event.{Event}
-use Rattle.lte_events.specs.declared.setups.Setup.{Setup}
-use Rattle.run_report.specs.Written.{WritesText}
-use Rattle.run_report.specs.declared.unwritten.Unwritten.{Unwritten}
+use Rattle.lte_events.specs.{declared.events.Event.Event, declared.setups.Setup.Setup}
+use Rattle.run_report.specs.{Written.WritesText, declared.unwritten.Unwritten.Unwritten}
 use Rattle.run_report.specs.declared.unwritten.Unwritten.TheVariants as unwritten
 use Rattle.variant_runs.specs.Original.{Original, original_of, own_lines}
 use Rattle.lte_variants.specs.Output.{Output, few_output, nothing, output_of, scenario_output, status_of}
-use Rattle.lte_variants.specs.Report.{report_of}
+use Rattle.lte_variants.specs.{Report.report_of, declared.request.Request.Request, declared.status.Status.Status}
 use Rattle.lte_variants.specs.Run.{Answers, RunAt, RunIsComplete, WritesAll, WritesAt, most_octets}
-use Rattle.lte_variants.specs.declared.request.Request.{Request}
-use Rattle.lte_variants.specs.declared.status.Status.{Status}
 use Rattle.lte_variants.specs.declared.status.Status.TheVariants.{Done, Memory, Refused, ReadFault, WriteFault, Coincidence, TooLong, TooManySteps}
 
 -- A SCENARIO

@@ -1,20 +1,13 @@
 -- The lines of a report, one after the other.
 use Rattle.std.proofs.Common.{◌≡◌, refl, sym, ap, subst, ◌∙◌, ℕ, ◌+◌, ◌≤◌, ◌<◌, Bool, true, false, if◌then◌else◌, Option, Ok, Err, List, [], ◌∷◌, length, drop, get_or, arith}
-use Rattle.std.specs.Prelude.{IsTrue}
-use Rattle.std.specs.List.{filter, flat_map}
-use Rattle.std.specs.Option.{is_some}
+use Rattle.std.specs.{Prelude.IsTrue, List.filter, List.flat_map, Option.is_some}
 use Rattle.std.proofs.lemmas.List.{drop_more}
 use Rattle.edge_io.specs.Told.{Told}
-use Rattle.item_faults.specs.Steps.{messages_of}
-use Rattle.item_faults.specs.declared.changes.Fault.{Fault}
-use Rattle.item_faults.specs.declared.messages.Message.{Message}
-use Rattle.item_faults.specs.declared.steps.Step.{Step}
+use Rattle.item_faults.specs.{Steps.messages_of, declared.changes.Fault.Fault, declared.messages.Message.Message, declared.steps.Step.Step}
 use Rattle.item_outcomes.specs.declared.judging.Outcome.{Outcome}
-use Rattle.run_report.specs.Written.{WritesText}
-use Rattle.run_report.specs.declared.unwritten.Unwritten.{Unwritten}
+use Rattle.run_report.specs.{Written.WritesText, declared.unwritten.Unwritten.Unwritten}
 use Rattle.run_report.proofs.Partly.{Begins, Partly, all_written, cut_written, last_cut, last_written, more_written, none_written}
-use Rattle.variant_runs.specs.Judged.{judged}
-use Rattle.variant_runs.specs.Original.{Original}
+use Rattle.variant_runs.specs.{Judged.judged, Original.Original}
 use Rattle.lte_variants.specs.Report.{is_variant, line_at, line_of, line_told, line_with, message_at, report_of, report_with, variant_lines, variants}
 use Rattle.lte_variants.specs.declared.request.Request.{Request}
 

@@ -2,8 +2,7 @@
 use Rattle.std.proofs.Common.{◌≡◌, refl, sym, ap, ◌∙◌, ℕ, ◌+◌, ◌<◌, ◌==◌, Bool, true, false, if◌then◌else◌, List, [], ◌∷◌}
 use Rattle.std.specs.Prelude.{◌%◌}
 use Rattle.std.proofs.Math.Nat.{mod-mod, mod-add-mod, mod-eq_of_lt}
-use Rattle.lte_variants.specs.Choices.{share_from}
-use Rattle.lte_variants.specs.declared.request.Share.{Share}
+use Rattle.lte_variants.specs.{Choices.share_from, declared.request.Share.Share}
 
 -- it is the same after a whole round
 round : {A : Type 0} (s : Share) (place : ℕ) (xs : List A) → share_from s place xs ≡ share_from s (place % s.parts) xs

@@ -1,11 +1,8 @@
 -- The choices of faults of which variants are made.
 use Rattle.std.specs.Prelude.{ℕ, ◌+◌, ◌%◌, ◌==◌, List, [], ◌∷◌, map, if◌then◌else◌}
-use Rattle.item_faults.specs.Faults.{pairs, triples}
-use Rattle.item_faults.specs.declared.changes.Fault.{Fault}
-use Rattle.lte_variants.specs.declared.choices.Choices.{Choices}
+use Rattle.item_faults.specs.{Faults.pairs, Faults.triples, declared.changes.Fault.Fault}
+use Rattle.lte_variants.specs.{declared.choices.Choices.Choices, declared.request.Share.Share, declared.request.Together.Together}
 use Rattle.lte_variants.specs.declared.choices.Choices.TheVariants as choices
-use Rattle.lte_variants.specs.declared.request.Share.{Share}
-use Rattle.lte_variants.specs.declared.request.Together.{Together}
 use Rattle.lte_variants.specs.declared.request.Together.TheVariants.{One, Pairs, Triples}
 
 -- one, two or three of these faults, each choice once, in their order

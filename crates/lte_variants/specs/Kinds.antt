@@ -1,8 +1,7 @@
 -- The kinds of faults that happen: those that are named, and all where none is.
 use Rattle.std.specs.Prelude.{◌||◌, not, Bool, true, false, List}
 use Rattle.std.specs.List.{filter}
-use Rattle.item_faults.specs.declared.changes.Fault.{Fault}
-use Rattle.item_faults.specs.declared.changes.Kind.{Kind}
+use Rattle.item_faults.specs.{declared.changes.Fault.Fault, declared.changes.Kind.Kind}
 use Rattle.item_faults.specs.declared.changes.Kind.TheVariants as kind
 use Rattle.lte_variants.specs.declared.kinds.Kinds.{Kinds}
 

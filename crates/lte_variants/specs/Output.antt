@@ -1,18 +1,13 @@
 -- The output of the program for a text.
 use Rattle.std.specs.Prelude.{ℕ, ◌==◌, nat_lt, List, [], length, Result, Ok, Err, if◌then◌else◌}
 use Rattle.item_faults.specs.Entries.{most_steps}
-use Rattle.lte_events.specs.declared.events.Event.{Event}
-use Rattle.lte_events.specs.declared.setups.Setup.{Setup}
-use Rattle.scenario_file.specs.declared.faults.ScenarioFault.{ScenarioFault}
-use Rattle.scenario_file.specs.Reading.{reading_of}
-use Rattle.scenario_file.specs.Refused.{refused_text}
+use Rattle.lte_events.specs.{declared.events.Event.Event, declared.setups.Setup.Setup}
+use Rattle.scenario_file.specs.{declared.faults.ScenarioFault.ScenarioFault, Reading.reading_of, Refused.refused_text}
 use Rattle.run_report.specs.declared.unwritten.Unwritten.{Unwritten}
 use Rattle.run_report.specs.declared.unwritten.Unwritten.TheVariants as unwritten
 use Rattle.variant_runs.specs.Original.{original_of, own_lines}
-use Rattle.lte_variants.specs.declared.request.Request.{Request}
-use Rattle.lte_variants.specs.declared.status.Status.{Status}
+use Rattle.lte_variants.specs.{declared.request.Request.Request, declared.status.Status.Status, Report.report_of}
 use Rattle.lte_variants.specs.declared.status.Status.TheVariants.{Done, Memory, Refused, WriteFault, Coincidence, TooManySteps}
-use Rattle.lte_variants.specs.Report.{report_of}
 
 -- what is written, and the status with which it ends
 pub record Output : Type 0 where

@@ -1,19 +1,12 @@
 -- What is told of a scenario: its messages, and what becomes of it with faults of them.
 use Rattle.std.specs.Prelude.{ℕ, Bool, List, [], ◌++◌, length, Option, Some, None}
-use Rattle.std.specs.List.{filter, flat_map}
-use Rattle.std.specs.Option.{is_some, option_and_then}
-use Rattle.item_faults.specs.Faults.{faults_of}
+use Rattle.std.specs.{List.filter, List.flat_map, Option.is_some, Option.option_and_then}
+use Rattle.item_faults.specs.{Faults.faults_of, declared.changes.Fault.Fault, declared.messages.Message.Message, declared.steps.Step.Step}
 use Rattle.item_faults.specs.Steps.{delivered, messages_of, step_of}
-use Rattle.item_faults.specs.declared.changes.Fault.{Fault}
-use Rattle.item_faults.specs.declared.messages.Message.{Message}
-use Rattle.item_faults.specs.declared.steps.Step.{Step}
 use Rattle.item_outcomes.specs.declared.judging.Outcome.{Outcome}
-use Rattle.variant_runs.specs.Judged.{entries, judged}
-use Rattle.variant_runs.specs.Original.{Original}
+use Rattle.variant_runs.specs.{Judged.entries, Judged.judged, Original.Original}
 use Rattle.variant_text.specs.Lines.{end_line, message_line, scenario_line, variant_line}
-use Rattle.lte_variants.specs.Choices.{choices_of, in_share}
-use Rattle.lte_variants.specs.Kinds.{happening}
-use Rattle.lte_variants.specs.declared.request.Request.{Request}
+use Rattle.lte_variants.specs.{Choices.choices_of, Choices.in_share, Kinds.happening, declared.request.Request.Request}
 
 -- ITS MESSAGES: a line for each, by the step that delivers it
 abbrev pub message_at : List Step → ℕ → Option Message

@@ -1,16 +1,10 @@
 -- The words of the program: `one`, `pairs` or `triples`, and behind it a share of the variants, as `2/3`, kinds of faults, and `--packets`.
 use Rattle.std.specs.Prelude.{ℕ, ◌+◌, ◌≤◌, ◌==◌, ◌||◌, nat_lt, Bool, true, false, String, Option, Some, None, List, [], ◌∷◌, codes, take, drop, position, if◌then◌else◌}
-use Rattle.std.specs.declared.alloc.Global.{Global}
-use Rattle.std.specs.Option.{option_map, option_and_then}
-use Rattle.std.specs.Str.{bytes_eq}
-use Rattle.std.specs.String.{string_bytes}
+use Rattle.std.specs.{declared.alloc.Global.Global, Option.option_map, Option.option_and_then, Str.bytes_eq, String.string_bytes}
 use Rattle.text_lines.specs.Words.{number_of}
 use Rattle.item_faults.specs.declared.changes.Kind.{Kind}
 use Rattle.item_faults.specs.declared.changes.Kind.TheVariants as kind
-use Rattle.lte_variants.specs.Kinds.{no_kinds, with_kind}
-use Rattle.lte_variants.specs.declared.request.Request.{Request}
-use Rattle.lte_variants.specs.declared.request.Share.{Share}
-use Rattle.lte_variants.specs.declared.request.Together.{Together}
+use Rattle.lte_variants.specs.{Kinds.no_kinds, Kinds.with_kind, declared.request.Request.Request, declared.request.Share.Share, declared.request.Together.Together}
 use Rattle.lte_variants.specs.declared.request.Together.TheVariants.{One, Pairs, Triples}
 
 -- how many faults a variant has

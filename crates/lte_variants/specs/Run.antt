@@ -1,12 +1,9 @@
 -- What is so of a run of the program at each status.
 use Rattle.std.specs.Prelude.{◌≡◌, ◌⊎◌, ℕ, ◌+◌, ◌<◌, ◌≤◌, Some, List, length, IfSome}
-use Rattle.edge_io.specs.Told.{Told, HasEnded}
-use Rattle.edge_io.specs.Cause.{Rose}
+use Rattle.edge_io.specs.{Told.Told, Told.HasEnded, Cause.Rose}
 use Rattle.edge_io.specs.Octets.{Grows, GrowsByPrefix, GrowsByProperPrefix, LosesWithin}
-use Rattle.lte_variants.specs.declared.request.Request.{Request}
-use Rattle.lte_variants.specs.declared.status.Status.{Status}
+use Rattle.lte_variants.specs.{declared.request.Request.Request, declared.status.Status.Status, Output.Output, Output.output_of}
 use Rattle.lte_variants.specs.declared.status.Status.TheVariants.{Done, Memory, Refused, ReadFault, WriteFault, Coincidence, TooLong, TooManySteps}
-use Rattle.lte_variants.specs.Output.{Output, output_of}
 
 -- the greatest number of octets of an input
 abbrev pub most_octets : ℕ

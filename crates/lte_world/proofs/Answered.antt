@@ -1,41 +1,22 @@
 -- What a world answers is what its run tells.
 use Rattle.std.proofs.Common.{◌≡◌, sym, ap, ◌∙◌, ℕ, ◌≤◌, ◌<◌, arith, List, [], ◌∷◌, ◌++◌, length, map, Option, Some, Result, Ok, option_map}
 use Rattle.std.proofs.lemmas.List.{map-append, length-map}
-use Rattle.std.specs.Prelude.{slice_get}
-use Rattle.std.specs.List.{AllByRecursion as AllOf}
-use Rattle.lte_events.specs.Ranges.{IsEvent, IsSetup}
-use Rattle.lte_events.specs.declared.events.Event.{Event}
-use Rattle.lte_events.specs.declared.lines.Line.{Line}
-use Rattle.lte_events.specs.declared.setups.Setup.{Setup}
+use Rattle.std.specs.{Prelude.slice_get, List.AllByRecursion as AllOf}
+use Rattle.lte_events.specs.{Ranges.IsEvent, Ranges.IsSetup, declared.events.Event.Event, declared.lines.Line.Line, declared.setups.Setup.Setup}
 use Rattle.key_terms.proofs.Places.{slice_get_at_end}
-use Rattle.key_model.specs.Term.{Term}
-use Rattle.key_model.specs.Value.{value_of}
+use Rattle.key_model.specs.{Term.Term, Value.value_of}
 use Rattle.lte_machine.specs.BothRuns.{written_report, octet_run, octet_report}
-use Rattle.lte_machine.specs.ByEvent.{IsStep}
-use Rattle.lte_machine.specs.Calls.{line_out, note_out}
-use Rattle.lte_machine.specs.Carried.{map_line, report_value}
-use Rattle.lte_machine.specs.Ciphers.{annex_b}
-use Rattle.lte_machine.specs.Opening.{open_octets}
+use Rattle.lte_machine.specs.{ByEvent.IsStep, Calls.line_out, Calls.note_out, Carried.map_line, Carried.report_value, Ciphers.annex_b, Opening.open_octets, Wire.Outgoing, World.World}
 use Rattle.lte_machine.specs.Reply.{Note, Made, Came, Secured, Commanded, Changed, Took, map_note}
 use Rattle.lte_machine.specs.Run.{Running, first_world, Reported, event_report}
-use Rattle.lte_machine.specs.Wire.{Outgoing}
 use Rattle.lte_machine.specs.World as world
-use Rattle.lte_machine.specs.World.{World}
-use Rattle.lte_machine.proofs.AnnexB.{annex_b_ciphers}
+use Rattle.lte_machine.proofs.{AnnexB.annex_b_ciphers, WholeRun.tale_is_value}
 use Rattle.lte_machine.proofs.EventByEvent.{tale_snoc, told_each, step_told}
-use Rattle.lte_machine.proofs.WholeRun.{tale_is_value}
-use Rattle.lte_properties.specs.Agreement.{ahead, ObeysMade}
-use Rattle.lte_properties.specs.BySteps.{Follows}
-use Rattle.lte_properties.specs.Headline.{Headline}
-use Rattle.lte_properties.specs.InOctets.{TellsText}
-use Rattle.lte_properties.proofs.HeadlineHolds.{headline}
-use Rattle.lte_properties.proofs.StepByStep.{takes_tell, makes_tell}
-use Rattle.lte_properties.proofs.OctetLaws.{got_map}
-use Rattle.lte_world.specs.declared.faults.WorldFault.{WorldFault}
+use Rattle.lte_properties.specs.{Agreement.ahead, Agreement.ObeysMade, BySteps.Follows, Headline.Headline, InOctets.TellsText}
+use Rattle.lte_properties.proofs.{HeadlineHolds.headline, StepByStep.takes_tell, StepByStep.makes_tell, OctetLaws.got_map}
+use Rattle.lte_world.specs.{declared.faults.WorldFault.WorldFault, Systems.octets, Whole.Whole, Whole.answer_of}
 use Rattle.lte_world.specs.InOctets.{answers_of, key_told, CommandsShare, PacketsOpen}
-use Rattle.lte_world.specs.Systems.{octets}
 use Rattle.lte_world.proofs.OneTerm.{one_term}
-use Rattle.lte_world.specs.Whole.{Whole, answer_of}
 
 -- LISTS
 

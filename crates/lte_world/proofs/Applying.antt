@@ -1,35 +1,18 @@
 -- One event of the world is one event of the run.
 use Rattle.std.proofs.Common.{◌≡◌, refl, sym, ap, subst, ◌∙◌, ℕ, ◌+◌, List, [], ◌∷◌, ◌++◌, Option, Some, None, Result, Ok, Err}
 use Rattle.std.specs.List.{AllByRecursion as AllOf}
-use Rattle.lte_events.specs.Ranges.{IsEvent, IsSetup}
-use Rattle.lte_events.specs.Scenario.{CanHappen}
-use Rattle.lte_events.specs.declared.events.Event.{Event}
-use Rattle.lte_events.specs.declared.lines.Line.{Line}
-use Rattle.lte_events.specs.declared.setups.Setup.{Setup}
+use Rattle.lte_events.specs.{Ranges.IsEvent, Ranges.IsSetup, Scenario.CanHappen, declared.events.Event.Event, declared.lines.Line.Line, declared.setups.Setup.Setup}
 use Rattle.key_terms.specs.declared.proof.Proof.{Proof}
-use Rattle.lte_machine.specs.BothRuns.{octet_run, written_run}
-use Rattle.lte_machine.specs.Carried.{run_value}
-use Rattle.lte_machine.specs.Ciphers.{annex_b}
-use Rattle.lte_machine.specs.Machines.{Kept}
-use Rattle.lte_machine.specs.Ladder.{Clash, ladder_of}
+use Rattle.lte_machine.specs.{BothRuns.octet_run, BothRuns.written_run, Carried.run_value, Ciphers.annex_b, Machines.Kept, Ladder.Clash, Ladder.ladder_of, Tuples.Coincidence, World.World, World.happens}
 use Rattle.lte_machine.specs.Opening.{Opening, Outcome, open_octets}
 use Rattle.lte_machine.specs.Run.{RunState, Running, Stopped, after, turn, reported, event_report, first_world}
 use Rattle.lte_machine.specs.Step.{StepResult, Continues, Stops, by_ladder, by_coincidence, opening_coincidence, attempted, next}
-use Rattle.lte_machine.specs.Tuples.{Coincidence}
 use Rattle.lte_machine.specs.World as world
-use Rattle.lte_machine.specs.World.{World, happens}
-use Rattle.lte_machine.proofs.AnnexB.{annex_b_ciphers}
-use Rattle.lte_machine.proofs.EventByEvent.{replay_snoc}
-use Rattle.lte_machine.proofs.KnownLists.{all_append}
-use Rattle.lte_machine.proofs.Routing.{happens_each}
-use Rattle.lte_machine.proofs.WholeRun.{run_is_value}
-use Rattle.store_laws.specs.Additions.{CanKeep}
-use Rattle.store_laws.specs.Proofs.{coincidence_of}
-use Rattle.store_laws.proofs.EveryRun.{event_keeps}
-use Rattle.store_laws.proofs.ProofsAreCoincidences.{coincidence_back}
-use Rattle.lte_world.specs.declared.faults.WorldFault.{WorldFault}
+use Rattle.lte_machine.proofs.{AnnexB.annex_b_ciphers, EventByEvent.replay_snoc, KnownLists.all_append, Routing.happens_each, WholeRun.run_is_value}
+use Rattle.store_laws.specs.{Additions.CanKeep, Proofs.coincidence_of}
+use Rattle.store_laws.proofs.{EveryRun.event_keeps, ProofsAreCoincidences.coincidence_back}
+use Rattle.lte_world.specs.{declared.faults.WorldFault.WorldFault, Whole.answer_of, Whole.Goes}
 use Rattle.lte_world.specs.Systems.{octets, Actors, CameOut, Happens, EventCan, MayHappen}
-use Rattle.lte_world.specs.Whole.{answer_of, Goes}
 
 abbrev in_octets : Opening (List ℕ) → List ℕ → Outcome
 in_octets = open_octets annex_b

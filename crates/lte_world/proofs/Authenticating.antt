@@ -2,26 +2,15 @@
 use Rattle.std.proofs.Common.{◌≡◌, refl, sym, ap, subst, ◌∙◌, ℕ, List, Option, Some, None, Result, Ok, Err}
 use Rattle.std.specs.Str.{bytes_eq}
 use Rattle.alg_choice.specs.declared.caps.Caps.{Caps}
-use Rattle.lte_events.specs.Reply.{reply_of}
+use Rattle.lte_events.specs.{Reply.reply_of, declared.events.Event.Event, declared.inputs.PhoneIn.PhoneIn, declared.inputs.CoreIn.CoreIn, declared.lines.Line.Line, declared.lines.Who.Who, declared.replies.ActorOut.ActorOut}
 use Rattle.lte_events.specs.declared.answers.Answer.TheVariants.{Done, RepeatedRoot}
-use Rattle.lte_events.specs.declared.events.Event.{Event}
-use Rattle.lte_events.specs.declared.inputs.PhoneIn.{PhoneIn}
-use Rattle.lte_events.specs.declared.inputs.CoreIn.{CoreIn}
-use Rattle.lte_events.specs.declared.lines.Line.{Line}
-use Rattle.lte_events.specs.declared.lines.Who.{Who}
-use Rattle.lte_events.specs.declared.replies.ActorOut.{ActorOut}
-use Rattle.key_terms.specs.declared.proof.Proof.{Proof}
-use Rattle.key_terms.specs.declared.row.Row.{Row}
+use Rattle.key_terms.specs.{declared.proof.Proof.Proof, declared.row.Row.Row}
 use Rattle.lte_machine.specs.Calls.{line_of_reply, phone_call, core_call}
-use Rattle.lte_machine.specs.CoreState.{Core}
+use Rattle.lte_machine.specs.{CoreState.Core, Machines.Kept, PhoneState.Phone, Step.by_ladder}
 use Rattle.lte_machine.specs.Ladder.{Clash, ladder_of, root_row}
-use Rattle.lte_machine.specs.Machines.{Kept}
-use Rattle.lte_machine.specs.PhoneState.{Phone}
-use Rattle.lte_machine.specs.Step.{by_ladder}
 use Rattle.lte_machine.specs.World.{World, auth_unless, known_root}
-use Rattle.lte_world.specs.declared.network.Enrolled.{Enrolled}
+use Rattle.lte_world.specs.{declared.network.Enrolled.Enrolled, Networks.Stores}
 use Rattle.lte_world.specs.Enrolling.{with_root, EnrolledBy, EnrolledAs}
-use Rattle.lte_world.specs.Networks.{Stores}
 use Rattle.lte_world.specs.Systems.{octets, Actors, CameOut, Happens}
 
 module _ (a : Actors) (stores : Stores) (ksi : ℕ) (root : List ℕ) (caps : Caps) (step : ℕ) where

@@ -1,12 +1,10 @@
 -- How many records and rows a world has: its events are few enough that each has a number.
 use Rattle.std.proofs.Common.{◌≡◌, ap, ◌∙◌, ℕ, ◌+◌, List, [], ◌∷◌, ◌++◌, length, Option, Some, None, arith, length-append}
-use Rattle.lte_events.specs.declared.events.Event.{Event}
-use Rattle.lte_events.specs.declared.setups.Setup.{Setup}
+use Rattle.lte_events.specs.{declared.events.Event.Event, declared.setups.Setup.Setup}
 use Rattle.key_terms.specs.declared.proof.Proof.{Proof}
 use Rattle.lte_machine.specs.Run.{first_world}
 use Rattle.lte_world.specs.Networks.{Stores, AddsFew, Within}
-use Rattle.lte_world.specs.Systems.{Actors, Are}
-use Rattle.lte_world.specs.Whole.{events_kept}
+use Rattle.lte_world.specs.{Systems.Actors, Systems.Are, Whole.events_kept}
 
 -- before the first event there are none
 pub none_within : (setup : Setup) (a : Actors) (journal : List Event)

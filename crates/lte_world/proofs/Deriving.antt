@@ -1,25 +1,19 @@
 -- Derivations that are added one after the other.
 use Rattle.std.proofs.Common.{◌≡◌, refl, sym, ap, subst, ◌∙◌, ℕ, List, [], ◌∷◌, ◌++◌, length, map, drop, zero, suc, ◌+◌, arith, add-one, Option, Some, None, Result, Ok, Err}
 use Rattle.std.specs.Prelude.{◌<◌, ◌≤◌, IsSome, IfSome, IfErr, slice_index_or}
-use Rattle.hmac_kdf.specs.Kdf.{IsKdfInput}
+use Rattle.hmac_kdf.specs.{Kdf.IsKdfInput, declared.input.KdfInput.KdfInput}
 use Rattle.std.specs.Str.{bytes_eq}
 use Rattle.annex_a_keys.specs.declared.derived.Derived.{Derived}
-use Rattle.hmac_kdf.specs.declared.input.KdfInput.{KdfInput}
 use Rattle.key_model.specs.Derivation.{Derivation, derived_of}
-use Rattle.key_terms.specs.declared.ladder.LadderFault.{LadderFault}
-use Rattle.key_terms.specs.declared.proof.Proof.{Proof}
-use Rattle.key_terms.specs.declared.row.LadderRow.{LadderRow}
-use Rattle.key_terms.specs.declared.row.Row.{Row}
+use Rattle.key_terms.specs.{declared.ladder.LadderFault.LadderFault, declared.proof.Proof.Proof, declared.row.LadderRow.LadderRow, declared.row.Row.Row}
 use Rattle.key_terms.specs.Ladder.{Rows as LadderRows, unheld, row, row_of, origin_at, origin_of, Coincides, HasRoot, HasSync, AddRefused}
 use Rattle.key_terms.proofs.Holding.{root_same, sync_same}
 use Rattle.lte_machine.specs.Ladder.{RowOrigin, Of, Clash, Ladder, add_row, add_rows}
 use Rattle.lte_machine.specs.World.{Holding}
 use Rattle.store_laws.specs.Additions.{IsInput, CanAdd, AllCanAdd}
 use Rattle.store_laws.specs.Joins.{Keeps, Adds, ComesTo}
-use Rattle.store_laws.specs.Proofs.{clash_proof}
-use Rattle.store_laws.specs.Rows.{numbered, all_noted}
-use Rattle.store_laws.proofs.Joining.{adds}
-use Rattle.store_laws.proofs.Numbered.{plain_noted, row_noted}
+use Rattle.store_laws.specs.{Proofs.clash_proof, Rows.numbered, Rows.all_noted}
+use Rattle.store_laws.proofs.{Joining.adds, Numbered.plain_noted, Numbered.row_noted}
 use Rattle.lte_world.specs.Networks.{calm, told, Awaits, AddedBy, Added, AddsAll, CountIn}
 
 pub nil_cons : {A : Type 0} {x : A} {xs : List A} → [] ≡ x ∷ xs → ⊥

@@ -1,25 +1,16 @@
 -- The KASME of an authentication.
 use Rattle.std.proofs.Common.{◌≡◌, refl, sym, ap, subst, ◌∙◌, ℕ, List, [], ◌∷◌, ◌++◌, length, Option, Some, None, Result, Ok, Err, append_assoc}
-use Rattle.std.specs.Prelude.{IsSome}
-use Rattle.std.specs.Str.{bytes_eq}
-use Rattle.std.proofs.lemmas.Option.{none-some}
-use Rattle.std.proofs.lemmas.Slice.Eq.{bytes_eq-Decides}
+use Rattle.std.specs.{Prelude.IsSome, Str.bytes_eq}
+use Rattle.std.proofs.{lemmas.Option.none-some, lemmas.Slice.Eq.bytes_eq-Decides}
 use Rattle.key_terms.proofs.Places.{position_at_end}
-use Rattle.key_terms.specs.declared.ladder.LadderFault.{LadderFault}
-use Rattle.key_terms.specs.declared.proof.Proof.{Proof}
-use Rattle.key_terms.specs.declared.row.Holder.{Holder}
-use Rattle.key_terms.specs.declared.row.LadderRow.{LadderRow}
-use Rattle.key_terms.specs.declared.row.Origin.{Origin}
-use Rattle.key_terms.specs.declared.row.Row.{Row}
+use Rattle.key_terms.specs.{declared.ladder.LadderFault.LadderFault, declared.proof.Proof.Proof, declared.row.Holder.Holder, declared.row.LadderRow.LadderRow, declared.row.Origin.Origin, declared.row.Row.Row}
 use Rattle.key_terms.specs.Ladder.{Rows as LadderRows, unheld, row, row_of, origin_at, Coincides}
 use Rattle.lte_machine.specs.Ladder.{RowOrigin, OfRoot, Clash, Ladder, add_row, ladder_of, root_row, no_rows, add_next}
-use Rattle.lte_machine.specs.Machines.{Kept}
+use Rattle.lte_machine.specs.{Machines.Kept, World.World}
 use Rattle.lte_machine.specs.World as world
-use Rattle.lte_machine.specs.World.{World}
 use Rattle.store_laws.specs.Joins.{HasRow, Keeps, Roots, RootComesTo}
 use Rattle.store_laws.specs.Proofs.{clash_proof}
-use Rattle.store_laws.proofs.Joining.{roots}
-use Rattle.store_laws.proofs.Keeping.{rows_append}
+use Rattle.store_laws.proofs.{Joining.roots, Keeping.rows_append}
 use Rattle.lte_world.specs.declared.network.Enrolled.{Enrolled}
 use Rattle.lte_world.specs.Enrolling.{with_root, EnrolledBy, EnrolledAs}
 use Rattle.lte_world.specs.Networks.{HoldsOne, Stores, Fits}

@@ -1,13 +1,8 @@
 -- What is read from a world is what its run says.
 use Rattle.std.proofs.Common.{◌≡◌, refl, sym, ap, ◌∙◌, subst, ℕ, suc, ◌+◌, ◌≤◌, ◌==◌, ◌<◌, Bool, true, false, not, cond, nat_lt, List, [], ◌∷◌, length, map, get_or, Option, Some, None, arith}
-use Rattle.std.specs.Option.{option_map}
-use Rattle.std.specs.Prelude.{slice_get, position}
-use Rattle.std.specs.List.{position_or_len}
-use Rattle.std.proofs.lemmas.Bool.Decides.{nat_tests}
-use Rattle.std.proofs.lemmas.List.Folds.{find_at}
-use Rattle.std.proofs.lemmas.Option.{slice_get_past, slice_get_read}
-use Rattle.lte_machine.specs.StationState.{Station}
-use Rattle.lte_machine.specs.World.{station_of_id}
+use Rattle.std.specs.{Option.option_map, Prelude.slice_get, Prelude.position, List.position_or_len}
+use Rattle.std.proofs.{lemmas.Bool.Decides.nat_tests, lemmas.List.Folds.find_at, lemmas.Option.slice_get_past, lemmas.Option.slice_get_read}
+use Rattle.lte_machine.specs.{StationState.Station, World.station_of_id}
 use Rattle.lte_world.specs.Whole.{context_kenb}
 
 -- THE STATION OF A NUMBER

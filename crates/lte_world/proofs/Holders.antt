@@ -1,26 +1,18 @@
 -- Holders that are noted one after the other; each key of a history has a row.
 use Rattle.std.proofs.Common.{◌≡◌, refl, sym, ap, subst, ◌∙◌, ℕ, zero, suc, ◌+◌, ◌<◌, ◌≤◌, Bool, true, false, List, [], ◌∷◌, ◌++◌, length, map, take, drop, Option, Some, None, inl, inr, arith, add-one, append_assoc, append-nil}
 use Rattle.std.specs.Prelude.{◌||◌, IsSome, option_map, slice_index_or}
-use Rattle.std.proofs.lemmas.Option.{none-some}
-use Rattle.std.specs.List.{list_any, AllByRecursion as AllOf}
-use Rattle.std.specs.Str.{bytes_eq}
-use Rattle.std.proofs.lemmas.Bool.{false≢true}
-use Rattle.std.proofs.lemmas.Slice.Eq.{bytes_eq-Decides}
+use Rattle.std.proofs.{lemmas.Option.none-some, lemmas.Bool.false≢true, lemmas.Slice.Eq.bytes_eq-Decides}
+use Rattle.std.specs.{List.list_any, List.AllByRecursion as AllOf, Str.bytes_eq}
 use Rattle.annex_a_keys.specs.declared.derived.Derived.{Derived}
 use Rattle.hmac_kdf.specs.declared.input.KdfInput.{KdfInput}
-use Rattle.key_terms.specs.declared.row.Holder.{Holder}
-use Rattle.key_terms.specs.declared.row.LadderRow.{LadderRow}
-use Rattle.key_terms.specs.Ladder.{holding, row_of}
+use Rattle.key_terms.specs.{declared.row.Holder.Holder, declared.row.LadderRow.LadderRow, Ladder.holding, Ladder.row_of}
 use Rattle.key_terms.proofs.Holding.{plain_holding, row_of_same}
 use Rattle.lte_machine.specs.Ladder.{RowOrigin, row_key, Clash, Ladder, Hit, hit, same_origin, stands_or_not, added_at, added_unless, add_row, add_next, add_rows, no_rows, ladder_of}
 use Rattle.lte_machine.specs.World as world
-use Rattle.store_laws.specs.Additions.{IsMadeIn}
-use Rattle.store_laws.specs.Joins.{HasRow, Keeps}
-use Rattle.store_laws.specs.Rows.{numbered}
+use Rattle.store_laws.specs.{Additions.IsMadeIn, Joins.HasRow, Joins.Keeps, Rows.numbered}
 use Rattle.lte_machine.proofs.KnownLists.{all_more}
-use Rattle.store_laws.proofs.Joining.{holds_one}
+use Rattle.store_laws.proofs.{Joining.holds_one, Adding.row_stands, Adding.Stands}
 use Rattle.store_laws.proofs.Numbered.{row_kept, hit_row, numbered_more, octets_numbered}
-use Rattle.store_laws.proofs.Adding.{row_stands, Stands}
 use Rattle.lte_world.specs.Networks.{HoldsOne, HoldsAll, holdings}
 use Rattle.lte_world.proofs.Deriving.{left_at, clash_stays}
 

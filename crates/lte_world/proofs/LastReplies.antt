@@ -3,26 +3,13 @@ use Rattle.std.proofs.Common.{◌≡◌, refl, sym, ap, ◌∙◌, subst, ℕ, L
 use Rattle.std.specs.Prelude.{◌⊎◌, OnOk, is_some}
 use Rattle.std.specs.List.{position_from, AllByRecursion as AllOf}
 use Rattle.alg_choice.specs.declared.caps.Caps.{Caps}
-use Rattle.lte_events.specs.Ranges.{has_station}
-use Rattle.lte_events.specs.declared.addresses.Address.{Address}
-use Rattle.lte_events.specs.declared.events.Event.{Event}
-use Rattle.lte_events.specs.declared.inputs.ActorIn.{ActorIn}
-use Rattle.lte_events.specs.declared.inputs.StationIn.{StationIn}
-use Rattle.lte_events.specs.declared.replies.ActorOut.{ActorOut}
-use Rattle.lte_events.specs.declared.setups.Setup.{Setup}
+use Rattle.lte_events.specs.{Ranges.has_station, declared.addresses.Address.Address, declared.events.Event.Event, declared.inputs.ActorIn.ActorIn, declared.inputs.StationIn.StationIn, declared.replies.ActorOut.ActorOut, declared.setups.Setup.Setup, Class.class_of}
 use Rattle.key_terms.specs.declared.proof.Proof.{Proof}
-use Rattle.lte_machine.specs.BothRuns.{octet_run}
-use Rattle.lte_machine.specs.Ciphers.{annex_b}
-use Rattle.lte_machine.specs.Machines.{Kept}
-use Rattle.lte_machine.specs.Opening.{open_octets}
-use Rattle.lte_machine.specs.Run.{Running, first_world}
-use Rattle.lte_machine.specs.StationState.{Station}
-use Rattle.lte_events.specs.Class.{class_of}
+use Rattle.lte_machine.specs.{BothRuns.octet_run, Ciphers.annex_b, Machines.Kept, Opening.open_octets, Run.Running, Run.first_world, StationState.Station}
 use Rattle.lte_machine.specs.World.{World, station_of_id, known_root, record_at, is_sent}
 use Rattle.lte_machine.proofs.EventByEvent.{prefix_goes_on}
 use Rattle.lte_world.specs.Replies.{station_replies, input_at, replies_in, auth_replies, delivered_replies, injected_replies, replies_of, Tells, RepliedLast, IsOfSetup}
-use Rattle.lte_world.specs.Systems.{octets, Actors}
-use Rattle.lte_world.specs.Whole.{Goes, Stands}
+use Rattle.lte_world.specs.{Systems.octets, Systems.Actors, Whole.Goes, Whole.Stands}
 use Rattle.lte_world.proofs.StationsStand.{stations_stand}
 
 -- LISTS

@@ -1,15 +1,10 @@
 -- A station that makes a key for an air address holds it in its context or in a preparation.
 use Rattle.std.proofs.Common.{◌≡◌, refl, ℕ, Bool, List, [], ◌∷◌, ◌++◌, Option, Some, None, inl, inr}
 use Rattle.std.specs.Prelude.{⊤, ◌⊎◌}
-use Rattle.key_model.specs.Term.{Term}
-use Rattle.key_model.specs.HandoverTable.{NumberedKey}
-use Rattle.key_model.specs.Reading.{term_reading_by}
+use Rattle.key_model.specs.{Term.Term, HandoverTable.NumberedKey, Reading.term_reading_by}
 use Rattle.ho_prep.specs.Prep.{Prep, drop_below}
 use Rattle.lte_machine.proofs.StationCases.{station_case}
-use Rattle.lte_machine.specs.Reply.{Made, Reply}
-use Rattle.lte_machine.specs.StationState.{Station, Context}
-use Rattle.lte_machine.specs.StationRows.{StationRow}
-use Rattle.lte_machine.specs.StationKeys.{station_does}
+use Rattle.lte_machine.specs.{Reply.Made, Reply.Reply, StationState.Station, StationState.Context, StationRows.StationRow, StationKeys.station_does}
 
 -- the context has this key, or one of the preparations
 abbrev pub InContext : Option (Context Term ℕ) → Term → Type 0

@@ -1,32 +1,20 @@
 -- A line that a world answers: its step, its place among the answers, and what the headline says of it.
 use Rattle.std.proofs.Common.{◌≡◌, refl, sym, ap, subst, ◌∙◌, ℕ, Bool, List, [], ◌∷◌, ◌++◌, length, map, Option, Some, Result, Ok}
-use Rattle.std.specs.Prelude.{slice_get}
-use Rattle.std.specs.List.{AllByRecursion as AllOf}
-use Rattle.lte_events.specs.Ranges.{IsEvent, IsSetup}
-use Rattle.lte_events.specs.declared.events.Event.{Event}
-use Rattle.lte_events.specs.declared.lines.Line.{Line}
-use Rattle.lte_events.specs.declared.setups.Setup.{Setup}
-use Rattle.lte_machine.specs.BothRuns.{octet_run, octet_report}
-use Rattle.lte_machine.specs.Calls.{line_out}
-use Rattle.lte_machine.specs.Ciphers.{annex_b}
-use Rattle.lte_machine.specs.Machines.{Kept}
-use Rattle.lte_machine.specs.Opening.{open_octets}
+use Rattle.std.specs.{Prelude.slice_get, List.AllByRecursion as AllOf}
+use Rattle.lte_events.specs.{Ranges.IsEvent, Ranges.IsSetup, declared.events.Event.Event, declared.lines.Line.Line, declared.setups.Setup.Setup}
+use Rattle.lte_machine.specs.{BothRuns.octet_run, BothRuns.octet_report, Calls.line_out, Ciphers.annex_b, Machines.Kept, Opening.open_octets, World.World, World.happens}
 use Rattle.lte_machine.specs.Run.{RunState, Running, Stopped, event_report, reported}
 use Rattle.lte_machine.specs.Step.{StepResult, Continues, Stops, next}
 use Rattle.lte_machine.specs.World as world
-use Rattle.lte_machine.specs.World.{World, happens}
-use Rattle.lte_machine.proofs.EventByEvent.{step_is}
-use Rattle.lte_machine.proofs.Routing.{happens_each}
+use Rattle.lte_machine.proofs.{EventByEvent.step_is, Routing.happens_each}
 use Rattle.lte_properties.specs.InOctets.{FarNeverThere}
 use Rattle.lte_properties.proofs.FarNever.{far_never}
-use Rattle.lte_world.specs.declared.faults.WorldFault.{WorldFault}
+use Rattle.lte_world.specs.{declared.faults.WorldFault.WorldFault, Systems.octets, Systems.Actors}
 use Rattle.lte_world.specs.InOctets.{answers_of, CommandsShare, PacketsOpen}
-use Rattle.lte_world.specs.Systems.{octets, Actors}
 use Rattle.key_terms.specs.declared.proof.Proof.{Proof}
 use Rattle.lte_world.specs.Whole.{Whole, unless_over, answer_of, told_of, Goes, Stands}
 use Rattle.lte_world.proofs.Answered.{answers_more, last_answer, commands_share, packets_open}
-use Rattle.lte_world.proofs.Applying.{events_more}
-use Rattle.lte_world.proofs.Standing.{AtEvent}
+use Rattle.lte_world.proofs.{Applying.events_more, Standing.AtEvent}
 
 -- the step of a line is the number of events before it
 module _ (w : World (List ℕ) ℕ Kept) where

@@ -1,41 +1,24 @@
 -- Two keys of one value, of which the phone took the one and a station made the other, are one key.
 use Rattle.std.proofs.Common.{◌≡◌, refl, sym, ◌∙◌, subst, ℕ, zero, suc, ◌<◌, ◌≤◌, ◌==◌, Bool, true, false, cond, List, [], ◌∷◌, ◌++◌, take, Option, Some, None, inl, inr, arith}
-use Rattle.std.specs.Prelude.{◌⊎◌}
-use Rattle.std.specs.List.{AllByRecursion as AllOf}
-use Rattle.lte_events.specs.declared.events.Event.{Event}
-use Rattle.lte_events.specs.declared.setups.Setup.{Setup}
-use Rattle.key_model.specs.Term.{Term, Root}
-use Rattle.key_model.specs.Reading.{term_reading_by}
-use Rattle.key_model.specs.Value.{value_of, same_value}
-use Rattle.lte_machine.specs.BothRuns.{annex_b_terms, written_run}
-use Rattle.lte_machine.specs.ByEvent.{IsStep}
-use Rattle.lte_machine.specs.Ciphers.{annex_b, octets_of}
-use Rattle.lte_machine.specs.Distinct.{Member, keys_of}
+use Rattle.std.specs.{Prelude.◌⊎◌, List.AllByRecursion as AllOf}
+use Rattle.lte_events.specs.{declared.events.Event.Event, declared.setups.Setup.Setup}
+use Rattle.key_model.specs.{Term.Term, Term.Root, Reading.term_reading_by, Value.value_of, Value.same_value}
+use Rattle.lte_machine.specs.{BothRuns.annex_b_terms, BothRuns.written_run, ByEvent.IsStep, Ciphers.annex_b, Ciphers.octets_of, Distinct.Member, Distinct.keys_of, Ladder.RowOrigin, PhoneChoice.phone_row, PhoneKeys.phone_does, Reply.Made, Reply.Took, StationKeys.station_does, Wire.KeyUse, Wire.Outgoing}
 use Rattle.lte_machine.specs.Known.{RadioKnown, StationKnown, ContextKnown, PrepKnown, IsReported, AllReported}
-use Rattle.lte_machine.specs.Ladder.{RowOrigin}
 use Rattle.lte_machine.specs.Machines.{machine_by, sender_of, written_machine, written_in_values}
 use Rattle.lte_machine.specs.Opening.{Opening, Outcome, open_octets, open_by_uses}
-use Rattle.lte_machine.specs.PhoneChoice.{phone_row}
-use Rattle.lte_machine.specs.PhoneKeys.{phone_does}
 use Rattle.lte_machine.specs.PhoneState.{Radio, Idle, Connecting, Connected, PhoneInput}
 use Rattle.lte_machine.specs.PhoneStep.{plain_phone, front_of, phone_root, phone_opens, phone_pdu_in}
-use Rattle.lte_machine.specs.Reply.{Made, Took}
 use Rattle.lte_machine.specs.Run.{Running, run, first_world}
-use Rattle.lte_machine.specs.StationKeys.{station_does}
 use Rattle.lte_machine.specs.StationState.{Station, Context, StationInput}
 use Rattle.lte_machine.specs.StationStep.{station_opens, station_pdu_in, station_row_of, station_key}
-use Rattle.lte_machine.specs.Wire.{KeyUse, Outgoing}
 use Rattle.lte_machine.specs.World.{Machine, Line, with_one, put_if, put_station, phone_turn, station_of_id, turn_of, happens}
 use Rattle.ho_prep.specs.Prep.{Prep}
-use Rattle.lte_machine.proofs.EventByEvent.{step_takes, step_happens}
-use Rattle.lte_machine.proofs.LadderRun.{ladder_always, all_reported}
-use Rattle.lte_machine.proofs.StillRun.{still_is_run}
-use Rattle.lte_machine.proofs.Routing.{happens_each}
+use Rattle.lte_machine.proofs.{EventByEvent.step_takes, EventByEvent.step_happens, LadderRun.ladder_always, LadderRun.all_reported, StillRun.still_is_run, Routing.happens_each, Worlds.TheWorld}
 use Rattle.lte_properties.specs.BySteps.{MakesAt, TakesAt}
 use Rattle.lte_properties.proofs.AccountsHold.{happens_gains}
 use Rattle.lte_world.proofs.MadeKeys.{InContext, InPreps, HasKey, MadeIs, station_holds}
 use Rattle.lte_machine.proofs.PhoneGives.{IsUnder, TookIs, phone_gives}
-use Rattle.lte_machine.proofs.Worlds.{TheWorld}
 
 -- WHAT AN EVENT LEAVES
 

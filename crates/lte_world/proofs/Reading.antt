@@ -1,31 +1,21 @@
 -- What is read from a world is what its run says; and what the headline says of it.
 use Rattle.std.proofs.Common.{◌≡◌, refl, sym, ap, ◌∙◌, subst, ℕ, zero, suc, ◌==◌, Bool, true, false, List, [], ◌∷◌, length, map, cond, option_map, Option, Some, None}
 use Rattle.std.proofs.lemmas.List.{length-map}
-use Rattle.std.specs.Prelude.{slice_get, is_some}
-use Rattle.std.specs.List.{AllByRecursion as AllOf}
+use Rattle.std.specs.{Prelude.slice_get, Prelude.is_some, List.AllByRecursion as AllOf}
 use Rattle.rec_base.specs.declared.uses.Use.{Use}
 use Rattle.lte_events.specs.Ranges.{has_station, IsEvent, IsSetup}
-use Rattle.lte_events.specs.declared.events.Event.{Event}
-use Rattle.lte_events.specs.declared.setups.Setup.{Setup}
+use Rattle.lte_events.specs.{declared.events.Event.Event, declared.setups.Setup.Setup}
 use Rattle.key_terms.specs.declared.proof.Proof.{Proof}
 use Rattle.ue_context.specs.Step.{kenb_of}
-use Rattle.lte_machine.specs.BothRuns.{octet_run}
-use Rattle.lte_machine.specs.Calls.{use_out, use_in}
-use Rattle.lte_machine.specs.Machines.{Kept}
+use Rattle.lte_machine.specs.{BothRuns.octet_run, Calls.use_out, Calls.use_in, Machines.Kept, StationState.Station, StationState.Context, Wire.KeyUse, World.World, World.station_of_id}
 use Rattle.lte_machine.specs.Run.{RunState, Running, Stopped}
-use Rattle.lte_machine.specs.StationState.{Station, Context}
-use Rattle.lte_machine.specs.Wire.{KeyUse}
-use Rattle.lte_machine.specs.World.{World, station_of_id}
-use Rattle.lte_machine.proofs.EventByEvent.{written_still}
+use Rattle.lte_machine.proofs.{EventByEvent.written_still, Routing.found_id}
 use Rattle.lte_properties.specs.Agreement.{ContextAt, Agree, JoinedBy, JoinedAgree}
 use Rattle.lte_properties.specs.Freshness.{NoUseTwice}
 use Rattle.lte_properties.proofs.OctetLaws.{uses_octets, joined_octets}
-use Rattle.store_laws.specs.Records.{view_of, world_uses}
-use Rattle.store_laws.specs.Rows.{world_rows}
-use Rattle.lte_world.specs.InOctets.{NoTwoEqual, IsJoined}
-use Rattle.lte_world.specs.Systems.{Actors, Are}
+use Rattle.store_laws.specs.{Records.view_of, Records.world_uses, Rows.world_rows}
+use Rattle.lte_world.specs.{InOctets.NoTwoEqual, InOctets.IsJoined, Systems.Actors, Systems.Are}
 use Rattle.lte_world.specs.Whole.{Whole, unless_over, run_of, InRun, Goes, Stands, context_kenb, phone_kenb_in, station_kenb_in, core_station_in}
-use Rattle.lte_machine.proofs.Routing.{found_id}
 use Rattle.lte_world.proofs.StationsStand.{stations_stand}
 
 -- LISTS OF USES

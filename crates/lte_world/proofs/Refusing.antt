@@ -2,28 +2,15 @@
 use Rattle.std.proofs.Common.{◌≡◌, refl, sym, ap, subst, ◌∙◌, ℕ, ◌-◌, Bool, true, false, List, length, map, Option, Some, None, Result, Ok, nat_lt}
 use Rattle.std.specs.Prelude.{option_map, ℤ, pos, negsuc}
 use Rattle.std.specs.List.{position_from}
-use Rattle.std.proofs.lemmas.List.{length-map}
-use Rattle.std.proofs.lemmas.Option.{slice_get-map}
-use Rattle.lte_events.specs.Reply.{reply_of}
-use Rattle.lte_events.specs.declared.addresses.Address.{Address}
-use Rattle.lte_events.specs.declared.answers.Answer.{Answer}
+use Rattle.std.proofs.{lemmas.List.length-map, lemmas.Option.slice_get-map}
+use Rattle.lte_events.specs.{Reply.reply_of, declared.addresses.Address.Address, declared.answers.Answer.Answer, declared.classes.Class.Class, declared.events.Event.Event, declared.lines.Line.Line, declared.lines.Who.Who, Class.class_of, Ranges.TakesInjected}
 use Rattle.lte_events.specs.declared.answers.Answer.TheVariants.{NoRecord, Sent}
-use Rattle.lte_events.specs.declared.classes.Class.{Class}
-use Rattle.lte_events.specs.declared.events.Event.{Event}
-use Rattle.lte_events.specs.declared.lines.Line.{Line}
-use Rattle.lte_events.specs.declared.lines.Who.{Who}
 use Rattle.key_terms.specs.declared.proof.Proof.{Proof}
-use Rattle.net_bag.specs.Bag.{first_sent}
-use Rattle.net_bag.specs.declared.view.BagView.{BagView}
-use Rattle.lte_machine.specs.Calls.{use_out, line_of_reply}
-use Rattle.lte_machine.specs.Ciphers.{annex_b}
-use Rattle.lte_machine.specs.Machines.{Kept}
+use Rattle.net_bag.specs.{Bag.first_sent, declared.view.BagView.BagView}
+use Rattle.lte_machine.specs.{Calls.use_out, Calls.line_of_reply, Ciphers.annex_b, Machines.Kept}
 use Rattle.lte_machine.specs.Step.{by_ladder, opens_none, delivery_attempts, injection_attempts}
-use Rattle.lte_events.specs.Class.{class_of}
-use Rattle.lte_events.specs.Ranges.{TakesInjected}
 use Rattle.lte_machine.specs.World.{World, by_world, newest_if, record_at, delivery, injected, is_sent}
-use Rattle.store_laws.specs.Additions.{CanKeep}
-use Rattle.store_laws.specs.Records.{view_of}
+use Rattle.store_laws.specs.{Additions.CanKeep, Records.view_of}
 use Rattle.store_laws.proofs.Found.{first_is}
 use Rattle.lte_world.specs.Systems.{octets, Actors, Are, CameOut, comes, Happens, EventCan, ReadsAt, Arrives, ArrivalCan}
 

@@ -1,39 +1,25 @@
 -- What is kept of a step is what the world keeps of its reply.
 use Rattle.std.proofs.Common.{◌≡◌, refl, sym, ap, subst, ◌∙◌, ℕ, List, [], ◌∷◌, ◌++◌, length, map, Option, Some, None, Result, Ok, Err, append_assoc, append-nil}
-use Rattle.std.specs.Prelude.{option_map, IsSome}
-use Rattle.std.specs.Str.{bytes_eq}
+use Rattle.std.specs.{Prelude.option_map, Prelude.IsSome, Str.bytes_eq, List.AllByRecursion as AllOf}
 use Rattle.std.proofs.lemmas.List.{map-append, length-map}
-use Rattle.std.specs.List.{AllByRecursion as AllOf}
 use Rattle.annex_a_keys.specs.declared.derived.Derived.{Derived}
 use Rattle.rec_base.specs.declared.uses.Use.{Use}
-use Rattle.lte_events.specs.declared.lines.Line.{Line}
-use Rattle.lte_events.specs.declared.lines.Who.{Who}
-use Rattle.lte_events.specs.declared.replies.ActorOut.{ActorOut}
+use Rattle.lte_events.specs.{declared.lines.Line.Line, declared.lines.Who.Who, declared.replies.ActorOut.ActorOut}
 use Rattle.key_model.specs.Derivation.{Derivation, derived_of}
-use Rattle.key_terms.specs.declared.proof.Proof.{Proof}
-use Rattle.key_terms.specs.declared.row.Holder.{Holder}
-use Rattle.key_terms.specs.declared.row.LadderRow.{LadderRow}
-use Rattle.key_terms.specs.Ladder.{row_of}
+use Rattle.key_terms.specs.{declared.proof.Proof.Proof, declared.row.Holder.Holder, declared.row.LadderRow.LadderRow, Ladder.row_of}
 use Rattle.lte_machine.specs.Calls.{use_in, use_out, actor_out, line_out, line_of_reply, record_out, tuple_out}
-use Rattle.lte_machine.specs.Ciphers.{annex_b}
+use Rattle.lte_machine.specs.{Ciphers.annex_b, Machines.Kept, Machines.machine_in_octets, Reply.Reply, Tuples.Coincidence, Tuples.tuple_coincidence, Wire.KeyUse, Wire.Outgoing}
 use Rattle.lte_machine.specs.Ladder.{RowOrigin, Of, Clash, Ladder, add_next, add_rows, no_rows, ladder_of}
-use Rattle.lte_machine.specs.Machines.{Kept, machine_in_octets}
-use Rattle.lte_machine.specs.Reply.{Reply}
-use Rattle.lte_machine.specs.Tuples.{Coincidence, tuple_coincidence}
-use Rattle.lte_machine.specs.Wire.{KeyUse, Outgoing}
 use Rattle.lte_machine.specs.World as world
 use Rattle.lte_machine.specs.World.{World, Holding, holds, uses_in, with_one, line_of, sent_line}
 use Rattle.lte_machine.proofs.KnownLists.{all_more}
 use Rattle.store_laws.specs.Additions.{AllCanAdd, CanKeep, IsMadeIn}
-use Rattle.store_laws.specs.Joins.{HasRow, Keeps}
+use Rattle.store_laws.specs.{Joins.HasRow, Joins.Keeps, Rows.numbered}
 use Rattle.store_laws.specs.Records.{view_of, world_records, world_uses}
-use Rattle.store_laws.specs.Rows.{numbered}
-use Rattle.store_laws.proofs.Keeping.{rows_append}
-use Rattle.store_laws.proofs.Numbered.{row_noted}
+use Rattle.store_laws.proofs.{Keeping.rows_append, Numbered.row_noted}
 use Rattle.lte_world.specs.Networks.{HoldsOne, calm, Awaits, AddedBy, Added, AddsAll, HasRows, HasKeys, HoldsAll, holdings, keys_in, Stores, Fits}
 use Rattle.lte_world.specs.Settling.{coincidence_told, sent_in, number_of, after, Settles, SettledBy, SettledAs}
-use Rattle.lte_world.proofs.Deriving.{ok_is_no_err}
-use Rattle.lte_world.proofs.Holders.{made_has_row}
+use Rattle.lte_world.proofs.{Deriving.ok_is_no_err, Holders.made_has_row}
 
 -- A LADDER THAT GOES ON
 

@@ -3,38 +3,20 @@ use Rattle.std.proofs.Common.{◌≡◌, sym, ap, ◌∙◌, subst, ℕ, ◌==�
 use Rattle.std.specs.Prelude.{ℤ, OnOk, position, slice_get}
 use Rattle.std.specs.Str.{bytes_eq}
 use Rattle.alg_choice.specs.declared.caps.Caps.{Caps}
-use Rattle.lte_events.specs.declared.acts.PhoneAct.{PhoneAct}
-use Rattle.lte_events.specs.declared.acts.StationAct.{StationAct}
-use Rattle.lte_events.specs.declared.acts.CoreAct.{CoreAct}
-use Rattle.lte_events.specs.declared.addresses.Address.{Address}
-use Rattle.lte_events.specs.declared.events.Event.{Event}
-use Rattle.lte_events.specs.declared.inputs.ActorIn.{ActorIn}
-use Rattle.lte_events.specs.declared.inputs.PhoneIn.{PhoneIn}
-use Rattle.lte_events.specs.declared.inputs.StationIn.{StationIn}
-use Rattle.lte_events.specs.declared.inputs.CoreIn.{CoreIn}
-use Rattle.lte_events.specs.declared.replies.ActorOut.{ActorOut}
-use Rattle.key_terms.specs.declared.proof.Proof.{Proof}
-use Rattle.key_terms.specs.declared.row.Row.{Row}
-use Rattle.net_bag.specs.Bag.{first_sent}
-use Rattle.net_bag.specs.declared.view.BagView.{BagView}
-use Rattle.lte_machine.specs.Calls.{phone_call, core_call}
+use Rattle.lte_events.specs.{declared.acts.PhoneAct.PhoneAct, declared.acts.StationAct.StationAct, declared.acts.CoreAct.CoreAct, declared.addresses.Address.Address, declared.events.Event.Event, declared.inputs.ActorIn.ActorIn, declared.inputs.PhoneIn.PhoneIn, declared.inputs.StationIn.StationIn, declared.inputs.CoreIn.CoreIn, declared.replies.ActorOut.ActorOut, Class.class_of}
+use Rattle.key_terms.specs.{declared.proof.Proof.Proof, declared.row.Row.Row}
+use Rattle.net_bag.specs.{Bag.first_sent, declared.view.BagView.BagView}
+use Rattle.lte_machine.specs.{Calls.phone_call, Calls.core_call, Machines.Kept, CoreState.Core, PhoneState.Phone, StationState.Station}
 use Rattle.lte_machine.specs.Ladder.{Clash, ladder_of, root_row}
-use Rattle.lte_machine.specs.Machines.{Kept}
-use Rattle.lte_machine.specs.CoreState.{Core}
-use Rattle.lte_machine.specs.PhoneState.{Phone}
-use Rattle.lte_machine.specs.StationState.{Station}
-use Rattle.lte_events.specs.Class.{class_of}
 use Rattle.lte_machine.specs.World.{World, station_of_id, record_at}
 use Rattle.store_laws.specs.Records.{view_of}
-use Rattle.lte_world.specs.declared.network.Enrolled.{Enrolled}
+use Rattle.lte_world.specs.{declared.network.Enrolled.Enrolled, Networks.Stores, Networks.Fits}
 use Rattle.lte_world.specs.Enrolling.{with_root, EnrolledBy, EnrolledAs}
-use Rattle.lte_world.specs.Networks.{Stores, Fits}
 use Rattle.lte_world.specs.Replies.{ToldAt, station_replies, replies_by, input_at, replies_in, auth_replies, delivered_replies, injected_replies, replies_of, Tells}
 use Rattle.lte_world.specs.Systems.{Actors, Are, StepsAt}
 use Rattle.lte_world.proofs.Authenticating.{not_new_repeated, not_new_coincidence, not_repeated_coincidence}
-use Rattle.lte_world.proofs.Getting.{station_at, station_nowhere}
+use Rattle.lte_world.proofs.{Getting.station_at, Getting.station_nowhere, Stations.same_some}
 use Rattle.lte_world.proofs.Refusing.{chosen_in, no_view, found_in}
-use Rattle.lte_world.proofs.Stations.{same_some}
 
 pub first_is : (told : List (ActorIn × ActorOut)) (x : ActorIn × ActorOut) (out : ActorOut)
     → told ≡ x ∷ []

@@ -1,21 +1,10 @@
 -- An event and what comes to an address, as turns of the actors.
 use Rattle.std.proofs.Common.{◌≡◌, refl, sym, subst, ℕ, List, Option, None, Result}
-use Rattle.rec_base.specs.declared.uses.Use.{Use}
-use Rattle.rec_base.specs.declared.bearers.Bearer.{Bearer}
-use Rattle.lte_events.specs.declared.acts.PhoneAct.{PhoneAct}
-use Rattle.lte_events.specs.declared.acts.StationAct.{StationAct}
-use Rattle.lte_events.specs.declared.acts.CoreAct.{CoreAct}
-use Rattle.lte_events.specs.declared.addresses.Address.{Address}
-use Rattle.lte_events.specs.declared.events.Event.{Event}
-use Rattle.lte_events.specs.declared.inputs.PhoneIn.{PhoneIn}
-use Rattle.lte_events.specs.declared.inputs.StationIn.{StationIn}
-use Rattle.lte_events.specs.declared.inputs.CoreIn.{CoreIn}
-use Rattle.lte_events.specs.declared.lines.Line.{Line}
+use Rattle.rec_base.specs.{declared.uses.Use.Use, declared.bearers.Bearer.Bearer}
+use Rattle.lte_events.specs.{declared.acts.PhoneAct.PhoneAct, declared.acts.StationAct.StationAct, declared.acts.CoreAct.CoreAct, declared.addresses.Address.Address, declared.events.Event.Event, declared.inputs.PhoneIn.PhoneIn, declared.inputs.StationIn.StationIn, declared.inputs.CoreIn.CoreIn, declared.lines.Line.Line}
 use Rattle.key_terms.specs.declared.proof.Proof.{Proof}
-use Rattle.lte_machine.specs.CoreState.{CoreRecord}
+use Rattle.lte_machine.specs.{CoreState.CoreRecord, Step.core_attempts, Step.station_attempts, World.core_turn, World.station_turn}
 use Rattle.lte_machine.specs.StationState.{StationRecord, OnS1, OnX2}
-use Rattle.lte_machine.specs.Step.{core_attempts, station_attempts}
-use Rattle.lte_machine.specs.World.{core_turn, station_turn}
 use Rattle.store_laws.specs.Additions.{CanKeep}
 use Rattle.lte_world.specs.Systems.{octets, Actors, CameOut, comes, PhoneTurns, CoreTurns, StationTurns, Happens, Arrives}
 

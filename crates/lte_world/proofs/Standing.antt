@@ -1,21 +1,11 @@
 -- A world that stands takes one event.
 use Rattle.std.proofs.Common.{◌≡◌, sym, ap, subst, ◌∙◌, ℕ, ◌+◌, Bool, false, List, [], ◌∷◌, ◌++◌, length, Option, None, Result, Ok, Err, arith, length-append}
-use Rattle.std.specs.Prelude.{IsTrue, ◌<◌}
+use Rattle.std.specs.{Prelude.IsTrue, Prelude.◌<◌, List.AllByRecursion as AllOf}
 use Rattle.std.proofs.lemmas.Bool.{false≢true}
-use Rattle.std.specs.List.{AllByRecursion as AllOf}
-use Rattle.lte_events.specs.Ranges.{IsEvent, IsSetup}
-use Rattle.lte_events.specs.declared.events.Event.{Event}
-use Rattle.lte_events.specs.declared.lines.Line.{Line}
-use Rattle.lte_events.specs.declared.setups.Setup.{Setup}
+use Rattle.lte_events.specs.{Ranges.IsEvent, Ranges.IsSetup, declared.events.Event.Event, declared.lines.Line.Line, declared.setups.Setup.Setup}
 use Rattle.key_terms.specs.declared.proof.Proof.{Proof}
-use Rattle.lte_machine.specs.BothRuns.{octet_run, written_run}
-use Rattle.lte_machine.specs.Carried.{run_value}
-use Rattle.lte_machine.specs.Ciphers.{annex_b}
-use Rattle.lte_machine.specs.Machines.{Kept}
-use Rattle.lte_machine.specs.Run.{Running, Stopped}
-use Rattle.lte_machine.specs.World.{World, happens}
-use Rattle.store_laws.specs.Additions.{CanKeep}
-use Rattle.store_laws.specs.Proofs.{coincidence_of}
+use Rattle.lte_machine.specs.{BothRuns.octet_run, BothRuns.written_run, Carried.run_value, Ciphers.annex_b, Machines.Kept, Run.Running, Run.Stopped, World.World, World.happens}
+use Rattle.store_laws.specs.{Additions.CanKeep, Proofs.coincidence_of}
 use Rattle.lte_world.specs.declared.faults.WorldFault.{WorldFault}
 use Rattle.lte_world.specs.Systems.{octets, Actors, Happens, EventCan, HasRoom}
 use Rattle.lte_world.specs.Whole.{Whole, unless_over, told_of, turned, CanApply, Goes, Stands}

@@ -2,16 +2,10 @@
 use Rattle.std.proofs.Common.{◌≡◌, refl, sym, ap, ◌∙◌, subst, ℕ, ◌==◌, false, List, [], ◌∷◌, map}
 use Rattle.std.specs.Prelude.{◌<◌, ◌≤◌, All, IsTrue, length, None}
 use Rattle.std.specs.List.{IsDistinct, AllByRecursion as AllOf}
-use Rattle.std.proofs.lemmas.Bool.{false≢true}
-use Rattle.std.proofs.lemmas.List.Elements.{recursion_from_All}
-use Rattle.lte_events.specs.Site.{Site}
+use Rattle.std.proofs.{lemmas.Bool.false≢true, lemmas.List.Elements.recursion_from_All}
+use Rattle.lte_events.specs.{Site.Site, declared.events.Event.Event, declared.setups.Setup.Setup, declared.setups.StationSetup.StationSetup}
 use Rattle.lte_events.specs.Ranges.{IsStation, IsEvent, IsSetup}
-use Rattle.lte_events.specs.declared.events.Event.{Event}
-use Rattle.lte_events.specs.declared.setups.Setup.{Setup}
-use Rattle.lte_events.specs.declared.setups.StationSetup.{StationSetup}
-use Rattle.lte_machine.specs.BothRuns.{octet_run}
-use Rattle.lte_machine.specs.Run.{first_world, stations_of}
-use Rattle.lte_machine.specs.StationState.{Station}
+use Rattle.lte_machine.specs.{BothRuns.octet_run, Run.first_world, Run.stations_of, StationState.Station}
 use Rattle.lte_world.specs.Systems.{Actors, Are, HasRoom}
 use Rattle.lte_world.specs.Whole.{Goes, Stands}
 use Rattle.lte_world.proofs.StationsStand.{first_ids}

@@ -1,20 +1,10 @@
 -- The stations of a run are those of its setup.
 use Rattle.std.proofs.Common.{◌≡◌, refl, ap, ◌∙◌, ℕ, ◌==◌, Bool, true, false, cond, List, [], ◌∷◌, map, Some}
 use Rattle.std.specs.Prelude.{◌||◌, is_some}
-use Rattle.lte_events.specs.Ranges.{has_station}
-use Rattle.lte_events.specs.Site.{Site}
-use Rattle.lte_events.specs.declared.events.Event.{Event}
-use Rattle.lte_events.specs.declared.setups.Setup.{Setup}
-use Rattle.lte_events.specs.declared.setups.StationSetup.{StationSetup}
-use Rattle.lte_machine.specs.BothRuns.{octet_run}
-use Rattle.lte_machine.specs.Ciphers.{annex_b}
-use Rattle.lte_machine.specs.Machines.{Kept}
-use Rattle.lte_machine.specs.Opening.{open_octets}
+use Rattle.lte_events.specs.{Ranges.has_station, Site.Site, declared.events.Event.Event, declared.setups.Setup.Setup, declared.setups.StationSetup.StationSetup}
+use Rattle.lte_machine.specs.{BothRuns.octet_run, Ciphers.annex_b, Machines.Kept, Opening.open_octets, StationState.Station, World.World, World.station_of_id}
 use Rattle.lte_machine.specs.Run.{Running, run, first_world, stations_of}
-use Rattle.lte_machine.specs.StationState.{Station}
-use Rattle.lte_machine.specs.World.{World, station_of_id}
-use Rattle.lte_machine.proofs.StationIds.{ids_of, run_ids}
-use Rattle.lte_machine.proofs.StillRun.{still_is_run}
+use Rattle.lte_machine.proofs.{StationIds.ids_of, StationIds.run_ids, StillRun.still_is_run}
 use Rattle.lte_world.specs.Systems.{octets}
 
 abbrev TheStation : Type 0

@@ -3,21 +3,13 @@ use Rattle.std.proofs.Common.{◌≡◌, refl, sym, ap, ◌∙◌, ℕ, List, []
 use Rattle.std.proofs.lemmas.List.{map-append}
 use Rattle.std.specs.List.{AllByRecursion as AllOf}
 use Rattle.key_terms.specs.declared.proof.Proof.{Proof}
-use Rattle.lte_events.specs.Ranges.{IsEvent, IsSetup}
-use Rattle.lte_events.specs.declared.events.Event.{Event}
-use Rattle.lte_events.specs.declared.lines.Line.{Line}
-use Rattle.lte_events.specs.declared.setups.Setup.{Setup}
+use Rattle.lte_events.specs.{Ranges.IsEvent, Ranges.IsSetup, declared.events.Event.Event, declared.lines.Line.Line, declared.setups.Setup.Setup}
 use Rattle.lte_machine.specs.BothRuns.{annex_b_terms, written_run, written_report, octet_run, octet_report}
-use Rattle.lte_machine.specs.Carried.{report_value}
-use Rattle.lte_machine.specs.Ciphers.{annex_b}
+use Rattle.lte_machine.specs.{Carried.report_value, Ciphers.annex_b, Opening.open_octets}
 use Rattle.lte_machine.specs.Machines.{Kept, machine_in_octets, written_machine}
-use Rattle.lte_machine.specs.Opening.{open_octets}
 use Rattle.lte_machine.specs.Run.{RunState, Running, Stopped, after, event_report, first_world, reported, turn, GoesOn}
 use Rattle.lte_machine.specs.Step.{StepResult, Continues, Stops, next}
-use Rattle.lte_machine.proofs.AnnexB.{annex_b_ciphers}
-use Rattle.lte_machine.proofs.EventByEvent.{tale_snoc}
-use Rattle.lte_machine.proofs.KnownLists.{all_append}
-use Rattle.lte_machine.proofs.WholeRun.{tale_is_value}
+use Rattle.lte_machine.proofs.{AnnexB.annex_b_ciphers, EventByEvent.tale_snoc, KnownLists.all_append, WholeRun.tale_is_value}
 use Rattle.lte_world.specs.Whole.{Whole, answer_of, run_of, told_of, turned, unless_over}
 
 -- THE LAST OF A LIST

@@ -1,35 +1,16 @@
 -- A turn of an actor in the program is its turn in the machine.
 use Rattle.std.proofs.Common.{◌≡◌, refl, sym, ap, subst, ◌∙◌, ℕ, List, Option, Some, None, Result, Ok, ◌==◌, map, position, slice_set}
-use Rattle.std.specs.Prelude.{option_map}
-use Rattle.std.specs.List.{IsDistinct}
-use Rattle.std.specs.Str.{bytes_eq}
+use Rattle.std.specs.{Prelude.option_map, List.IsDistinct, Str.bytes_eq}
 use Rattle.rec_base.specs.declared.uses.Use.{Use}
-use Rattle.lte_events.specs.declared.inputs.PhoneIn.{PhoneIn}
-use Rattle.lte_events.specs.Reply.{reply_of}
-use Rattle.lte_events.specs.declared.answers.Answer.TheVariants.{NoUe}
-use Rattle.lte_events.specs.declared.inputs.CoreIn.{CoreIn}
-use Rattle.lte_events.specs.declared.inputs.StationIn.{StationIn}
-use Rattle.lte_events.specs.declared.lines.Line.{Line}
-use Rattle.lte_events.specs.declared.lines.Who.{Who}
-use Rattle.lte_events.specs.declared.replies.ActorOut.{ActorOut}
+use Rattle.lte_events.specs.{declared.inputs.PhoneIn.PhoneIn, Reply.reply_of, declared.answers.Answer.TheVariants.NoUe, declared.inputs.CoreIn.CoreIn, declared.inputs.StationIn.StationIn, declared.lines.Line.Line, declared.lines.Who.Who, declared.replies.ActorOut.ActorOut}
 use Rattle.key_model.specs.Reading.{octet_reading}
-use Rattle.key_terms.specs.declared.proof.Proof.{Proof}
-use Rattle.key_terms.specs.declared.row.Holder.{Holder}
+use Rattle.key_terms.specs.{declared.proof.Proof.Proof, declared.row.Holder.Holder}
 use Rattle.lte_machine.specs.Calls.{use_in, use_out, actor_out, line_of_reply, phone_input, core_input, station_input, phone_call, core_call}
-use Rattle.lte_machine.specs.Ciphers.{annex_b}
-use Rattle.lte_machine.specs.CoreState.{Core}
+use Rattle.lte_machine.specs.{Ciphers.annex_b, CoreState.Core, Ladder.Clash, Ladder.ladder_of, Machines.Kept, Machines.tuple_of, Opening.open_octets, PhoneState.Phone, Reply.Reply, StationState.Station, Tuples.Coincidence, Tuples.tuple_coincidence, Wire.KeyUse}
 use Rattle.lte_machine.specs.CoreStep.{core_step, core_opens, core_pdu_in}
-use Rattle.lte_machine.specs.Ladder.{Clash, ladder_of}
-use Rattle.lte_machine.specs.Machines.{Kept, tuple_of}
-use Rattle.lte_machine.specs.Opening.{open_octets}
-use Rattle.lte_machine.specs.PhoneState.{Phone}
 use Rattle.lte_machine.specs.PhoneStep.{phone_step, phone_opens, phone_pdu_in}
-use Rattle.lte_machine.specs.Reply.{Reply}
-use Rattle.lte_machine.specs.StationState.{Station}
 use Rattle.lte_machine.specs.StationStep.{station_step, station_opens, station_pdu_in}
 use Rattle.lte_machine.specs.Step.{by_ladder, by_coincidence, attempts_at}
-use Rattle.lte_machine.specs.Tuples.{Coincidence, tuple_coincidence}
-use Rattle.lte_machine.specs.Wire.{KeyUse}
 use Rattle.lte_machine.specs.World as world
 use Rattle.lte_machine.specs.World.{World, line_of, phone_after, core_after, station_after, station_turn, turn_of, put_station, station_of_id}
 use Rattle.store_laws.specs.Additions.{CanKeep}

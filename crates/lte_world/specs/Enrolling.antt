@@ -3,12 +3,10 @@ use Rattle.std.specs.Prelude.{◌≡◌, ℕ, List, [], ◌∷◌, ◌++◌, Opt
 use Rattle.std.specs.Str.{bytes_eq}
 use Rattle.key_terms.specs.Ladder.{row}
 use Rattle.lte_machine.specs.Ladder.{OfRoot, Clash, ladder_of, root_row}
-use Rattle.lte_machine.specs.Machines.{Kept}
-use Rattle.lte_machine.specs.Tuples.{Rows}
+use Rattle.lte_machine.specs.{Machines.Kept, Tuples.Rows}
 use Rattle.lte_machine.specs.World.{World, AtPhone, AtCore}
 use Rattle.store_laws.specs.Proofs.{proof_of}
-use Rattle.lte_world.specs.declared.network.Enrolled.{Enrolled}
-use Rattle.lte_world.specs.Networks.{Stores, Fits}
+use Rattle.lte_world.specs.{declared.network.Enrolled.Enrolled, Networks.Stores, Networks.Fits}
 
 -- a world with this KASME, which phone and core hold
 abbrev pub with_root : World (List ℕ) ℕ Kept → List ℕ → World (List ℕ) ℕ Kept

@@ -3,22 +3,13 @@
 use Rattle.std.specs.Prelude.{◌≡◌, ◌≢◌, ℕ, ◌≤◌, ◌<◌, List, map, slice_get, Option, Some, Result, Ok}
 use Rattle.std.specs.Option.{option_map}
 use Rattle.rec_base.specs.declared.uses.Use.{Use}
-use Rattle.lte_events.specs.declared.answers.Answer.TheVariants.{Done}
-use Rattle.lte_events.specs.declared.lines.Line.{Line}
-use Rattle.key_model.specs.Term.{Term}
-use Rattle.key_model.specs.Value.{value_of}
-use Rattle.lte_machine.specs.BothRuns.{octet_report}
-use Rattle.lte_machine.specs.Machines.{Kept}
-use Rattle.lte_machine.specs.PhoneState.{Link, Connected}
+use Rattle.lte_events.specs.{declared.answers.Answer.TheVariants.Done, declared.lines.Line.Line}
+use Rattle.key_model.specs.{Term.Term, Value.value_of}
+use Rattle.lte_machine.specs.{BothRuns.octet_report, Machines.Kept, PhoneState.Link, PhoneState.Connected, StationState.Station, StationState.Context, World.World, World.station_of_id}
 use Rattle.lte_machine.specs.Reply.{Came, Secured, Took}
-use Rattle.lte_machine.specs.StationState.{Station, Context}
 use Rattle.lte_machine.specs.World as world
-use Rattle.lte_machine.specs.World.{World, station_of_id}
-use Rattle.lte_properties.specs.Agreement.{ahead}
-use Rattle.lte_properties.specs.BySteps.{TakesAt, Follows}
-use Rattle.lte_properties.specs.InOctets.{BringsPacket}
-use Rattle.lte_world.specs.declared.faults.WorldFault.{WorldFault}
-use Rattle.lte_world.specs.Whole.{Whole, answer_of}
+use Rattle.lte_properties.specs.{Agreement.ahead, BySteps.TakesAt, BySteps.Follows, InOctets.BringsPacket}
+use Rattle.lte_world.specs.{declared.faults.WorldFault.WorldFault, Whole.Whole, Whole.answer_of}
 
 -- what a world answered to the events of its journal, in order
 abbrev pub answers_of : Whole → List (Result Line WorldFault)

@@ -1,27 +1,16 @@
 -- What the program keeps beside the actors: the records sent, the ladder and the uses, as those of a world.
 use Rattle.hmac_kdf.specs.declared.input.KdfInput.{KdfInput}
 use Rattle.std.specs.Prelude.{◌≡◌, ℕ, ◌+◌, ◌-◌, ◌*◌, ◌<◌, ◌≤◌, ◌^◌, [], ◌∷◌, ◌++◌, List, length, map, Option, Some, None, Result, Ok, Err}
-use Rattle.std.specs.Str.{bytes_eq}
-use Rattle.std.specs.List.{AllByRecursion as AllOf}
+use Rattle.std.specs.{Str.bytes_eq, List.AllByRecursion as AllOf}
 use Rattle.annex_a_keys.specs.declared.derived.Derived.{Derived}
 use Rattle.rec_base.specs.declared.uses.Use.{Use}
 use Rattle.key_model.specs.Derivation.{Derivation, derived_of}
-use Rattle.key_terms.specs.declared.ladder.LadderFault.{LadderFault}
-use Rattle.key_terms.specs.declared.proof.Proof.{Proof}
-use Rattle.key_terms.specs.declared.row.Row.{Row}
-use Rattle.key_terms.specs.declared.row.LadderRow.{LadderRow}
+use Rattle.key_terms.specs.{declared.ladder.LadderFault.LadderFault, declared.proof.Proof.Proof, declared.row.Row.Row, declared.row.LadderRow.LadderRow, declared.row.Holder.Holder}
 use Rattle.net_bag.specs.declared.view.BagView.{BagView}
 use Rattle.lte_machine.specs.Ladder.{RowOrigin, Of, Clash, Ladder, add_rows, ladder_of}
-use Rattle.lte_machine.specs.Machines.{Kept}
-use Rattle.lte_machine.specs.Tuples.{Rows}
-use Rattle.key_terms.specs.declared.row.Holder.{Holder}
+use Rattle.lte_machine.specs.{Machines.Kept, Tuples.Rows, World.World, World.Holding}
 use Rattle.lte_machine.specs.World as world
-use Rattle.lte_machine.specs.World.{World, Holding}
-use Rattle.store_laws.specs.Rows.{holder_of}
-use Rattle.store_laws.specs.Additions.{AllCanAdd}
-use Rattle.store_laws.specs.Joins.{HasRow, Keeps}
-use Rattle.store_laws.specs.Proofs.{proof_of}
-use Rattle.store_laws.specs.Records.{world_records, world_uses}
+use Rattle.store_laws.specs.{Rows.holder_of, Additions.AllCanAdd, Joins.HasRow, Joins.Keeps, Proofs.proof_of, Records.world_records, Records.world_uses}
 
 -- rows without a clash
 abbrev pub calm : List (RowOrigin (List ℕ)) → Ladder (List ℕ)

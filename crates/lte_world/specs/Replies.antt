@@ -2,24 +2,10 @@
 use Rattle.std.specs.Prelude.{◌≡◌, ℕ, IsTrue, List, [], ◌∷◌, ◌++◌, Option, Some, None}
 use Rattle.std.specs.List.{position_from}
 use Rattle.alg_choice.specs.declared.caps.Caps.{Caps}
-use Rattle.lte_events.specs.Ranges.{has_station}
-use Rattle.lte_events.specs.declared.addresses.Address.{Address}
-use Rattle.lte_events.specs.declared.events.Event.{Event}
-use Rattle.lte_events.specs.declared.inputs.ActorIn.{ActorIn}
-use Rattle.lte_events.specs.declared.inputs.PhoneIn.{PhoneIn}
-use Rattle.lte_events.specs.declared.inputs.StationIn.{StationIn}
-use Rattle.lte_events.specs.declared.inputs.CoreIn.{CoreIn}
-use Rattle.lte_events.specs.declared.replies.ActorOut.{ActorOut}
-use Rattle.lte_events.specs.declared.setups.Setup.{Setup}
+use Rattle.lte_events.specs.{Ranges.has_station, declared.addresses.Address.Address, declared.events.Event.Event, declared.inputs.ActorIn.ActorIn, declared.inputs.PhoneIn.PhoneIn, declared.inputs.StationIn.StationIn, declared.inputs.CoreIn.CoreIn, declared.replies.ActorOut.ActorOut, declared.setups.Setup.Setup, Class.class_of}
 use Rattle.key_terms.specs.declared.proof.Proof.{Proof}
-use Rattle.lte_machine.specs.BothRuns.{octet_run}
+use Rattle.lte_machine.specs.{BothRuns.octet_run, CoreState.Core, Machines.Kept, PhoneState.Phone, Run.Running, StationState.Station}
 use Rattle.lte_machine.specs.Calls.{phone_call, station_call, core_call}
-use Rattle.lte_machine.specs.CoreState.{Core}
-use Rattle.lte_machine.specs.Machines.{Kept}
-use Rattle.lte_machine.specs.PhoneState.{Phone}
-use Rattle.lte_machine.specs.Run.{Running}
-use Rattle.lte_machine.specs.StationState.{Station}
-use Rattle.lte_events.specs.Class.{class_of}
 use Rattle.lte_machine.specs.World.{World, station_of_id, known_root, record_at, is_sent}
 use Rattle.lte_world.specs.Systems.{octets, Actors, Are, StepsAt}
 

@@ -2,26 +2,15 @@
 use Rattle.std.specs.Prelude.{◌≡◌, ℕ, List, [], ◌∷◌, Option, Some, None, option_map, slice_get, Result, Ok, Err}
 use Rattle.std.specs.Str.{bytes_eq}
 use Rattle.rec_base.specs.declared.uses.Use.{Use}
-use Rattle.lte_events.specs.Class.{class_of}
-use Rattle.lte_events.specs.declared.lines.Line.{Line}
-use Rattle.lte_events.specs.declared.lines.Who.{Who}
-use Rattle.lte_events.specs.declared.replies.ActorOut.{ActorOut}
-use Rattle.lte_events.specs.declared.replies.Record.{Record}
-use Rattle.lte_events.specs.declared.classes.Class.{Class}
+use Rattle.lte_events.specs.{Class.class_of, declared.lines.Line.Line, declared.lines.Who.Who, declared.replies.ActorOut.ActorOut, declared.replies.Record.Record, declared.classes.Class.Class}
 use Rattle.net_bag.specs.declared.view.BagView.{BagView}
-use Rattle.key_terms.specs.declared.proof.Proof.{Proof}
-use Rattle.key_terms.specs.declared.row.Holder.{Holder}
+use Rattle.key_terms.specs.{declared.proof.Proof.Proof, declared.row.Holder.Holder}
 use Rattle.lte_machine.specs.Calls.{use_in, line_out, actor_out}
-use Rattle.lte_machine.specs.Ciphers.{annex_b}
-use Rattle.lte_machine.specs.Ladder.{Clash, ladder_of}
-use Rattle.lte_machine.specs.Machines.{Kept, machine_in_octets}
-use Rattle.lte_machine.specs.Reply.{Reply}
+use Rattle.lte_machine.specs.{Ciphers.annex_b, Ladder.Clash, Ladder.ladder_of, Machines.Kept, Machines.machine_in_octets, Reply.Reply}
 use Rattle.lte_machine.specs.Tuples.{Coincidence, Rows, tuple_coincidence}
 use Rattle.lte_machine.specs.World as world
 use Rattle.lte_machine.specs.World.{World, world_with, line_of}
-use Rattle.store_laws.specs.Additions.{CanKeep}
-use Rattle.store_laws.specs.Proofs.{proof_of}
-use Rattle.store_laws.specs.Rows.{holder_of}
+use Rattle.store_laws.specs.{Additions.CanKeep, Proofs.proof_of, Rows.holder_of}
 use Rattle.lte_world.specs.Networks.{Stores, Fits}
 
 -- a coincidence as an error

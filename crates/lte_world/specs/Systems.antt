@@ -2,28 +2,17 @@
 use Rattle.std.specs.Prelude.{◌≡◌, ℕ, ◌≤◌, List, Option, Some, option_map, slice_get, slice_set, Result, Ok, Err}
 use Rattle.std.specs.Str.{bytes_eq}
 use Rattle.rec_base.specs.declared.uses.Use.{Use}
-use Rattle.lte_events.specs.declared.addresses.Address.{Address}
-use Rattle.lte_events.specs.declared.events.Event.{Event}
-use Rattle.lte_events.specs.declared.inputs.PhoneIn.{PhoneIn}
-use Rattle.lte_events.specs.declared.inputs.StationIn.{StationIn}
-use Rattle.lte_events.specs.declared.inputs.CoreIn.{CoreIn}
-use Rattle.lte_events.specs.declared.lines.Line.{Line}
-use Rattle.lte_events.specs.declared.replies.ActorOut.{ActorOut}
+use Rattle.lte_events.specs.{declared.addresses.Address.Address, declared.events.Event.Event, declared.inputs.PhoneIn.PhoneIn, declared.inputs.StationIn.StationIn, declared.inputs.CoreIn.CoreIn, declared.lines.Line.Line, declared.replies.ActorOut.ActorOut}
 use Rattle.key_terms.specs.declared.proof.Proof.{Proof}
 use Rattle.lte_machine.specs.Calls.{use_out, line_out, phone_input, station_input, core_input, station_call}
-use Rattle.lte_machine.specs.Ciphers.{annex_b}
-use Rattle.lte_machine.specs.CoreState.{Core}
+use Rattle.lte_machine.specs.{Ciphers.annex_b, CoreState.Core, Opening.open_octets, PhoneState.Phone, StationState.Station}
 use Rattle.lte_machine.specs.Machines.{Kept, machine_in_octets, tuple_of}
-use Rattle.lte_machine.specs.Opening.{open_octets}
-use Rattle.lte_machine.specs.PhoneState.{Phone}
-use Rattle.lte_machine.specs.StationState.{Station}
 use Rattle.lte_machine.specs.Step.{StepResult, Continues, Stops, Attempted, phone_attempts, core_attempts, station_attempts, arrival_attempts, opening_coincidence, by_coincidence, next}
 use Rattle.lte_machine.specs.World.{Machine, World, phone_turn, core_turn, station_turn, arrives, happens}
 use Rattle.lte_machine.specs.World as world
 use Rattle.s1x2_rec.specs.Reading.{read_core}
 use Rattle.lte_events.specs.Ranges.{PhoneDoes, StationDoes, TakesInjected}
-use Rattle.store_laws.specs.Additions.{CanKeep}
-use Rattle.store_laws.specs.Proofs.{proof_of}
+use Rattle.store_laws.specs.{Additions.CanKeep, Proofs.proof_of}
 use Rattle.lte_world.specs.Networks.{Stores, Fits}
 
 -- the machine in octets, with the algorithms of TS 33.401 Annex B

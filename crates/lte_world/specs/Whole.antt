@@ -2,22 +2,12 @@
 -- there is room for one event more. The run in octets says all else.
 use Rattle.std.specs.Prelude.{◌≡◌, ℕ, ◌+◌, ◌*◌, ◌<◌, ◌≤◌, Bool, false, IsTrue, List, [], ◌∷◌, ◌++◌, length, Option, Some, None, Result, Ok, Err}
 use Rattle.std.specs.Option.{option_map}
-use Rattle.lte_events.specs.Scenario.{most_events, CanHappen}
-use Rattle.lte_events.specs.declared.events.Event.{Event}
-use Rattle.lte_events.specs.declared.lines.Line.{Line}
-use Rattle.lte_events.specs.declared.setups.Setup.{Setup}
+use Rattle.lte_events.specs.{Scenario.most_events, Scenario.CanHappen, declared.events.Event.Event, declared.lines.Line.Line, declared.setups.Setup.Setup}
 use Rattle.key_terms.specs.declared.proof.Proof.{Proof}
-use Rattle.lte_machine.specs.BothRuns.{octet_run}
-use Rattle.lte_machine.specs.Calls.{line_out}
-use Rattle.lte_machine.specs.Ciphers.{annex_b}
-use Rattle.lte_machine.specs.Machines.{Kept}
-use Rattle.lte_machine.specs.Opening.{open_octets}
+use Rattle.lte_machine.specs.{BothRuns.octet_run, Calls.line_out, Ciphers.annex_b, Machines.Kept, Opening.open_octets, StationState.Station, World.World, World.station_of_id}
 use Rattle.lte_machine.specs.Run.{RunState, Running, Stopped, turn, EventReport, Reported, Coincided, event_report}
-use Rattle.lte_machine.specs.StationState.{Station}
-use Rattle.lte_machine.specs.World.{World, station_of_id}
 use Rattle.ue_context.specs.Step.{kenb_of}
-use Rattle.store_laws.specs.Proofs.{proof_of, coincidence_of}
-use Rattle.store_laws.specs.Rows.{world_rows}
+use Rattle.store_laws.specs.{Proofs.proof_of, Proofs.coincidence_of, Rows.world_rows}
 use Rattle.lte_world.specs.declared.faults.WorldFault.{WorldFault}
 use Rattle.lte_world.specs.Systems.{octets, Actors, Are}
 

@@ -2,20 +2,14 @@
 use Rattle.std.proofs.Common.{◌≡◌, ℕ, List, sym, ap, subst}
 use Rattle.std.specs.Prelude.{Ok, Err}
 use Rattle.key_model.specs.Reading.{octet_reading}
-use Rattle.lte_events.specs.declared.answers.Answer.{Answer}
-use Rattle.lte_events.specs.declared.inputs.CoreIn.{CoreIn}
-use Rattle.lte_events.specs.declared.replies.ActorOut.{ActorOut}
-use Rattle.lte_machine.specs.Calls.{core_call, core_input}
-use Rattle.lte_machine.specs.Ciphers.{annex_b}
-use Rattle.lte_machine.specs.CoreChoice.{core_fields_row, core_act_row}
+use Rattle.lte_events.specs.{declared.answers.Answer.Answer, declared.inputs.CoreIn.CoreIn, declared.replies.ActorOut.ActorOut}
+use Rattle.lte_machine.specs.{Calls.core_call, Calls.core_input, Ciphers.annex_b, CoreChoice.core_fields_row, CoreChoice.core_act_row, Opening.Outcome, Opening.open_octets}
 use Rattle.lte_machine.specs.CoreRows.{NasRefused, RecordRefused, ActRefused}
 use Rattle.lte_machine.specs.CoreState.{Core, CoreInput, CoreAuth, CoreActs, CoreNasPdu, CoreRecord}
 use Rattle.lte_machine.specs.CoreStep.{plain_core, core_opens, core_pdu_in, core_step}
-use Rattle.lte_machine.specs.Opening.{Outcome, open_octets}
-use Rattle.lte_machine.proofs.ActFacts.{ActHas, act_has}
+use Rattle.lte_machine.proofs.{ActFacts.ActHas, ActFacts.act_has, S1Facts.RecordHas, S1Facts.record_has}
 use Rattle.lte_machine.proofs.CoreRefused.{Ends, IsRefused, IsDone, nas_ends, record_ends, act_ends}
 use Rattle.lte_machine.proofs.NasFacts.{NasHas, nas_row, nas_has}
-use Rattle.lte_machine.proofs.S1Facts.{RecordHas, record_has}
 use Rattle.mme_context.specs.Numbers.{Tells}
 
 module _ (s : Core (List ℕ) ℕ) where

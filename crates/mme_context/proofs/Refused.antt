@@ -1,15 +1,9 @@
 -- A refused call leaves the core as it was.
 use Rattle.std.proofs.Common.{◌≡◌, ℕ, List, ◌∙◌, ap}
 use Rattle.std.specs.Prelude.{◌≢◌}
-use Rattle.lte_events.specs.declared.answers.Answer.TheVariants.{Done}
-use Rattle.lte_events.specs.declared.inputs.CoreIn.{CoreIn}
-use Rattle.lte_events.specs.declared.replies.ActorOut.{ActorOut}
+use Rattle.lte_events.specs.{declared.answers.Answer.TheVariants.Done, declared.inputs.CoreIn.CoreIn, declared.replies.ActorOut.ActorOut}
 use Rattle.key_model.specs.Reading.{octet_reading}
-use Rattle.lte_machine.specs.Calls.{core_call, core_input}
-use Rattle.lte_machine.specs.Ciphers.{annex_b}
-use Rattle.lte_machine.specs.CoreState.{Core}
-use Rattle.lte_machine.specs.CoreStep.{core_opens, core_pdu_in}
-use Rattle.lte_machine.specs.Opening.{open_octets}
+use Rattle.lte_machine.specs.{Calls.core_call, Calls.core_input, Ciphers.annex_b, CoreState.Core, CoreStep.core_opens, CoreStep.core_pdu_in, Opening.open_octets}
 use Rattle.lte_machine.proofs.CoreRefused.{core_refused}
 
 pub refused_stays : (s t : Core (List ℕ) ℕ) (i : CoreIn) (out : ActorOut) → (t, out) ≡ core_call s i → out.answer ≢ Done → t ≡ s

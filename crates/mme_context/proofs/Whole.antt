@@ -3,8 +3,7 @@ use Rattle.std.proofs.Common.{◌≡◌, ℕ, List, ◌∙◌, ap, sym}
 use Rattle.lte_events.specs.declared.replies.ActorOut.{ActorOut}
 use Rattle.lte_machine.specs.CoreState.{Core, CoreInput}
 use Rattle.nas_smc.specs.CoreNas.{CoreRest}
-use Rattle.mme_context.specs.declared.mme.Core.TheInside.{Inside}
-use Rattle.mme_context.specs.Step.{answered}
+use Rattle.mme_context.specs.{declared.mme.Core.TheInside.Inside, Step.answered}
 
 -- what the core has beside its NAS part
 abbrev pub rest_in : Inside → CoreRest

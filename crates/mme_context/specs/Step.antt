@@ -1,16 +1,11 @@
 -- One step of the core in octets, by the input as it reads.
 use Rattle.std.specs.Prelude.{ℕ, List, Option, option_map, Ok}
 use Rattle.alg_choice.specs.declared.caps.Caps.{Caps}
-use Rattle.key_model.specs.HandoverTable.{NumberedKey}
-use Rattle.key_model.specs.Reading.{octet_reading}
+use Rattle.key_model.specs.{HandoverTable.NumberedKey, Reading.octet_reading}
 use Rattle.lte_events.specs.declared.replies.ActorOut.{ActorOut}
-use Rattle.lte_machine.specs.Calls.{actor_out}
-use Rattle.lte_machine.specs.Ciphers.{annex_b}
-use Rattle.lte_machine.specs.CoreChoice.{caps_in_use}
+use Rattle.lte_machine.specs.{Calls.actor_out, Ciphers.annex_b, CoreChoice.caps_in_use, Opening.open_octets, Reply.unseen}
 use Rattle.lte_machine.specs.CoreState.{Core, CoreContext, CoreInput, CoreRecord, map_core_context}
 use Rattle.lte_machine.specs.CoreStep.{core_step, core_opens, core_pdu_in}
-use Rattle.lte_machine.specs.Opening.{open_octets}
-use Rattle.lte_machine.specs.Reply.{unseen}
 use Rattle.s1x2_rec.specs.Fields.{Fields}
 
 -- the core afterwards and its reply; a call is this of the input as it reads

@@ -1,31 +1,20 @@
 -- What was sealed opens, and what opens was sealed.
 use Rattle.std.proofs.Common.{◌≡◌, ℕ, suc, ◌-◌, ◌*◌, ◌/◌, ◌%◌, ◌<◌, ◌≤◌, nat_lt, Bool, true, false, if◌then◌else◌, List, [], ◌∷◌, ◌++◌, length, drop, Result, Ok, Err, refl, ap, sym, ◌∙◌, subst, arith}
-use Rattle.std.specs.Str.{bytes_eq}
-use Rattle.std.proofs.lemmas.Slice.Eq.{bytes_eq-Decides}
-use Rattle.std.proofs.lemmas.List.{length-take-le}
-use Rattle.std.proofs.lemmas.Bool.Decides.{nat_tests}
-use Rattle.std.proofs.lemmas.List.Sums.{fold-append}
+use Rattle.std.specs.{Str.bytes_eq, List.range_with_len, Prelude.fold, Prelude.map}
+use Rattle.std.proofs.{lemmas.Slice.Eq.bytes_eq-Decides, lemmas.List.length-take-le, lemmas.Bool.Decides.nat_tests, lemmas.List.Sums.fold-append}
 use Rattle.aes_core.proofs.AesLemmas.{length-aes}
-use Rattle.rec_base.specs.Header.{header_of}
+use Rattle.rec_base.specs.{Header.header_of, declared.uses.Dir.Dir}
 use Rattle.cmac_eia2.specs.Cmac.{cmac_of, block_at, blocks_before, chained, masked_last, xor_blocks, zero_block}
-use Rattle.std.specs.List.{range_with_len}
-use Rattle.std.specs.Prelude.{fold, map}
-use Rattle.nas_count.specs.declared.sending.CountSpent.{CountSpent}
-use Rattle.rec_base.specs.declared.uses.Dir.{Dir}
+use Rattle.nas_count.specs.{declared.sending.CountSpent.CountSpent, Estimate.nas_count_limit, Estimate.estimate_of}
 use Rattle.alg_choice.specs.declared.algs.Eea.{Eea}
 use Rattle.alg_choice.specs.declared.algs.Eea.TheVariants.{Eea0, Eea2}
 use Rattle.ctr_eea2.proofs.CombinedLemmas.{eea2_of-eea2_of}
 use Rattle.cmac_eia2.specs.Eia2.{eia2_of}
 use Rattle.key_model.specs.Least.{least}
 use Rattle.key_model.proofs.LeastFacts.{least_in_window, least_is}
-use Rattle.nas_guard.specs.declared.opening.Opened.{Opened}
-use Rattle.nas_count.specs.Estimate.{nas_count_limit}
-use Rattle.nas_count.specs.Estimate.{estimate_of}
-use Rattle.nas_guard.specs.Cipher.{ciphered, mac_of}
-use Rattle.nas_guard.specs.Keys.{Keys}
+use Rattle.nas_guard.specs.{declared.opening.Opened.Opened, Cipher.ciphered, Cipher.mac_of, Keys.Keys, declared.opening.OpenFault.OpenFault}
 use Rattle.nas_guard.specs.Seal.{is_ciphered, nas_bearer, sent_text, first_octet, sealed}
 use Rattle.nas_guard.specs.Open.{opened, opened_by, opened_at, is_protected, mac_at, mac_in, sent_in, sn_in, first_in, header_in, IsProtected, Opens}
-use Rattle.nas_guard.specs.declared.opening.OpenFault.{OpenFault}
 use Rattle.nas_guard.specs.declared.opening.OpenFault.TheVariants.{Short, BadHeader, MacFails}
 
 -- to cipher twice gives the text back

@@ -1,7 +1,6 @@
 -- The keys of a NAS security context (TS 33.401 6.2).
 use Rattle.alg_choice.specs.declared.algs.Algs.{Algs}
-use Rattle.annex_a_keys.specs.declared.alg_type.AlgType.{AlgType}
-use Rattle.annex_a_keys.specs.declared.alg_type.AlgType.TheVariants.{NasEnc}
+use Rattle.annex_a_keys.specs.{declared.alg_type.AlgType.AlgType, declared.alg_type.AlgType.TheVariants.NasEnc}
 
 -- KNASenc and KNASint, for keys K, and the chosen algorithms
 pub record Keys (K : Type 0) : Type 0 where

@@ -2,17 +2,11 @@
 use Rattle.std.specs.Prelude.{◌≡◌, ◌≢◌, ℕ, ◌/◌, ◌%◌, ◌<◌, ◌≤◌, ◌==◌, ◌&&◌, nat_le, nat_lt, Bool, if◌then◌else◌, List, drop, length, slice_index, take, Result, Ok, Err}
 use Rattle.std.specs.Str.{bytes_eq}
 use Rattle.key_model.specs.Least.{least}
-use Rattle.nas_count.specs.declared.sending.CountSpent.{CountSpent}
-use Rattle.nas_count.specs.Estimate.{nas_count_limit}
-use Rattle.nas_count.specs.Estimate.{estimate_of}
+use Rattle.nas_count.specs.{declared.sending.CountSpent.CountSpent, Estimate.nas_count_limit, Estimate.estimate_of}
 use Rattle.rec_base.specs.declared.uses.Dir.{Dir}
-use Rattle.nas_guard.specs.declared.opening.Opened.{Opened}
+use Rattle.nas_guard.specs.{declared.opening.Opened.Opened, declared.opening.OpenFault.OpenFault, Cipher.mac_of, Keys.Keys, Seal.nas_bearer, Seal.sent_text}
 use Rattle.nas_guard.specs.declared.opening.OpenFault as faults
-use Rattle.nas_guard.specs.declared.opening.OpenFault.{OpenFault}
 use Rattle.nas_guard.specs.declared.opening.OpenFault.TheVariants.{Short, BadHeader, MacFails}
-use Rattle.nas_guard.specs.Cipher.{mac_of}
-use Rattle.nas_guard.specs.Keys.{Keys}
-use Rattle.nas_guard.specs.Seal.{nas_bearer, sent_text}
 
 -- the parts of the octets (9.1): the first octet with the header type in its high half, the MAC, the
 -- sequence number, what the MAC covers, and the text as sent

@@ -1,8 +1,7 @@
 -- A security protected NAS message (TS 24.301 4.4 and 9.1).
 use Rattle.std.specs.Prelude.{ℕ, ◌+◌, ◌*◌, ◌%◌, ◌==◌, ◌||◌, Bool, if◌then◌else◌, List, ◌∷◌, ◌++◌}
 use Rattle.rec_base.specs.declared.uses.Dir.{Dir}
-use Rattle.nas_guard.specs.Cipher.{ciphered, mac_of}
-use Rattle.nas_guard.specs.Keys.{Keys}
+use Rattle.nas_guard.specs.{Cipher.ciphered, Cipher.mac_of, Keys.Keys}
 
 -- whether a security header type has the message ciphered (9.3.1)
 abbrev pub is_ciphered : ℕ → Bool

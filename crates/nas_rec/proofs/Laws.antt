@@ -7,10 +7,9 @@ use Rattle.rec_base.proofs.Numbers.{AreOctets}
 use Rattle.rec_fields.specs.Layout.{spelled_by}
 use Rattle.rec_fields.proofs.Layouts.{IsField, AreRows, rows_take, rows_on}
 use Rattle.rec_fields.proofs.Records.{Reach, octet_is_field, algorithms_is_field, capabilities_is_field, caps_again, record_row, record_again}
-use Rattle.nas_rec.specs.declared.records.NasRecord.{NasRecord}
+use Rattle.nas_rec.specs.{declared.records.NasRecord.NasRecord, Spelling.spelling_of, Spelling.InRange}
 use Rattle.nas_rec.specs.declared.records.NasRecord.TheVariants.{SecurityModeCommand, SecurityModeComplete, SecurityModeReject, ServiceRequest, NasData}
 use Rattle.nas_rec.specs.Forms.{any_capabilities, command, complete, reject, service_request, any_text}
-use Rattle.nas_rec.specs.Spelling.{spelling_of, InRange}
 use Rattle.nas_rec.specs.Reading.{nas_rows, read_nas, command_of, reject_of, bare, data_of}
 
 any_is_field : IsField Reach any_capabilities

@@ -1,7 +1,6 @@
 -- The NAS texts, each with its one spelling.
 use Rattle.std.specs.Prelude.{ℕ, ◌≤◌, List, length}
-use Rattle.rec_fields.specs.Layout.{Values}
-use Rattle.rec_fields.specs.Record.{Form, spelled}
+use Rattle.rec_fields.specs.{Layout.Values, Record.Form, Record.spelled}
 use Rattle.nas_rec.specs.declared.records.NasRecord.{NasRecord}
 use Rattle.nas_rec.specs.declared.records.NasRecord.TheVariants.{SecurityModeCommand, SecurityModeComplete, SecurityModeReject, ServiceRequest, NasData}
 use Rattle.nas_rec.specs.Forms.{command, complete, reject, service_request, any_text}

@@ -2,9 +2,7 @@
 use Rattle.std.proofs.Common.{◌≡◌, List, None, ℕ, sym}
 use Rattle.key_model.specs.Reading.{octet_reading}
 use Rattle.lte_events.specs.declared.inputs.CoreIn.TheVariants.{Nas}
-use Rattle.lte_machine.specs.Calls.{actor_out, core_call}
-use Rattle.lte_machine.specs.CoreChoice.{core_header}
-use Rattle.lte_machine.specs.CoreKeys.{core_does_nas}
+use Rattle.lte_machine.specs.{Calls.actor_out, Calls.core_call, CoreChoice.core_header, CoreKeys.core_does_nas}
 use Rattle.nas_smc.specs.declared.core_judging.CoreJudged.{CoreJudged}
 use Rattle.nas_smc.specs.CoreNas.{CorePart, CoreRest, core_of}
 use Rattle.nas_smc.specs.CoreJudging.{front_of, row_at, accepted_at, row_of, done_by}

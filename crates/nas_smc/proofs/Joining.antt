@@ -2,16 +2,10 @@
 use Rattle.std.proofs.Common.{◌≡◌, ℕ, List, Option, None, ap, sym, ◌∙◌}
 use Rattle.std.specs.Prelude.{Result}
 use Rattle.rec_base.specs.declared.uses.Use.{Use}
-use Rattle.lte_events.specs.declared.answers.Answer.{Answer}
-use Rattle.lte_machine.specs.PhoneRows.{NasRow}
-use Rattle.lte_events.specs.declared.inputs.PhoneIn.TheVariants.{Nas}
+use Rattle.lte_events.specs.{declared.answers.Answer.Answer, declared.inputs.PhoneIn.TheVariants.Nas}
+use Rattle.lte_machine.specs.{PhoneRows.NasRow, Calls.actor_out, Calls.phone_call, PhoneChoice.header_for_phone, PhoneKeys.nas_does, PhoneState.Radio}
 use Rattle.key_model.specs.Reading.{octet_reading}
-use Rattle.lte_machine.specs.Calls.{actor_out, phone_call}
-use Rattle.lte_machine.specs.PhoneChoice.{header_for_phone}
-use Rattle.lte_machine.specs.PhoneKeys.{nas_does}
-use Rattle.lte_machine.specs.PhoneState.{Radio}
-use Rattle.nas_smc.specs.declared.judging.Judged.{Judged}
-use Rattle.nas_smc.specs.PhoneNas.{NasPart, phone_of}
+use Rattle.nas_smc.specs.{declared.judging.Judged.Judged, PhoneNas.NasPart, PhoneNas.phone_of}
 use Rattle.nas_smc.specs.Judging.{plain_context, plain_radio, front_of, row_at, accepted_at, row_of, done_by}
 
 pub joins : (s : NasPart) (pdu : List ℕ) (j : Judged) (radio : Radio (List ℕ) ℕ)

@@ -5,8 +5,7 @@ use Rattle.std.proofs.lemmas.Slice.Eq.{bytes_eq-Decides}
 use Rattle.nas_guard.specs.Open.{mac_in, covered_in, sent_in}
 use Rattle.lte_machine.specs.Opening.{Opening, OpensNas, Opened, Differs, open_octets, by_macs}
 use Rattle.rec_base.specs.declared.uses.Dir.{Dir}
-use Rattle.nas_guard.specs.Cipher.{ciphered, mac_of}
-use Rattle.nas_guard.specs.Keys.{Keys}
+use Rattle.nas_guard.specs.{Cipher.ciphered, Cipher.mac_of, Keys.Keys}
 use Rattle.nas_guard.specs.Seal.{is_ciphered, nas_bearer, sealed, sent_text}
 use Rattle.lte_machine.specs.Ciphers.{annex_b, ciphered_by, nas_octets}
 use Rattle.lte_machine.specs.Wire.{ciphering_if, nas_use, nas_ciphering}

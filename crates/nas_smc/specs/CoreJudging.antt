@@ -1,18 +1,14 @@
 -- What a NAS message comes to, as the core's table has it (TS 24.301 4.4.3 to 4.4.5 and 5.4.3).
 use Rattle.std.specs.Prelude.{◌≡◌, ℕ, ◌<◌, ◌≤◌, Bool, true, false, List, Option, Some, None, option_map, Result}
-use Rattle.lte_events.specs.declared.answers.Answer.{Answer}
-use Rattle.lte_events.specs.declared.replies.ActorOut.{ActorOut}
+use Rattle.lte_events.specs.{declared.answers.Answer.Answer, declared.replies.ActorOut.ActorOut}
 use Rattle.key_model.specs.Reading.{octet_reading}
 use Rattle.nas_count.specs.Estimate.{nas_count_limit}
 use Rattle.nas_guard.specs.Keys.{Keys, map_keys}
-use Rattle.lte_machine.specs.Calls.{actor_out, use_out}
-use Rattle.lte_machine.specs.Ciphers.{annex_b}
+use Rattle.lte_machine.specs.{Calls.actor_out, Calls.use_out, Ciphers.annex_b, CoreKeys.core_nas_expects, CoreKeys.core_does_nas, Reply.unseen}
 use Rattle.lte_machine.specs.CoreChoice.{CoreNasFront, core_nas_front, core_nas_row, completed_row}
-use Rattle.lte_machine.specs.CoreKeys.{core_nas_expects, core_does_nas}
 use Rattle.lte_machine.specs.CoreRows.{CoreNasRow, NasRefused, PlainReject, ServiceAsked, NasOpened, SealedReject}
 use Rattle.lte_machine.specs.CoreState.{Core, CoreContext, CoreLink, map_core_context, map_core_link}
 use Rattle.lte_machine.specs.Opening.{Opening, Outcome, accepted_of, open_octets}
-use Rattle.lte_machine.specs.Reply.{unseen}
 use Rattle.rec_base.specs.declared.uses.Use.{Use}
 use Rattle.nas_smc.specs.declared.core_judging.CoreVerdict.{CoreVerdict}
 use Rattle.nas_smc.specs.declared.core_judging.CoreVerdict as verdicts

@@ -1,22 +1,15 @@
 -- The NAS part of a core, and the whole core around it (TS 24.301 4.4, TS 33.401 7.2.6.2 and 7.2.9.2).
 use Rattle.std.specs.Prelude.{ℕ, ◌+◌, ◌==◌, nat_le, Bool, true, false, if◌then◌else◌, List, ◌∷◌, map, replicate, Option, Some, None}
-use Rattle.alg_choice.specs.declared.algs.Eea.{Eea}
-use Rattle.alg_choice.specs.declared.caps.Caps.{Caps}
-use Rattle.key_model.specs.Derivation.{derived_of, kenb_made}
-use Rattle.key_model.specs.Reading.{octet_reading}
-use Rattle.lte_events.specs.Site.{Site}
-use Rattle.lte_events.specs.declared.replies.ActorOut.{ActorOut}
-use Rattle.lte_events.specs.declared.setups.FirstNcc.{FirstNcc}
-use Rattle.lte_machine.specs.Calls.{note_out, record_out}
-use Rattle.lte_machine.specs.CoreChoice.{NUMBERS}
+use Rattle.alg_choice.specs.{declared.algs.Eea.Eea, declared.caps.Caps.Caps}
+use Rattle.key_model.specs.{Derivation.derived_of, Derivation.kenb_made, Reading.octet_reading}
+use Rattle.lte_events.specs.{Site.Site, declared.replies.ActorOut.ActorOut, declared.setups.FirstNcc.FirstNcc}
+use Rattle.lte_machine.specs.{Calls.note_out, Calls.record_out, CoreChoice.NUMBERS}
 use Rattle.lte_machine.specs.CoreKeys.{chain_from, nh_kept, to_station}
 use Rattle.lte_machine.specs.CoreState.{Core, CorePartial, CoreContext, CoreLink}
-use Rattle.nas_guard.specs.Keys.{Keys}
-use Rattle.nas_guard.specs.Open.{header_in}
+use Rattle.nas_guard.specs.{Keys.Keys, Open.header_in}
 use Rattle.rec_base.specs.declared.ways.Way.TheVariants.{Initial}
 use Rattle.s1x2_rec.specs.Fields.{ContextModification}
-use Rattle.nas_smc.specs.declared.reply.NasOut.{NasOut}
-use Rattle.nas_smc.specs.NasOut.{core_reply}
+use Rattle.nas_smc.specs.{declared.reply.NasOut.NasOut, NasOut.core_reply}
 
 -- what an authentication left, and the keys of the procedure that is open for it
 pub record CoreLeft : Type 0 where

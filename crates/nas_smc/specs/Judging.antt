@@ -1,23 +1,16 @@
 -- What a NAS message comes to, as the phone's table has it (TS 24.301 4.4.3 to 4.4.5 and 5.4.3).
 use Rattle.std.specs.Prelude.{ℕ, ◌<◌, ◌≤◌, List, Option, Some, None, option_map, Result}
-use Rattle.lte_events.specs.declared.answers.Answer.{Answer}
-use Rattle.lte_events.specs.declared.answers.Answer.TheVariants.{CapsMismatch}
-use Rattle.lte_events.specs.declared.replies.ActorOut.{ActorOut}
+use Rattle.lte_events.specs.{declared.answers.Answer.Answer, declared.answers.Answer.TheVariants.CapsMismatch, declared.replies.ActorOut.ActorOut}
 use Rattle.key_model.specs.Reading.{octet_reading}
 use Rattle.nas_count.specs.Estimate.{nas_count_limit}
-use Rattle.lte_machine.specs.Calls.{actor_out, use_out}
-use Rattle.lte_machine.specs.Ciphers.{annex_b}
+use Rattle.lte_machine.specs.{Calls.actor_out, Calls.use_out, Ciphers.annex_b, PhoneKeys.nas_expects, PhoneKeys.nas_does, Reply.unseen}
 use Rattle.lte_machine.specs.Opening.{Opening, Outcome, accepted_of, open_octets}
 use Rattle.lte_machine.specs.PhoneState.{Partial, NasContext, Radio, Phone, map_partial, map_context, map_radio}
 use Rattle.lte_machine.specs.PhoneRows.{NasRow, NasRefused, NasOpened}
 use Rattle.lte_machine.specs.PhoneChoice.{NasFront, nas_row, rejected, context_row, nas_by_header, capabilities_mismatch, rejected_unspecified}
-use Rattle.lte_machine.specs.PhoneKeys.{nas_expects, nas_does}
-use Rattle.lte_machine.specs.Reply.{unseen}
 use Rattle.rec_base.specs.declared.uses.Use.{Use}
-use Rattle.nas_smc.specs.declared.judging.Judged.{Judged}
-use Rattle.nas_smc.specs.declared.judging.Verdict.{Verdict}
+use Rattle.nas_smc.specs.{declared.judging.Judged.Judged, declared.judging.Verdict.Verdict, PhoneNas.NasPart, PhoneNas.phone_of}
 use Rattle.nas_smc.specs.declared.judging.Verdict as verdicts
-use Rattle.nas_smc.specs.PhoneNas.{NasPart, phone_of}
 
 -- the contexts without their keys
 abbrev pub plain_partial : NasPart → Option (Partial (Unit {0}))

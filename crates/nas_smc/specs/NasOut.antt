@@ -2,13 +2,10 @@
 use Rattle.std.specs.Prelude.{ℕ, false, List, [], ◌∷◌, map, Option, Some, None, option_map}
 use Rattle.annex_a_keys.specs.declared.derived.Derived.{Derived}
 use Rattle.rec_base.specs.declared.uses.Use.{Use}
-use Rattle.lte_events.specs.declared.addresses.Address.{Address}
+use Rattle.lte_events.specs.{declared.addresses.Address.Address, declared.answers.Answer.Answer, declared.replies.ActorOut.ActorOut}
 use Rattle.lte_events.specs.declared.addresses.Address.TheVariants.{CoreNas, PhoneNas}
-use Rattle.lte_events.specs.declared.answers.Answer.{Answer}
-use Rattle.lte_events.specs.declared.replies.ActorOut.{ActorOut}
-use Rattle.lte_machine.specs.Calls.{use_out}
+use Rattle.lte_machine.specs.{Calls.use_out, Wire.Outgoing, Wire.uses_of}
 use Rattle.lte_machine.specs.Ciphers.{annex_b, octets_of, written}
-use Rattle.lte_machine.specs.Wire.{Outgoing, uses_of}
 use Rattle.nas_smc.specs.declared.reply.NasOut.{NasOut}
 
 -- an answer and nothing else

@@ -2,12 +2,10 @@
 use Rattle.std.specs.Prelude.{ℕ, List, ◌∷◌, Option, Some, None}
 use Rattle.alg_choice.specs.declared.caps.Caps.{Caps}
 use Rattle.annex_a_keys.specs.declared.derived.Derived.{Derived}
-use Rattle.key_model.specs.Derivation.{derived_of, kenb_made}
-use Rattle.key_model.specs.Reading.{octet_reading}
+use Rattle.key_model.specs.{Derivation.derived_of, Derivation.kenb_made, Reading.octet_reading}
 use Rattle.lte_events.specs.declared.replies.ActorOut.{ActorOut}
 use Rattle.lte_machine.specs.PhoneState.{Partial, NasContext, Waiting, Radio, Idle, Connecting, Connected, Phone}
-use Rattle.nas_smc.specs.declared.reply.NasOut.{NasOut}
-use Rattle.nas_smc.specs.NasOut.{phone_reply}
+use Rattle.nas_smc.specs.{declared.reply.NasOut.NasOut, NasOut.phone_reply}
 
 -- what a phone keeps for NAS
 pub record NasPart : Type 0 where

@@ -1,17 +1,10 @@
 -- One more link keeps the chains.
 use Rattle.std.proofs.Common.{◌≡◌, ◌≢◌, ℕ, zero, suc, ◌<◌, ◌≤◌, ◌+◌, ◌⊎◌, inl, inr, Bool, true, false, cond, Option, Some, None, List, [], ◌∷◌, ◌++◌, length, map, set, get_or, slice_get, sym, refl, ap, subst, ◌∙◌, arith, true≢false, length-append, length-set}
-use Rattle.std.specs.Option.{option_map, IfSome}
-use Rattle.std.specs.HashMap.{HashMap, get}
-use Rattle.std.specs.Map.{lookup}
-use Rattle.std.specs.Str.{bytes_eq}
-use Rattle.std.proofs.lemmas.Bool.{cases_lt}
-use Rattle.std.proofs.lemmas.List.{length-map, map-append}
+use Rattle.std.specs.{Option.option_map, Option.IfSome, HashMap.HashMap, HashMap.get, Map.lookup, Str.bytes_eq}
+use Rattle.std.proofs.{lemmas.Bool.cases_lt, lemmas.List.length-map, lemmas.List.map-append, lemmas.Slice.Eq.bytes_eq-Decides, Math.Seq.map-set_same}
 use Rattle.std.proofs.lemmas.Option.{slice_get-map, slice_get_within, slice_get_cases, get_or_from_slice_get, none-some}
-use Rattle.std.proofs.lemmas.Slice.Eq.{bytes_eq-Decides}
-use Rattle.std.proofs.Math.Seq.{map-set_same}
 use Rattle.key_terms.proofs.Places.{slice_get_stays, slice_get_at_end, slice_get_push}
-use Rattle.net_bag.specs.declared.chains.Chain.{Chain}
-use Rattle.net_bag.specs.declared.chains.Link.{Link}
+use Rattle.net_bag.specs.{declared.chains.Chain.Chain, declared.chains.Link.Link}
 use Rattle.net_bag.specs.Chains.{digests_of, IsFirstFrom, IsLast, IsChained, linked, chain_with}
 
 first_grows : (ds : List (List ℕ)) (d new : List ℕ) (from : ℕ) (o : Option ℕ)

@@ -1,22 +1,16 @@
 -- Along the chain of a value no record with the octets is passed over.
 use Rattle.std.proofs.Common.{◌≡◌, ℕ, ◌<◌, ◌≤◌, ◌+◌, ◌-◌, inl, inr, Bool, true, false, ◌&&◌, Option, Some, None, List, [], ◌∷◌, ◌++◌, length, length-append, add-one, map, take, drop, min, slice_get, sym, refl, ap, subst, ◌∙◌, arith, true≢false}
-use Rattle.std.specs.Option.{option_map}
-use Rattle.std.specs.Str.{bytes_eq}
-use Rattle.std.proofs.lemmas.Bool.{cases_lt}
+use Rattle.std.specs.{Option.option_map, Str.bytes_eq}
+use Rattle.std.proofs.{lemmas.Bool.cases_lt, Math.Seq.take-suc, lemmas.Slice.Eq.bytes_eq-Decides}
 use Rattle.std.proofs.lemmas.List.{take-append-drop, length-take, length-map, map-append}
-use Rattle.std.proofs.Math.Seq.{take-suc}
-use Rattle.lte_events.specs.declared.addresses.Address.{Address}
+use Rattle.lte_events.specs.{declared.addresses.Address.Address, declared.classes.Class.Class}
 use Rattle.std.proofs.lemmas.Option.{slice_get-map, slice_get_within, slice_get_cases, none-some}
-use Rattle.std.proofs.lemmas.Slice.Eq.{bytes_eq-Decides}
 use Rattle.key_terms.proofs.Places.{slice_get_stays, position_first, position_nowhere}
 use Rattle.sha2.specs.Sha256.{sha256}
-use Rattle.lte_events.specs.declared.classes.Class.{Class}
 use Rattle.lte_events.specs.declared.classes.Class.TheVariants.{Nas, Air, S1, X2}
-use Rattle.net_bag.specs.declared.view.BagView.{BagView}
+use Rattle.net_bag.specs.{declared.view.BagView.BagView, Class.class_octet, Class.digest, Chains.IsFirstFrom}
 use Rattle.lte_events.specs.Class.{class_of, same_class, told_in}
-use Rattle.net_bag.specs.Class.{class_octet, digest}
 use Rattle.net_bag.specs.Bag.{is_sent, first_sent, digest_of, IsIndexOf}
-use Rattle.net_bag.specs.Chains.{IsFirstFrom}
 
 both : (a b : Bool) → (a && b) ≡ true → (a ≡ true) × (b ≡ true)
 both true true e = (refl, refl)

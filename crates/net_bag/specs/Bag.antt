@@ -1,12 +1,9 @@
 -- The bag of everything ever sent: the records, in the order in which they were sent.
 use Rattle.std.specs.Prelude.{◌≡◌, ℕ, ◌<◌, Bool, false, ◌&&◌, List, Option, Some, None, length, map, take, slice_get, position}
 use Rattle.std.specs.Str.{bytes_eq}
-use Rattle.lte_events.specs.declared.classes.Class.{Class}
-use Rattle.net_bag.specs.declared.view.BagView.{BagView}
-use Rattle.net_bag.specs.declared.records.Entry.{Entry}
+use Rattle.lte_events.specs.{declared.classes.Class.Class, Texts.Item}
+use Rattle.net_bag.specs.{declared.view.BagView.BagView, declared.records.Entry.Entry, Class.digest}
 use Rattle.lte_events.specs.Class.{class_of, same_class, told_in}
-use Rattle.lte_events.specs.Texts.{Item}
-use Rattle.net_bag.specs.Class.{digest}
 
 -- the records, and for how many more there is room
 pub record Records : Type 0 where

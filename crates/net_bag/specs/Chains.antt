@@ -2,8 +2,7 @@
 use Rattle.std.specs.Prelude.{◌≡◌, ℕ, ◌+◌, ◌<◌, ◌≤◌, List, [], ◌∷◌, ◌++◌, Option, Some, None, length, map, slice_get}
 use Rattle.std.proofs.Math.ListN.{set}
 use Rattle.std.specs.Option.{option_map}
-use Rattle.net_bag.specs.declared.chains.Chain.{Chain}
-use Rattle.net_bag.specs.declared.chains.Link.{Link}
+use Rattle.net_bag.specs.{declared.chains.Chain.Chain, declared.chains.Link.Link}
 
 -- the values, in order
 abbrev pub digests_of : List Link → List (List ℕ)

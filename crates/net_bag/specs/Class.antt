@@ -1,8 +1,7 @@
 -- The value by which a record is looked up.
 use Rattle.std.specs.Prelude.{ℕ, List, ◌∷◌}
 use Rattle.sha2.specs.Sha256.{sha256}
-use Rattle.lte_events.specs.Class.{told_in}
-use Rattle.lte_events.specs.declared.classes.Class.{Class}
+use Rattle.lte_events.specs.{Class.told_in, declared.classes.Class.Class}
 use Rattle.lte_events.specs.declared.classes.Class.TheVariants.{Nas, Air, S1, X2}
 
 -- one octet for each interface

@@ -1,14 +1,9 @@
 -- A climb of a chain, step by step, and its length.
 use Rattle.std.proofs.Common.{◌≡◌, ℕ, zero, suc, ◌+◌, ◌-◌, ◌%◌, ◌<◌, ◌≤◌, List, [], ◌∷◌, ◌++◌, map, refl, sym, ◌∙◌, ap, arith, mod-eq_of_lt}
-use Rattle.std.proofs.Math.Nat.{mod-add-mod}
-use Rattle.std.proofs.lemmas.List.{map-append}
-use Rattle.key_model.specs.Least.{least}
-use Rattle.key_model.specs.Reading.{octet_reading}
-use Rattle.key_model.specs.HandoverLines.{nh_after, steps_to}
-use Rattle.key_model.specs.Derivation.{nh_made}
+use Rattle.std.proofs.{Math.Nat.mod-add-mod, lemmas.List.map-append}
+use Rattle.key_model.specs.{Least.least, Reading.octet_reading, HandoverLines.nh_after, HandoverLines.steps_to, Derivation.nh_made, Derivation.derived_of}
 use Rattle.key_model.proofs.LeastFacts.{least_is}
 use Rattle.nh_chain.specs.Chain.{ChainState, climbed, stepped, number_after, nhs_made}
-use Rattle.key_model.specs.Derivation.{derived_of}
 
 -- the steps between two NCCs
 pub steps_between : (own ncc : ℕ) → own ≤ 7 → ncc ≤ 7 → (ncc + 8 - own) % 8 ≡ steps_to own ncc

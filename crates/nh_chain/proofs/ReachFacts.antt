@@ -1,14 +1,9 @@
 -- What a phone derives, by the NH that its chain reached.
 use Rattle.std.proofs.Common.{◌≡◌, ℕ, zero, suc, ◌+◌, ◌-◌, List, [], ◌∷◌, ◌++◌, length, map, Option, refl, sym, ◌∙◌, ap, arith}
 use Rattle.std.proofs.lemmas.List.{length-append, length-map, map-append}
-use Rattle.annex_a_keys.specs.Cell.{Place}
-use Rattle.annex_a_keys.specs.declared.derived.Derived.{Derived}
+use Rattle.annex_a_keys.specs.{Cell.Place, declared.derived.Derived.Derived}
 use Rattle.rec_base.specs.declared.ways.Way.{Way}
-use Rattle.key_model.specs.Term.{Term}
-use Rattle.key_model.specs.Chain.{ncc_of}
-use Rattle.key_model.specs.Value.{value_of}
-use Rattle.key_model.specs.Reading.{octet_reading}
-use Rattle.key_model.specs.HandoverTable.{key_at_phone, phone_number}
+use Rattle.key_model.specs.{Term.Term, Chain.ncc_of, Value.value_of, Reading.octet_reading, HandoverTable.key_at_phone, HandoverTable.phone_number}
 use Rattle.key_model.specs.HandoverLines.{PhoneKeys, key_after, nh_after, phone_line, steps_to}
 use Rattle.key_model.specs.Derivation.{derived_of, nh_made, star_made}
 use Rattle.key_model.proofs.LeastFacts.{least_from_remainder}

@@ -1,17 +1,11 @@
 -- A chain in octets goes as the chain in terms goes.
 use Rattle.std.proofs.Common.{◌≡◌, ℕ, zero, suc, ◌+◌, sym, ◌∙◌, ap, add-zero}
 use Rattle.std.proofs.Math.Nat.{mod-add-mod}
-use Rattle.key_model.specs.Term.{Term}
-use Rattle.key_model.specs.Chain.{nh, ncc_of}
-use Rattle.key_model.specs.Value.{value_of, same_value}
-use Rattle.key_model.specs.Reading.{octet_reading, term_reading}
-use Rattle.key_model.specs.HandoverTable.{key_at_phone, phone_number}
+use Rattle.key_model.specs.{Term.Term, Chain.nh, Chain.ncc_of, Value.value_of, Value.same_value, Reading.octet_reading, Reading.term_reading, HandoverTable.key_at_phone, HandoverTable.phone_number}
 use Rattle.key_model.specs.HandoverLines.{nh_after, steps_to, phone_keys, phone_line}
-use Rattle.key_model.proofs.LeastFacts.{least_from_remainder}
-use Rattle.key_model.proofs.ReadingFacts.{values_carry}
+use Rattle.key_model.proofs.{LeastFacts.least_from_remainder, ReadingFacts.values_carry}
 use Rattle.key_model.proofs.HandoverFacts.{nh_after-chain, nh_after-map, phone_line-map, phone_line-terms}
-use Rattle.nh_chain.specs.Chain.{climbed, number_after}
-use Rattle.nh_chain.specs.Reach.{phone_of}
+use Rattle.nh_chain.specs.{Chain.climbed, Chain.number_after, Reach.phone_of}
 use Rattle.nh_chain.specs.Terms.{chain_at, chain_in_octets, in_octets}
 
 -- the NCC so many steps on

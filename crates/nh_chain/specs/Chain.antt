@@ -1,9 +1,6 @@
 -- The chain of NH keys below one KASME, as the core and a phone keep it (TS 33.401 7.2.8.1.1).
 use Rattle.std.specs.Prelude.{ℕ, zero, suc, List, [], ◌∷◌, ◌++◌}
-use Rattle.key_model.specs.Reading.{Reading}
-use Rattle.key_model.specs.HandoverTable.{NumberedKey}
-use Rattle.key_model.specs.HandoverLines.{nh_after}
-use Rattle.key_model.specs.Derivation.{Derivation, nh_made}
+use Rattle.key_model.specs.{Reading.Reading, HandoverTable.NumberedKey, HandoverLines.nh_after, Derivation.Derivation, Derivation.nh_made}
 
 -- KASME, the key of the present chain number, which is the next SYNC-input, and that number
 pub record ChainState (K C : Type 0) : Type 0 where

@@ -2,8 +2,7 @@
 use Rattle.std.specs.Prelude.{ℕ, zero, suc, Option, None, Some}
 use Rattle.rec_base.specs.declared.ways.Way.{Way}
 use Rattle.rec_base.specs.declared.ways.Way.TheVariants.{Horizontal, Vertical}
-use Rattle.key_model.specs.Reading.{Reading}
-use Rattle.key_model.specs.HandoverLines.{nh_after}
+use Rattle.key_model.specs.{Reading.Reading, HandoverLines.nh_after}
 
 -- the NH after so many steps, none after none
 abbrev pub nh_reached : {K C : Type 0} → Reading K C → K → K → ℕ → Option K

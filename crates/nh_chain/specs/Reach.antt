@@ -3,10 +3,8 @@ use Rattle.std.specs.Prelude.{ℕ, zero, suc, List, [], ◌∷◌, ◌++◌}
 use Rattle.annex_a_keys.specs.Cell.{Place}
 use Rattle.rec_base.specs.declared.ways.Way.{Way}
 use Rattle.rec_base.specs.declared.ways.Way.TheVariants.{Horizontal, Vertical}
-use Rattle.key_model.specs.Reading.{Reading}
-use Rattle.key_model.specs.HandoverTable.{NumberedKey}
+use Rattle.key_model.specs.{Reading.Reading, HandoverTable.NumberedKey, Derivation.Derivation, Derivation.star_made}
 use Rattle.key_model.specs.HandoverLines.{PhoneKeys, nh_after, steps_to, key_after}
-use Rattle.key_model.specs.Derivation.{Derivation, star_made}
 use Rattle.nh_chain.specs.Chain.{ChainState, climbed, nhs_made}
 
 -- the keys of a phone with this chain and this active KeNB

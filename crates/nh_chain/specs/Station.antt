@@ -3,10 +3,7 @@ use Rattle.std.specs.Prelude.{Option, None, Some}
 use Rattle.annex_a_keys.specs.Cell.{Place}
 use Rattle.rec_base.specs.declared.ways.Way.{Way}
 use Rattle.rec_base.specs.declared.ways.Way.TheVariants.{Horizontal, Vertical}
-use Rattle.key_model.specs.Reading.{Reading}
-use Rattle.key_model.specs.HandoverTable.{NumberedKey}
-use Rattle.key_model.specs.HandoverLines.{map_numbered, star_line}
-use Rattle.key_model.specs.Derivation.{Derivation, star_made}
+use Rattle.key_model.specs.{Reading.Reading, HandoverTable.NumberedKey, HandoverLines.map_numbered, HandoverLines.star_line, Derivation.Derivation, Derivation.star_made}
 
 -- the active KeNB and its number, and an unused pair of NH and its number
 pub record StationKey (K C : Type 0) : Type 0 where

@@ -1,10 +1,6 @@
 -- Chains and keys that are known as terms, as they stand in octets (TS 33.401 7.2.8.1.1).
 use Rattle.std.specs.Prelude.{ℕ, List}
-use Rattle.key_model.specs.Term.{Term}
-use Rattle.key_model.specs.Chain.{nh, ncc_of}
-use Rattle.key_model.specs.Value.{value_of}
-use Rattle.key_model.specs.HandoverTable.{NumberedKey}
-use Rattle.key_model.specs.HandoverLines.{map_numbered}
+use Rattle.key_model.specs.{Term.Term, Chain.nh, Chain.ncc_of, Value.value_of, HandoverTable.NumberedKey, HandoverLines.map_numbered}
 use Rattle.nh_chain.specs.Chain.{ChainState, map_chain}
 
 -- the chain of KASME r and COUNT n at chain number i

@@ -8,8 +8,7 @@ use Rattle.ctr_eea2.proofs.CombinedLemmas.{length-eea2_of}
 use Rattle.key_model.specs.Least.{least}
 use Rattle.key_model.proofs.LeastFacts.{least_in_window}
 use Rattle.nas_guard.specs.Cipher.{ciphered}
-use Rattle.pdcp_guard.specs.declared.pdus.PdcpFault.{PdcpFault}
-use Rattle.pdcp_guard.specs.declared.pdus.PdcpFault.TheVariants.{CountSpent}
+use Rattle.pdcp_guard.specs.{declared.pdus.PdcpFault.PdcpFault, declared.pdus.PdcpFault.TheVariants.CountSpent}
 use Rattle.pdcp_guard.specs.Counts.{BearerState, count_limit, after_send, in_32_bits, send_count}
 
 -- a ciphered text is as long as the text

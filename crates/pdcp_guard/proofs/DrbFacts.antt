@@ -1,17 +1,12 @@
 -- On data radio bearers what was sealed opens, and what opens was sealed.
 use Rattle.std.proofs.Common.{◌≡◌, ℕ, suc, ◌+◌, ◌-◌, ◌*◌, ◌/◌, ◌%◌, ◌<◌, ◌≤◌, ◌==◌, nat_lt, true, false, List, [], ◌∷◌, length, drop, slice_index, Result, Ok, refl, ap, ◌∙◌, arith, eq-eqb}
 use Rattle.std.proofs.lemmas.Bool.Decides.{nat_tests}
-use Rattle.rec_base.specs.Bearer.{bearer5_of}
-use Rattle.rec_base.specs.declared.bearers.Bearer.{Bearer}
-use Rattle.rec_base.specs.declared.uses.Dir.{Dir}
+use Rattle.rec_base.specs.{Bearer.bearer5_of, declared.bearers.Bearer.Bearer, declared.uses.Dir.Dir}
 use Rattle.key_model.specs.Least.{least}
 use Rattle.key_model.proofs.LeastFacts.{least_is}
 use Rattle.nas_guard.specs.Open.{first_in}
 use Rattle.nas_guard.proofs.SealFacts.{ciphered-ciphered}
-use Rattle.pdcp_guard.specs.declared.pdus.PdcpOpened.{PdcpOpened}
-use Rattle.pdcp_guard.specs.declared.pdus.PdcpFault.{PdcpFault}
-use Rattle.pdcp_guard.specs.AsKeys.{AsKeys}
-use Rattle.pdcp_guard.specs.Counts.{count_limit}
+use Rattle.pdcp_guard.specs.{declared.pdus.PdcpOpened.PdcpOpened, declared.pdus.PdcpFault.PdcpFault, AsKeys.AsKeys, Counts.count_limit}
 use Rattle.pdcp_guard.specs.Drb.{DrbOpens, drb_ciphered, drb_count, drb_first_octet, drb_opened, drb_opened_at, drb_opened_by, drb_sealed, drb_second_octet, drb_sn}
 use Rattle.pdcp_guard.proofs.CountFacts.{expected-is_least, in_32_bits-below, length-ciphered}
 

@@ -1,8 +1,7 @@
 -- The keys of a KeNB in two readings.
 use Rattle.std.proofs.Common.{◌≡◌, map, refl}
 use Rattle.alg_choice.specs.declared.algs.Algs.{Algs}
-use Rattle.key_model.specs.Derivation.{map_derivation}
-use Rattle.key_model.specs.Reading.{Carries, Reading}
+use Rattle.key_model.specs.{Derivation.map_derivation, Reading.Carries, Reading.Reading}
 use Rattle.pdcp_guard.specs.AsKeys.{as_derivations, as_keys_of, map_as_keys}
 
 pub as_keys_of-carried : {K C L D : Type 0} (r : Reading K C) (q : Reading L D) (f : K → L) (g : C → D) → Carries r q f g → (kenb : K) (algs : Algs)

@@ -1,7 +1,6 @@
 -- The COUNTs that are sent over any acts on a bearer rise.
 use Rattle.std.proofs.Common.{◌≡◌, ℕ, ◌<◌, ◌≤◌, List, [], ◌∷◌, All, AllPairs, Result, Ok, Err, refl, arith}
-use Rattle.std.proofs.lemmas.List.Elements.{All-nil, All-cons}
-use Rattle.std.proofs.lemmas.List.Kept.{AllPairs-cons}
+use Rattle.std.proofs.{lemmas.List.Elements.All-nil, lemmas.List.Elements.All-cons, lemmas.List.Kept.AllPairs-cons}
 use Rattle.pdcp_guard.specs.declared.pdus.PdcpFault.{PdcpFault}
 use Rattle.pdcp_guard.specs.Counts.{BearerState, count_limit, after_send, send_count}
 use Rattle.pdcp_guard.specs.CountActs.{BearerAct, after_act, counts_sent, sent_before}

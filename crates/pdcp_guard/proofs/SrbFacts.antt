@@ -1,23 +1,14 @@
 -- On signalling radio bearers what was sealed opens, and what opens was sealed.
 use Rattle.std.proofs.Common.{◌≡◌, ◌≢◌, ℕ, suc, ◌+◌, ◌-◌, ◌%◌, ◌<◌, ◌≤◌, nat_lt, Bool, true, false, if◌then◌else◌, List, [], ◌∷◌, ◌++◌, length, Result, Ok, Err, IfOk, IfErr, refl, ap, ◌∙◌, arith, length-append, cond}
 use Rattle.std.specs.Str.{bytes_eq}
-use Rattle.std.proofs.lemmas.Slice.Eq.{bytes_eq-Decides}
-use Rattle.std.proofs.lemmas.List.{take-append-drop}
-use Rattle.std.proofs.lemmas.Bool.Decides.{nat_tests}
-use Rattle.std.proofs.Math.Nat.{mod-mod}
-use Rattle.std.proofs.Math.Seq.{take-append_seam, drop-append_seam}
-use Rattle.rec_base.specs.Bearer.{bearer5_of}
-use Rattle.rec_base.specs.declared.bearers.Bearer.{Bearer}
-use Rattle.rec_base.specs.declared.uses.Dir.{Dir}
+use Rattle.std.proofs.{lemmas.Slice.Eq.bytes_eq-Decides, lemmas.List.take-append-drop, lemmas.Bool.Decides.nat_tests, Math.Nat.mod-mod, Math.Seq.take-append_seam, Math.Seq.drop-append_seam}
+use Rattle.rec_base.specs.{Bearer.bearer5_of, declared.bearers.Bearer.Bearer, declared.uses.Dir.Dir}
 use Rattle.key_model.specs.Least.{least}
 use Rattle.key_model.proofs.LeastFacts.{least_is}
 use Rattle.nas_guard.specs.Open.{first_in}
 use Rattle.nas_guard.proofs.SealFacts.{ciphered-ciphered, length-mac_of}
-use Rattle.pdcp_guard.specs.declared.pdus.PdcpOpened.{PdcpOpened}
-use Rattle.pdcp_guard.specs.declared.pdus.PdcpFault.{PdcpFault}
+use Rattle.pdcp_guard.specs.{declared.pdus.PdcpOpened.PdcpOpened, declared.pdus.PdcpFault.PdcpFault, AsKeys.AsKeys, Counts.count_limit}
 use Rattle.pdcp_guard.specs.declared.pdus.PdcpFault.TheVariants.{Short, MacFails}
-use Rattle.pdcp_guard.specs.AsKeys.{AsKeys}
-use Rattle.pdcp_guard.specs.Counts.{count_limit}
 use Rattle.pdcp_guard.specs.Srb.{SrbOpens, SrbRefuses, srb_ciphered, srb_count, srb_got, srb_header, srb_mac, srb_opened, srb_opened_by, srb_opened_at, srb_sealed, srb_sn, srb_text, srb_wanted}
 use Rattle.pdcp_guard.proofs.CountFacts.{expected-is_least, in_32_bits-below, length-ciphered}
 

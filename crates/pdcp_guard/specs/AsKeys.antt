@@ -1,12 +1,9 @@
 -- The keys of the access stratum (TS 33.401 6.2).
 use Rattle.std.specs.Prelude.{List, [], ◌∷◌}
-use Rattle.alg_choice.specs.declared.algs.Algs.{Algs}
-use Rattle.alg_choice.specs.Algs.{identity_of, eia2_identity}
-use Rattle.annex_a_keys.specs.AlgType.{distinguisher}
-use Rattle.annex_a_keys.specs.declared.alg_type.AlgType.{AlgType}
+use Rattle.alg_choice.specs.{declared.algs.Algs.Algs, Algs.identity_of, Algs.eia2_identity}
+use Rattle.annex_a_keys.specs.{AlgType.distinguisher, declared.alg_type.AlgType.AlgType}
 use Rattle.annex_a_keys.specs.declared.alg_type.AlgType.TheVariants.{RrcEnc, RrcInt, UpEnc}
-use Rattle.key_model.specs.Reading.{Reading}
-use Rattle.key_model.specs.Derivation.{Derivation, alg_made}
+use Rattle.key_model.specs.{Reading.Reading, Derivation.Derivation, Derivation.alg_made}
 
 -- KRRCenc, KRRCint and KUPenc, for keys K, and the chosen algorithms
 pub record AsKeys (K : Type 0) : Type 0 where

@@ -1,8 +1,7 @@
 -- The COUNTs of a radio bearer (TS 36.323 6.3.5 and 7.1).
 use Rattle.std.specs.Prelude.{ℕ, ◌+◌, ◌^◌, min, nat_lt, if◌then◌else◌, Result, Ok, Err}
 use Rattle.rec_base.specs.declared.bearers.Bearer.{Bearer}
-use Rattle.pdcp_guard.specs.declared.pdus.PdcpFault.{PdcpFault}
-use Rattle.pdcp_guard.specs.declared.pdus.PdcpFault.TheVariants.{CountSpent}
+use Rattle.pdcp_guard.specs.{declared.pdus.PdcpFault.PdcpFault, declared.pdus.PdcpFault.TheVariants.CountSpent}
 
 -- every PDCP COUNT is below this: it has 32 bits (6.3.5)
 abbrev pub count_limit : ℕ

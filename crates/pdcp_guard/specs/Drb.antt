@@ -1,17 +1,10 @@
 -- PDUs of data radio bearers with a sequence number of 12 bits (TS 36.323 5.6 and 6.2.3).
 use Rattle.std.specs.Prelude.{◌≡◌, ℕ, ◌+◌, ◌*◌, ◌/◌, ◌%◌, ◌<◌, ◌≤◌, ◌==◌, nat_lt, if◌then◌else◌, List, ◌∷◌, drop, length, slice_index, Result, Ok, Err}
-use Rattle.rec_base.specs.Bearer.{bearer5_of}
-use Rattle.rec_base.specs.declared.bearers.Bearer.{Bearer}
-use Rattle.rec_base.specs.declared.uses.Dir.{Dir}
+use Rattle.rec_base.specs.{Bearer.bearer5_of, declared.bearers.Bearer.Bearer, declared.uses.Dir.Dir}
 use Rattle.key_model.specs.Least.{least}
-use Rattle.nas_guard.specs.Open.{first_in}
-use Rattle.nas_guard.specs.Cipher.{ciphered}
-use Rattle.pdcp_guard.specs.declared.pdus.PdcpSent.{PdcpSent}
-use Rattle.pdcp_guard.specs.declared.pdus.PdcpOpened.{PdcpOpened}
-use Rattle.pdcp_guard.specs.declared.pdus.PdcpFault.{PdcpFault}
+use Rattle.nas_guard.specs.{Open.first_in, Cipher.ciphered}
+use Rattle.pdcp_guard.specs.{declared.pdus.PdcpSent.PdcpSent, declared.pdus.PdcpOpened.PdcpOpened, declared.pdus.PdcpFault.PdcpFault, AsKeys.AsKeys, Counts.count_limit, Counts.in_32_bits}
 use Rattle.pdcp_guard.specs.declared.pdus.PdcpFault.TheVariants.{CountSpent, Short, BadHeader, MacFails}
-use Rattle.pdcp_guard.specs.AsKeys.{AsKeys}
-use Rattle.pdcp_guard.specs.Counts.{count_limit, in_32_bits}
 
 -- the first header octet: the bit D/C, which is 1, three zero bits, and the upper 4 bits of the sequence
 -- number (6.2.3, 6.3.7)

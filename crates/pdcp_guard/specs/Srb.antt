@@ -1,18 +1,11 @@
 -- PDUs of signalling radio bearers (TS 36.323 5.6, 5.7 and 6.2.2).
 use Rattle.std.specs.Prelude.{◌≡◌, ◌≢◌, ℕ, ◌-◌, ◌%◌, ◌<◌, ◌≤◌, nat_lt, Bool, if◌then◌else◌, List, ◌∷◌, ◌++◌, drop, length, take, Result, Ok, Err}
 use Rattle.std.specs.Str.{bytes_eq}
-use Rattle.rec_base.specs.Bearer.{bearer5_of}
-use Rattle.rec_base.specs.declared.bearers.Bearer.{Bearer}
-use Rattle.rec_base.specs.declared.uses.Dir.{Dir}
+use Rattle.rec_base.specs.{Bearer.bearer5_of, declared.bearers.Bearer.Bearer, declared.uses.Dir.Dir}
 use Rattle.key_model.specs.Least.{least}
-use Rattle.nas_guard.specs.Open.{first_in}
-use Rattle.nas_guard.specs.Cipher.{ciphered, mac_of}
-use Rattle.pdcp_guard.specs.declared.pdus.PdcpSent.{PdcpSent}
-use Rattle.pdcp_guard.specs.declared.pdus.PdcpOpened.{PdcpOpened}
-use Rattle.pdcp_guard.specs.declared.pdus.PdcpFault.{PdcpFault}
+use Rattle.nas_guard.specs.{Open.first_in, Cipher.ciphered, Cipher.mac_of}
+use Rattle.pdcp_guard.specs.{declared.pdus.PdcpSent.PdcpSent, declared.pdus.PdcpOpened.PdcpOpened, declared.pdus.PdcpFault.PdcpFault, AsKeys.AsKeys, Counts.count_limit, Counts.in_32_bits}
 use Rattle.pdcp_guard.specs.declared.pdus.PdcpFault.TheVariants.{CountSpent, Short, BadHeader, MacFails}
-use Rattle.pdcp_guard.specs.AsKeys.{AsKeys}
-use Rattle.pdcp_guard.specs.Counts.{count_limit, in_32_bits}
 
 -- the header octet: three zero bits and the sequence number, the lowest 5 bits of COUNT (6.2.2, 6.3.5)
 abbrev pub srb_header : ℕ → ℕ

@@ -3,20 +3,14 @@ use Rattle.std.proofs.Common.{◌≡◌, ℕ, ◌-◌, ◌%◌, Bool, true, fals
 use Rattle.std.specs.Str.{bytes_eq}
 use Rattle.alg_choice.specs.declared.algs.Eea.{Eea}
 use Rattle.alg_choice.specs.declared.algs.Eea.TheVariants.{Eea0, Eea2}
-use Rattle.alg_suite.specs.Suite.{ciphered_by, mac_by}
-use Rattle.alg_suite.specs.declared.integrity.Integrity.TheVariants.{Eia2}
-use Rattle.nas_count.specs.declared.sending.CountSpent.{CountSpent}
-use Rattle.nas_count.specs.Estimate.{estimate_of}
-use Rattle.rec_base.specs.Bearer.{bearer5_of}
-use Rattle.rec_base.specs.declared.bearers.Bearer.{Bearer}
-use Rattle.rec_base.specs.declared.uses.Dir.{Dir}
-use Rattle.nas_guard.specs.Cipher.{ciphered, mac_of}
-use Rattle.nas_guard.specs.Keys.{Keys}
+use Rattle.alg_suite.specs.{Suite.ciphered_by, Suite.mac_by, declared.integrity.Integrity.TheVariants.Eia2}
+use Rattle.nas_count.specs.{declared.sending.CountSpent.CountSpent, Estimate.estimate_of}
+use Rattle.rec_base.specs.{Bearer.bearer5_of, declared.bearers.Bearer.Bearer, declared.uses.Dir.Dir}
+use Rattle.nas_guard.specs.{Cipher.ciphered, Cipher.mac_of, Keys.Keys}
 use Rattle.nas_guard.specs.Seal.{is_ciphered, sealed, sent_text}
 use Rattle.nas_guard.specs.Open.{opened, opened_at, opened_by, first_in, header_in, is_protected, mac_at, mac_in, sent_in, sn_in}
 use Rattle.nas_guard.specs.declared.opening.OpenFault.TheVariants.{Short, BadHeader, MacFails}
-use Rattle.pdcp_guard.specs.AsKeys.{AsKeys}
-use Rattle.pdcp_guard.specs.declared.pdus.PdcpFault.{PdcpFault}
+use Rattle.pdcp_guard.specs.{AsKeys.AsKeys, declared.pdus.PdcpFault.PdcpFault}
 use Rattle.pdcp_guard.specs.declared.pdus.PdcpFault.TheVariants as fails
 use Rattle.pdcp_guard.specs.Drb.{drb_ciphered, drb_count, drb_opened, drb_opened_at, drb_opened_by, drb_sealed}
 use Rattle.pdcp_guard.specs.Srb.{srb_ciphered, srb_count, srb_opened, srb_opened_at, srb_opened_by, srb_sealed}

@@ -1,16 +1,11 @@
 -- What the receiving rule of RLC AM finds of what was sent.
 use Rattle.std.proofs.Common.{◌≡◌, ℕ, suc, ◌+◌, ◌-◌, ◌*◌, ◌/◌, ◌%◌, ◌<◌, ◌≤◌, ◌==◌, nat_le, nat_lt, true, false, if◌then◌else◌, List, ◌++◌, length, Result, Ok, refl, ap, ◌∙◌, arith, eq-eqb, ◌⊎◌, inl, inr}
-use Rattle.std.proofs.lemmas.Bool.{cases_lt}
-use Rattle.std.proofs.lemmas.Bool.Decides.{nat_tests}
+use Rattle.std.proofs.{lemmas.Bool.cases_lt, lemmas.Bool.Decides.nat_tests}
 use Rattle.rec_base.specs.declared.uses.Dir.{Dir}
 use Rattle.pdcp_guard.specs.Counts.{count_limit}
-use Rattle.pdu_guard.specs.declared.am.AmFate.{AmFate}
+use Rattle.pdu_guard.specs.{declared.am.AmFate.AmFate, declared.am.AmFault.AmFault, declared.am.AmFound.AmFound, declared.drb.DrbKeys.DrbKeys, declared.drb.Numbers.Numbers}
 use Rattle.pdu_guard.specs.declared.am.AmFate.TheVariants.{Discarded, Late, New}
-use Rattle.pdu_guard.specs.declared.am.AmFault.{AmFault}
-use Rattle.pdu_guard.specs.declared.am.AmFound.{AmFound}
 use Rattle.pdu_guard.specs.declared.am.Hfn.TheVariants.{Before, Same, After}
-use Rattle.pdu_guard.specs.declared.drb.DrbKeys.{DrbKeys}
-use Rattle.pdu_guard.specs.declared.drb.Numbers.{Numbers}
 use Rattle.pdu_guard.specs.declared.drb.Numbers.TheVariants.{Seven, Twelve, Fifteen, Eighteen}
 use Rattle.pdu_guard.specs.Am.{am_count_at, am_count_of, count_at, counted, is_outside, last_before, place_of, window_of}
 use Rattle.pdu_guard.specs.Drb.{drb_head, drb_pdu, drb_sent, values_of}

@@ -2,23 +2,12 @@
 use Rattle.std.specs.Prelude.{ℕ, true, List, Result, Ok, Err}
 use Rattle.alg_choice.specs.declared.algs.Eea.{Eea}
 use Rattle.alg_choice.specs.declared.algs.Eea.TheVariants as program
-use Rattle.alg_suite.specs.declared.ciphering.Ciphering.{Ciphering}
+use Rattle.alg_suite.specs.{declared.ciphering.Ciphering.Ciphering, declared.integrity.Integrity.TheVariants.Eia2}
 use Rattle.alg_suite.specs.declared.ciphering.Ciphering.TheVariants.{Eea0, Eea2}
-use Rattle.alg_suite.specs.declared.integrity.Integrity.TheVariants.{Eia2}
-use Rattle.rec_base.specs.Bearer.{bearer5_of}
-use Rattle.rec_base.specs.declared.bearers.Bearer.{Bearer}
-use Rattle.nas_guard.specs.Keys.{Keys}
-use Rattle.nas_guard.specs.declared.opening.Opened.{Opened}
-use Rattle.nas_guard.specs.declared.opening.OpenFault.{OpenFault}
-use Rattle.pdcp_guard.specs.AsKeys.{AsKeys}
-use Rattle.pdcp_guard.specs.declared.pdus.PdcpFault.{PdcpFault}
-use Rattle.pdcp_guard.specs.declared.pdus.PdcpOpened.{PdcpOpened}
-use Rattle.pdu_guard.specs.declared.drb.DrbKeys.{DrbKeys}
-use Rattle.pdu_guard.specs.declared.drb.Numbers.TheVariants.{Twelve}
-use Rattle.pdu_guard.specs.declared.nas.NasKeys.{NasKeys}
-use Rattle.pdu_guard.specs.declared.srb.SrbKeys.{SrbKeys}
-use Rattle.pdu_guard.specs.Nas.{NasOpening}
-use Rattle.pdu_guard.specs.Srb.{SrbOpening}
+use Rattle.rec_base.specs.{Bearer.bearer5_of, declared.bearers.Bearer.Bearer}
+use Rattle.nas_guard.specs.{Keys.Keys, declared.opening.Opened.Opened, declared.opening.OpenFault.OpenFault}
+use Rattle.pdcp_guard.specs.{AsKeys.AsKeys, declared.pdus.PdcpFault.PdcpFault, declared.pdus.PdcpOpened.PdcpOpened}
+use Rattle.pdu_guard.specs.{declared.drb.DrbKeys.DrbKeys, declared.drb.Numbers.TheVariants.Twelve, declared.nas.NasKeys.NasKeys, declared.srb.SrbKeys.SrbKeys, Nas.NasOpening, Srb.SrbOpening}
 
 -- the program's encryption algorithms; its integrity algorithm is 128-EIA2
 abbrev pub ciphering_of : Eea → Ciphering

@@ -2,15 +2,10 @@
 -- RX_HFN, which are one COUNT here, the next one, and Last_Submitted_PDCP_RX_SN.
 use Rattle.std.specs.Prelude.{ℕ, ◌+◌, ◌-◌, ◌*◌, ◌/◌, ◌%◌, ◌==◌, ◌&&◌, ◌||◌, nat_le, nat_lt, Bool, if◌then◌else◌, List, length, slice_index, Result, Ok, Err}
 use Rattle.pdcp_guard.specs.Counts.{count_limit}
-use Rattle.pdu_guard.specs.declared.am.AmFate.{AmFate}
+use Rattle.pdu_guard.specs.{declared.am.AmFate.AmFate, declared.am.AmFault.AmFault, declared.am.AmFound.AmFound, declared.am.Hfn.Hfn, declared.am.Place.Place, declared.drb.Numbers.Numbers}
 use Rattle.pdu_guard.specs.declared.am.AmFate.TheVariants.{New, Late, Discarded}
-use Rattle.pdu_guard.specs.declared.am.AmFault.{AmFault}
 use Rattle.pdu_guard.specs.declared.am.AmFault.TheVariants.{Short, BadHeader, CountSpent, BeforeFirst}
-use Rattle.pdu_guard.specs.declared.am.AmFound.{AmFound}
-use Rattle.pdu_guard.specs.declared.am.Hfn.{Hfn}
 use Rattle.pdu_guard.specs.declared.am.Hfn.TheVariants.{Before, Same, After}
-use Rattle.pdu_guard.specs.declared.am.Place.{Place}
-use Rattle.pdu_guard.specs.declared.drb.Numbers.{Numbers}
 use Rattle.pdu_guard.specs.Drb.{header_octets, is_data, number_in, values_of}
 
 -- Reordering_Window: half of the sequence numbers (7.3)

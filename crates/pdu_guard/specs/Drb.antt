@@ -3,13 +3,10 @@ use Rattle.std.specs.Prelude.{ℕ, ◌+◌, ◌*◌, ◌/◌, ◌%◌, ◌==◌,
 use Rattle.rec_base.specs.declared.uses.Dir.{Dir}
 use Rattle.key_model.specs.Least.{least}
 use Rattle.alg_suite.specs.Suite.{ciphered_by}
-use Rattle.pdcp_guard.specs.Counts.{in_32_bits}
-use Rattle.pdcp_guard.specs.declared.pdus.PdcpOpened.{PdcpOpened}
-use Rattle.pdcp_guard.specs.declared.pdus.PdcpFault.{PdcpFault}
+use Rattle.pdcp_guard.specs.{Counts.in_32_bits, declared.pdus.PdcpOpened.PdcpOpened, declared.pdus.PdcpFault.PdcpFault}
 use Rattle.pdcp_guard.specs.declared.pdus.PdcpFault.TheVariants.{Short, BadHeader}
-use Rattle.pdu_guard.specs.declared.drb.Numbers.{Numbers}
+use Rattle.pdu_guard.specs.{declared.drb.Numbers.Numbers, declared.drb.DrbKeys.DrbKeys}
 use Rattle.pdu_guard.specs.declared.drb.Numbers.TheVariants.{Seven, Twelve, Fifteen, Eighteen}
-use Rattle.pdu_guard.specs.declared.drb.DrbKeys.{DrbKeys}
 
 -- how many sequence numbers there are (6.3.2)
 abbrev pub values_of : Numbers → ℕ

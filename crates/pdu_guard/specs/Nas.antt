@@ -1,17 +1,14 @@
 -- Security protected NAS messages over plain octets (TS 24.301 4.4 and 9.1), under any algorithms.
 use Rattle.std.specs.Prelude.{ℕ, ◌%◌, nat_lt, Bool, if◌then◌else◌, List, ◌∷◌, ◌++◌, length, Result, Ok, Err}
 use Rattle.alg_suite.specs.Suite.{ciphered_by, mac_by}
-use Rattle.nas_count.specs.declared.sending.CountSpent.{CountSpent}
-use Rattle.nas_count.specs.Estimate.{estimate_of}
+use Rattle.nas_count.specs.{declared.sending.CountSpent.CountSpent, Estimate.estimate_of}
 use Rattle.rec_base.specs.declared.uses.Dir.{Dir}
 use Rattle.nas_guard.specs.Open.{covered_in, first_in, header_in, is_protected, mac_in, sent_in, sn_in}
 use Rattle.nas_guard.specs.Seal.{first_octet, is_ciphered, nas_bearer}
 use Rattle.nas_guard.specs.declared.opening.OpenFault as faults
 use Rattle.nas_guard.specs.declared.opening.OpenFault.{OpenFault}
 use Rattle.nas_guard.specs.declared.opening.OpenFault.TheVariants.{Short, BadHeader, MacFails}
-use Rattle.pdu_guard.specs.Checks.{is_checked, is_taken}
-use Rattle.pdu_guard.specs.declared.nas.NasHead.{NasHead}
-use Rattle.pdu_guard.specs.declared.nas.NasKeys.{NasKeys}
+use Rattle.pdu_guard.specs.{Checks.is_checked, Checks.is_taken, declared.nas.NasHead.NasHead, declared.nas.NasKeys.NasKeys}
 
 -- the text as sent of a text, and the text of a text as sent: ciphered at the header types 2 and 4 (4.4.5)
 unfoldable pub nas_sent : NasKeys → ℕ → ℕ → Dir → List ℕ → List ℕ

@@ -4,10 +4,7 @@ use Rattle.std.specs.Option.{option_map}
 use Rattle.alg_suite.specs.declared.integrity.Integrity.{Integrity}
 use Rattle.nas_guard.specs.Open.{mac_in, sn_in}
 use Rattle.rec_base.specs.declared.uses.Dir.{Dir}
-use Rattle.pdu_guard.specs.Checks.{is_taken}
-use Rattle.pdu_guard.specs.Nas.{nas_wanted}
-use Rattle.pdu_guard.specs.ShortMacs.{service_wanted}
-use Rattle.pdu_guard.specs.declared.nas.NasKeys.{NasKeys}
+use Rattle.pdu_guard.specs.{Checks.is_taken, Nas.nas_wanted, ShortMacs.service_wanted, declared.nas.NasKeys.NasKeys}
 
 -- the first number below n at which a test is true
 abbrev pub first_or : Option ℕ → Bool → ℕ → Option ℕ

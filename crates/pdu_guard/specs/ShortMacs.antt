@@ -1,14 +1,11 @@
 -- The short MACs of a Service Request (TS 24.301 8.2.25, 9.9.3.19 and 9.9.3.28) and of re-establishment (TS 36.331 5.3.7.4).
 use Rattle.std.specs.Prelude.{ℕ, ◌+◌, ◌*◌, ◌%◌, ◌-◌, ◌^◌, ◌==◌, nat_lt, if◌then◌else◌, List, [], ◌∷◌, ◌++◌, drop, slice_index, take, Result, Ok, Err}
-use Rattle.alg_suite.specs.Suite.{mac_by}
-use Rattle.alg_suite.specs.declared.integrity.Integrity.{Integrity}
+use Rattle.alg_suite.specs.{Suite.mac_by, declared.integrity.Integrity.Integrity}
 use Rattle.key_model.specs.Least.{least}
 use Rattle.nas_count.specs.Estimate.{nas_count_limit}
 use Rattle.rec_base.specs.declared.uses.Dir.TheVariants.{Up, Down}
 use Rattle.nas_guard.specs.Seal.{nas_bearer}
-use Rattle.pdu_guard.specs.Checks.{is_checked, is_taken}
-use Rattle.pdu_guard.specs.declared.short_macs.ServiceFault.{ServiceFault}
-use Rattle.pdu_guard.specs.declared.short_macs.ServiceFound.{ServiceFound}
+use Rattle.pdu_guard.specs.{Checks.is_checked, Checks.is_taken, declared.short_macs.ServiceFault.ServiceFault, declared.short_macs.ServiceFound.ServiceFound}
 use Rattle.pdu_guard.specs.declared.short_macs.ServiceFault.TheVariants.{BadHeader, CountSpent, MacFails}
 
 -- the first octet: the security header type of a Service Request, 12, and the protocol discriminator 7 (9.2 and 9.3.1)

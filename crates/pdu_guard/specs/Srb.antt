@@ -3,11 +3,8 @@ use Rattle.std.specs.Prelude.{ℕ, ◌-◌, Bool, if◌then◌else◌, List, ◌
 use Rattle.alg_suite.specs.Suite.{ciphered_by, mac_by}
 use Rattle.rec_base.specs.declared.uses.Dir.{Dir}
 use Rattle.nas_guard.specs.Open.{first_in}
-use Rattle.pdcp_guard.specs.Srb.{srb_count, srb_header}
-use Rattle.pdcp_guard.specs.declared.pdus.PdcpFault.{PdcpFault}
-use Rattle.pdcp_guard.specs.declared.pdus.PdcpFault.TheVariants.{MacFails}
-use Rattle.pdu_guard.specs.Checks.{is_checked, is_taken}
-use Rattle.pdu_guard.specs.declared.srb.SrbKeys.{SrbKeys}
+use Rattle.pdcp_guard.specs.{Srb.srb_count, Srb.srb_header, declared.pdus.PdcpFault.PdcpFault, declared.pdus.PdcpFault.TheVariants.MacFails}
+use Rattle.pdu_guard.specs.{Checks.is_checked, Checks.is_taken, declared.srb.SrbKeys.SrbKeys}
 
 -- the greatest number of octets of a PDCP SDU (4.3.1)
 abbrev pub longest_sdu : ℕ

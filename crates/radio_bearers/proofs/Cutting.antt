@@ -1,8 +1,7 @@
 -- The first so many of a list.
 use Rattle.std.proofs.Common.{◌≡◌, ℕ, ◌≤◌, ◌<◌, Bool, true, false, List, length, refl, arith}
 use Rattle.std.specs.Prelude.{nat_le, min, take}
-use Rattle.std.proofs.lemmas.Bool.Decides.{nat_tests}
-use Rattle.std.proofs.lemmas.Grind.{common_steps}
+use Rattle.std.proofs.{lemmas.Bool.Decides.nat_tests, lemmas.Grind.common_steps}
 
 pub cut_is : (n : ℕ) (xs : List ℕ) → take (min (length xs) n) xs ≡ take n xs
 cut_is n xs = by_test (nat_le n (length xs)) refl

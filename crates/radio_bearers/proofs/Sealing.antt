@@ -1,14 +1,9 @@
 -- The PDUs of the code below are those of the written machine.
 use Rattle.std.proofs.Common.{◌≡◌, ℕ, ◌≤◌, Bool, true, false, cond, List, [], ◌∷◌, length, take, Result, Ok, Err, refl, arith}
 use Rattle.std.specs.Prelude.{slice_index}
-use Rattle.rec_base.specs.declared.bearers.Bearer.{Bearer}
+use Rattle.rec_base.specs.{declared.bearers.Bearer.Bearer, declared.uses.Dir.Dir, Bearer.IsDrb, Bearer.IsSrb}
 use Rattle.rec_base.specs.declared.bearers.Bearer.TheVariants.{Srb1, Srb2, Drb1, Drb2, Drb3, Drb4}
-use Rattle.rec_base.specs.declared.uses.Dir.{Dir}
-use Rattle.pdcp_guard.specs.declared.pdus.PdcpOpened.{PdcpOpened}
-use Rattle.pdcp_guard.specs.declared.pdus.PdcpFault.{PdcpFault}
-use Rattle.pdcp_guard.specs.declared.pdus.PdcpFault.TheVariants.{MacFails}
-use Rattle.pdcp_guard.specs.AsKeys.{AsKeys}
-use Rattle.rec_base.specs.Bearer.{IsDrb, IsSrb}
+use Rattle.pdcp_guard.specs.{declared.pdus.PdcpOpened.PdcpOpened, declared.pdus.PdcpFault.PdcpFault, declared.pdus.PdcpFault.TheVariants.MacFails, AsKeys.AsKeys}
 use Rattle.pdcp_guard.specs.Srb.{srb_sealed, srb_ciphered, srb_opened_at}
 use Rattle.pdcp_guard.specs.Drb.{drb_sealed, drb_ciphered, drb_opened_at}
 use Rattle.lte_machine.specs.Ciphers.{annex_b, srb_octets, drb_octets}

@@ -1,8 +1,7 @@
 -- A bearer of one of the two kinds.
 use Rattle.std.proofs.Common.{◌≡◌, refl}
-use Rattle.rec_base.specs.declared.bearers.Bearer.{Bearer}
+use Rattle.rec_base.specs.{declared.bearers.Bearer.Bearer, Bearer.IsDrb, Bearer.IsSrb}
 use Rattle.rec_base.specs.declared.bearers.Bearer.TheVariants.{Srb1, Srb2, Drb1, Drb2, Drb3, Drb4}
-use Rattle.rec_base.specs.Bearer.{IsDrb, IsSrb}
 use Rattle.lte_machine.specs.Bearers.{which, OnSrb, OnDrb}
 use Rattle.radio_bearers.specs.Bearers.{srb_of, drb_of}
 

@@ -1,7 +1,6 @@
 -- What the ciphering and the integrity algorithm put before everything else.
 use Rattle.std.specs.Prelude.{ℕ, ◌+◌, ◌*◌, List, [], ◌∷◌, ◌++◌}
-use Rattle.rec_base.specs.BigEndian.{octets_of}
-use Rattle.rec_base.specs.declared.uses.Dir.{Dir}
+use Rattle.rec_base.specs.{BigEndian.octets_of, declared.uses.Dir.Dir}
 use Rattle.rec_base.specs.declared.uses.Dir.TheVariants.{Up, Down}
 
 -- DIRECTION (TS 33.401 B.1.1 and B.2.1)

@@ -7,11 +7,8 @@ use Rattle.rec_base.specs.BigEndian.{number_of, octets_of, field_at, number_at}
 use Rattle.rec_base.specs.declared.faults.RecFault.{RecFault}
 use Rattle.rec_base.specs.declared.faults.RecFault.TheVariants.{Short, Long, BadField}
 use Rattle.rec_base.proofs.Numbers.{AreOctets, number_of-one, octets_of-number_of}
-use Rattle.alg_choice.specs.declared.algs.Algs.{Algs}
-use Rattle.alg_choice.specs.Algs.{identity_of, eia2_identity}
-use Rattle.alg_choice.specs.declared.algs.Eea.{Eea}
+use Rattle.alg_choice.specs.{declared.algs.Algs.Algs, Algs.identity_of, Algs.eia2_identity, declared.algs.Eea.Eea, declared.caps.Caps.Caps}
 use Rattle.alg_choice.specs.declared.algs.Eea.TheVariants.{Eea0, Eea2}
-use Rattle.alg_choice.specs.declared.caps.Caps.{Caps}
 use Rattle.annex_a_keys.specs.Cell.{Place, greatest_pci, greatest_earfcn, IsCell}
 use Rattle.rec_fields.specs.Field.{◌>>=◌, of_size, number_in, algs_at, caps_at, cell_at, rest_at}
 use Rattle.rec_fields.specs.Spelled.{algs_octet, cell_octets}

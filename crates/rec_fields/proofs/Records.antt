@@ -1,8 +1,7 @@
 -- The fields of records, and records of one layout: what is read is spelled so, and what is spelled so is read.
 use Rattle.std.proofs.Common.{◌≡◌, ℕ, ◌+◌, ◌-◌, ◌<◌, ◌≤◌, ◌^◌, List, [], ◌∷◌, ◌++◌, length, take, drop, Ok, refl, sym, ap, subst, ◌∙◌, append_assoc, drop-drop, length-drop, length-append, arith}
 use Rattle.std.proofs.lemmas.List.{take-append-drop, length-take}
-use Rattle.rec_base.specs.BigEndian.{octets_of, field_at}
-use Rattle.rec_base.specs.declared.faults.RecFault.{RecFault}
+use Rattle.rec_base.specs.{BigEndian.octets_of, BigEndian.field_at, declared.faults.RecFault.RecFault}
 use Rattle.rec_base.proofs.Numbers.{AreOctets, length-octets_of}
 use Rattle.alg_choice.specs.declared.caps.Caps.{Caps}
 use Rattle.annex_a_keys.specs.Cell.{Place, IsCell}

@@ -1,11 +1,9 @@
 -- What the field at a place reads as, or the fault of the record.
 use Rattle.std.specs.Prelude.{ℕ, ◌+◌, ◌-◌, ◌^◌, ◌==◌, ◌||◌, nat_lt, if◌then◌else◌, List, length, drop, Result, Ok, Err}
-use Rattle.rec_base.specs.BigEndian.{number_at}
-use Rattle.rec_base.specs.declared.faults.RecFault.{RecFault}
+use Rattle.rec_base.specs.{BigEndian.number_at, declared.faults.RecFault.RecFault}
 use Rattle.rec_base.specs.declared.faults.RecFault.TheVariants.{Short, Long, BadField}
 use Rattle.alg_choice.specs.declared.algs.Eea.TheVariants.{Eea0, Eea2}
-use Rattle.alg_choice.specs.declared.algs.Algs.{Algs}
-use Rattle.alg_choice.specs.declared.caps.Caps.{Caps}
+use Rattle.alg_choice.specs.{declared.algs.Algs.Algs, declared.caps.Caps.Caps}
 use Rattle.annex_a_keys.specs.Cell.{Place, greatest_pci, greatest_earfcn}
 
 -- the first fault, from left to right

@@ -1,12 +1,8 @@
 -- A record of NAS, RRC, S1 or X2: its size is judged first, and then its fields from left to right.
 use Rattle.std.specs.Prelude.{◌≡◌, ℕ, ◌+◌, ◌≤◌, ◌<◌, List, [], ◌∷◌, length, get_or, Result, Ok}
-use Rattle.rec_base.specs.BigEndian.{field_at, octets_of}
-use Rattle.rec_base.specs.Ranges.{IsNumber}
-use Rattle.rec_base.specs.declared.faults.RecFault.{RecFault}
+use Rattle.rec_base.specs.{BigEndian.field_at, BigEndian.octets_of, Ranges.IsNumber, declared.faults.RecFault.RecFault}
 use Rattle.rec_base.specs.declared.faults.RecFault.TheVariants.{Short, BadKind}
-use Rattle.alg_choice.specs.Caps.{IsCaps}
-use Rattle.alg_choice.specs.declared.algs.Algs.{Algs}
-use Rattle.alg_choice.specs.declared.caps.Caps.{Caps}
+use Rattle.alg_choice.specs.{Caps.IsCaps, declared.algs.Algs.Algs, declared.caps.Caps.Caps}
 use Rattle.annex_a_keys.specs.Cell.{Place, IsCell}
 use Rattle.rec_fields.specs.Field.{◌>>=◌, of_size, number_in, from_one_at, algs_at, caps_at, cell_at, rest_at}
 use Rattle.rec_fields.specs.Spelled.{algs_octet, cell_octets}

@@ -1,8 +1,7 @@
 -- How the fields of a record are spelled.
 use Rattle.std.specs.Prelude.{ℕ, ◌+◌, ◌*◌, ◌++◌, List}
 use Rattle.rec_base.specs.BigEndian.{octets_of}
-use Rattle.alg_choice.specs.declared.algs.Algs.{Algs}
-use Rattle.alg_choice.specs.Algs.{identity_of, eia2_identity}
+use Rattle.alg_choice.specs.{declared.algs.Algs.Algs, Algs.identity_of, Algs.eia2_identity}
 use Rattle.annex_a_keys.specs.Cell.{Place}
 
 -- the identity of the ciphering algorithm in the high half, that of 128-EIA2 in the low (TS 24.301 9.9.3.23)

@@ -1,11 +1,8 @@
 -- The lines of the rows, one after the other.
 use Rattle.std.proofs.Common.{◌≡◌, ℕ, ◌+◌, ◌<◌, List, [], ◌++◌, length, drop, get_or, Some, sym, ◌∙◌, ap}
 use Rattle.std.specs.Prelude.{slice_get}
-use Rattle.std.proofs.lemmas.List.{append_assoc, drop_more}
-use Rattle.std.proofs.lemmas.Option.{slice_get-get_or}
-use Rattle.key_terms.specs.declared.row.LadderRow.{LadderRow}
-use Rattle.key_terms.specs.declared.row.Origin.TheVariants.{Root}
-use Rattle.key_terms.specs.Ladder.{unheld}
+use Rattle.std.proofs.{lemmas.List.append_assoc, lemmas.List.drop_more, lemmas.Option.slice_get-get_or}
+use Rattle.key_terms.specs.{declared.row.LadderRow.LadderRow, declared.row.Origin.TheVariants.Root, Ladder.unheld}
 use Rattle.report_text.specs.Ladder.{row_text, rows_from}
 
 -- after the line of row k the lines from row k + 1 on are left

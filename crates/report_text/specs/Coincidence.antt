@@ -4,11 +4,9 @@ use Rattle.std.specs.Fmt.{decimal}
 use Rattle.hex.specs.Hex.{encode_lower}
 use Rattle.hmac_kdf.specs.Kdf.{IsKdfInput, kdf_string}
 use Rattle.annex_a_keys.specs.declared.derived.Derived.{Derived}
-use Rattle.rec_base.specs.declared.uses.Use.{Use}
-use Rattle.rec_base.specs.declared.uses.Dir.{Dir}
+use Rattle.rec_base.specs.{declared.uses.Use.Use, declared.uses.Dir.Dir}
 use Rattle.rec_base.specs.declared.uses.Dir.TheVariants.{Up, Down}
-use Rattle.key_terms.specs.declared.row.Row.{Row}
-use Rattle.key_terms.specs.declared.proof.Proof.{Proof}
+use Rattle.key_terms.specs.{declared.row.Row.Row, declared.proof.Proof.Proof}
 use Rattle.key_terms.specs.declared.proof.Proof.TheVariants.{Rows, RootIsRow, Tuples}
 
 -- the row that has the octets, the key of the other derivation and its string S (TS 33.220 B.2)

@@ -4,11 +4,8 @@ use Rattle.std.specs.Fmt.{decimal}
 use Rattle.hex.specs.Hex.{encode_lower}
 use Rattle.hmac_kdf.specs.declared.input.KdfInput.{KdfInput}
 use Rattle.hmac_kdf.specs.declared.input.KdfInput.TheVariants.{Kenb, Nh, Star, Alg}
-use Rattle.key_terms.specs.declared.row.LadderRow.{LadderRow}
-use Rattle.key_terms.specs.declared.row.Row.{Row}
-use Rattle.key_terms.specs.declared.row.Origin.{Origin}
+use Rattle.key_terms.specs.{declared.row.LadderRow.LadderRow, declared.row.Row.Row, declared.row.Origin.Origin, Ladder.row_of}
 use Rattle.key_terms.specs.declared.row.Origin.TheVariants.{Root, From}
-use Rattle.key_terms.specs.Ladder.{row_of}
 
 -- a name with two or three numbers in parentheses
 unfoldable pub of_two : List ℕ → ℕ → ℕ → List ℕ

@@ -4,13 +4,9 @@ use Rattle.std.specs.Fmt.{decimal}
 use Rattle.hex.specs.Hex.{encode_lower}
 use Rattle.rec_base.specs.declared.ways.Way.{Way}
 use Rattle.rec_base.specs.declared.ways.Way.TheVariants.{Initial, Horizontal, Vertical, Given, Completed, Chained}
-use Rattle.lte_events.specs.declared.classes.Class.{Class}
+use Rattle.lte_events.specs.{declared.classes.Class.Class, declared.lines.Line.Line, declared.lines.Who.Who, declared.replies.KeyNote.KeyNote, Answer.name_of}
 use Rattle.lte_events.specs.declared.classes.Class.TheVariants.{Nas, Air, S1, X2}
-use Rattle.lte_events.specs.declared.lines.Line.{Line}
-use Rattle.lte_events.specs.declared.lines.Who.{Who}
 use Rattle.lte_events.specs.declared.lines.Who.TheVariants.{Both, World, Phone, Core, Station}
-use Rattle.lte_events.specs.declared.replies.KeyNote.{KeyNote}
-use Rattle.lte_events.specs.Answer.{name_of}
 use Rattle.report_text.specs.Details.{details_text}
 
 -- who acted

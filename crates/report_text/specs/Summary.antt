@@ -1,16 +1,10 @@
 -- The summary of a run: six figures, a line each.
 use Rattle.std.specs.Prelude.{ℕ, Bool, true, false, ◌&&◌, not, Option, Some, None, List, [], ◌∷◌, ◌++◌, length, codes}
-use Rattle.std.specs.List.{count_by, flat_map}
-use Rattle.std.specs.Option.{is_some}
-use Rattle.std.specs.Fmt.{decimal}
+use Rattle.std.specs.{List.count_by, List.flat_map, Option.is_some, Fmt.decimal}
 use Rattle.rec_base.specs.declared.ways.Way.{Way}
 use Rattle.rec_base.specs.declared.ways.Way.TheVariants as way
-use Rattle.lte_events.specs.declared.answers.Answer.{Answer}
-use Rattle.lte_events.specs.declared.answers.Answer.TheVariants.{Done}
-use Rattle.lte_events.specs.declared.lines.Line.{Line}
-use Rattle.lte_events.specs.declared.lines.Who.{Who}
+use Rattle.lte_events.specs.{declared.answers.Answer.Answer, declared.answers.Answer.TheVariants.Done, declared.lines.Line.Line, declared.lines.Who.Who, declared.replies.KeyNote.KeyNote}
 use Rattle.lte_events.specs.declared.lines.Who.TheVariants as who
-use Rattle.lte_events.specs.declared.replies.KeyNote.{KeyNote}
 use Rattle.report_text.specs.declared.summaries.Figure.{Figure}
 use Rattle.report_text.specs.declared.summaries.Figure.TheVariants.{Steps, Records, Refused, Handovers, Vertical, Rows}
 

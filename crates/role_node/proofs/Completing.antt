@@ -2,19 +2,13 @@
 use Rattle.std.proofs.Common.{◌≡◌, ◌≢◌, ℕ, Bool, true, false, Option, Some, None, List, [], ◌∷◌, ◌++◌, length, Result, Ok, Err, refl, sym, ap, ◌∙◌, subst, append_assoc, append-nil, arith, length-append}
 use Rattle.std.proofs.lemmas.List.{append_cancel_left}
 use Rattle.std.specs.Io.KnownBytes.{IsAtEnd}
-use Rattle.edge_io.specs.Told.{Told}
-use Rattle.edge_io.specs.Octets.{Gives, Grows}
-use Rattle.edge_io.specs.declared.peers.Role.{Role}
-use Rattle.role_wire.specs.declared.frames.FrameIn.{FrameIn}
-use Rattle.role_wire.specs.declared.frames.FrameFault.{FrameFault}
+use Rattle.edge_io.specs.{Told.Told, Octets.Gives, Octets.Grows, declared.peers.Role.Role}
+use Rattle.role_wire.specs.{declared.frames.FrameIn.FrameIn, declared.frames.FrameFault.FrameFault, Ranges.IsFrame}
 use Rattle.role_wire.specs.declared.frames.FrameFault.TheVariants as faults
-use Rattle.role_wire.specs.Ranges.{IsFrame}
 use Rattle.role_wire.specs.Frame.{frame_spelling, frame_at, IsTaken, FrameRead}
-use Rattle.role_wire.proofs.FrameLaws.{exact}
-use Rattle.role_wire.proofs.Sizes.{frame_size, spelled_again}
-use Rattle.role_node.specs.declared.serving.ServeEnd.{ServeEnd}
+use Rattle.role_wire.proofs.{FrameLaws.exact, Sizes.frame_size, Sizes.spelled_again}
+use Rattle.role_node.specs.{declared.serving.ServeEnd.ServeEnd, Actor.replies}
 use Rattle.role_node.specs.declared.serving.ServeEnd.TheVariants.{Done, BadFrame, ReadFault, WriteFault}
-use Rattle.role_node.specs.Actor.{replies}
 use Rattle.role_node.specs.Session.{AreFrames, spelled, opens, IsBad, Session, SessionIsComplete}
 
 -- what a read of a frame answers

@@ -1,16 +1,11 @@
 -- A session that goes on: what was read and written so far, and what the actor will answer.
 use Rattle.std.proofs.Common.{◌≡◌, ℕ, ◌+◌, ◌-◌, ◌^◌, Bool, true, false, min, Option, Some, None, List, [], ◌∷◌, ◌++◌, length, Ok, refl, sym, ap, ◌∙◌, subst, append_assoc, append-nil, arith, length-append}
 use Rattle.std.proofs.lemmas.Grind.{flat_map-append}
-use Rattle.edge_io.specs.Told.{Told}
-use Rattle.edge_io.specs.Octets.{Gives, Grows}
+use Rattle.edge_io.specs.{Told.Told, Octets.Gives, Octets.Grows, declared.peers.Role.Role}
 use Rattle.edge_io.proofs.Known.{gives_twice, grows_twice}
-use Rattle.edge_io.specs.declared.peers.Role.{Role}
 use Rattle.lte_events.specs.declared.replies.ActorOut.{ActorOut}
-use Rattle.role_wire.specs.declared.frames.FrameIn.{FrameIn}
+use Rattle.role_wire.specs.{declared.frames.FrameIn.FrameIn, Ranges.IsFrame, Ranges.IsOf, Frame.frame_spelling, Frame.FrameRead, Reply.reply_spelling}
 use Rattle.role_wire.specs.declared.frames.FrameIn.TheVariants.{Setup, Input}
-use Rattle.role_wire.specs.Ranges.{IsFrame, IsOf}
-use Rattle.role_wire.specs.Frame.{frame_spelling, FrameRead}
-use Rattle.role_wire.specs.Reply.{reply_spelling}
 use Rattle.role_node.specs.declared.actor.Actor.{Actor}
 use Rattle.role_node.specs.Actor.{turn, waits, replies_from, replies}
 use Rattle.role_node.specs.Session.{AreFrames, spelled, opens, place_behind}

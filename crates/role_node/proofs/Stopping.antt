@@ -1,15 +1,10 @@
 -- The end of a session at a write that fails.
 use Rattle.std.proofs.Common.{◌≡◌, ℕ, Bool, Option, List, [], ◌∷◌, ◌++◌, Ok, refl, sym, ap, ◌∙◌, subst, append-nil}
-use Rattle.edge_io.specs.Told.{Told}
-use Rattle.edge_io.specs.Cause.{Rose, NoFault}
+use Rattle.edge_io.specs.{Told.Told, Cause.Rose, Cause.NoFault, declared.peers.Role.Role}
 use Rattle.edge_io.specs.Octets.{Gives, Grows, GrowsByProperPrefix}
 use Rattle.edge_io.proofs.Known.{gives_twice, proper_prefix_on}
-use Rattle.edge_io.specs.declared.peers.Role.{Role}
 use Rattle.lte_events.specs.declared.replies.ActorOut.{ActorOut}
-use Rattle.role_wire.specs.declared.frames.FrameIn.{FrameIn}
-use Rattle.role_wire.specs.Ranges.{IsFrame}
-use Rattle.role_wire.specs.Frame.{frame_spelling, FrameRead}
-use Rattle.role_wire.specs.Reply.{reply_spelling}
+use Rattle.role_wire.specs.{declared.frames.FrameIn.FrameIn, Ranges.IsFrame, Frame.frame_spelling, Frame.FrameRead, Reply.reply_spelling}
 use Rattle.role_node.specs.declared.actor.Actor.{Actor}
 use Rattle.role_node.specs.declared.serving.ServeEnd.TheVariants as ends
 use Rattle.role_node.specs.Actor.{turn, waits, replies}

@@ -1,19 +1,12 @@
 -- What the actor of a role answers to the frames of a session, by the written machine.
 use Rattle.std.specs.Prelude.{ℕ, Bool, true, false, List, [], ◌∷◌, ◌++◌, Option, Some, None}
 use Rattle.edge_io.specs.declared.peers.Role.{Role}
-use Rattle.lte_events.specs.Reply.{reply_of}
-use Rattle.lte_events.specs.declared.answers.Answer.TheVariants.{Done}
-use Rattle.lte_events.specs.declared.inputs.ActorIn.{ActorIn}
-use Rattle.lte_events.specs.declared.replies.ActorOut.{ActorOut}
+use Rattle.lte_events.specs.{Reply.reply_of, declared.answers.Answer.TheVariants.Done, declared.inputs.ActorIn.ActorIn, declared.replies.ActorOut.ActorOut}
 use Rattle.lte_events.specs.declared.setups.FirstNcc.TheVariants.{One, Two}
 use Rattle.lte_machine.specs.Calls.{phone_call, station_call, core_call}
-use Rattle.lte_machine.specs.PhoneState.{first_phone}
-use Rattle.lte_machine.specs.StationState.{first_station}
-use Rattle.lte_machine.specs.CoreState.{first_core}
-use Rattle.role_wire.specs.declared.frames.FrameIn.{FrameIn}
+use Rattle.lte_machine.specs.{PhoneState.first_phone, StationState.first_station, CoreState.first_core}
+use Rattle.role_wire.specs.{declared.frames.FrameIn.FrameIn, declared.frames.RoleSetup.RoleSetup, Reply.reply_spelling}
 use Rattle.role_wire.specs.declared.frames.FrameIn.TheVariants.{Setup, Input}
-use Rattle.role_wire.specs.declared.frames.RoleSetup.{RoleSetup}
-use Rattle.role_wire.specs.Reply.{reply_spelling}
 use Rattle.role_node.specs.declared.actor.Actor.{Actor}
 
 -- the number of a station

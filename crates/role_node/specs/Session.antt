@@ -1,18 +1,13 @@
 -- A session: which frames were read, what was written, and how it ended.
 use Rattle.std.specs.Prelude.{◌≡◌, ℕ, ◌-◌, ◌^◌, Bool, true, false, min, Some, List, [], ◌∷◌, ◌++◌, length, Err}
 use Rattle.std.specs.List.{flat_map}
-use Rattle.edge_io.specs.Told.{Told, HasEnded}
-use Rattle.edge_io.specs.Cause.{Rose}
+use Rattle.edge_io.specs.{Told.Told, Told.HasEnded, Cause.Rose, declared.peers.Role.Role}
 use Rattle.edge_io.specs.Octets.{Gives, Grows, GrowsByProperPrefix}
-use Rattle.edge_io.specs.declared.peers.Role.{Role}
-use Rattle.role_wire.specs.declared.frames.FrameIn.{FrameIn}
-use Rattle.role_wire.specs.declared.frames.FrameFault.{FrameFault}
+use Rattle.role_wire.specs.{declared.frames.FrameIn.FrameIn, declared.frames.FrameFault.FrameFault, Ranges.IsFrame}
 use Rattle.role_wire.specs.declared.frames.FrameFault.TheVariants.{Ended, Truncated, TooLong, BadBody}
 use Rattle.role_wire.specs.declared.frames.FrameFault.TheVariants as faults
-use Rattle.role_wire.specs.Ranges.{IsFrame}
 use Rattle.role_wire.specs.Frame.{frame_spelling, IsLess, IsTaken, MetEnd}
-use Rattle.role_node.specs.Actor.{replies}
-use Rattle.role_node.specs.declared.serving.ServeEnd.{ServeEnd}
+use Rattle.role_node.specs.{Actor.replies, declared.serving.ServeEnd.ServeEnd}
 use Rattle.role_node.specs.declared.serving.ServeEnd.TheVariants.{Done, BadFrame, ReadFault, WriteFault}
 
 -- frames of this role in its ranges; of a whole session the first is a Setup, and no later one is

@@ -1,17 +1,14 @@
 -- Laws of fields: what is read at a place is spelled there, and what is spelled there is read.
 use Rattle.std.proofs.Common.{◌≡◌, ℕ, ◌+◌, ◌-◌, ◌<◌, ◌≤◌, ◌^◌, Bool, true, false, cond, ltb, eqb, List, [], ◌∷◌, ◌++◌, length, take, drop, Option, Some, None, Ok, Err, refl, sym, ap, subst, ◌∙◌, append_assoc, arith, length-drop, length-append, drop-drop, lit<}
-use Rattle.std.specs.Prelude.{nat_lt, ◌||◌}
-use Rattle.std.specs.Option.{ok_or}
+use Rattle.std.specs.{Prelude.nat_lt, Prelude.◌||◌, Option.ok_or}
 use Rattle.std.proofs.lemmas.Bool.{ltb-false, le-ltb, eqb-true}
 use Rattle.std.proofs.lemmas.List.{take-append-drop, nil_from_length}
 use Rattle.rec_base.specs.BigEndian.{octets_of, field_at, number_at}
 use Rattle.rec_base.proofs.Numbers.{AreOctets, length-octets_of}
-use Rattle.rec_fields.specs.Field.{◌>>=◌}
+use Rattle.rec_fields.specs.{Field.◌>>=◌, Spelled.cell_octets}
 use Rattle.rec_fields.proofs.Fields.{bind_ok, ok_is, passes, tests_ok, octet_takes, octet_is, number_takes}
 use Rattle.rec_fields.proofs.Layouts.{IsField, IsEnding, stands, behind, field_is, number_is, octet_there}
-use Rattle.rec_fields.specs.Spelled.{cell_octets}
-use Rattle.alg_choice.specs.Caps.{IsCaps}
-use Rattle.alg_choice.specs.declared.caps.Caps.{Caps}
+use Rattle.alg_choice.specs.{Caps.IsCaps, declared.caps.Caps.Caps}
 use Rattle.annex_a_keys.specs.Cell.{Place, greatest_pci, greatest_earfcn, IsCell}
 use Rattle.role_wire.specs.Codes.{Codes, coded}
 use Rattle.role_wire.specs.Field.{number_in, coded_at, key_at, caps_at, cell_at, rest_at, ends_at, small, word, code, key, caps, cell, ending}

@@ -3,9 +3,8 @@ use Rattle.std.proofs.Common.{◌≡◌, ℕ, Option, Some, None, refl}
 use Rattle.rec_base.specs.Bearer.{IsSrb, IsDrb, octet_of}
 use Rattle.rec_base.specs.declared.bearers.Bearer.{Bearer}
 use Rattle.rec_base.specs.declared.bearers.Bearer.TheVariants.{Srb1, Srb2, Drb1, Drb2, Drb3, Drb4}
-use Rattle.alg_choice.specs.declared.algs.Eea.{Eea}
+use Rattle.alg_choice.specs.{declared.algs.Eea.Eea, Algs.identity_of}
 use Rattle.alg_choice.specs.declared.algs.Eea.TheVariants.{Eea0, Eea2}
-use Rattle.alg_choice.specs.Algs.{identity_of}
 use Rattle.lte_events.specs.declared.acts.HoKind.{HoKind}
 use Rattle.lte_events.specs.declared.acts.HoKind.TheVariants.{X2, S1, Intra}
 use Rattle.role_wire.specs.Codes.{Codes, coded, srbs, drbs, bearers, nas_alone, nas_or_bearer, nas_octet, skip_octet, ho_kinds, ho_octet, eeas}

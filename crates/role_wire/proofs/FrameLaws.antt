@@ -5,15 +5,10 @@ use Rattle.std.proofs.lemmas.Bool.{le-ltb, lt-ltb, ne_eqb}
 use Rattle.std.proofs.lemmas.List.{take-append-le, drop-append-le, drop_at, take_all}
 use Rattle.rec_base.specs.BigEndian.{number_of, octets_of, field_at, number_at}
 use Rattle.rec_base.proofs.Numbers.{AreOctets, length-octets_of, octets_of-number_of}
-use Rattle.edge_io.specs.Octets.{Gives}
+use Rattle.edge_io.specs.{Octets.Gives, declared.peers.Role.Role}
 use Rattle.edge_io.proofs.Known.{gives_twice}
-use Rattle.edge_io.specs.declared.peers.Role.{Role}
-use Rattle.role_wire.specs.declared.frames.FrameIn.{FrameIn}
-use Rattle.role_wire.specs.declared.frames.FrameFault.{FrameFault}
+use Rattle.role_wire.specs.{declared.frames.FrameIn.FrameIn, declared.frames.FrameFault.FrameFault, Spelling.body_spelling, Reading.body_of, Ranges.IsFrame, Ranges.IsRole}
 use Rattle.role_wire.specs.declared.frames.FrameFault.TheVariants.{Ended, Truncated, TooLong, BadBody, ReadFault}
-use Rattle.role_wire.specs.Spelling.{body_spelling}
-use Rattle.role_wire.specs.Reading.{body_of}
-use Rattle.role_wire.specs.Ranges.{IsFrame, IsRole}
 use Rattle.role_wire.specs.Frame.{body_limit, framed, frame_spelling, size_of, of_body, frame_at, IsWhole, IsCut, IsTaken, FrameRead, IsBodyTaken, BodyRead}
 use Rattle.rec_fields.proofs.Layouts.{field_is, number_is}
 use Rattle.role_wire.proofs.Grammar.{body_found, body_again}

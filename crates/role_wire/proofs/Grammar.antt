@@ -5,25 +5,15 @@ use Rattle.rec_base.proofs.Numbers.{AreOctets}
 use Rattle.rec_fields.proofs.Fields.{bind_ok, ok_is}
 use Rattle.rec_fields.proofs.Layouts.{Spelled, IsRow, AreRows, rows_take, rows_on}
 use Rattle.edge_io.specs.declared.peers.Role.{Role}
-use Rattle.lte_events.specs.declared.acts.PhoneAct.{PhoneAct}
-use Rattle.lte_events.specs.declared.acts.StationAct.{StationAct}
-use Rattle.lte_events.specs.declared.acts.CoreAct.{CoreAct}
-use Rattle.lte_events.specs.declared.inputs.PhoneIn.{PhoneIn}
-use Rattle.lte_events.specs.declared.inputs.StationIn.{StationIn}
-use Rattle.lte_events.specs.declared.inputs.CoreIn.{CoreIn}
-use Rattle.lte_events.specs.declared.inputs.ActorIn.{ActorIn}
-use Rattle.role_wire.specs.declared.frames.FrameIn.{FrameIn}
+use Rattle.lte_events.specs.{declared.acts.PhoneAct.PhoneAct, declared.acts.StationAct.StationAct, declared.acts.CoreAct.CoreAct, declared.inputs.PhoneIn.PhoneIn, declared.inputs.StationIn.StationIn, declared.inputs.CoreIn.CoreIn, declared.inputs.ActorIn.ActorIn, Ranges.StationTakes, Ranges.CoreTakes}
+use Rattle.role_wire.specs.{declared.frames.FrameIn.FrameIn, declared.frames.RoleSetup.RoleSetup}
 use Rattle.role_wire.specs.declared.frames.FrameIn.TheVariants.{Setup, Input}
-use Rattle.role_wire.specs.declared.frames.RoleSetup.{RoleSetup}
-use Rattle.rec_fields.specs.Field.{◌>>=◌}
-use Rattle.rec_fields.specs.Layout.{Readers, by_kind}
+use Rattle.rec_fields.specs.{Field.◌>>=◌, Layout.Readers, Layout.by_kind}
 use Rattle.role_wire.specs.Reading.{body_by, phone_rows, station_rows, core_rows, setup_rows, input_of, body_of}
 use Rattle.role_wire.specs.Spelling.{phone_octets, station_octets, core_octets, setup_octets, body_spelling}
-use Rattle.lte_events.specs.Ranges.{StationTakes, CoreTakes}
 use Rattle.role_wire.specs.Ranges.{IsPhoneIn, PhoneInSized, StationInSized, CoreInSized, IsSetup, SetupSized, IsFrame, IsFrameIn, IsSized, IsOf, IsRole}
-use Rattle.role_wire.proofs.Layouts.{IsForm}
+use Rattle.role_wire.proofs.{Layouts.IsForm, SetupForm.first_form}
 use Rattle.role_wire.proofs.Forms.{nothing_form, caps_form, auth_form, auth_caps_form, pdu_form, nas_form, air_form, station_air_form, user_form, rrc_form, skip_any_form, skip_bearer_form, skip_nas_form, connect_form, start_form}
-use Rattle.role_wire.proofs.SetupForm.{first_form}
 
 -- a row reads what is spelled under its kind
 row : {A B : Type 0} {read : List ℕ → Result B ℕ} {form : B → List ℕ} {FormFits : B → Type 0} (spell : A → List ℕ) (Fits : A → Type 0) (kind : ℕ) (make : B → A)

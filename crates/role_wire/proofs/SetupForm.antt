@@ -1,32 +1,24 @@
 -- The Setup of a station or the core: priority, first number and cells.
 use Rattle.std.proofs.Common.{◌≡◌, ◌≢◌, ℕ, zero, suc, ◌+◌, ◌-◌, ◌*◌, ◌≤◌, ◌^◌, Bool, true, false, cond, eqb, List, [], ◌∷◌, ◌++◌, length, map, get_or, drop, All, Some, Ok, Err, refl, sym, ap, subst, ◌∙◌, append_assoc, append-nil, arith, length-append, lit<}
 use Rattle.std.specs.List.{list_any, flat_map}
-use Rattle.std.proofs.lemmas.Bool.{eqb-true, eqb-false}
-use Rattle.std.proofs.lemmas.List.{get_or_append_left}
-use Rattle.std.proofs.Math.Seq.{get_or-append_seam}
+use Rattle.std.proofs.{lemmas.Bool.eqb-true, lemmas.Bool.eqb-false, lemmas.List.get_or_append_left, Math.Seq.get_or-append_seam, lemmas.List.Folds.list_any_none, lemmas.Map.Keys.apart_from_distinct}
 use Rattle.std.proofs.lemmas.List.Elements.{All-nil, All-push, All-get_or, All-from_get_or}
-use Rattle.std.proofs.lemmas.List.Folds.{list_any_none}
-use Rattle.std.proofs.lemmas.Map.Keys.{apart_from_distinct}
 use Rattle.rec_base.specs.BigEndian.{octets_of}
 use Rattle.rec_base.proofs.Numbers.{AreOctets}
 use Rattle.rec_fields.proofs.Fields.{bind_ok, ok_is, passes, octet_takes}
 use Rattle.rec_fields.proofs.Layouts.{stands, behind, octet_there}
-use Rattle.rec_fields.specs.Spelled.{cell_octets}
-use Rattle.alg_choice.specs.declared.algs.Eea.{Eea}
+use Rattle.rec_fields.specs.{Spelled.cell_octets, Field.◌>>=◌}
+use Rattle.alg_choice.specs.{declared.algs.Eea.Eea, Algs.identity_of}
 use Rattle.alg_choice.specs.declared.algs.Eea.TheVariants.{Eea0, Eea2}
-use Rattle.alg_choice.specs.Algs.{identity_of}
 use Rattle.annex_a_keys.specs.Cell.{IsCell}
 use Rattle.lte_events.specs.Site.{Site, is_site, IsCellTable}
 use Rattle.lte_events.proofs.SiteFacts.{same_cell, no_cell, one_more}
 use Rattle.role_wire.specs.Codes.{coded, eeas, eeas_but}
-use Rattle.rec_fields.specs.Field.{◌>>=◌}
 use Rattle.role_wire.specs.Field.{number_in, coded_at, cell_at, ends_at}
 use Rattle.role_wire.specs.Body.{order_at, site_at, sites_at, cells_at, first_of}
-use Rattle.role_wire.specs.Spelling.{site_octets, first_octets}
-use Rattle.role_wire.specs.Ranges.{IsOrder, IsFirst}
+use Rattle.role_wire.specs.{Spelling.site_octets, Spelling.first_octets, Ranges.IsOrder, Ranges.IsFirst}
 use Rattle.role_wire.proofs.FieldLaws.{IsCoding, small_takes, small_again, word_takes, word_again, code_takes, code_again, cell_takes, cell_again, number_takes_in, number_reads, end_takes, end_again}
-use Rattle.role_wire.proofs.Layouts.{IsForm}
-use Rattle.role_wire.proofs.Forms.{eea_coding}
+use Rattle.role_wire.proofs.{Layouts.IsForm, Forms.eea_coding}
 
 -- an algorithm other than a first one
 but_again : (first second : Eea) → second ≢ first → coded (eeas_but first) (identity_of second) ≡ Some second

@@ -4,20 +4,11 @@ use Rattle.std.proofs.lemmas.List.{length-map}
 use Rattle.std.specs.List.{flat_map}
 use Rattle.rec_base.specs.BigEndian.{octets_of}
 use Rattle.rec_base.proofs.Numbers.{length-octets_of}
-use Rattle.alg_choice.specs.declared.algs.Eea.{Eea}
-use Rattle.alg_choice.specs.Algs.{identity_of}
+use Rattle.alg_choice.specs.{declared.algs.Eea.Eea, Algs.identity_of}
 use Rattle.edge_io.specs.declared.peers.Role.{Role}
-use Rattle.lte_events.specs.Site.{Site}
-use Rattle.lte_events.specs.declared.acts.PhoneAct.{PhoneAct}
-use Rattle.lte_events.specs.declared.acts.StationAct.{StationAct}
-use Rattle.lte_events.specs.declared.acts.CoreAct.{CoreAct}
-use Rattle.lte_events.specs.declared.inputs.PhoneIn.{PhoneIn}
-use Rattle.lte_events.specs.declared.inputs.StationIn.{StationIn}
-use Rattle.lte_events.specs.declared.inputs.CoreIn.{CoreIn}
-use Rattle.lte_events.specs.declared.inputs.ActorIn.{ActorIn}
-use Rattle.role_wire.specs.declared.frames.FrameIn.{FrameIn}
+use Rattle.lte_events.specs.{Site.Site, declared.acts.PhoneAct.PhoneAct, declared.acts.StationAct.StationAct, declared.acts.CoreAct.CoreAct, declared.inputs.PhoneIn.PhoneIn, declared.inputs.StationIn.StationIn, declared.inputs.CoreIn.CoreIn, declared.inputs.ActorIn.ActorIn}
+use Rattle.role_wire.specs.{declared.frames.FrameIn.FrameIn, declared.frames.RoleSetup.RoleSetup}
 use Rattle.role_wire.specs.declared.frames.FrameIn.TheVariants.{Setup, Input}
-use Rattle.role_wire.specs.declared.frames.RoleSetup.{RoleSetup}
 use Rattle.role_wire.specs.Spelling.{phone_octets, station_octets, core_octets, setup_octets, first_octets, site_octets, body_spelling}
 use Rattle.role_wire.specs.Ranges.{IsFrame, IsSized, IsOrder, IsFirst, PhoneInSized, StationInSized, CoreInSized, SetupSized}
 use Rattle.role_wire.specs.Frame.{body_limit, framed, frame_spelling, frame_at}

@@ -4,11 +4,9 @@ use Rattle.std.specs.List.{list_any}
 use Rattle.rec_base.specs.declared.bearers.Bearer.{Bearer}
 use Rattle.rec_base.specs.Bearer.{IsSrb, IsDrb, octet_of}
 use Rattle.rec_base.specs.Lengths.{longest_packet, longest_text, longest_record}
-use Rattle.alg_choice.specs.declared.algs.Eea.{Eea}
-use Rattle.alg_choice.specs.declared.caps.Caps.{Caps}
+use Rattle.alg_choice.specs.{declared.algs.Eea.Eea, declared.caps.Caps.Caps}
 use Rattle.annex_a_keys.specs.Cell.{Place}
-use Rattle.lte_events.specs.Site.{Site, is_site}
-use Rattle.lte_events.specs.declared.acts.HoKind.{HoKind}
+use Rattle.lte_events.specs.{Site.Site, Site.is_site, declared.acts.HoKind.HoKind}
 use Rattle.role_wire.specs.Codes.{Codes, srbs, drbs, bearers, ho_kinds, ho_octet, eeas, eeas_but}
 use Rattle.rec_fields.specs.Field.{◌>>=◌}
 use Rattle.rec_fields.specs.Layout.{Layout, Empty, Last, Rest, Then, read_by}

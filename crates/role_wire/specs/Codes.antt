@@ -1,8 +1,7 @@
 -- The fields of one octet that stand for a value, each by its table.
 use Rattle.std.specs.Prelude.{ℕ, ◌==◌, if◌then◌else◌, List, [], ◌∷◌, Option, Some, None}
-use Rattle.rec_base.specs.declared.bearers.Bearer.{Bearer}
+use Rattle.rec_base.specs.{declared.bearers.Bearer.Bearer, Bearer.octet_of}
 use Rattle.rec_base.specs.declared.bearers.Bearer.TheVariants.{Srb1, Srb2, Drb1, Drb2, Drb3, Drb4}
-use Rattle.rec_base.specs.Bearer.{octet_of}
 use Rattle.alg_choice.specs.declared.algs.Eea.{Eea}
 use Rattle.alg_choice.specs.declared.algs.Eea.TheVariants.{Eea0, Eea2}
 use Rattle.lte_events.specs.declared.acts.HoKind.{HoKind}

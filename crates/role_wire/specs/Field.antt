@@ -4,12 +4,9 @@ use Rattle.std.specs.Prelude.{◌≡◌, ℕ, ◌+◌, ◌-◌, ◌^◌, ◌≤�
 use Rattle.std.specs.Option.{ok_or}
 use Rattle.rec_base.specs.BigEndian.{number_at, field_at, octets_of}
 use Rattle.rec_base.specs.Ranges.{Is32Bits}
-use Rattle.alg_choice.specs.declared.caps.Caps.{Caps}
-use Rattle.alg_choice.specs.Caps.{IsCaps}
+use Rattle.alg_choice.specs.{declared.caps.Caps.Caps, Caps.IsCaps}
 use Rattle.annex_a_keys.specs.Cell.{Place, greatest_pci, greatest_earfcn, IsCell}
-use Rattle.rec_fields.specs.Field.{◌>>=◌}
-use Rattle.rec_fields.specs.Layout.{Field, Ending}
-use Rattle.rec_fields.specs.Spelled.{cell_octets}
+use Rattle.rec_fields.specs.{Field.◌>>=◌, Layout.Field, Layout.Ending, Spelled.cell_octets}
 use Rattle.role_wire.specs.Codes.{Codes, coded}
 
 -- a number of this width, from `low` to `high`

@@ -2,14 +2,9 @@
 use Rattle.std.specs.Prelude.{◌≡◌, ℕ, Bool, IsTrue, ◌+◌, ◌<◌, ◌≤◌, ◌==◌, nat_lt, if◌then◌else◌, ◌⊎◌, List, [], ◌++◌, length, drop, Option, Result, Ok, Err}
 use Rattle.std.specs.Io.KnownBytes.{IsAtEnd}
 use Rattle.rec_base.specs.BigEndian.{number_at, field_at, octets_of}
-use Rattle.edge_io.specs.Octets.{Gives}
-use Rattle.edge_io.specs.declared.peers.Role.{Role}
-use Rattle.role_wire.specs.declared.frames.FrameIn.{FrameIn}
-use Rattle.role_wire.specs.declared.frames.FrameFault.{FrameFault}
+use Rattle.edge_io.specs.{Octets.Gives, declared.peers.Role.Role}
+use Rattle.role_wire.specs.{declared.frames.FrameIn.FrameIn, declared.frames.FrameFault.FrameFault, Spelling.body_spelling, Reading.body_of, Ranges.IsFrame}
 use Rattle.role_wire.specs.declared.frames.FrameFault.TheVariants.{Ended, Truncated, TooLong, BadBody, ReadFault}
-use Rattle.role_wire.specs.Spelling.{body_spelling}
-use Rattle.role_wire.specs.Reading.{body_of}
-use Rattle.role_wire.specs.Ranges.{IsFrame}
 
 -- the greatest length of a body, in octets
 abbrev pub body_limit : ℕ

@@ -1,23 +1,14 @@
 -- Which frames there are: for each role, the fields in their ranges.
 use Rattle.std.specs.Prelude.{◌≡◌, ◌≢◌, ℕ, Bool, true, false, ◌≤◌, List, [], ◌∷◌, length, All}
-use Rattle.alg_choice.specs.declared.algs.Eea.{Eea}
-use Rattle.alg_choice.specs.Caps.{IsCaps}
+use Rattle.alg_choice.specs.{declared.algs.Eea.Eea, Caps.IsCaps}
 use Rattle.annex_a_keys.specs.Cell.{IsCell}
 use Rattle.rec_base.specs.Lengths.{longest_packet, longest_text, longest_record}
 use Rattle.rec_base.specs.Ranges.{Is32Bits}
 use Rattle.edge_io.specs.declared.peers.Role.{Role}
 use Rattle.lte_events.specs.Ranges.{PhoneTakes, StationTakes, CoreTakes}
-use Rattle.lte_events.specs.Site.{Site, IsCellTable}
-use Rattle.lte_events.specs.declared.acts.PhoneAct.{PhoneAct}
-use Rattle.lte_events.specs.declared.acts.StationAct.{StationAct}
-use Rattle.lte_events.specs.declared.acts.CoreAct.{CoreAct}
-use Rattle.lte_events.specs.declared.inputs.PhoneIn.{PhoneIn}
-use Rattle.lte_events.specs.declared.inputs.StationIn.{StationIn}
-use Rattle.lte_events.specs.declared.inputs.CoreIn.{CoreIn}
-use Rattle.lte_events.specs.declared.inputs.ActorIn.{ActorIn}
-use Rattle.role_wire.specs.declared.frames.FrameIn.{FrameIn}
+use Rattle.lte_events.specs.{Site.Site, Site.IsCellTable, declared.acts.PhoneAct.PhoneAct, declared.acts.StationAct.StationAct, declared.acts.CoreAct.CoreAct, declared.inputs.PhoneIn.PhoneIn, declared.inputs.StationIn.StationIn, declared.inputs.CoreIn.CoreIn, declared.inputs.ActorIn.ActorIn}
+use Rattle.role_wire.specs.{declared.frames.FrameIn.FrameIn, declared.frames.RoleSetup.RoleSetup}
 use Rattle.role_wire.specs.declared.frames.FrameIn.TheVariants.{Setup, Input}
-use Rattle.role_wire.specs.declared.frames.RoleSetup.{RoleSetup}
 
 -- What the types of the program leave open: a KSI is 0 to 6 (TS 24.301 9.9.3.21), a station 0 to 7; user
 -- text goes on a DRB and RRC text on an SRB; first numbers begin at 1, and there is a cell.

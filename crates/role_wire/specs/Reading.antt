@@ -2,19 +2,11 @@
 use Rattle.std.specs.Prelude.{ℕ, Bool, true, false, List, [], ◌∷◌, Result, Ok}
 use Rattle.rec_base.specs.Bearer.{octet_of}
 use Rattle.edge_io.specs.declared.peers.Role.{Role}
-use Rattle.lte_events.specs.declared.acts.PhoneAct.{PhoneAct}
-use Rattle.lte_events.specs.declared.acts.StationAct.{StationAct}
-use Rattle.lte_events.specs.declared.acts.CoreAct.{CoreAct}
-use Rattle.lte_events.specs.declared.inputs.PhoneIn.{PhoneIn}
-use Rattle.lte_events.specs.declared.inputs.StationIn.{StationIn}
-use Rattle.lte_events.specs.declared.inputs.CoreIn.{CoreIn}
-use Rattle.lte_events.specs.declared.inputs.ActorIn.{ActorIn}
-use Rattle.role_wire.specs.declared.frames.FrameIn.{FrameIn}
+use Rattle.lte_events.specs.{declared.acts.PhoneAct.PhoneAct, declared.acts.StationAct.StationAct, declared.acts.CoreAct.CoreAct, declared.inputs.PhoneIn.PhoneIn, declared.inputs.StationIn.StationIn, declared.inputs.CoreIn.CoreIn, declared.inputs.ActorIn.ActorIn}
+use Rattle.role_wire.specs.{declared.frames.FrameIn.FrameIn, declared.frames.RoleSetup.RoleSetup}
 use Rattle.role_wire.specs.declared.frames.FrameIn.TheVariants.{Setup, Input}
-use Rattle.role_wire.specs.declared.frames.RoleSetup.{RoleSetup}
 use Rattle.role_wire.specs.Codes.{bearers, nas_alone, nas_octet, nas_or_bearer, skip_octet}
-use Rattle.rec_fields.specs.Field.{◌>>=◌}
-use Rattle.rec_fields.specs.Layout.{Readers, read_rows}
+use Rattle.rec_fields.specs.{Field.◌>>=◌, Layout.Readers, Layout.read_rows}
 use Rattle.role_wire.specs.Body.{nothing_of, caps_of, auth_of, auth_caps_of, pdu_of, air_of, station_air_of, user_of, rrc_of, nas_of, skip_of, connect_of, start_of, first_of}
 
 -- by the kind; another kind is bad at place 0, and so is no octet

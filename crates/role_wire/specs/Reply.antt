@@ -1,19 +1,11 @@
 -- The frame of a reply: kind 80, and then its parts in order.
 use Rattle.std.specs.Prelude.{ℕ, Bool, true, false, List, [], ◌∷◌, ◌++◌, length, Option, Some, None}
 use Rattle.std.specs.List.{flat_map}
-use Rattle.rec_base.specs.BigEndian.{octets_of}
-use Rattle.rec_base.specs.Bearer.{octet_of}
-use Rattle.rec_base.specs.declared.faults.RecFault.{RecFault}
-use Rattle.rec_base.specs.declared.ways.Way.{Way}
+use Rattle.rec_base.specs.{BigEndian.octets_of, Bearer.octet_of, declared.faults.RecFault.RecFault, declared.ways.Way.Way}
 use Rattle.rec_base.specs.declared.ways.Way.TheVariants.{Initial, Horizontal, Vertical, Given, Completed, Chained}
 use Rattle.rec_fields.specs.Spelled.{algs_octet}
 use Rattle.annex_a_keys.specs.declared.derived.Derived.{Derived}
-use Rattle.lte_events.specs.declared.addresses.Address.{Address}
-use Rattle.lte_events.specs.declared.answers.Answer.{Answer}
-use Rattle.lte_events.specs.declared.replies.ActorOut.{ActorOut}
-use Rattle.lte_events.specs.declared.replies.KeyNote.{KeyNote}
-use Rattle.lte_events.specs.declared.replies.Record.{Record}
-use Rattle.lte_events.specs.Answer.{number_of}
+use Rattle.lte_events.specs.{declared.addresses.Address.Address, declared.answers.Answer.Answer, declared.replies.ActorOut.ActorOut, declared.replies.KeyNote.KeyNote, declared.replies.Record.Record, Answer.number_of}
 use Rattle.role_wire.specs.Frame.{framed}
 
 -- the number of a record's fault, and the place of a field

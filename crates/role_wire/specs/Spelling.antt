@@ -1,23 +1,12 @@
 -- The body of each frame: the kind, and then the fields in order.
 use Rattle.std.specs.Prelude.{ℕ, List, [], ◌∷◌, ◌++◌, length, map}
 use Rattle.std.specs.List.{flat_map}
-use Rattle.rec_base.specs.BigEndian.{octets_of}
-use Rattle.rec_base.specs.Bearer.{octet_of}
-use Rattle.alg_choice.specs.declared.algs.Eea.{Eea}
-use Rattle.alg_choice.specs.Algs.{identity_of}
-use Rattle.rec_fields.specs.Spelled.{cell_octets}
-use Rattle.lte_events.specs.Site.{Site}
-use Rattle.lte_events.specs.declared.acts.PhoneAct.{PhoneAct}
-use Rattle.lte_events.specs.declared.acts.StationAct.{StationAct}
-use Rattle.lte_events.specs.declared.acts.CoreAct.{CoreAct}
-use Rattle.lte_events.specs.declared.inputs.PhoneIn.{PhoneIn}
-use Rattle.lte_events.specs.declared.inputs.StationIn.{StationIn}
-use Rattle.lte_events.specs.declared.inputs.CoreIn.{CoreIn}
-use Rattle.lte_events.specs.declared.inputs.ActorIn.{ActorIn}
-use Rattle.role_wire.specs.declared.frames.FrameIn.{FrameIn}
+use Rattle.rec_base.specs.{BigEndian.octets_of, Bearer.octet_of}
+use Rattle.alg_choice.specs.{declared.algs.Eea.Eea, Algs.identity_of}
+use Rattle.rec_fields.specs.{Spelled.cell_octets, Layout.spelled_by}
+use Rattle.lte_events.specs.{Site.Site, declared.acts.PhoneAct.PhoneAct, declared.acts.StationAct.StationAct, declared.acts.CoreAct.CoreAct, declared.inputs.PhoneIn.PhoneIn, declared.inputs.StationIn.StationIn, declared.inputs.CoreIn.CoreIn, declared.inputs.ActorIn.ActorIn}
+use Rattle.role_wire.specs.{declared.frames.FrameIn.FrameIn, declared.frames.RoleSetup.RoleSetup}
 use Rattle.role_wire.specs.declared.frames.FrameIn.TheVariants.{Setup, Input}
-use Rattle.role_wire.specs.declared.frames.RoleSetup.{RoleSetup}
-use Rattle.rec_fields.specs.Layout.{spelled_by}
 use Rattle.role_wire.specs.Codes.{bearers, nas_alone, nas_octet, nas_or_bearer, skip_octet}
 use Rattle.role_wire.specs.Body.{caps_body, auth_body, auth_caps_body, pdu_body, air_body, station_air_body, user_body, rrc_body, nas_body, skip_body, connect_body, start_body}
 

@@ -7,10 +7,9 @@ use Rattle.rec_base.proofs.Numbers.{AreOctets}
 use Rattle.rec_fields.specs.Layout.{spelled_by}
 use Rattle.rec_fields.proofs.Layouts.{AreFields, AreRows, rows_take, rows_on}
 use Rattle.rec_fields.proofs.Records.{Reach, octet_is_field, number_is_field, cell_is_field, algorithms_is_field, record_row, record_again}
-use Rattle.rrc_rec.specs.declared.records.RrcRecord.{RrcRecord}
+use Rattle.rrc_rec.specs.{declared.records.RrcRecord.RrcRecord, Spelling.spelling_of, Spelling.InRange}
 use Rattle.rrc_rec.specs.declared.records.RrcRecord.TheVariants.{SecurityModeCommand, SecurityModeComplete, Reconfiguration, ReconfigurationComplete, RrcData, KeyChange}
 use Rattle.rrc_rec.specs.Forms.{command, complete, reconfiguration, reconfigured, any_text, key_change}
-use Rattle.rrc_rec.specs.Spelling.{spelling_of, InRange}
 use Rattle.rrc_rec.specs.Reading.{rrc_rows, read_rrc, command_of, reconfiguration_of, bare, data_of, key_change_of}
 
 command_fields : AreFields Reach command.layout

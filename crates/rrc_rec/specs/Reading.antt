@@ -1,7 +1,6 @@
 -- Reading an RRC text: no octet, unknown kind, size, and then the fields from left to right.
 use Rattle.std.specs.Prelude.{ℕ, List, [], ◌∷◌, Result}
-use Rattle.rec_base.specs.declared.faults.RecFault.{RecFault}
-use Rattle.rec_base.specs.declared.faults.RecFault.TheVariants.{BadKind}
+use Rattle.rec_base.specs.{declared.faults.RecFault.RecFault, declared.faults.RecFault.TheVariants.BadKind}
 use Rattle.rec_fields.specs.Layout.{Empty, Readers, by_kind}
 use Rattle.rec_fields.specs.Record.{read_layout, record_by, read_kinds}
 use Rattle.rrc_rec.specs.declared.records.RrcRecord.{RrcRecord}

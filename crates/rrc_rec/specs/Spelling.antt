@@ -1,8 +1,7 @@
 -- The RRC texts, each with its one spelling.
 use Rattle.std.specs.Prelude.{ℕ, ◌≤◌, List, length}
 use Rattle.rec_base.specs.Ranges.{IsNumber}
-use Rattle.rec_fields.specs.Layout.{Values}
-use Rattle.rec_fields.specs.Record.{Form, spelled}
+use Rattle.rec_fields.specs.{Layout.Values, Record.Form, Record.spelled}
 use Rattle.annex_a_keys.specs.Cell.{IsCell}
 use Rattle.rrc_rec.specs.declared.records.RrcRecord.{RrcRecord}
 use Rattle.rrc_rec.specs.declared.records.RrcRecord.TheVariants.{SecurityModeCommand, SecurityModeComplete, Reconfiguration, ReconfigurationComplete, RrcData, KeyChange}

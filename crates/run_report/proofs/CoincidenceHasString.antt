@@ -1,23 +1,16 @@
 -- A coincidence of a run is shown by what has a string S.
 use Rattle.std.proofs.Common.{◌≡◌, refl, sym, subst, ap, ℕ, Bool, true, false, Option, Some, None, Err, List, [], ◌∷◌}
-use Rattle.std.specs.Str.{bytes_eq}
-use Rattle.std.specs.List.{AllByRecursion as AllOf}
-use Rattle.hmac_kdf.specs.declared.input.KdfInput.{KdfInput}
-use Rattle.hmac_kdf.specs.Kdf.{IsKdfInput}
+use Rattle.std.specs.{Str.bytes_eq, List.AllByRecursion as AllOf}
+use Rattle.hmac_kdf.specs.{declared.input.KdfInput.KdfInput, Kdf.IsKdfInput}
 use Rattle.key_model.specs.Derivation.{derived_of}
 use Rattle.key_terms.specs.declared.proof.Proof.{Proof}
-use Rattle.lte_events.specs.declared.events.Event.{Event}
-use Rattle.lte_events.specs.declared.setups.Setup.{Setup}
-use Rattle.lte_machine.specs.BothRuns.{octet_run}
-use Rattle.lte_machine.specs.Ciphers.{annex_b}
+use Rattle.lte_events.specs.{declared.events.Event.Event, declared.setups.Setup.Setup, Ranges.IsEvent, Ranges.IsSetup}
+use Rattle.lte_machine.specs.{BothRuns.octet_run, Ciphers.annex_b, Machines.Kept, Machines.machine_in_octets, Opening.open_octets, Opening.accepted_of}
 use Rattle.lte_machine.specs.Ladder.{RowOrigin, OfRoot, Of, Clash, Ladder, add_next, added_unless, added_at, stands_or_not, add_row, add_rows, no_rows, Hit, hit, row_key, same_origin, ladder_of}
-use Rattle.lte_machine.specs.Machines.{Kept, machine_in_octets}
-use Rattle.lte_machine.specs.Opening.{open_octets, accepted_of}
 use Rattle.lte_machine.specs.Run.{RunState, Running, Stopped, EventReport, Reported, Coincided, reported, event_report, GoesOn}
 use Rattle.lte_machine.specs.Step.{StepResult, Continues, Stops, next, attempted, opening_coincidence, by_coincidence, by_ladder}
 use Rattle.lte_machine.specs.Tuples.{Coincidence, Tuples, Rows, tuple_coincidence, tuples_unless, same_sender}
 use Rattle.lte_machine.specs.World.{World, Line, happens}
-use Rattle.lte_events.specs.Ranges.{IsEvent, IsSetup}
 use Rattle.lte_world.specs.declared.faults.WorldFault.TheVariants as fault
 use Rattle.lte_world.specs.Whole.{Whole, run_of, answer_of}
 use Rattle.lte_world.specs.Whole as whole

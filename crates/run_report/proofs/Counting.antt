@@ -1,12 +1,8 @@
 -- The lines of a run, counted one after the other.
 use Rattle.std.proofs.Common.{◌≡◌, refl, sym, ap, subst, ◌∙◌, arith, ℕ, suc, ◌+◌, ◌≤◌, Ok, Err, List, [], ◌∷◌, ◌++◌, length, drop, length-append, drop_of_length-le}
-use Rattle.lte_events.specs.declared.events.Event.{Event}
-use Rattle.lte_events.specs.declared.lines.Line.{Line}
-use Rattle.lte_events.specs.declared.setups.Setup.{Setup}
-use Rattle.key_terms.specs.declared.proof.Proof.{Proof}
-use Rattle.key_terms.specs.declared.row.LadderRow.{LadderRow}
-use Rattle.lte_machine.specs.BothRuns.{octet_run, octet_report}
-use Rattle.lte_machine.specs.Machines.{Kept}
+use Rattle.lte_events.specs.{declared.events.Event.Event, declared.lines.Line.Line, declared.setups.Setup.Setup, Scenario.IsScenario}
+use Rattle.key_terms.specs.{declared.proof.Proof.Proof, declared.row.LadderRow.LadderRow}
+use Rattle.lte_machine.specs.{BothRuns.octet_run, BothRuns.octet_report, Machines.Kept}
 use Rattle.lte_machine.specs.Run.{RunState, Running, Stopped, EventReport, Reported, Coincided, first_world, GoesOn}
 use Rattle.lte_world.specs.Whole.{InRun}
 use Rattle.lte_world.specs.declared.faults.WorldFault.TheVariants as fault
@@ -14,9 +10,7 @@ use Rattle.report_text.specs.Coincidence.{coincidence_text}
 use Rattle.report_text.specs.Summary.{Tallied, tally_of, figures_text}
 use Rattle.store_laws.specs.Rows.{world_rows}
 use Rattle.run_report.specs.declared.endings.Ending.TheVariants.{Done, Chance}
-use Rattle.run_report.specs.Events.{told_of, CanShow}
-use Rattle.run_report.specs.Counted.{Tells, Ended}
-use Rattle.lte_events.specs.Scenario.{IsScenario}
+use Rattle.run_report.specs.{Events.told_of, Events.CanShow, Counted.Tells, Counted.Ended}
 use Rattle.run_report.specs.Summary.{Coincides, outcome_from, rows_in, summary_with, summary_of}
 use Rattle.run_report.proofs.ReportByEvent.{turned, replayed, reports, in_octets}
 

@@ -4,8 +4,7 @@ use Rattle.key_terms.specs.declared.row.LadderRow.{LadderRow}
 use Rattle.lte_machine.specs.Machines.{Kept}
 use Rattle.lte_machine.specs.Run.{RunState, Running, Stopped, GoesOn}
 use Rattle.lte_world.specs.Whole.{InRun}
-use Rattle.report_text.specs.End.{end_text}
-use Rattle.report_text.specs.Ladder.{ladder_text}
+use Rattle.report_text.specs.{End.end_text, Ladder.ladder_text}
 use Rattle.store_laws.specs.Rows.{world_rows}
 use Rattle.run_report.specs.Report.{end_of}
 

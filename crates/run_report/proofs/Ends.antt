@@ -1,17 +1,11 @@
 -- Each text of a report is whole lines.
 use Rattle.std.proofs.Common.{◌≡◌, ℕ, ◌+◌, true, List, [], ◌∷◌, refl}
-use Rattle.std.specs.Prelude.{codes}
-use Rattle.std.specs.Fmt.{decimal}
+use Rattle.std.specs.{Prelude.codes, Fmt.decimal}
 use Rattle.edge_io.specs.Lines.{EndsLine, are_lines}
 use Rattle.edge_io.proofs.Ending.{feed, on, is_lines, lines_both}
-use Rattle.key_terms.specs.declared.proof.Proof.{Proof}
-use Rattle.key_terms.specs.declared.row.LadderRow.{LadderRow}
-use Rattle.lte_events.specs.declared.lines.Line.{Line}
-use Rattle.lte_events.specs.Answer.{name_of}
-use Rattle.report_text.specs.declared.summaries.Figure.{Figure}
-use Rattle.report_text.specs.Coincidence.{proof_text, coincidence_text}
-use Rattle.report_text.specs.Details.{details_text}
-use Rattle.report_text.specs.End.{end_text}
+use Rattle.key_terms.specs.{declared.proof.Proof.Proof, declared.row.LadderRow.LadderRow}
+use Rattle.lte_events.specs.{declared.lines.Line.Line, Answer.name_of}
+use Rattle.report_text.specs.{declared.summaries.Figure.Figure, Coincidence.proof_text, Coincidence.coincidence_text, Details.details_text, End.end_text}
 use Rattle.report_text.specs.Ladder.{row_head, without_comma, each_holder, row_text, rows_from, ladder_text}
 use Rattle.report_text.specs.Line.{who_text, sent_text, opened_text, note_text, alarm_text, line_text}
 use Rattle.report_text.specs.Summary.{Tallied, number_of, figure_text}

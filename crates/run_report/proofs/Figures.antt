@@ -1,7 +1,6 @@
 -- The lines of a summary.
 use Rattle.std.proofs.Common.{◌≡◌, sym, ap, subst, ◌∙◌, arith, ℕ, suc, ◌+◌, ◌<◌, List, ◌∷◌, ◌++◌, drop, get_or}
-use Rattle.std.proofs.lemmas.List.{get_or_default}
-use Rattle.std.proofs.Math.Seq.{drop-cons}
+use Rattle.std.proofs.{lemmas.List.get_or_default, Math.Seq.drop-cons}
 use Rattle.std.specs.List.{flat_map}
 use Rattle.report_text.specs.Summary.{Tallied, figures, figure_text}
 use Rattle.run_report.proofs.Partly.{Begins}

@@ -1,16 +1,12 @@
 -- A system to which the events of a list happen.
 use Rattle.std.proofs.Common.{◌≡◌, sym, ap, subst, ◌∙◌, arith, ℕ, suc, ◌+◌, List, [], ◌∷◌, Some, length, drop, get_or, slice_get, length-append}
-use Rattle.std.proofs.lemmas.Option.{get_or_from_slice_get, slice_get_within}
-use Rattle.std.proofs.Math.Seq.{drop-cons}
-use Rattle.lte_events.specs.Scenario.{CanHappen, IsScenario}
-use Rattle.lte_events.specs.declared.events.Event.{Event}
-use Rattle.lte_events.specs.declared.setups.Setup.{Setup}
+use Rattle.std.proofs.{lemmas.Option.get_or_from_slice_get, lemmas.Option.slice_get_within, Math.Seq.drop-cons}
+use Rattle.lte_events.specs.{Scenario.CanHappen, Scenario.IsScenario, declared.events.Event.Event, declared.setups.Setup.Setup}
 use Rattle.lte_machine.specs.Machines.{Kept}
 use Rattle.lte_machine.specs.Run.{RunState, Running, first_world, GoesOn}
 use Rattle.lte_world.specs.Whole.{Whole, begun, run_of}
-use Rattle.run_report.specs.declared.endings.Ending.TheVariants.{Done}
+use Rattle.run_report.specs.{declared.endings.Ending.TheVariants.Done, Takes.CanTake, Takes.Takes}
 use Rattle.run_report.specs.Events.{told_of, told_report, event_ends}
-use Rattle.run_report.specs.Takes.{CanTake, Takes}
 use Rattle.run_report.proofs.Partly.{Follows}
 use Rattle.run_report.proofs.ReportByEvent.{report_from, report_more, still_goes, turned}
 

@@ -1,19 +1,14 @@
 -- A text or a report of which a part is written, and the rest is to be.
 use Rattle.std.proofs.Common.{◌≡◌, ◌≢◌, refl, sym, ap, subst, ◌∙◌, arith, Result, Ok, Err, List, [], ◌++◌, append_assoc, append-nil, ℕ}
-use Rattle.std.specs.Prelude.{IsTrue}
-use Rattle.std.specs.Result.{result_and}
+use Rattle.std.specs.{Prelude.IsTrue, Result.result_and}
 use Rattle.std.proofs.Math.Nat.{le_refl}
 use Rattle.edge_io.proofs.Known.{nothing_out, none_of, grows_twice, prefix_on, proper_prefix_on}
-use Rattle.edge_io.specs.Told.{Told}
-use Rattle.edge_io.specs.Cause.{NoFault}
+use Rattle.edge_io.specs.{Told.Told, Cause.NoFault, Used.UsedAsSink}
 use Rattle.edge_io.specs.Octets.{Grows, GrowsByPrefix, GrowsByProperPrefix}
-use Rattle.edge_io.specs.Used.{UsedAsSink}
 use Rattle.growth.specs.Growth.{WasRefused}
-use Rattle.run_report.specs.declared.endings.Ending.{Ending}
+use Rattle.run_report.specs.{declared.endings.Ending.Ending, declared.unwritten.Unwritten.Unwritten, Report.Report, Report.before}
 use Rattle.run_report.specs.declared.endings.Ending.TheVariants.{Done, Chance}
-use Rattle.run_report.specs.declared.unwritten.Unwritten.{Unwritten}
 use Rattle.run_report.specs.declared.unwritten.Unwritten.TheVariants.{Memory, WriteFault}
-use Rattle.run_report.specs.Report.{Report, before}
 use Rattle.run_report.specs.Written.{Written, WritesText, WritesReport}
 
 -- THE SINK

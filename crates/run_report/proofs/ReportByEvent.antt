@@ -1,29 +1,20 @@
 -- The report, event by event.
 use Rattle.std.proofs.Common.{◌≡◌, refl, sym, ap, ◌∙◌, arith, ℕ, suc, ◌+◌, ◌≤◌, Result, Ok, Err, List, ◌∷◌, length, map, drop, drop_of_length-le}
-use Rattle.lte_events.specs.declared.events.Event.{Event}
-use Rattle.lte_events.specs.declared.lines.Line.{Line}
-use Rattle.lte_events.specs.declared.setups.Setup.{Setup}
+use Rattle.lte_events.specs.{declared.events.Event.Event, declared.lines.Line.Line, declared.setups.Setup.Setup, Scenario.IsScenario}
 use Rattle.lte_events.proofs.InRange.{in_range}
 use Rattle.key_terms.specs.declared.proof.Proof.{Proof}
 use Rattle.lte_machine.specs.BothRuns.{octet_run, octet_report, written_run, written_report}
-use Rattle.lte_machine.specs.Carried.{run_value, report_value}
-use Rattle.lte_machine.specs.Ciphers.{annex_b}
-use Rattle.lte_machine.specs.Machines.{Kept, machine_in_octets}
-use Rattle.lte_machine.specs.Opening.{open_octets}
+use Rattle.lte_machine.specs.{Carried.run_value, Carried.report_value, Ciphers.annex_b, Machines.Kept, Machines.machine_in_octets, Opening.open_octets}
 use Rattle.lte_machine.specs.Run.{RunState, Running, Stopped, turn, replay, EventReport, Reported, Coincided, report, reported, after, first_world, GoesOn}
 use Rattle.lte_machine.specs.Step.{StepResult, Continues, Stops, next}
-use Rattle.lte_machine.proofs.AnnexB.{annex_b_ciphers}
-use Rattle.lte_machine.proofs.WholeRun.{tale_is_value, run_is_value}
-use Rattle.lte_world.specs.declared.faults.WorldFault.{WorldFault}
+use Rattle.lte_machine.proofs.{AnnexB.annex_b_ciphers, WholeRun.tale_is_value, WholeRun.run_is_value}
+use Rattle.lte_world.specs.{declared.faults.WorldFault.WorldFault, Whole.answer_of}
 use Rattle.lte_world.specs.declared.faults.WorldFault.TheVariants as fault
-use Rattle.lte_world.specs.Whole.{answer_of}
 use Rattle.store_laws.specs.Proofs.{proof_of}
-use Rattle.report_text.specs.Line.{line_text}
-use Rattle.report_text.specs.Coincidence.{coincidence_text}
+use Rattle.report_text.specs.{Line.line_text, Coincidence.coincidence_text}
 use Rattle.run_report.specs.declared.endings.Ending.TheVariants.{Done, Chance}
 use Rattle.run_report.specs.Counted.{Tells}
 use Rattle.run_report.specs.Events.{told_of, told_report, event_ends, CanShow}
-use Rattle.lte_events.specs.Scenario.{IsScenario}
 use Rattle.run_report.specs.Report.{Report, told_from, end_of, report_of}
 use Rattle.run_report.proofs.Partly.{followed, Follows}
 

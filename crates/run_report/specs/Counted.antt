@@ -1,19 +1,14 @@
 -- The events of a run as they are counted.
 use Rattle.std.specs.Prelude.{◌≡◌, ℕ, List, [], Result, Ok, Err}
-use Rattle.lte_events.specs.declared.events.Event.{Event}
-use Rattle.lte_events.specs.declared.lines.Line.{Line}
-use Rattle.lte_events.specs.declared.setups.Setup.{Setup}
-use Rattle.lte_machine.specs.BothRuns.{octet_run, octet_report}
-use Rattle.lte_machine.specs.Calls.{line_out}
-use Rattle.lte_machine.specs.Machines.{Kept}
+use Rattle.lte_events.specs.{declared.events.Event.Event, declared.lines.Line.Line, declared.setups.Setup.Setup}
+use Rattle.lte_machine.specs.{BothRuns.octet_run, BothRuns.octet_report, Calls.line_out, Machines.Kept}
 use Rattle.lte_machine.specs.Run.{RunState, EventReport, Reported, Coincided, GoesOn}
 use Rattle.lte_world.specs.declared.faults.WorldFault.{WorldFault}
 use Rattle.lte_world.specs.declared.faults.WorldFault.TheVariants as fault
 use Rattle.report_text.specs.Summary.{Tallied, tally_of}
 use Rattle.store_laws.specs.Proofs.{proof_of}
-use Rattle.run_report.specs.declared.courses.Course.{Course}
+use Rattle.run_report.specs.{declared.courses.Course.Course, Events.CanShow}
 use Rattle.run_report.specs.declared.courses.Course.TheVariants as course
-use Rattle.run_report.specs.Events.{CanShow}
 use Rattle.run_report.specs.Summary.{AllLines, Coincides, outcome_from}
 
 -- an answer to an event: what is told of it, or that memory ran out

@@ -1,21 +1,15 @@
 -- What is told of one event.
 use Rattle.std.specs.Prelude.{ℕ, ◌<◌, ◌^◌, List}
-use Rattle.hmac_kdf.specs.declared.input.KdfInput.{KdfInput}
-use Rattle.hmac_kdf.specs.declared.input.KdfInput.TheVariants.{Kenb}
+use Rattle.hmac_kdf.specs.{declared.input.KdfInput.KdfInput, declared.input.KdfInput.TheVariants.Kenb}
 use Rattle.key_terms.specs.declared.proof.Proof.{Proof}
 use Rattle.key_terms.specs.declared.proof.Proof.TheVariants as proofs
 use Rattle.lte_events.specs.declared.events.Event.{Event}
-use Rattle.lte_machine.specs.Calls.{line_out}
-use Rattle.lte_machine.specs.Ciphers.{annex_b}
-use Rattle.lte_machine.specs.Machines.{Kept, machine_in_octets}
-use Rattle.lte_machine.specs.Opening.{open_octets}
+use Rattle.lte_machine.specs.{Calls.line_out, Ciphers.annex_b, Machines.Kept, Machines.machine_in_octets, Opening.open_octets}
 use Rattle.lte_machine.specs.Run.{RunState, EventReport, Reported, Coincided, event_report}
-use Rattle.report_text.specs.Line.{line_text}
-use Rattle.report_text.specs.Coincidence.{HasString, coincidence_text}
+use Rattle.report_text.specs.{Line.line_text, Coincidence.HasString, Coincidence.coincidence_text}
 use Rattle.store_laws.specs.Proofs.{proof_of}
-use Rattle.run_report.specs.declared.endings.Ending.{Ending}
+use Rattle.run_report.specs.{declared.endings.Ending.Ending, Report.Report}
 use Rattle.run_report.specs.declared.endings.Ending.TheVariants.{Done, Chance}
-use Rattle.run_report.specs.Report.{Report}
 
 -- in a run in octets
 abbrev pub told_of : RunState (List ℕ) ℕ Kept → Event → EventReport (List ℕ)

@@ -1,21 +1,11 @@
 -- The report of a run: a line for each event up to the first coincidence, and where there is none, how much there was of
 -- everything and the rows of the ladder.
 use Rattle.std.specs.Prelude.{ℕ, suc, List, [], ◌∷◌, ◌++◌, length, map}
-use Rattle.lte_events.specs.declared.events.Event.{Event}
-use Rattle.lte_events.specs.declared.setups.Setup.{Setup}
-use Rattle.lte_machine.specs.BothRuns.{written_run, written_report}
-use Rattle.lte_machine.specs.Calls.{line_out}
-use Rattle.lte_machine.specs.Carried.{run_value, report_value}
-use Rattle.lte_machine.specs.Ciphers.{annex_b}
-use Rattle.lte_machine.specs.Machines.{Kept}
+use Rattle.lte_events.specs.{declared.events.Event.Event, declared.setups.Setup.Setup}
+use Rattle.lte_machine.specs.{BothRuns.written_run, BothRuns.written_report, Calls.line_out, Carried.run_value, Carried.report_value, Ciphers.annex_b, Machines.Kept, World.World}
 use Rattle.lte_machine.specs.Run.{RunState, Running, Stopped, EventReport, Reported, Coincided}
-use Rattle.lte_machine.specs.World.{World}
-use Rattle.report_text.specs.Line.{line_text}
-use Rattle.report_text.specs.Coincidence.{coincidence_text}
-use Rattle.report_text.specs.End.{end_text}
-use Rattle.report_text.specs.Ladder.{ladder_text}
-use Rattle.store_laws.specs.Proofs.{proof_of}
-use Rattle.store_laws.specs.Rows.{world_rows}
+use Rattle.report_text.specs.{Line.line_text, Coincidence.coincidence_text, End.end_text, Ladder.ladder_text}
+use Rattle.store_laws.specs.{Proofs.proof_of, Rows.world_rows}
 use Rattle.run_report.specs.declared.endings.Ending.{Ending}
 use Rattle.run_report.specs.declared.endings.Ending.TheVariants.{Done, Chance}
 

@@ -1,19 +1,11 @@
 -- The summary of a run: what its lines come to where no coincidence ends it, and otherwise the coincidence alone.
 use Rattle.std.specs.Prelude.{ℕ, List, [], ◌∷◌, ◌++◌, length, map}
-use Rattle.lte_events.specs.declared.events.Event.{Event}
-use Rattle.lte_events.specs.declared.lines.Line.{Line}
-use Rattle.lte_events.specs.declared.setups.Setup.{Setup}
+use Rattle.lte_events.specs.{declared.events.Event.Event, declared.lines.Line.Line, declared.setups.Setup.Setup}
 use Rattle.key_terms.specs.declared.proof.Proof.{Proof}
-use Rattle.lte_machine.specs.BothRuns.{written_run, written_report}
-use Rattle.lte_machine.specs.Calls.{line_out}
-use Rattle.lte_machine.specs.Carried.{run_value, report_value}
-use Rattle.lte_machine.specs.Ciphers.{annex_b}
-use Rattle.lte_machine.specs.Machines.{Kept}
+use Rattle.lte_machine.specs.{BothRuns.written_run, BothRuns.written_report, Calls.line_out, Carried.run_value, Carried.report_value, Ciphers.annex_b, Machines.Kept}
 use Rattle.lte_machine.specs.Run.{RunState, Running, Stopped, EventReport, Reported, Coincided}
-use Rattle.report_text.specs.Coincidence.{coincidence_text}
-use Rattle.report_text.specs.Summary.{summary_text}
-use Rattle.store_laws.specs.Proofs.{proof_of}
-use Rattle.store_laws.specs.Rows.{world_rows}
+use Rattle.report_text.specs.{Coincidence.coincidence_text, Summary.summary_text}
+use Rattle.store_laws.specs.{Proofs.proof_of, Rows.world_rows}
 use Rattle.run_report.specs.declared.endings.Ending.TheVariants.{Done, Chance}
 use Rattle.run_report.specs.Report.{Report}
 

@@ -1,7 +1,6 @@
 -- What one event of a run does.
 use Rattle.std.specs.Prelude.{◌≡◌, ◌<◌, [], ◌∷◌, ◌++◌, length}
-use Rattle.lte_events.specs.Scenario.{most_events, CanHappen}
-use Rattle.lte_events.specs.declared.events.Event.{Event}
+use Rattle.lte_events.specs.{Scenario.most_events, Scenario.CanHappen, declared.events.Event.Event}
 use Rattle.lte_world.specs.Whole.{Whole, run_of, turned}
 use Rattle.lte_machine.specs.Run.{GoesOn}
 

@@ -1,14 +1,10 @@
 -- How far a text was written.
 use Rattle.std.specs.Prelude.{◌≡◌, ◌≢◌, ℕ, List, Result, Ok, Err, IfOk}
-use Rattle.edge_io.specs.Told.{Told}
-use Rattle.edge_io.specs.Cause.{NoFault, Rose}
+use Rattle.edge_io.specs.{Told.Told, Cause.NoFault, Cause.Rose, Used.UsedAsSink}
 use Rattle.edge_io.specs.Octets.{Grows, GrowsByPrefix, GrowsByProperPrefix}
-use Rattle.edge_io.specs.Used.{UsedAsSink}
 use Rattle.growth.specs.Growth.{WasRefused}
-use Rattle.run_report.specs.declared.endings.Ending.{Ending}
-use Rattle.run_report.specs.declared.unwritten.Unwritten.{Unwritten}
+use Rattle.run_report.specs.{declared.endings.Ending.Ending, declared.unwritten.Unwritten.Unwritten, Report.Report}
 use Rattle.run_report.specs.declared.unwritten.Unwritten.TheVariants.{Memory, WriteFault}
-use Rattle.run_report.specs.Report.{Report}
 
 -- Whole, or as far as memory and the sink went: where the sink failed, something was still to be written.
 abbrev pub Written : {A : Type 0} → List ℕ → Result A Unwritten → Told → Told → Type 0

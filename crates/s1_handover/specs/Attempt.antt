@@ -2,8 +2,7 @@
 use Rattle.std.specs.Prelude.{ℕ}
 use Rattle.annex_a_keys.specs.Cell.{Place}
 use Rattle.alg_choice.specs.declared.algs.Algs.{Algs}
-use Rattle.x2_handover.specs.declared.orders.Order.{Order}
-use Rattle.x2_handover.specs.Attempt.{Commanded}
+use Rattle.x2_handover.specs.{declared.orders.Order.Order, Attempt.Commanded}
 
 -- an open attempt: its number, the target station and cell. No key is in it: the core gives the target its pair
 pub record S1Start : Type 0 where

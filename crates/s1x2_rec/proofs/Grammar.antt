@@ -7,11 +7,9 @@ use Rattle.rec_base.proofs.Numbers.{AreOctets}
 use Rattle.rec_fields.specs.Layout.{spelled_by}
 use Rattle.rec_fields.proofs.Layouts.{AreFields, IsRow, AreRows, rows_take, rows_on}
 use Rattle.rec_fields.proofs.Records.{Reach, octet_is_field, number_is_field, cell_is_field, algorithms_is_field, capabilities_is_field, key_is_field, record_row, record_again}
-use Rattle.s1x2_rec.specs.declared.records.CoreRecord.{CoreRecord}
+use Rattle.s1x2_rec.specs.{declared.records.CoreRecord.CoreRecord, Content.content_of, Spelling.spelling_of, Spelling.InRange}
 use Rattle.s1x2_rec.specs.declared.records.CoreRecord.TheVariants.{InitialContext, ContextRelease, PathSwitchRequest, PathSwitchAnswer, HandoverRequired, HandoverRequest, HandoverRequestAck, HandoverCommand, HandoverNotify, HandoverCancel, X2Request, X2Ack, X2Cancel, X2Release, ContextModification}
-use Rattle.s1x2_rec.specs.Content.{content_of}
 use Rattle.s1x2_rec.specs.Forms.{initial_context, context_release, path_switch_request, path_switch_answer, handover_required, handover_request, handover_request_ack, handover_command, handover_notify, handover_cancel, x2_request, x2_ack, x2_cancel, x2_release, context_modification}
-use Rattle.s1x2_rec.specs.Spelling.{spelling_of, InRange}
 use Rattle.s1x2_rec.specs.Reading.{core_rows, read_record, initial_context_of, context_release_of, path_switch_request_of, path_switch_answer_of, handover_required_of, handover_request_of, handover_request_ack_of, handover_command_of, handover_notify_of, handover_cancel_of, x2_request_of, x2_ack_of, x2_cancel_of, x2_release_of, context_modification_of}
 
 abbrev spell : CoreRecord → List ℕ

@@ -1,7 +1,6 @@
 -- The records of S1 and X2 without their keys (TS 36.413, TS 36.423, in short form).
 use Rattle.std.specs.Prelude.{ℕ}
-use Rattle.alg_choice.specs.declared.algs.Algs.{Algs}
-use Rattle.alg_choice.specs.declared.caps.Caps.{Caps}
+use Rattle.alg_choice.specs.{declared.algs.Algs.Algs, declared.caps.Caps.Caps}
 use Rattle.annex_a_keys.specs.Cell.{Place}
 use Rattle.s1x2_rec.specs.Forms.{initial_context, context_release, path_switch_request, path_switch_answer, handover_required, handover_request, handover_request_ack, handover_command, handover_notify, handover_cancel, x2_request, x2_ack, x2_cancel, x2_release, context_modification}
 

@@ -1,10 +1,8 @@
 -- Reading a record of S1 or X2: no octet, unknown kind, size, and then the fields from left to right.
 use Rattle.std.specs.Prelude.{ℕ, List, [], ◌∷◌, Result, Ok, Err}
 use Rattle.rec_base.specs.declared.faults.RecFault.{RecFault}
-use Rattle.rec_fields.specs.Layout.{Readers}
-use Rattle.rec_fields.specs.Record.{record_by, read_kinds}
-use Rattle.s1x2_rec.specs.declared.records.CoreRecord.{CoreRecord}
-use Rattle.s1x2_rec.specs.Content.{Content, content_of}
+use Rattle.rec_fields.specs.{Layout.Readers, Record.record_by, Record.read_kinds}
+use Rattle.s1x2_rec.specs.{declared.records.CoreRecord.CoreRecord, Content.Content, Content.content_of}
 use Rattle.s1x2_rec.specs.Forms.{initial_context, context_release, path_switch_request, path_switch_answer, handover_required, handover_request, handover_request_ack, handover_command, handover_notify, handover_cancel, x2_request, x2_ack, x2_cancel, x2_release, context_modification}
 
 -- each form as read, or the first fault

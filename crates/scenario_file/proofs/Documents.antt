@@ -1,10 +1,8 @@
 -- The document that a text is.
 use Rattle.std.proofs.Common.{◌≡◌, refl, true, false, List, ℕ, Some, None, ⊎_elim}
 use Rattle.std.specs.Str.{IsUtf8, is_utf8}
-use Rattle.std.proofs.lemmas.Bool.{cases_Bool}
-use Rattle.std.proofs.lemmas.Str.{is_utf8-from_IsUtf8, IsUtf8-from_is_utf8}
-use Rattle.toml.specs.Data.{Members}
-use Rattle.toml.specs.Parse.{parse_document}
+use Rattle.std.proofs.{lemmas.Bool.cases_Bool, lemmas.Str.is_utf8-from_IsUtf8, lemmas.Str.IsUtf8-from_is_utf8}
+use Rattle.toml.specs.{Data.Members, Parse.parse_document}
 use Rattle.scenario_file.specs.Reading.{document_of}
 
 -- a text that is read

@@ -1,10 +1,7 @@
 -- The values of an array beside the items that they stand for.
 use Rattle.std.proofs.Common.{◌≡◌, ◌≢◌, suc, ◌<◌, ◌&&◌, List, [], ◌∷◌, length, None, refl, ap, arith}
-use Rattle.std.specs.Prelude.{is_some}
-use Rattle.std.specs.List.{list_all}
-use Rattle.toml.specs.Data.{as_table}
-use Rattle.toml.specs.declared.value.Value.{Value}
-use Rattle.toml.specs.View.{view, items_view}
+use Rattle.std.specs.{Prelude.is_some, List.list_all}
+use Rattle.toml.specs.{Data.as_table, declared.value.Value.Value, View.view, View.items_view}
 use Rattle.scenario_file.specs.Values.{are_tables, count_of, cell_of_items, priority_of_items}
 
 -- each value is a table, asked of the values or of the items

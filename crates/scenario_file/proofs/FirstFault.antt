@@ -4,10 +4,7 @@ use Rattle.std.specs.Prelude.{option_and_then, is_some, nat_le, ◌&&◌}
 use Rattle.std.specs.Option.{ok_or}
 use Rattle.std.proofs.lemmas.Bool.{cases_Bool, and_parts, leb-true}
 use Rattle.toml.specs.Data.{Members, get_member}
-use Rattle.scenario_file.specs.declared.fields.Field.{Field}
-use Rattle.scenario_file.specs.declared.faults.Refusal.{Refusal}
-use Rattle.scenario_file.specs.Field.{name_of}
-use Rattle.scenario_file.specs.Words.{natural, in_range}
+use Rattle.scenario_file.specs.{declared.fields.Field.Field, declared.faults.Refusal.Refusal, Field.name_of, Words.natural, Words.in_range}
 use Rattle.scenario_file.specs.Values.{◌>>=◌, or_default, integer_in, number_in}
 
 -- something was read before it

@@ -2,10 +2,9 @@
 use Rattle.std.proofs.Common.{◌≡◌, ℕ, zero, suc, ◌+◌, ◌≤◌, [], ◌++◌, length, take, refl, sym, ◌∙◌, arith, subst, inl, inr, add-one}
 use Rattle.std.proofs.lemmas.List.{length-append, take-append-le, length-take, length-take-le}
 use Rattle.std.proofs.lemmas.Bool.{cases_lt}
-use Rattle.scenario_file.specs.declared.turns.Turn.{Turn}
+use Rattle.scenario_file.specs.{declared.turns.Turn.Turn, FirstSteps.Taken, FirstSteps.with_steps}
 use Rattle.scenario_file.specs.declared.turns.Turn.TheVariants.{Uplink, Downlink, OverX2, OverS1, Within}
 use Rattle.scenario_file.specs.Draws.{turn_of, after, steps_of, opening, journey_at, steps_up_to, generated}
-use Rattle.scenario_file.specs.FirstSteps.{Taken, with_steps}
 
 opening_length : length opening ≡ 8
 unfolding opening

@@ -1,27 +1,20 @@
 -- A generated scenario is one that a system can start with, and each of its steps can happen.
 use Rattle.std.proofs.Common.{ℕ, zero, suc, ◌==◌, ◌<◌, ◌≤◌, Bool, true, false, List, [], ◌∷◌, ◌++◌, map, negsuc, All, refl, arith}
-use Rattle.std.specs.Prelude.{IsTrue, if◌then◌else◌}
-use Rattle.std.specs.List.{range_with_len, IsDistinct}
+use Rattle.std.specs.{Prelude.IsTrue, Prelude.if◌then◌else◌, List.range_with_len, List.IsDistinct}
 use Rattle.std.proofs.lemmas.List.FromFn.{get_or-range_with_len}
 use Rattle.std.proofs.lemmas.List.Elements.{All-append, All-cons, All-nil, All-replicate, All-take}
-use Rattle.rec_base.specs.Lengths.{longest_packet}
-use Rattle.rec_base.specs.declared.bearers.Bearer.TheVariants.{Drb1}
+use Rattle.rec_base.specs.{Lengths.longest_packet, declared.bearers.Bearer.TheVariants.Drb1, Ranges.IsText}
 use Rattle.rec_base.proofs.Numbers.{length-octets_of, octets_of-lt}
 use Rattle.lte_events.specs.Ranges.{has_station, IsStation, IsSiteOf, IsSetup}
-use Rattle.lte_events.specs.Scenario.{CanHappen, IsScenario}
-use Rattle.rec_base.specs.Ranges.{IsText}
-use Rattle.lte_events.specs.declared.acts.HoKind.{HoKind}
+use Rattle.lte_events.specs.{Scenario.CanHappen, Scenario.IsScenario, declared.acts.HoKind.HoKind, declared.events.Event.Event}
 use Rattle.lte_events.specs.declared.acts.CoreAct.TheVariants as core
 use Rattle.lte_events.specs.declared.acts.PhoneAct.TheVariants as phone
 use Rattle.lte_events.specs.declared.acts.StationAct.TheVariants as station
-use Rattle.lte_events.specs.declared.events.Event.{Event}
 use Rattle.lte_events.specs.declared.events.Event.TheVariants as event
-use Rattle.scenario_file.specs.declared.journey.Journey.{Journey}
-use Rattle.scenario_file.specs.declared.turns.Turn.{Turn}
+use Rattle.scenario_file.specs.{declared.journey.Journey.Journey, declared.turns.Turn.Turn}
 use Rattle.scenario_file.specs.declared.turns.Turn.TheVariants.{Uplink, Downlink, OverX2, OverS1, Within}
 use Rattle.scenario_file.specs.Draws.{cell_of, generated_caps, station_setup, site_of, generated_setup, next, drawn, draws_on, text_of, target_of, turn_for, moved, turn_of, after, arrivals, handover, steps_of, opening, journey_at, steps_up_to, generated}
-use Rattle.scenario_file.proofs.Generated.{generated_length}
-use Rattle.scenario_file.proofs.Ranges.{bytes_are_octets}
+use Rattle.scenario_file.proofs.{Generated.generated_length, Ranges.bytes_are_octets}
 
 -- THE SETUP
 

@@ -8,12 +8,10 @@ use Rattle.hex.specs.Hex.{decode_of, decode_sized, IsBytes}
 use Rattle.hex.specs.declared.error.FromHexError.{FromHexError}
 use Rattle.hex.proofs.HexLemmas.{decode_of-ok, decode_sized-ok, decode_sized-twice}
 use Rattle.toml.specs.Data.{Data, Items, no_items, item, Members, as_array, as_integer}
-use Rattle.alg_choice.specs.declared.caps.Caps.{Caps}
+use Rattle.alg_choice.specs.{declared.caps.Caps.Caps, Caps.IsCaps}
 use Rattle.annex_a_keys.specs.Cell.{Place, greatest_pci, greatest_earfcn, IsCell}
 use Rattle.rec_base.specs.Ranges.{AreOctets, IsText, IsKey}
-use Rattle.alg_choice.specs.Caps.{IsCaps}
-use Rattle.scenario_file.specs.declared.fields.Field.{Field}
-use Rattle.scenario_file.specs.declared.faults.Refusal.{Refusal}
+use Rattle.scenario_file.specs.{declared.fields.Field.Field, declared.faults.Refusal.Refusal}
 use Rattle.scenario_file.specs.Words.{caps_from, caps_of, key_of, octets_of, natural, place_of}
 use Rattle.scenario_file.specs.Values.{value_in, word_in, by_word, octets_in, key_in, caps_in, cell_of_items, cell_of, cell_in}
 use Rattle.scenario_file.proofs.FirstFault.{then_ok, then_some, ok_or_ok}

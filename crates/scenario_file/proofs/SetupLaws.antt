@@ -1,35 +1,21 @@
 -- A setup that was read is one that a system can start with.
 use Rattle.std.proofs.Common.{◌≡◌, ℕ, ◌==◌, ◌≤◌, ◌^◌, ◌-◌, true, false, ◌&&◌, List, [], ◌∷◌, ◌++◌, length, refl, sym, ◌∙◌, subst, Some, None, Result, Ok, Err, All, arith, ⊎_elim, ◌⊎◌, inl, inr}
 use Rattle.std.specs.Prelude.{IsTrue, IfOk, nat_le, nat_lt, if◌then◌else◌, slice_set}
-use Rattle.std.specs.Option.{ok_or}
-use Rattle.std.specs.List.{list_any, IsDistinct}
-use Rattle.std.specs.Cmp.{IsEquivalence}
+use Rattle.std.specs.{Option.ok_or, List.list_any, List.IsDistinct, Cmp.IsEquivalence}
 use Rattle.std.proofs.lemmas.Bool.{cases_Bool, and_parts, leb-true}
 use Rattle.std.proofs.lemmas.List.{length-append, length-set, length-replicate}
-use Rattle.std.proofs.lemmas.Bool.Decides.{nat_tests}
+use Rattle.std.proofs.{lemmas.Bool.Decides.nat_tests, lemmas.List.Folds.list_any-append, lemmas.Map.Keys.IsDistinct-push}
 use Rattle.std.proofs.lemmas.List.Elements.{All-push, All-nil, All-set, All-replicate}
-use Rattle.std.proofs.lemmas.List.Folds.{list_any-append}
-use Rattle.std.proofs.lemmas.Map.Keys.{IsDistinct-push}
 use Rattle.toml.specs.Data.{Items, no_items, item, Members, as_table}
-use Rattle.alg_choice.specs.declared.caps.Caps.{Caps}
+use Rattle.alg_choice.specs.{declared.caps.Caps.Caps, Caps.IsCaps}
 use Rattle.annex_a_keys.specs.Cell.{Place, IsCell}
-use Rattle.lte_events.specs.Site.{Site, is_site}
-use Rattle.lte_events.specs.declared.setups.FirstNcc.TheVariants.{One}
-use Rattle.lte_events.specs.declared.setups.StationSetup.{StationSetup}
+use Rattle.lte_events.specs.{Site.Site, Site.is_site, declared.setups.FirstNcc.TheVariants.One, declared.setups.StationSetup.StationSetup}
 use Rattle.lte_events.specs.Ranges.{has_station, IsStation, IsSiteOf, IsSetup}
 use Rattle.rec_base.specs.Ranges.{IsNumber}
-use Rattle.alg_choice.specs.Caps.{IsCaps}
 use Rattle.scenario_file.specs.declared.fields.Field.TheVariants.{Caps as CapsField, Phone, Core, Station, Step, First, FirstNcc, Priority, Id, Cells, Fleet, Phones}
-use Rattle.scenario_file.specs.declared.faults.Refusal.{Refusal}
+use Rattle.scenario_file.specs.{declared.faults.Refusal.Refusal, declared.setup.CoreStart.CoreStart, declared.setup.Network.Network, declared.setup.Numbers.Numbers, declared.setup.Start.Start, declared.systems.System.System, Systems.more_at_top, Systems.more_of_station, Keys.only_in}
 use Rattle.scenario_file.specs.declared.faults.Refusal.TheVariants.{Missing, Wrong}
-use Rattle.scenario_file.specs.declared.setup.CoreStart.{CoreStart}
-use Rattle.scenario_file.specs.declared.setup.Network.{Network}
-use Rattle.scenario_file.specs.declared.setup.Numbers.{Numbers}
-use Rattle.scenario_file.specs.declared.setup.Start.{Start}
-use Rattle.scenario_file.specs.declared.systems.System.{System}
 use Rattle.scenario_file.specs.declared.systems.System.TheVariants as system
-use Rattle.scenario_file.specs.Systems.{more_at_top, more_of_station}
-use Rattle.scenario_file.specs.Keys.{only_in}
 use Rattle.scenario_file.specs.Values.{or_default, number_in, first_in, first_ncc_in, priority_in, array_in, table_in, tables_in, cell_of, count_of}
 use Rattle.scenario_file.specs.Setup.{usual_priority, phones_in, phones_of, phone_of, shared_in, core_in, core_of, id_in, with_site, sites_from, cells_in, core_number_in, with_station, station_from, stations_from, no_stations, network_of, start_of}
 use Rattle.scenario_file.proofs.FirstFault.{then_ok, then_some, ok_or_ok, ok_same, not_read, default_ok, number_in_range}

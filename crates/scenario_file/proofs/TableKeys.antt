@@ -1,16 +1,9 @@
 -- The keys of a table beside the members that it stands for.
 use Rattle.std.proofs.Common.{◌≡◌, ℕ, ◌&&◌, List, [], ◌∷◌, ◌++◌, String, BTreeMap, Global, string_bytes, refl, ap}
-use Rattle.std.specs.Prelude.{◌||◌}
-use Rattle.std.specs.List.{list_all}
-use Rattle.std.specs.Str.{bytes_eq}
-use Rattle.std.specs.Map.{keys_of}
-use Rattle.std.specs.BTreeMap.{keys}
+use Rattle.std.specs.{Prelude.◌||◌, List.list_all, Str.bytes_eq, Map.keys_of, BTreeMap.keys}
 use Rattle.std.proofs.lemmas.List.Folds.{list_any-append}
-use Rattle.toml.specs.declared.value.Value.{Value}
-use Rattle.toml.specs.View.{members_view, table_view}
-use Rattle.scenario_file.specs.declared.fields.Field.{Field}
-use Rattle.scenario_file.specs.Field.{name_of}
-use Rattle.scenario_file.specs.Keys.{is_one_of, has_only}
+use Rattle.toml.specs.{declared.value.Value.Value, View.members_view, View.table_view}
+use Rattle.scenario_file.specs.{declared.fields.Field.Field, Field.name_of, Keys.is_one_of, Keys.has_only}
 
 entries_have_only : (fields : List Field) (es : List (String Global × Value))
     → list_all (λ k. is_one_of fields (string_bytes k)) (keys_of es) ≡ has_only fields (members_view es)

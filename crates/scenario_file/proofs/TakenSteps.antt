@@ -3,8 +3,7 @@ use Rattle.std.proofs.Common.{◌≡◌, ℕ, zero, suc, ◌+◌, ◌≤◌, Lis
 use Rattle.std.proofs.lemmas.List.{append_assoc, append-nil, take_all, replicate_more}
 use Rattle.lte_events.specs.declared.events.Event.{Event}
 use Rattle.lte_events.specs.declared.events.Event.TheVariants as event
-use Rattle.scenario_file.specs.Draws.{arrivals}
-use Rattle.scenario_file.specs.FirstSteps.{Taken, with_steps}
+use Rattle.scenario_file.specs.{Draws.arrivals, FirstSteps.Taken, FirstSteps.with_steps}
 
 take_twice : {A : Type 0} (n : ℕ) (xs ys : List A) → take n (take n xs ++ ys) ≡ take n (xs ++ ys)
 take_twice zero xs ys = refl

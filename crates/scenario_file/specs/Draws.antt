@@ -3,23 +3,15 @@ use Rattle.std.specs.Prelude.{ℕ, zero, suc, ◌+◌, ◌*◌, ◌/◌, ◌%◌
 use Rattle.std.specs.List.{range_with_len}
 use Rattle.annex_a_keys.specs.Cell.{Place}
 use Rattle.alg_choice.specs.declared.caps.Caps.{Caps}
-use Rattle.rec_base.specs.BigEndian.{octets_of}
-use Rattle.rec_base.specs.declared.bearers.Bearer.TheVariants.{Drb1}
-use Rattle.lte_events.specs.Site.{Site}
-use Rattle.lte_events.specs.declared.acts.HoKind.{HoKind}
+use Rattle.rec_base.specs.{BigEndian.octets_of, declared.bearers.Bearer.TheVariants.Drb1}
+use Rattle.lte_events.specs.{Site.Site, declared.acts.HoKind.HoKind, declared.events.Event.Event, declared.setups.FirstNcc.TheVariants.One, declared.setups.Setup.Setup, declared.setups.StationSetup.StationSetup}
 use Rattle.lte_events.specs.declared.acts.HoKind.TheVariants as kind
 use Rattle.lte_events.specs.declared.acts.PhoneAct.TheVariants as phone
 use Rattle.lte_events.specs.declared.acts.CoreAct.TheVariants as core
 use Rattle.lte_events.specs.declared.acts.StationAct.TheVariants as station
-use Rattle.lte_events.specs.declared.events.Event.{Event}
 use Rattle.lte_events.specs.declared.events.Event.TheVariants as event
-use Rattle.lte_events.specs.declared.setups.FirstNcc.TheVariants.{One}
-use Rattle.lte_events.specs.declared.setups.Setup.{Setup}
-use Rattle.lte_events.specs.declared.setups.StationSetup.{StationSetup}
-use Rattle.scenario_file.specs.declared.journey.Journey.{Journey}
-use Rattle.scenario_file.specs.declared.turns.Turn.{Turn}
+use Rattle.scenario_file.specs.{declared.journey.Journey.Journey, declared.turns.Turn.Turn, Setup.usual_priority}
 use Rattle.scenario_file.specs.declared.turns.Turn.TheVariants.{Uplink, Downlink, OverX2, OverS1, Within}
-use Rattle.scenario_file.specs.Setup.{usual_priority}
 
 -- WHAT IT STARTS WITH: stations 0 to 3, station s with the one cell of PCI 10 + s and EARFCN 100 + s
 

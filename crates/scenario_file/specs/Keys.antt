@@ -1,12 +1,8 @@
 -- Which keys a table may have.
 use Rattle.std.specs.Prelude.{ℕ, Bool, true, ◌&&◌, if◌then◌else◌, List, Result, Ok, Err}
-use Rattle.std.specs.List.{list_any}
-use Rattle.std.specs.Str.{bytes_eq}
+use Rattle.std.specs.{List.list_any, Str.bytes_eq}
 use Rattle.toml.specs.Data.{Members, no_members, member}
-use Rattle.scenario_file.specs.declared.fields.Field.{Field}
-use Rattle.scenario_file.specs.declared.faults.Refusal.{Refusal}
-use Rattle.scenario_file.specs.declared.faults.Refusal.TheVariants.{Unknown}
-use Rattle.scenario_file.specs.Field.{name_of}
+use Rattle.scenario_file.specs.{declared.fields.Field.Field, declared.faults.Refusal.Refusal, declared.faults.Refusal.TheVariants.Unknown, Field.name_of}
 
 -- whether a key is one of these fields
 abbrev pub is_one_of : List Field → List ℕ → Bool

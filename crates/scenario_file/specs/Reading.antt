@@ -1,24 +1,14 @@
 -- What a text says: its scenario, or the first fault.
 use Rattle.std.specs.Prelude.{ℕ, nat_lt, if◌then◌else◌, List, [], ◌∷◌, ◌++◌, length, Option, Some, None, Result, Ok, Err}
-use Rattle.std.specs.Option.{ok_or}
-use Rattle.std.specs.Str.{is_utf8}
+use Rattle.std.specs.{Option.ok_or, Str.is_utf8}
 use Rattle.toml.specs.Data.{Data, Items, no_items, item, Members, as_table}
 use Rattle.toml.specs.Parse.{parse_document}
-use Rattle.lte_events.specs.Scenario.{most_events}
-use Rattle.lte_events.specs.declared.events.Event.{Event}
-use Rattle.lte_events.specs.declared.setups.Setup.{Setup}
-use Rattle.scenario_file.specs.declared.fields.Field.TheVariants.{Step as StepField}
-use Rattle.scenario_file.specs.declared.faults.Refusal.{Refusal}
+use Rattle.lte_events.specs.{Scenario.most_events, declared.events.Event.Event, declared.setups.Setup.Setup}
+use Rattle.scenario_file.specs.{declared.fields.Field.TheVariants.Step as StepField, declared.faults.Refusal.Refusal, declared.faults.ScenarioFault.ScenarioFault, declared.kept.Step.Step, declared.setup.Start.Start, declared.systems.System.System, Setup.start_of, Steps.step_of}
 use Rattle.scenario_file.specs.declared.faults.Refusal.TheVariants as refusal
-use Rattle.scenario_file.specs.declared.faults.ScenarioFault.{ScenarioFault}
 use Rattle.scenario_file.specs.declared.faults.ScenarioFault.TheVariants.{NotToml, Missing, Wrong, Unknown, TooMany}
 use Rattle.scenario_file.specs.Values.{◌>>=◌, or_default, tables_in, count_of}
-use Rattle.scenario_file.specs.declared.kept.Step.{Step}
-use Rattle.scenario_file.specs.declared.setup.Start.{Start}
-use Rattle.scenario_file.specs.declared.systems.System.{System}
 use Rattle.scenario_file.specs.declared.systems.System.TheVariants as system
-use Rattle.scenario_file.specs.Setup.{start_of}
-use Rattle.scenario_file.specs.Steps.{step_of}
 
 -- the fault of a refused table: of a step by its number, or before the steps
 abbrev pub fault_at : Option ℕ → Refusal → ScenarioFault

@@ -1,9 +1,8 @@
 -- The line for a text that is no scenario.
 use Rattle.std.specs.Prelude.{ℕ, Option, Some, None, List, [], ◌++◌, codes}
 use Rattle.std.specs.Fmt.{decimal}
-use Rattle.scenario_file.specs.declared.faults.ScenarioFault.{ScenarioFault}
+use Rattle.scenario_file.specs.{declared.faults.ScenarioFault.ScenarioFault, Field.name_of}
 use Rattle.scenario_file.specs.declared.faults.ScenarioFault.TheVariants.{Memory, NotToml, Missing, Wrong, Unknown, TooMany}
-use Rattle.scenario_file.specs.Field.{name_of}
 
 -- where the fault is: in a step, by its number, or before the steps
 abbrev pub place_text : Option ℕ → List ℕ

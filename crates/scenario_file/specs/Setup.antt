@@ -1,28 +1,15 @@
 -- What a system starts with: the tables of the fleet, the phone, the core and the stations.
 use Rattle.std.specs.Prelude.{ℕ, ◌==◌, nat_le, nat_lt, ◌&&◌, if◌then◌else◌, List, [], ◌∷◌, ◌++◌, replicate, slice_set, Option, Some, None, option_and_then, Result, Ok, Err}
-use Rattle.std.specs.Option.{ok_or}
-use Rattle.std.specs.List.{list_any}
+use Rattle.std.specs.{Option.ok_or, List.list_any}
 use Rattle.toml.specs.Data.{Data, Items, no_items, item, Members, as_table}
-use Rattle.alg_choice.specs.declared.algs.Eea.{Eea}
+use Rattle.alg_choice.specs.{declared.algs.Eea.Eea, declared.caps.Caps.Caps}
 use Rattle.alg_choice.specs.declared.algs.Eea.TheVariants.{Eea0, Eea2}
-use Rattle.alg_choice.specs.declared.caps.Caps.{Caps}
 use Rattle.annex_a_keys.specs.Cell.{Place}
-use Rattle.lte_events.specs.Site.{Site, is_site}
-use Rattle.lte_events.specs.declared.setups.FirstNcc.TheVariants.{One}
-use Rattle.lte_events.specs.declared.setups.StationSetup.{StationSetup}
-use Rattle.lte_events.specs.Ranges.{has_station}
-use Rattle.scenario_file.specs.declared.fields.Field.{Field}
+use Rattle.lte_events.specs.{Site.Site, Site.is_site, declared.setups.FirstNcc.TheVariants.One, declared.setups.StationSetup.StationSetup, Ranges.has_station}
+use Rattle.scenario_file.specs.{declared.fields.Field.Field, declared.faults.Refusal.Refusal, declared.setup.CoreStart.CoreStart, declared.setup.Network.Network, declared.setup.Numbers.Numbers, declared.setup.Start.Start, declared.systems.System.System, Systems.more_at_top, Systems.more_of_station, Keys.only_in}
 use Rattle.scenario_file.specs.declared.fields.Field.TheVariants.{Phone, Core, Station, Step, Caps as CapsField, Priority, First, FirstNcc, Id, Cells, Fleet, Phones}
-use Rattle.scenario_file.specs.declared.faults.Refusal.{Refusal}
 use Rattle.scenario_file.specs.declared.faults.Refusal.TheVariants.{Missing, Wrong}
-use Rattle.scenario_file.specs.declared.setup.CoreStart.{CoreStart}
-use Rattle.scenario_file.specs.declared.setup.Network.{Network}
-use Rattle.scenario_file.specs.declared.setup.Numbers.{Numbers}
-use Rattle.scenario_file.specs.declared.setup.Start.{Start}
-use Rattle.scenario_file.specs.declared.systems.System.{System}
 use Rattle.scenario_file.specs.declared.systems.System.TheVariants as system
-use Rattle.scenario_file.specs.Systems.{more_at_top, more_of_station}
-use Rattle.scenario_file.specs.Keys.{only_in}
 use Rattle.scenario_file.specs.Values.{◌>>=◌, or_default, table_in, tables_in, array_in, count_of, number_in, first_in, first_ncc_in, caps_in, priority_in, cell_of}
 
 -- 128-EEA2 before EEA0, where no list is given

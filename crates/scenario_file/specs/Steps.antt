@@ -3,34 +3,20 @@ use Rattle.std.specs.Prelude.{ℕ, ◌-◌, List, [], ◌∷◌, ◌++◌, Optio
 use Rattle.toml.specs.Data.{Members}
 use Rattle.rec_base.specs.declared.bearers.Bearer.{Bearer}
 use Rattle.rec_base.specs.Lengths.{longest_packet, longest_text, longest_record}
-use Rattle.lte_events.specs.declared.acts.HoKind.{HoKind}
+use Rattle.lte_events.specs.{declared.acts.HoKind.HoKind, declared.acts.StationAct.StationAct, declared.events.Event.Event, declared.setups.Setup.Setup}
 use Rattle.lte_events.specs.declared.acts.HoKind.TheVariants as kind
 use Rattle.lte_events.specs.declared.acts.PhoneAct.TheVariants as phone
-use Rattle.lte_events.specs.declared.acts.StationAct.{StationAct}
 use Rattle.lte_events.specs.declared.acts.StationAct.TheVariants as station
 use Rattle.lte_events.specs.declared.acts.CoreAct.TheVariants as core
 use Rattle.lte_events.specs.declared.addresses.Address.TheVariants as address
-use Rattle.lte_events.specs.declared.events.Event.{Event}
 use Rattle.lte_events.specs.declared.events.Event.TheVariants as event
-use Rattle.lte_events.specs.declared.setups.Setup.{Setup}
-use Rattle.scenario_file.specs.declared.fields.Field.{Field}
+use Rattle.scenario_file.specs.{declared.fields.Field.Field, declared.faults.Refusal.Refusal, declared.words.Act.Act, declared.words.Actor.Actor, declared.words.RadioEnd.RadioEnd, declared.words.NasEnd.NasEnd, declared.steps.Target.Target, declared.kept.Step.Step, declared.setup.Start.Start, declared.systems.System.System, Systems.more_of_step, Keys.only_in}
 use Rattle.scenario_file.specs.declared.fields.Field.TheVariants.{Phone, Station, Caps, Do, Ksi, Kasme, Cell, Record, From, Bearer as BearerField, Text, Who, N, To, Air, Octets}
-use Rattle.scenario_file.specs.declared.faults.Refusal.{Refusal}
-use Rattle.scenario_file.specs.declared.words.Act.{Act}
 use Rattle.scenario_file.specs.declared.words.Act.TheVariants as act
-use Rattle.scenario_file.specs.declared.words.Actor.{Actor}
 use Rattle.scenario_file.specs.declared.words.Actor.TheVariants as actor
-use Rattle.scenario_file.specs.declared.words.RadioEnd.{RadioEnd}
 use Rattle.scenario_file.specs.declared.words.RadioEnd.TheVariants as radio
-use Rattle.scenario_file.specs.declared.words.NasEnd.{NasEnd}
 use Rattle.scenario_file.specs.declared.words.NasEnd.TheVariants as nas
-use Rattle.scenario_file.specs.declared.steps.Target.{Target}
 use Rattle.scenario_file.specs.declared.steps.Target.TheVariants as target
-use Rattle.scenario_file.specs.declared.kept.Step.{Step}
-use Rattle.scenario_file.specs.declared.setup.Start.{Start}
-use Rattle.scenario_file.specs.declared.systems.System.{System}
-use Rattle.scenario_file.specs.Systems.{more_of_step}
-use Rattle.scenario_file.specs.Keys.{only_in}
 use Rattle.scenario_file.specs.Values.{◌>>=◌, or_default, number_in, any_number_in, integer_in, station_in, act_in, actor_in, radio_end_in, nas_end_in, srb_in, drb_in, bearer_in, nas_in, path_in, caps_in, key_in, octets_in, cell_in}
 
 -- auth: phone and core authenticate; the capabilities are the phone's where none are given

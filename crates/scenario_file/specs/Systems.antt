@@ -1,8 +1,7 @@
 -- What the scenarios of each kind of system have beside what every scenario has.
 use Rattle.std.specs.Prelude.{List, [], ◌∷◌}
-use Rattle.scenario_file.specs.declared.fields.Field.{Field}
+use Rattle.scenario_file.specs.{declared.fields.Field.Field, declared.systems.System.System}
 use Rattle.scenario_file.specs.declared.fields.Field.TheVariants as field
-use Rattle.scenario_file.specs.declared.systems.System.{System}
 use Rattle.scenario_file.specs.declared.systems.System.TheVariants as system
 
 -- at the top: how large a fleet is

@@ -2,23 +2,14 @@
 use Rattle.std.specs.Prelude.{ℕ, suc, ◌^◌, ◌-◌, ◌&&◌, if◌then◌else◌, Bool, true, ℤ, List, [], ◌∷◌, Option, Some, None, is_some, option_and_then, Result, Ok, Err}
 use Rattle.std.specs.Option.{ok_or, option_map}
 use Rattle.toml.specs.Data.{Data, Items, no_items, item, Members, get_member, as_str, as_integer, as_array, as_table}
-use Rattle.alg_choice.specs.declared.caps.Caps.{Caps}
-use Rattle.alg_choice.specs.declared.algs.Eea.{Eea}
+use Rattle.alg_choice.specs.{declared.caps.Caps.Caps, declared.algs.Eea.Eea}
 use Rattle.alg_choice.specs.declared.algs.Eea.TheVariants.{Eea0, Eea2}
 use Rattle.annex_a_keys.specs.Cell.{Place}
 use Rattle.rec_base.specs.declared.bearers.Bearer.{Bearer}
-use Rattle.lte_events.specs.declared.setups.FirstNcc.{FirstNcc}
-use Rattle.lte_events.specs.declared.setups.Setup.{Setup}
-use Rattle.lte_events.specs.Ranges.{has_station}
-use Rattle.scenario_file.specs.declared.fields.Field.{Field}
+use Rattle.lte_events.specs.{declared.setups.FirstNcc.FirstNcc, declared.setups.Setup.Setup, Ranges.has_station}
+use Rattle.scenario_file.specs.{declared.fields.Field.Field, declared.faults.Refusal.Refusal, declared.words.Act.Act, declared.words.Actor.Actor, declared.words.RadioEnd.RadioEnd, declared.words.NasEnd.NasEnd, Field.name_of}
 use Rattle.scenario_file.specs.declared.fields.Field.TheVariants as field
-use Rattle.scenario_file.specs.declared.faults.Refusal.{Refusal}
 use Rattle.scenario_file.specs.declared.faults.Refusal.TheVariants.{Missing, Wrong}
-use Rattle.scenario_file.specs.declared.words.Act.{Act}
-use Rattle.scenario_file.specs.declared.words.Actor.{Actor}
-use Rattle.scenario_file.specs.declared.words.RadioEnd.{RadioEnd}
-use Rattle.scenario_file.specs.declared.words.NasEnd.{NasEnd}
-use Rattle.scenario_file.specs.Field.{name_of}
 use Rattle.scenario_file.specs.Words.{act_of, actor_of, radio_end_of, nas_end_of, srb_of, drb_of, bearer_of, nas_of, path_of, caps_of, key_of, octets_of, natural, in_range, eea_of, first_ncc_of, place_of}
 
 -- the first fault, in the order in which the parts stand

@@ -1,23 +1,18 @@
 -- The words and the hex texts that stand as values of a scenario.
 use Rattle.std.specs.Prelude.{ℕ, ◌/◌, ◌==◌, nat_lt, nat_le, ◌&&◌, ◌^◌, if◌then◌else◌, ℤ, pos, negsuc, List, [], ◌∷◌, length, codes, Option, Some, None, option_and_then}
-use Rattle.std.specs.Str.{bytes_eq}
-use Rattle.std.specs.Result.{result_ok}
+use Rattle.std.specs.{Str.bytes_eq, Result.result_ok}
 use Rattle.hex.specs.Hex.{decode_of, decode_sized}
-use Rattle.alg_choice.specs.declared.caps.Caps.{Caps}
-use Rattle.alg_choice.specs.declared.algs.Eea.{Eea}
+use Rattle.alg_choice.specs.{declared.caps.Caps.Caps, declared.algs.Eea.Eea}
 use Rattle.alg_choice.specs.declared.algs.Eea.TheVariants.{Eea0, Eea2}
 use Rattle.annex_a_keys.specs.Cell.{Place, greatest_pci, greatest_earfcn}
 use Rattle.lte_events.specs.declared.setups.FirstNcc.{FirstNcc}
 use Rattle.lte_events.specs.declared.setups.FirstNcc.TheVariants.{One, Two}
 use Rattle.rec_base.specs.declared.bearers.Bearer.{Bearer}
 use Rattle.rec_base.specs.declared.bearers.Bearer.TheVariants.{Srb1, Srb2, Drb1, Drb2, Drb3, Drb4}
-use Rattle.scenario_file.specs.declared.words.Act.{Act}
+use Rattle.scenario_file.specs.{declared.words.Act.Act, declared.words.Actor.Actor, declared.words.RadioEnd.RadioEnd, declared.words.NasEnd.NasEnd}
 use Rattle.scenario_file.specs.declared.words.Act.TheVariants as act
-use Rattle.scenario_file.specs.declared.words.Actor.{Actor}
 use Rattle.scenario_file.specs.declared.words.Actor.TheVariants as actor
-use Rattle.scenario_file.specs.declared.words.RadioEnd.{RadioEnd}
 use Rattle.scenario_file.specs.declared.words.RadioEnd.TheVariants as radio
-use Rattle.scenario_file.specs.declared.words.NasEnd.{NasEnd}
 use Rattle.scenario_file.specs.declared.words.NasEnd.TheVariants as nas
 
 -- the words of `do`

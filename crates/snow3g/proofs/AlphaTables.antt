@@ -3,8 +3,7 @@ use Rattle.std.proofs.Common.{◌≡◌, ℕ, ◌<◌, map, get_or, refl, ap, �
 use Rattle.std.specs.List.{range_with_len}
 use Rattle.std.proofs.lemmas.List.FromFn.{get_or-map-range_with_len}
 use Rattle.aes_core.specs.Word.{word_number}
-use Rattle.snow3g.specs.Octets.{mulxpow}
-use Rattle.snow3g.specs.Alpha.{div_alpha, mul_alpha}
+use Rattle.snow3g.specs.{Octets.mulxpow, Alpha.div_alpha, Alpha.mul_alpha}
 use Rattle.snow3g.specs.declared.alphas.TheConstants.{DIV_ALPHA, MUL_ALPHA}
 
 all_mul_alpha : MUL_ALPHA ≡ map mul_alpha (range_with_len 0 256)

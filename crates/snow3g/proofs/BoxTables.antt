@@ -1,13 +1,9 @@
 -- The tables of the code against the S-boxes, and the sum of one entry of each.
 use Rattle.std.proofs.Common.{◌≡◌, ℕ, ◌/◌, ◌%◌, ◌^◌, ◌<◌, List, [], ◌∷◌, map, length, get_or, replicate, refl, ap, sym, ◌∙◌, arith}
-use Rattle.std.specs.Prelude.{bit_xor}
-use Rattle.std.specs.List.{range_with_len}
-use Rattle.std.proofs.lemmas.Nat.{xor_of_32}
-use Rattle.std.proofs.lemmas.List.{get_or-map, get_or-replicate}
-use Rattle.std.proofs.lemmas.List.FromFn.{get_or-map-range_with_len}
-use Rattle.aes_core.specs.Field.{multiply}
+use Rattle.std.specs.{Prelude.bit_xor, List.range_with_len}
+use Rattle.std.proofs.{lemmas.Nat.xor_of_32, lemmas.List.get_or-map, lemmas.List.get_or-replicate, lemmas.List.FromFn.get_or-map-range_with_len}
+use Rattle.aes_core.specs.{Field.multiply, Word.word_number, Word.word_octets}
 use Rattle.aes_core.specs.SBox.{affine, inverse, sub_byte}
-use Rattle.aes_core.specs.Word.{word_number, word_octets}
 use Rattle.aes_core.proofs.WordLemmas.{word_number-word_octets, word_octets-xor}
 use Rattle.snow3g.specs.Octets.{mulx}
 use Rattle.snow3g.specs.Boxes.{mixed, power, s1, s2, sq}

@@ -1,8 +1,7 @@
 -- The S-boxes S1 and S2 on words of 32 bits (TS 35.216 3.3; the clause numbers are from memory).
 use Rattle.std.specs.Prelude.{ℕ, zero, suc, ◌+◌, ◌*◌, ◌^◌, List, [], ◌∷◌, bit_xor, fold, map, slice_index}
 use Rattle.std.specs.Int.{bit_at}
-use Rattle.aes_core.specs.SBox.{sub_byte}
-use Rattle.aes_core.specs.Word.{word_number, word_octets}
+use Rattle.aes_core.specs.{SBox.sub_byte, Word.word_number, Word.word_octets}
 use Rattle.snow3g.specs.Octets.{mulx}
 
 -- x^8 + x^6 + x^5 + x^3 + 1, the modulus of SQ (3.3.2)

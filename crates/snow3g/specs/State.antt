@@ -2,11 +2,8 @@
 -- Words are numbers of 32 bits.
 use Rattle.std.specs.Prelude.{ℕ, zero, suc, ◌+◌, ◌-◌, ◌*◌, ◌/◌, ◌%◌, ◌^◌, List, [], ◌∷◌, ◌++◌, bit_xor, drop, map, slice_index, take}
 use Rattle.std.specs.List.{range_with_len}
-use Rattle.aes_core.specs.KeyExpansion.{key_word}
-use Rattle.aes_core.specs.Word.{word_number}
-use Rattle.snow3g.specs.declared.generator.Generator.{Generator}
-use Rattle.snow3g.specs.Alpha.{div_alpha, mul_alpha}
-use Rattle.snow3g.specs.Boxes.{s1, s2}
+use Rattle.aes_core.specs.{KeyExpansion.key_word, Word.word_number}
+use Rattle.snow3g.specs.{declared.generator.Generator.Generator, Alpha.div_alpha, Alpha.mul_alpha, Boxes.s1, Boxes.s2}
 
 -- the stages s0 to s15 of the shift register, and the registers R1 to R3 of the state machine (3.2)
 pub record State : Type 0 where

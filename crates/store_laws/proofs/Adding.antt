@@ -1,28 +1,22 @@
 -- A derivation from keys of a ladder without a clash can be added to its rows.
 use Rattle.std.proofs.Common.{◌≡◌, refl, sym, ap, subst, ◌∙◌, ℕ, zero, suc, ◌+◌, true, List, [], ◌∷◌, ◌++◌, length, map, Option, Some, None, inl, inr, arith, length-append}
 use Rattle.std.specs.Prelude.{◌⊎◌, slice_get, IsSome, IfSome, option_map}
-use Rattle.std.specs.Str.{bytes_eq}
-use Rattle.std.proofs.lemmas.Bool.{false≢true}
-use Rattle.std.proofs.lemmas.Option.{none-some, slice_get-map}
-use Rattle.std.proofs.lemmas.Slice.Eq.{bytes_eq-Decides}
-use Rattle.std.specs.List.{AllByRecursion as AllOf}
+use Rattle.std.specs.{Str.bytes_eq, List.AllByRecursion as AllOf}
+use Rattle.std.proofs.{lemmas.Bool.false≢true, lemmas.Option.none-some, lemmas.Option.slice_get-map, lemmas.Slice.Eq.bytes_eq-Decides}
 use Rattle.hmac_kdf.specs.Kdf.{kdf}
 use Rattle.key_model.specs.Derivation.{Input, FromCount, FromSync, FromCell, FromAlg, Derivation, map_input, map_derivation, kdf_input, derived_of}
 use Rattle.key_model.specs.Term.{Term, IsRoot, IsWellFormed}
 use Rattle.key_model.specs.Value.{value_of}
-use Rattle.key_terms.specs.declared.row.LadderRow.{LadderRow}
-use Rattle.key_terms.specs.declared.row.Origin.{Origin}
+use Rattle.key_terms.specs.{declared.row.LadderRow.LadderRow, declared.row.Origin.Origin}
 use Rattle.key_terms.specs.Ladder.{unheld, row_of, origin_at, HasRoot, HasSync}
 use Rattle.key_terms.proofs.Places.{position_no, slice_get_stays, slice_get_at_end}
 use Rattle.key_terms.proofs.LadderLemmas.{found_row}
 use Rattle.lte_machine.specs.Ladder.{RowOrigin, OfRoot, Of, map_row, row_key}
 use Rattle.lte_machine.specs.Distinct.{keys_of, Member}
 use Rattle.lte_machine.proofs.Rows.{Well, made_of, From, SyncIn}
-use Rattle.store_laws.specs.Additions.{IsInput, CanAdd}
-use Rattle.store_laws.specs.Joins.{HasRow}
+use Rattle.store_laws.specs.{Additions.IsInput, Additions.CanAdd, Joins.HasRow}
 use Rattle.store_laws.specs.Rows.{origin_in, numbered_after, numbered}
-use Rattle.store_laws.proofs.Cells.{InputIn}
-use Rattle.store_laws.proofs.Numbered.{numbered_grows, octets_numbered}
+use Rattle.store_laws.proofs.{Cells.InputIn, Numbered.numbered_grows, Numbered.octets_numbered}
 
 -- the history in octets
 abbrev pub valued : List (RowOrigin Term) → List (RowOrigin (List ℕ))

@@ -1,22 +1,18 @@
 -- Each KeNB* of a step is for a cell in range: of an act, a record, a context, or a command that was read.
-use Rattle.std.specs.Prelude.{◌&&◌}
+use Rattle.std.specs.{Prelude.◌&&◌, List.AllByRecursion as AllOf}
 use Rattle.std.proofs.Common.{◌≡◌, refl, ℕ, zero, suc, ◌≤◌, ◌+◌, Bool, true, false, cond, ◌==◌, List, ◌++◌, length, Option, Some, None, Result, Ok, Err, subst}
-use Rattle.std.specs.List.{AllByRecursion as AllOf}
-use Rattle.alg_choice.specs.declared.algs.Algs.{Algs}
-use Rattle.alg_choice.specs.declared.caps.Caps.{Caps}
+use Rattle.alg_choice.specs.{declared.algs.Algs.Algs, declared.caps.Caps.Caps, Choice.are_supported}
 use Rattle.annex_a_keys.specs.Cell.{Place, IsCell, greatest_pci, greatest_earfcn}
-use Rattle.rec_base.specs.BigEndian.{number_at}
-use Rattle.rec_base.specs.declared.faults.RecFault.{RecFault}
+use Rattle.rec_base.specs.{BigEndian.number_at, declared.faults.RecFault.RecFault}
 use Rattle.rec_fields.specs.Field.{◌>>=◌, of_size, station_at, ncc_at, from_one_at, algs_at, cell_at, number_in}
 use Rattle.rec_fields.proofs.Fields.{bind_ok, ok_is, in_range_is}
 use Rattle.rrc_rec.specs.declared.records.RrcRecord.{RrcRecord}
 use Rattle.rrc_rec.specs.declared.records.RrcRecord.TheVariants.{SecurityModeCommand, SecurityModeComplete, Reconfiguration, ReconfigurationComplete, RrcData, KeyChange}
 use Rattle.rrc_rec.specs.Reading.{read_rrc, of_kind, command_of, bare, reconfiguration_of, data_of, key_change_of}
 use Rattle.key_model.specs.Derivation.{Input, FromCell, Derivation}
-use Rattle.key_model.specs.Reading.{Reading}
-use Rattle.nh_chain.specs.Chain.{nhs_made}
-use Rattle.nh_chain.specs.Reach.{handover_made, phone_of}
-use Rattle.pdcp_guard.specs.AsKeys.{as_derivations}
+use Rattle.key_model.specs.{Reading.Reading, HandoverLines.key_after}
+use Rattle.nh_chain.specs.{Chain.nhs_made, Reach.handover_made, Reach.phone_of}
+use Rattle.pdcp_guard.specs.{AsKeys.as_derivations, declared.pdus.PdcpFault.PdcpFault, Srb.srb_count, Drb.drb_count}
 use Rattle.lte_machine.specs.Bearers.{Srb, Signalling1, Signalling2, Drb, Which, OnSrb, OnDrb, which, srb_counts, drb_counts}
 use Rattle.lte_machine.specs.Opening.{Outcome, Opened, Differs}
 use Rattle.lte_machine.specs.PhoneState.{Link, Radio, Idle, Connecting, Connected, Phone, PhoneInput, PhoneAuth, PhoneActs, PhoneNasPdu, PhoneAirPdu}
@@ -24,14 +20,8 @@ use Rattle.lte_machine.specs.PhoneRows.{Authenticated, AirRow, HandedOver, KeyCh
 use Rattle.lte_machine.specs.PhoneChoice.{PlainPhone, PlainInput, unciphered_text, AirFront, AirSettled, AtStart, AtSignalling, AtPacket, start_row, command_taken, change_taken, signalling_read, signalling_row, packet_row, air_row, air_front, waiting_front, linked_front, start_at, start_read, signalling_at, packet_at, phone_row, phone_front}
 use Rattle.lte_machine.specs.PhoneKeys.{PhoneDone, authenticated, phone_does}
 use Rattle.lte_machine.specs.PhoneStep.{phone_step, plain_phone, plain_input, front_of, phone_root}
-use Rattle.alg_choice.specs.Choice.{are_supported}
-use Rattle.pdcp_guard.specs.declared.pdus.PdcpFault.{PdcpFault}
-use Rattle.pdcp_guard.specs.Srb.{srb_count}
-use Rattle.pdcp_guard.specs.Drb.{drb_count}
-use Rattle.key_model.specs.HandoverLines.{key_after}
 use Rattle.lte_machine.proofs.PhoneCases.{NasCases, nas_case, AirCases, air_case, ActCases, act_case}
-use Rattle.lte_machine.proofs.KnownLists.{all_append}
-use Rattle.lte_machine.proofs.Tests.{Anything, by_test}
+use Rattle.lte_machine.proofs.{KnownLists.all_append, Tests.Anything, Tests.by_test}
 
 -- the cell of an input, if it has one, is in range
 abbrev pub InputIn : {K : Type 0} → Input K → Type 0

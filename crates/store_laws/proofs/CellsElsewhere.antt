@@ -2,32 +2,20 @@
 use Rattle.std.proofs.Common.{◌≡◌, subst, ℕ, Option, Some, None, Ok, Err}
 use Rattle.alg_choice.specs.declared.caps.Caps.{Caps}
 use Rattle.annex_a_keys.specs.Cell.{IsCell}
-use Rattle.lte_events.specs.Ranges.{IsStationAct}
-use Rattle.lte_events.specs.declared.acts.StationAct.{StationAct}
-use Rattle.lte_events.specs.declared.setups.FirstNcc.{FirstNcc}
+use Rattle.lte_events.specs.{Ranges.IsStationAct, declared.acts.StationAct.StationAct, declared.setups.FirstNcc.FirstNcc}
 use Rattle.lte_events.specs.declared.setups.FirstNcc.TheVariants.{One, Two}
 use Rattle.key_model.specs.Reading.{Reading}
-use Rattle.s1x2_rec.specs.Content.{map_content}
-use Rattle.s1x2_rec.specs.Fields.{Fields, HandoverRequest}
-use Rattle.s1x2_rec.specs.Spelling.{FieldsInRange}
-use Rattle.lte_machine.specs.Bearers.{which}
-use Rattle.lte_machine.specs.Opening.{Outcome}
-use Rattle.lte_machine.specs.Reply.{Reply, unseen}
+use Rattle.s1x2_rec.specs.{Content.map_content, Fields.Fields, Fields.HandoverRequest, Spelling.FieldsInRange}
+use Rattle.lte_machine.specs.{Bearers.which, Opening.Outcome, Reply.Reply, Reply.unseen, StationRows.Admitted, StationStep.plain_station, StationStep.station_step, CoreState.Core, CoreState.CoreInput, CoreRows.CoreRow, CoreChoice.core_row}
 use Rattle.lte_machine.specs.StationState.{Station, Context, Interface, StationInput, StationActs, AirPdu, StationRecord}
-use Rattle.lte_machine.specs.StationRows.{Admitted}
-use Rattle.lte_machine.specs.StationStep.{plain_station, station_step}
 use Rattle.lte_machine.specs.StationChoice.{record_row, air_front, air_row, act_row}
-use Rattle.lte_machine.specs.CoreState.{Core, CoreInput}
 use Rattle.lte_machine.specs.CoreRows as rows
-use Rattle.lte_machine.specs.CoreRows.{CoreRow}
 use Rattle.lte_machine.specs.CoreKeys as does
 use Rattle.lte_machine.specs.CoreStep.{core_step, plain_core, core_front_of, core_root}
-use Rattle.lte_machine.specs.CoreChoice.{core_row}
 use Rattle.lte_machine.proofs.RecordFacts.{AdmitsOnS1, RecordHas, record_has}
 use Rattle.lte_machine.proofs.CoreCases as at_core
-use Rattle.lte_machine.proofs.Tests.{Anything}
+use Rattle.lte_machine.proofs.{Tests.Anything, StationActFacts.StationActHas, StationActFacts.station_act_has}
 use Rattle.lte_machine.proofs.StationCases.{Any, RecordCases, AirCases, ActCases, record_case, air_case, act_case}
-use Rattle.lte_machine.proofs.StationActFacts.{StationActHas, station_act_has}
 use Rattle.lte_machine.proofs.RangeHolds.{ContextRanged, StationRanged, StationInputRanged}
 use Rattle.store_laws.proofs.Cells.{CellsIn}
 

@@ -1,33 +1,18 @@
 -- Every world of every run in octets: each derivation can be added, and each key that was held was made.
 use Rattle.std.proofs.Common.{◌≡◌, refl, sym, ap, subst, ◌∙◌, ℕ, Bool, true, false, List, [], ◌∷◌, ◌++◌, map, inl, inr, append_assoc, append-nil}
-use Rattle.std.specs.Prelude.{◌||◌}
-use Rattle.std.specs.List.{list_any, AllByRecursion as AllOf}
-use Rattle.std.specs.Str.{bytes_eq}
+use Rattle.std.specs.{Prelude.◌||◌, List.list_any, List.AllByRecursion as AllOf, Str.bytes_eq}
 use Rattle.std.proofs.lemmas.Slice.Eq.{bytes_eq-Decides}
-use Rattle.lte_events.specs.Ranges.{IsEvent, IsSetup}
-use Rattle.lte_events.specs.declared.events.Event.{Event}
-use Rattle.lte_events.specs.declared.setups.Setup.{Setup}
-use Rattle.key_model.specs.Chain.{ncc_of}
-use Rattle.key_model.specs.Term.{Term, Root}
-use Rattle.key_model.specs.Value.{value_of, same_value}
-use Rattle.lte_machine.specs.Wire.{Outgoing}
-use Rattle.lte_machine.specs.BothRuns.{octet_run}
+use Rattle.lte_events.specs.{Ranges.IsEvent, Ranges.IsSetup, declared.events.Event.Event, declared.setups.Setup.Setup}
+use Rattle.key_model.specs.{Chain.ncc_of, Term.Term, Term.Root, Value.value_of, Value.same_value}
+use Rattle.lte_machine.specs.{Wire.Outgoing, BothRuns.octet_run, Ciphers.annex_b, Ciphers.under_keys, Distinct.keys_of, Distinct.Member, Opening.open_octets}
 use Rattle.lte_machine.specs.Carried.{map_holding, map_world, run_value}
-use Rattle.lte_machine.specs.Ciphers.{annex_b, under_keys}
-use Rattle.lte_machine.specs.Distinct.{keys_of, Member}
 use Rattle.lte_machine.specs.Ladder.{RowOrigin, OfRoot, Of, map_row, row_key}
 use Rattle.lte_machine.specs.Machines.{Kept, machine_in_octets, opening_by_octets, written_in_values, kept_in_values}
-use Rattle.lte_machine.specs.Opening.{open_octets}
 use Rattle.lte_machine.specs.Run.{RunState, Running, Stopped, run, replay, first_world}
 use Rattle.lte_machine.specs.World.{Machine, World, Holding, happens}
-use Rattle.lte_machine.proofs.InOctets.{agree, open_octets-map}
+use Rattle.lte_machine.proofs.{InOctets.agree, InOctets.open_octets-map, RangeHolds.Ranged, RangeWorld.ranged_keeps, RangeWorld.first_ranged, ReplayMap.replay-map, StillRun.still_is_run, StillRun.still_one, WorldMap.happens-map}
 use Rattle.lte_machine.proofs.KnownWorld.{Grounds, happens_grounds, first_grounds}
-use Rattle.lte_machine.proofs.RangeHolds.{Ranged}
-use Rattle.lte_machine.proofs.RangeWorld.{ranged_keeps, first_ranged}
-use Rattle.lte_machine.proofs.ReplayMap.{replay-map}
-use Rattle.lte_machine.proofs.StillRun.{still_is_run, still_one}
 use Rattle.lte_machine.proofs.WholeRun.{first_value, ranged_back, ranged_keeps_back}
-use Rattle.lte_machine.proofs.WorldMap.{happens-map}
 use Rattle.lte_properties.proofs.KeySeparation.Ever.{separation_holds_in_octets}
 use Rattle.store_laws.specs.Additions.{IsMadeIn, CanKeep}
 use Rattle.store_laws.proofs.Adding.{valued}

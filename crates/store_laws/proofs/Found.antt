@@ -1,16 +1,12 @@
 -- The records in the bag, and those that the network keeps.
 use Rattle.std.proofs.Common.{◌≡◌, ◌∙◌, ℕ, List, map}
-use Rattle.std.specs.Prelude.{slice_get, option_map}
-use Rattle.std.specs.List.{position_from}
-use Rattle.std.proofs.lemmas.Iterator.Adapters.{position_from-zero}
-use Rattle.std.proofs.lemmas.Option.{slice_get-map}
+use Rattle.std.specs.{Prelude.slice_get, Prelude.option_map, List.position_from}
+use Rattle.std.proofs.{lemmas.Iterator.Adapters.position_from-zero, lemmas.Option.slice_get-map}
 use Rattle.lte_events.specs.declared.classes.Class.{Class}
 use Rattle.net_bag.specs.Bag as bag
 use Rattle.net_bag.specs.Bag.{first_sent}
 use Rattle.key_terms.proofs.Places.{position_map}
-use Rattle.lte_machine.specs.Ciphers.{Ciphers}
-use Rattle.lte_machine.specs.Machines.{Kept, machine_in_octets}
-use Rattle.lte_machine.specs.World.{is_sent}
+use Rattle.lte_machine.specs.{Ciphers.Ciphers, Machines.Kept, Machines.machine_in_octets, World.is_sent}
 use Rattle.store_laws.specs.Records.{view_of}
 
 pub first_is : (c : Ciphers (List ℕ)) (sent : List Kept) (class : Class) (octets : List ℕ) →

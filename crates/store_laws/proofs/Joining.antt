@@ -1,17 +1,11 @@
 -- One root or derivation more: the machine's ladder and the program's do the same with it.
 use Rattle.std.proofs.Common.{◌≡◌, ◌≢◌, ℕ, ◌+◌, Bool, true, false, Option, Some, None, Result, List, [], ◌∷◌, ◌++◌, length, sym, refl, ap, subst, ◌∙◌, arith}
 use Rattle.std.specs.Prelude.{slice_get, unwrap_or, IsSome, option_map, ◌&&◌}
-use Rattle.std.specs.Str.{bytes_eq}
-use Rattle.std.proofs.lemmas.Bool.{false≢true}
-use Rattle.std.proofs.lemmas.Bool.Decides.{Decides-and, Decides-eqb}
-use Rattle.std.proofs.lemmas.Slice.Eq.{bytes_eq-Decides}
-use Rattle.std.specs.List.{AllByRecursion as AllOf}
+use Rattle.std.specs.{Str.bytes_eq, List.AllByRecursion as AllOf}
+use Rattle.std.proofs.{lemmas.Bool.false≢true, lemmas.Bool.Decides.Decides-and, lemmas.Bool.Decides.Decides-eqb, lemmas.Slice.Eq.bytes_eq-Decides}
 use Rattle.hmac_kdf.specs.declared.input.KdfInput.{KdfInput}
 use Rattle.key_model.specs.Derivation.{Input, FromCount, FromSync, FromCell, FromAlg, Derivation, derived_of, kdf_input}
-use Rattle.key_terms.specs.declared.ladder.LadderFault.{LadderFault}
-use Rattle.key_terms.specs.declared.row.LadderRow.{LadderRow}
-use Rattle.key_terms.specs.declared.row.Origin.{Origin}
-use Rattle.key_terms.specs.declared.row.Row.{Row}
+use Rattle.key_terms.specs.{declared.ladder.LadderFault.LadderFault, declared.row.LadderRow.LadderRow, declared.row.Origin.Origin, declared.row.Row.Row}
 use Rattle.key_terms.specs.Ladder.{unheld, holding, row, row_of, origin_at, origin_of}
 use Rattle.key_terms.proofs.LadderLemmas.{found_row}
 use Rattle.lte_machine.specs.Ladder.{RowOrigin, OfRoot, Of, row_key, same_input, same_origin, Hit, hit, stands_or_not, added_at, add_row, root_place, root_if, root_row}

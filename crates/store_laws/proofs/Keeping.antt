@@ -2,43 +2,25 @@
 use Rattle.std.proofs.Common.{◌≡◌, refl, sym, ap, subst, ◌∙◌, ℕ, List, [], ◌∷◌, ◌++◌, map, Option, Some, None, option_map, inl, inr}
 use Rattle.std.specs.Str.{bytes_eq}
 use Rattle.std.proofs.lemmas.List.{map-append}
-use Rattle.lte_events.specs.Ranges.{IsEvent}
-use Rattle.lte_events.specs.declared.events.Event.{Event}
-use Rattle.key_model.specs.Derivation.{Derivation, map_derivation}
-use Rattle.key_model.specs.Reading.{Reading, term_reading_by}
-use Rattle.key_model.specs.Term.{Term, IsWellFormed}
-use Rattle.key_model.specs.Value.{value_of, same_value}
+use Rattle.lte_events.specs.{Ranges.IsEvent, declared.events.Event.Event}
+use Rattle.key_model.specs.{Derivation.Derivation, Derivation.map_derivation, Reading.Reading, Reading.term_reading_by, Term.Term, Term.IsWellFormed, Value.value_of, Value.same_value}
 use Rattle.lte_machine.specs.Wire.{KeyUse, Outgoing, SealedNas, PlainNas, SealedRrc, UserPacket, Between}
-use Rattle.lte_machine.specs.Opening.{Opening, Outcome}
+use Rattle.lte_machine.specs.{Opening.Opening, Opening.Outcome, Carried.map_clash, PhoneState.PhoneInput, PhoneChoice.phone_row, CoreChoice.core_row, Machines.machine_by, Distinct.keys_of, Distinct.Member}
 use Rattle.lte_machine.specs.Ladder.{RowOrigin, OfRoot, Of, map_row, Clash, Ladder, add_next, add_rows, no_rows, ladder_of}
-use Rattle.lte_machine.specs.Carried.{map_clash}
-use Rattle.lte_machine.specs.PhoneState.{PhoneInput}
-use Rattle.lte_machine.specs.PhoneChoice.{phone_row}
 use Rattle.lte_machine.specs.PhoneStep.{plain_phone, front_of, phone_root, phone_opens, phone_pdu_in, phone_step}
 use Rattle.lte_machine.specs.StationState.{Station, StationInput, StationActs, AirPdu, StationRecord}
 use Rattle.lte_machine.specs.StationStep.{key_read, station_key, station_opens, station_pdu_in, station_row_of, station_step}
 use Rattle.lte_machine.specs.CoreState.{CoreInput, CoreActs, CoreNasPdu, CoreRecord}
-use Rattle.lte_machine.specs.CoreChoice.{core_row}
 use Rattle.lte_machine.specs.CoreStep.{plain_core, core_front_of, core_root, core_opens, core_pdu_in, core_step}
 use Rattle.lte_machine.specs.World.{Machine, World, phone_turn, core_turn, turn_of, next_root, content_in, happens}
-use Rattle.lte_machine.specs.Machines.{machine_by}
-use Rattle.lte_machine.specs.Distinct.{keys_of, Member}
 use Rattle.lte_machine.specs.Known.{PairKnown, StationKnown, SentKnown, IsReported}
-use Rattle.lte_machine.proofs.History.{Laddered, among_distinct}
+use Rattle.lte_machine.proofs.{History.Laddered, History.among_distinct, KnownPhone.phone_does_keeps, KnownStation.station_does_keeps, KnownCore.core_does_keeps, KnownWorld.Grounds, LadderMap.ladder_of-map, Rows.From, Rows.from_more}
 use Rattle.lte_machine.proofs.KnownLadder.{laddered_chain, still_in, new_in, outs_in, outs_more}
 use Rattle.lte_machine.proofs.KnownLists.{OfSome, Plus, Chain, AllOut, chain_more, all_both}
-use Rattle.lte_machine.proofs.KnownPhone.{phone_does_keeps}
-use Rattle.lte_machine.proofs.KnownStation.{station_does_keeps}
-use Rattle.lte_machine.proofs.KnownCore.{core_does_keeps}
-use Rattle.lte_machine.proofs.KnownWorld.{Grounds}
-use Rattle.lte_machine.proofs.LadderMap.{ladder_of-map}
-use Rattle.lte_machine.proofs.Rows.{From, from_more}
 use Rattle.lte_machine.proofs.RangeHolds.{StationRanged, StationInputRanged, RecordRanged, ReadRanged, Ranged}
 use Rattle.lte_machine.proofs.Routing.{Turns, no_root, happens_by}
 use Rattle.store_laws.specs.Additions.{CanAddTo, AllCanAdd}
-use Rattle.store_laws.proofs.Adding.{valued, can_add}
-use Rattle.store_laws.proofs.Cells.{CellsIn, phone_step_cells}
-use Rattle.store_laws.proofs.CellsElsewhere.{station_step_cells, core_step_cells}
+use Rattle.store_laws.proofs.{Adding.valued, Adding.can_add, Cells.CellsIn, Cells.phone_step_cells, CellsElsewhere.station_step_cells, CellsElsewhere.core_step_cells}
 
 -- LADDERS OF LONGER HISTORIES
 

@@ -1,15 +1,10 @@
 -- The rows of a ladder, numbered and with their holders: what more rows and more holders leave as it was.
 use Rattle.std.proofs.Common.{◌≡◌, ℕ, ◌+◌, ◌<◌, zero, suc, Bool, true, false, Option, Some, None, List, [], ◌∷◌, ◌++◌, length, map, sym, refl, ap, subst, ◌∙◌, arith, length-append, cond, append_assoc, append-nil}
-use Rattle.std.proofs.lemmas.Bool.{false≢true}
+use Rattle.std.proofs.{lemmas.Bool.false≢true, lemmas.Iterator.Adapters.position_from-zero, lemmas.Option.none-some, lemmas.Option.slice_get_within}
 use Rattle.std.specs.Prelude.{slice_get, unwrap_or, position, IsSome, option_map}
-use Rattle.std.specs.List.{position_from, AllByRecursion as AllOf}
-use Rattle.std.specs.Str.{bytes_eq}
-use Rattle.std.proofs.lemmas.Iterator.Adapters.{position_from-zero}
-use Rattle.std.proofs.lemmas.Option.{none-some, slice_get_within}
+use Rattle.std.specs.{List.position_from, List.AllByRecursion as AllOf, Str.bytes_eq}
 use Rattle.key_model.specs.Derivation.{kdf_input}
-use Rattle.key_terms.specs.declared.row.LadderRow.{LadderRow}
-use Rattle.key_terms.specs.declared.row.Origin.{Origin}
-use Rattle.key_terms.specs.declared.row.Holder.{Holder}
+use Rattle.key_terms.specs.{declared.row.LadderRow.LadderRow, declared.row.Origin.Origin, declared.row.Holder.Holder}
 use Rattle.key_terms.specs.Ladder.{unheld, holding, row, row_of, origin_at}
 use Rattle.key_terms.proofs.LadderLemmas.{found_row}
 use Rattle.key_terms.proofs.Places.{position_stays, position_map, slice_get_stays, slice_get_at_end}

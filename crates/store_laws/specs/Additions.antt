@@ -1,10 +1,8 @@
 -- What a ladder asks of a derivation that is added, and that the derivations of a run have it.
 use Rattle.std.specs.Prelude.{◌≡◌, ℕ, ◌<◌, ◌≤◌, ◌^◌, IsTrue, List, [], ◌∷◌, None, IsSome, IfSome}
-use Rattle.std.specs.List.{list_any, AllByRecursion as AllOf}
-use Rattle.std.specs.Str.{bytes_eq}
+use Rattle.std.specs.{List.list_any, List.AllByRecursion as AllOf, Str.bytes_eq}
 use Rattle.annex_a_keys.specs.declared.derived.Derived.{Derived}
-use Rattle.hmac_kdf.specs.declared.input.KdfInput.{KdfInput}
-use Rattle.hmac_kdf.specs.Kdf.{kdf, greatest_earfcn}
+use Rattle.hmac_kdf.specs.{declared.input.KdfInput.KdfInput, Kdf.kdf, Kdf.greatest_earfcn}
 use Rattle.key_model.specs.Derivation.{derived_of}
 use Rattle.key_terms.specs.declared.row.LadderRow.{LadderRow}
 use Rattle.key_terms.specs.Ladder.{row_of, HasRoot, HasSync}

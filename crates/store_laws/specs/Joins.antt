@@ -2,10 +2,7 @@
 use Rattle.std.specs.Prelude.{◌≡◌, ℕ, List, [], ◌∷◌, ◌++◌, Option, Some, None, IsSome, Result, Ok, Err, length}
 use Rattle.std.specs.List.{AllByRecursion as AllOf}
 use Rattle.annex_a_keys.specs.declared.derived.Derived.{Derived}
-use Rattle.key_terms.specs.declared.ladder.LadderFault.{LadderFault}
-use Rattle.key_terms.specs.declared.row.LadderRow.{LadderRow}
-use Rattle.key_terms.specs.declared.row.Origin.{Origin}
-use Rattle.key_terms.specs.declared.row.Row.{Row}
+use Rattle.key_terms.specs.{declared.ladder.LadderFault.LadderFault, declared.row.LadderRow.LadderRow, declared.row.Origin.Origin, declared.row.Row.Row}
 use Rattle.key_terms.specs.Ladder.{unheld, row, row_of, origin_at, origin_of, Coincides}
 use Rattle.lte_machine.specs.Ladder.{RowOrigin, OfRoot, Of, Clash}
 use Rattle.lte_machine.specs.World.{Holding}

@@ -4,8 +4,7 @@ use Rattle.annex_a_keys.specs.declared.derived.Derived.{Derived}
 use Rattle.hmac_kdf.specs.declared.input.KdfInput.{KdfInput}
 use Rattle.key_model.specs.Derivation.{Input, FromCount, FromSync, FromCell, FromAlg, Derivation, derived_of}
 use Rattle.key_terms.specs.declared.proof.Proof as proofs
-use Rattle.key_terms.specs.declared.proof.Proof.{Proof}
-use Rattle.key_terms.specs.Ladder.{row}
+use Rattle.key_terms.specs.{declared.proof.Proof.Proof, Ladder.row}
 use Rattle.lte_machine.specs.Calls.{use_out, use_in}
 use Rattle.lte_machine.specs.Ladder.{RowOrigin, OfRoot, Of}
 use Rattle.lte_machine.specs.Tuples.{Coincidence, Tuples, Rows}

@@ -2,9 +2,7 @@
 use Rattle.std.specs.Prelude.{ℕ, List, map, option_map}
 use Rattle.rec_base.specs.declared.uses.Use.{Use}
 use Rattle.net_bag.specs.declared.view.BagView.{BagView}
-use Rattle.lte_machine.specs.Calls.{use_out}
-use Rattle.lte_machine.specs.Machines.{Kept}
-use Rattle.lte_machine.specs.World.{World}
+use Rattle.lte_machine.specs.{Calls.use_out, Machines.Kept, World.World}
 
 abbrev pub view_of : Kept → BagView
 view_of x = record { to = x.to; octets = x.octets; tuple = option_map use_out x.tuple }

@@ -2,9 +2,7 @@
 use Rattle.std.specs.Prelude.{ℕ, List, [], ◌∷◌, ◌++◌, unwrap_or}
 use Rattle.std.specs.Str.{bytes_eq}
 use Rattle.key_model.specs.Derivation.{derived_of}
-use Rattle.key_terms.specs.declared.row.Holder.{Holder}
-use Rattle.key_terms.specs.declared.row.LadderRow.{LadderRow}
-use Rattle.key_terms.specs.declared.row.Origin.{Origin}
+use Rattle.key_terms.specs.{declared.row.Holder.Holder, declared.row.LadderRow.LadderRow, declared.row.Origin.Origin}
 use Rattle.key_terms.specs.Ladder.{unheld, holding, row_of, origin_of}
 use Rattle.lte_machine.specs.Ladder.{RowOrigin, OfRoot, Of, row_key, ladder_of}
 use Rattle.lte_machine.specs.World as world

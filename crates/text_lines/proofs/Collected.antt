@@ -1,7 +1,6 @@
 -- The list that is collected of an iterator.
 use Rattle.std.proofs.Common.{◌≡◌, Option, List, map, Result, Ok, Err, IfOk}
-use Rattle.std.specs.Prelude.{Vec, vec_items}
-use Rattle.std.specs.Iterator.{Drains}
+use Rattle.std.specs.{Prelude.Vec, Prelude.vec_items, Iterator.Drains}
 use Rattle.std.proofs.lemmas.Iterator.{YieldsList, items_from_drains}
 
 -- what it holds, where each item is read by `v`

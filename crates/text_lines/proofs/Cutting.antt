@@ -1,8 +1,6 @@
 -- The first line of a text and the lines behind it.
 use Rattle.std.proofs.Common.{rules, ◌≡◌, ℕ, zero, suc, ◌+◌, ◌-◌, ◌<◌, not, true, false, Some, None, List, [], ◌∷◌, length, take, drop, get_or, refl, sym, ap, ◌∙◌, add-one, arith}
-use Rattle.std.proofs.lemmas.List.{take_rest}
-use Rattle.std.proofs.lemmas.List.Quantifiers.{position-Some}
-use Rattle.std.proofs.lemmas.List.Sums.{fails_before_first, prefix_len-le-length}
+use Rattle.std.proofs.{lemmas.List.take_rest, lemmas.List.Quantifiers.position-Some, lemmas.List.Sums.fails_before_first, lemmas.List.Sums.prefix_len-le-length}
 use Rattle.std.specs.List.{onto_first, position, position_or_len}
 use Rattle.text_lines.specs.Lines.{is_feed, lines_of}
 

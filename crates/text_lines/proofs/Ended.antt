@@ -1,8 +1,6 @@
 -- Lines with their line feeds, and what is behind them.
 use Rattle.std.proofs.Common.{◌≡◌, ℕ, zero, suc, ◌+◌, ◌-◌, ◌<◌, ◌≤◌, Bool, true, false, not, cond, Some, None, List, [], ◌∷◌, ◌++◌, length, take, drop, get_or, refl, sym, ap, ◌∙◌, append_assoc, add-one, arith}
-use Rattle.std.proofs.lemmas.Bool.{or_parts, eqb-true}
-use Rattle.std.proofs.lemmas.List.{take_rest}
-use Rattle.std.proofs.lemmas.List.Quantifiers.{position-Some}
+use Rattle.std.proofs.{lemmas.Bool.or_parts, lemmas.Bool.eqb-true, lemmas.List.take_rest, lemmas.List.Quantifiers.position-Some}
 use Rattle.std.specs.List.{list_any, onto_first, position, position_or_len}
 use Rattle.text_lines.proofs.Cutting.{past_end}
 use Rattle.text_lines.specs.Lines.{is_feed, has_feed, lines_of, ended, last_line}

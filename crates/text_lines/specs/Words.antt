@@ -1,9 +1,6 @@
 -- The words of a line, and what a word is as a number or as octets.
 use Rattle.std.specs.Prelude.{ℕ, ◌^◌, ◌==◌, nat_lt, ◌&&◌, not, Bool, true, false, if◌then◌else◌, Option, Some, None, List, [], ◌∷◌}
-use Rattle.std.specs.List.{slice_split, list_all}
-use Rattle.std.specs.Char.{is_ascii_digit}
-use Rattle.std.specs.Result.{result_ok}
-use Rattle.std.specs.Str.Parse.{digits_value}
+use Rattle.std.specs.{List.slice_split, List.list_all, Char.is_ascii_digit, Result.result_ok, Str.Parse.digits_value}
 use Rattle.hex.specs.Hex.{decode_sized}
 
 -- the words of a line, parted by one space each

@@ -1,37 +1,25 @@
 -- The steps at a PDU of a radio bearer, by what the code below opens.
 use Rattle.std.proofs.Common.{◌≡◌, ℕ, ◌≤◌, Bool, true, false, cond, List, length, Some, None, Ok, Err, refl, ap, ◌∙◌, sym}
 use Rattle.std.specs.Prelude.{◌==◌, ◌&&◌, take, Result}
-use Rattle.lte_events.specs.declared.inputs.PhoneIn.TheVariants.{Air}
-use Rattle.lte_events.specs.declared.replies.ActorOut.{ActorOut}
-use Rattle.lte_events.specs.Reply.{reply_of}
+use Rattle.lte_events.specs.{declared.inputs.PhoneIn.TheVariants.Air, declared.replies.ActorOut.ActorOut, Reply.reply_of}
 use Rattle.key_model.specs.Reading.{octet_reading}
-use Rattle.rec_base.specs.declared.bearers.Bearer.{Bearer}
-use Rattle.rec_base.specs.declared.uses.Dir.TheVariants.{Down}
-use Rattle.rec_base.specs.Lengths.{longest_packet}
+use Rattle.rec_base.specs.{declared.bearers.Bearer.Bearer, declared.uses.Dir.TheVariants.Down, Lengths.longest_packet, Bearer.IsDrb, Bearer.IsSrb}
 use Rattle.rrc_rec.specs.Reading.{read_rrc}
-use Rattle.pdcp_guard.specs.declared.pdus.PdcpOpened.{PdcpOpened}
-use Rattle.pdcp_guard.specs.declared.pdus.PdcpFault.{PdcpFault}
+use Rattle.pdcp_guard.specs.{declared.pdus.PdcpOpened.PdcpOpened, declared.pdus.PdcpFault.PdcpFault}
 use Rattle.pdcp_guard.specs.declared.pdus.PdcpFault as faults
-use Rattle.rec_base.specs.Bearer.{IsDrb, IsSrb}
 use Rattle.pdcp_guard.specs.Srb.{srb_count, srb_opened, srb_opened_by, srb_opened_at}
 use Rattle.pdcp_guard.specs.Drb.{drb_count, drb_opened, drb_opened_by, drb_opened_at}
 use Rattle.pdcp_guard.proofs.SrbFacts.{long_enough}
 use Rattle.lte_machine.specs.Bearers.{which, OnSrb, OnDrb, srb_counts, drb_counts}
-use Rattle.lte_machine.specs.Calls.{phone_call, use_out}
-use Rattle.lte_machine.specs.Ciphers.{annex_b}
+use Rattle.lte_machine.specs.{Calls.phone_call, Calls.use_out, Ciphers.annex_b, PhoneKeys.air_expects, PhoneRows.AirRow, PhoneRows.PacketOpened, Refusals.of_pdcp, Reply.unseen}
 use Rattle.lte_machine.specs.Opening.{Outcome, OpensSrb, OpensDrb, open_octets, accepted_of}
 use Rattle.lte_machine.specs.PhoneChoice.{AirFront, AtSignalling, AtPacket, air_front, air_row, signalling_at, packet_at, signalling_read}
-use Rattle.lte_machine.specs.PhoneKeys.{air_expects}
-use Rattle.lte_machine.specs.PhoneRows.{AirRow, PacketOpened}
 use Rattle.lte_machine.specs.PhoneState.{Phone, Link, map_radio}
-use Rattle.lte_machine.specs.Refusals.{of_pdcp}
-use Rattle.lte_machine.specs.Reply.{unseen}
 use Rattle.lte_machine.specs.Wire.{KeyUse, srb_ciphering, drb_ciphering}
 use Rattle.nas_smc.specs.PhoneNas.{NasPart}
 use Rattle.radio_bearers.specs.Bearers.{srb_of, drb_of}
 use Rattle.radio_bearers.proofs.Sealing.{srb_opened_is, drb_opened_is, outcome_of}
-use Rattle.ue_context.specs.Parts.{linked}
-use Rattle.ue_context.specs.Step.{by_air, to_phone}
+use Rattle.ue_context.specs.{Parts.linked, Step.by_air, Step.to_phone}
 
 -- what a front leads to
 abbrev pub by_front : Phone (List ℕ) ℕ → List ℕ → AirFront → Phone (List ℕ) ℕ × ActorOut

@@ -1,26 +1,21 @@
 -- What a refused step leaves, what it gives out, and which refusals send a SECURITY MODE REJECT.
 use Rattle.std.proofs.Common.{◌≡◌, ℕ, Bool, true, false, cond, List, Option, None, Some, Result, Ok, Err, refl, ap, sym, ◌∙◌}
 use Rattle.std.specs.Prelude.{◌≢◌, ◌==◌, ◌&&◌, not, nat_le, option_map, is_some}
-use Rattle.alg_choice.specs.declared.algs.Algs.{Algs}
-use Rattle.alg_choice.specs.declared.caps.Caps.{Caps}
-use Rattle.alg_choice.specs.Choice.{are_supported}
+use Rattle.alg_choice.specs.{declared.algs.Algs.Algs, declared.caps.Caps.Caps, Choice.are_supported}
 use Rattle.annex_a_keys.specs.Cell.{Place}
 use Rattle.rec_base.specs.declared.faults.RecFault.{RecFault}
-use Rattle.lte_events.specs.declared.answers.Answer.{Answer}
+use Rattle.lte_events.specs.{declared.answers.Answer.Answer, declared.inputs.PhoneIn.PhoneIn, declared.replies.ActorOut.ActorOut}
 use Rattle.lte_events.specs.declared.answers.Answer.TheVariants.{Done, WrongKsi, CapsMismatch, AlgUnsupported, MacFails}
-use Rattle.lte_events.specs.declared.inputs.PhoneIn.{PhoneIn}
 use Rattle.lte_events.specs.declared.inputs.PhoneIn.TheVariants.{Auth, Act, Nas, Air}
-use Rattle.lte_events.specs.declared.replies.ActorOut.{ActorOut}
 use Rattle.key_model.specs.Reading.{octet_reading}
 use Rattle.nas_count.specs.declared.sending.CountSpent as spent
 use Rattle.nas_count.specs.Estimate.{nas_count_limit, estimate_of}
 use Rattle.nas_guard.specs.Open.{sn_in, sent_in}
-use Rattle.nas_rec.specs.declared.records.NasRecord.{NasRecord}
+use Rattle.nas_rec.specs.{declared.records.NasRecord.NasRecord, Reading.read_nas}
 use Rattle.nas_rec.specs.declared.records.NasRecord as nas
-use Rattle.nas_rec.specs.Reading.{read_nas}
 use Rattle.lte_machine.specs.Bearers.{Srb, Drb, Which, which}
 use Rattle.lte_machine.specs.Calls.{phone_call, phone_input, actor_out, record_out, tuple_out}
-use Rattle.lte_machine.specs.Ciphers.{annex_b}
+use Rattle.lte_machine.specs.{Ciphers.annex_b, Reply.unseen}
 use Rattle.lte_machine.specs.Opening.{Outcome, Opened, Differs, open_octets}
 use Rattle.lte_machine.specs.PhoneChoice.{PlainPhone, NasFront, NasSettled, header_for_phone, rejected, rejected_unspecified, capabilities_mismatch, command_at, command_read, command_front, command_row, context_row, same_caps, message_at, message_front, message_read, message_row, nas_by_header, nas_row, act_row, air_front, air_row}
 use Rattle.lte_machine.specs.PhoneKeys.{PhoneDone, nas_does, air_does, act_does, before_of, changed_unless, handed_over, key_changed, link_secured, rrc_opened, packet_opened, service_requested, complete_resent, packet_sent, rrc_sent, nas_sent, nas_skipped, bearer_skipped, context_taken, context_taken_connected, nas_opened}
@@ -28,7 +23,6 @@ use Rattle.lte_machine.specs.PhoneRows.{NasRow, NasRefused, RejectedUnder, AirRo
 use Rattle.lte_machine.specs.PhoneState.{Partial, NasContext, Radio, Idle, Connecting, Connected, Phone, map_context, map_radio}
 use Rattle.lte_machine.specs.PhoneStep as steps
 use Rattle.lte_machine.specs.PhoneStep.{phone_opens, phone_pdu_in, phone_step, plain_phone}
-use Rattle.lte_machine.specs.Reply.{unseen}
 use Rattle.lte_machine.specs.Wire.{Outgoing, SealedNas, PlainNas, SealedRrc, UserPacket, Between}
 use Rattle.lte_machine.proofs.PhoneRefused.{phone_refused, phone_refused_reply, phone_refused_sends}
 use Rattle.ue_context.specs.Refusing.{after_refusal, refusal_of, is_third, is_told, may_tell, sends_reject}

@@ -3,31 +3,20 @@ use Rattle.std.proofs.Common.{◌≡◌, ℕ, ◌<◌, ◌-◌, ◌%◌, Bool, t
 use Rattle.std.specs.Prelude.{Result}
 use Rattle.std.proofs.lemmas.Bool.Decides.{nat_tests}
 use Rattle.alg_choice.specs.declared.algs.Algs.{Algs}
-use Rattle.lte_events.specs.declared.inputs.PhoneIn.TheVariants.{Air}
-use Rattle.lte_events.specs.declared.replies.ActorOut.{ActorOut}
-use Rattle.lte_events.specs.Reply.{reply_of}
-use Rattle.key_model.specs.Least.{least}
-use Rattle.key_model.specs.Reading.{octet_reading}
+use Rattle.lte_events.specs.{declared.inputs.PhoneIn.TheVariants.Air, declared.replies.ActorOut.ActorOut, Reply.reply_of}
+use Rattle.key_model.specs.{Least.least, Reading.octet_reading}
 use Rattle.key_model.proofs.LeastFacts.{least_in_window}
-use Rattle.rec_base.specs.declared.bearers.Bearer.TheVariants.{Srb1}
-use Rattle.rec_base.specs.declared.uses.Dir.TheVariants.{Down}
-use Rattle.pdcp_guard.specs.declared.pdus.PdcpOpened.{PdcpOpened}
-use Rattle.pdcp_guard.specs.declared.pdus.PdcpFault.{PdcpFault}
+use Rattle.rec_base.specs.{declared.bearers.Bearer.TheVariants.Srb1, declared.uses.Dir.TheVariants.Down}
+use Rattle.pdcp_guard.specs.{declared.pdus.PdcpOpened.PdcpOpened, declared.pdus.PdcpFault.PdcpFault, AsKeys.as_keys_of, Counts.in_32_bits}
 use Rattle.pdcp_guard.specs.declared.pdus.PdcpFault as faults
-use Rattle.pdcp_guard.specs.AsKeys.{as_keys_of}
-use Rattle.pdcp_guard.specs.Counts.{in_32_bits}
 use Rattle.pdcp_guard.specs.Srb.{srb_count, srb_opened, srb_opened_by, srb_opened_at}
 use Rattle.pdcp_guard.proofs.SrbFacts.{long_enough}
-use Rattle.lte_machine.specs.Bearers.{OnSrb, Signalling1}
-use Rattle.lte_machine.specs.Calls.{phone_call}
+use Rattle.lte_machine.specs.{Bearers.OnSrb, Bearers.Signalling1, Calls.phone_call, PhoneState.Phone, PhoneState.Waiting, Refusals.of_pdcp}
 use Rattle.lte_machine.specs.Opening.{Outcome, Opened, OpensSrb, accepted_of}
 use Rattle.lte_machine.specs.PhoneChoice.{AtStart, waiting_front, start_row}
-use Rattle.lte_machine.specs.PhoneState.{Phone, Waiting}
-use Rattle.lte_machine.specs.Refusals.{of_pdcp}
 use Rattle.nas_smc.specs.PhoneNas.{NasPart}
 use Rattle.radio_bearers.proofs.Sealing.{srb_opened_is, outcome_of}
-use Rattle.ue_context.specs.Parts.{waiting}
-use Rattle.ue_context.specs.Step.{by_air, to_phone}
+use Rattle.ue_context.specs.{Parts.waiting, Step.by_air, Step.to_phone}
 use Rattle.ue_context.proofs.AirSteps.{fronted}
 
 -- the first COUNT with a sequence number is the sequence number

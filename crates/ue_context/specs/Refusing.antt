@@ -1,21 +1,11 @@
 -- What a refused step leaves, and what it tells (TS 24.301 5.4.3.5).
 use Rattle.std.specs.Prelude.{ℕ, Bool, true, false, not, ◌==◌, ◌&&◌, nat_le, List, Option, None, Some, option_map, Result, Ok, Err}
 use Rattle.rec_base.specs.declared.uses.Use.{Use}
-use Rattle.lte_events.specs.declared.answers.Answer.{Answer}
+use Rattle.lte_events.specs.{declared.answers.Answer.Answer, declared.inputs.PhoneIn.PhoneIn, declared.inputs.PhoneIn.TheVariants.Nas, declared.replies.ActorOut.ActorOut, Reply.reply_of}
 use Rattle.lte_events.specs.declared.answers.Answer.TheVariants.{WrongKsi, CapsMismatch, AlgUnsupported, MacFails}
-use Rattle.lte_events.specs.declared.inputs.PhoneIn.{PhoneIn}
-use Rattle.lte_events.specs.declared.inputs.PhoneIn.TheVariants.{Nas}
-use Rattle.lte_events.specs.declared.replies.ActorOut.{ActorOut}
-use Rattle.lte_events.specs.Reply.{reply_of}
 use Rattle.key_model.specs.Reading.{octet_reading}
 use Rattle.nas_count.specs.Estimate.{nas_count_limit}
-use Rattle.lte_machine.specs.Calls.{phone_input, use_out}
-use Rattle.lte_machine.specs.Ciphers.{annex_b}
-use Rattle.lte_machine.specs.Opening.{accepted_of, open_octets}
-use Rattle.lte_machine.specs.PhoneChoice.{header_for_phone}
-use Rattle.lte_machine.specs.PhoneKeys.{one_nas_sent}
-use Rattle.lte_machine.specs.PhoneState.{NasContext, Phone}
-use Rattle.lte_machine.specs.PhoneStep.{phone_opens, phone_pdu_in}
+use Rattle.lte_machine.specs.{Calls.phone_input, Calls.use_out, Ciphers.annex_b, Opening.accepted_of, Opening.open_octets, PhoneChoice.header_for_phone, PhoneKeys.one_nas_sent, PhoneState.NasContext, PhoneState.Phone, PhoneStep.phone_opens, PhoneStep.phone_pdu_in}
 
 -- the phone after a refusal: what was sent under the context in use took its uplink NAS COUNT, and nothing else changes
 abbrev pub after_refusal : Option Use → Phone (List ℕ) ℕ → Phone (List ℕ) ℕ

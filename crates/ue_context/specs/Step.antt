@@ -1,20 +1,12 @@
 -- One step of the phone in octets, by its parts.
 use Rattle.std.specs.Prelude.{ℕ, List, Result, Ok, Err, Option, Some, None}
-use Rattle.rec_base.specs.declared.bearers.Bearer.{Bearer}
-use Rattle.rec_base.specs.declared.uses.Dir.TheVariants.{Down}
-use Rattle.lte_events.specs.declared.answers.Answer.{Answer}
-use Rattle.lte_events.specs.declared.replies.ActorOut.{ActorOut}
+use Rattle.rec_base.specs.{declared.bearers.Bearer.Bearer, declared.uses.Dir.TheVariants.Down}
+use Rattle.lte_events.specs.{declared.answers.Answer.Answer, declared.replies.ActorOut.ActorOut}
 use Rattle.key_model.specs.Reading.{octet_reading}
-use Rattle.pdcp_guard.specs.AsKeys.{AsKeys}
-use Rattle.pdcp_guard.specs.declared.pdus.PdcpFault.{PdcpFault}
-use Rattle.lte_machine.specs.Calls.{actor_out}
+use Rattle.pdcp_guard.specs.{AsKeys.AsKeys, declared.pdus.PdcpFault.PdcpFault}
+use Rattle.lte_machine.specs.{Calls.actor_out, PhoneKeys.air_does, PhoneRows.AirRow, PhoneRows.AirRefused, Refusals.of_pdcp, Reply.finished, Wire.KeyUse, Wire.srb_use}
 use Rattle.lte_machine.specs.PhoneChoice.{AirFront, AirSettled, AtStart}
-use Rattle.lte_machine.specs.PhoneKeys.{air_does}
-use Rattle.lte_machine.specs.PhoneRows.{AirRow, AirRefused}
 use Rattle.lte_machine.specs.PhoneState.{Phone, Radio, Connected}
-use Rattle.lte_machine.specs.Refusals.{of_pdcp}
-use Rattle.lte_machine.specs.Reply.{finished}
-use Rattle.lte_machine.specs.Wire.{KeyUse, srb_use}
 use Rattle.radio_bearers.specs.Bearers.{srb_of}
 use Rattle.ue_context.specs.declared.starting.Start.{Start}
 

@@ -1,8 +1,7 @@
 -- The items of a scenario: as many as its steps, each of so many acts; and its first station.
 use Rattle.std.proofs.Common.{◌≡◌, ℕ, zero, suc, ◌+◌, ◌<◌, ◌≤◌, List, [], ◌∷◌, ◌++◌, length, All, refl, ap, arith, length-append}
 use Rattle.std.proofs.lemmas.List.Elements.{All-head, All-nil, All-push}
-use Rattle.lte_events.specs.Ranges.{IsStation}
-use Rattle.lte_events.specs.declared.setups.StationSetup.{StationSetup}
+use Rattle.lte_events.specs.{Ranges.IsStation, declared.setups.StationSetup.StationSetup}
 use Rattle.items.specs.Items.{IsItemOf}
 use Rattle.variant_runs.specs.Original.{first_station, item_at, own_items}
 

@@ -1,23 +1,12 @@
 -- What becomes of a scenario with faults of its messages.
 use Rattle.std.specs.Prelude.{ℕ, ◌&&◌, nat_lt, Bool, true, false, not, List, [], ◌∷◌, length, Option, Some, None, if◌then◌else◌}
-use Rattle.std.specs.List.{list_all}
-use Rattle.std.specs.Option.{is_some, option_and_then}
+use Rattle.std.specs.{List.list_all, Option.is_some, Option.option_and_then}
 use Rattle.lte_events.specs.declared.lines.Line.{Line}
-use Rattle.item_faults.specs.AtOnce.{items_of}
-use Rattle.item_faults.specs.Changes.{variant}
-use Rattle.item_faults.specs.Entries.{most_steps}
+use Rattle.item_faults.specs.{AtOnce.items_of, Changes.variant, Entries.most_steps, declared.changes.Fault.Fault, declared.changes.Kind.Kind, declared.entries.Entry.Entry, declared.steps.Step.Step}
 use Rattle.item_faults.specs.Steps.{entries_of, senders_of, source_of, step_of, with_number}
-use Rattle.item_faults.specs.declared.changes.Fault.{Fault}
-use Rattle.item_faults.specs.declared.changes.Kind.{Kind}
 use Rattle.item_faults.specs.declared.changes.Kind.TheVariants as kind
-use Rattle.item_faults.specs.declared.entries.Entry.{Entry}
-use Rattle.item_faults.specs.declared.steps.Step.{Step}
-use Rattle.item_lines.specs.Lines.{line_of}
-use Rattle.item_lines.specs.Same.{same_who}
-use Rattle.item_lines.specs.declared.lines.Told.{Told}
-use Rattle.item_outcomes.specs.Outcomes.{outcomes}
-use Rattle.item_outcomes.specs.Standing.{Standing}
-use Rattle.item_outcomes.specs.declared.judging.Outcome.{Outcome}
+use Rattle.item_lines.specs.{Lines.line_of, Same.same_who, declared.lines.Told.Told}
+use Rattle.item_outcomes.specs.{Outcomes.outcomes, Standing.Standing, declared.judging.Outcome.Outcome}
 use Rattle.item_runs.specs.Course.{Seen}
 use Rattle.item_standing.specs.Standing.{standing_of}
 use Rattle.variant_runs.specs.Original.{Original, run_of}

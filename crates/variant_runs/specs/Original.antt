@@ -1,21 +1,12 @@
 -- The scenario itself: its run, its steps and items, and what the probe finds behind it.
 use Rattle.std.specs.Prelude.{◌≡◌, ℕ, zero, suc, ◌+◌, ◌≤◌, List, [], ◌∷◌, ◌++◌, length, All}
-use Rattle.lte_events.specs.Ranges.{IsSetup}
-use Rattle.lte_events.specs.Scenario.{CanHappen}
-use Rattle.lte_events.specs.declared.events.Event.{Event}
-use Rattle.lte_events.specs.declared.setups.Setup.{Setup}
-use Rattle.lte_events.specs.declared.setups.StationSetup.{StationSetup}
+use Rattle.lte_events.specs.{Ranges.IsSetup, Scenario.CanHappen, declared.events.Event.Event, declared.setups.Setup.Setup, declared.setups.StationSetup.StationSetup}
 use Rattle.items.specs.declared.Deed.TheVariants as deed
 use Rattle.items.specs.declared.Item.{Item}
-use Rattle.item_faults.specs.Entries.{most_steps}
-use Rattle.item_faults.specs.Laws.{AreEntries}
-use Rattle.item_faults.specs.Steps.{entries_of, senders_of}
-use Rattle.item_faults.specs.declared.entries.Entry.{Entry}
-use Rattle.item_faults.specs.declared.steps.Step.{Step}
+use Rattle.item_faults.specs.{Entries.most_steps, Laws.AreEntries, Steps.entries_of, Steps.senders_of, declared.entries.Entry.Entry, declared.steps.Step.Step}
 use Rattle.item_lines.specs.declared.lines.Told.{Told}
 use Rattle.item_outcomes.specs.Standing.{Standing}
-use Rattle.item_probe.specs.Acts.{acts_of}
-use Rattle.item_probe.specs.Places.{more_acts}
+use Rattle.item_probe.specs.{Acts.acts_of, Places.more_acts}
 use Rattle.item_runs.specs.Course.{Seen, coming_of}
 use Rattle.item_standing.specs.Standing.{standing_of}
 use Rattle.item_steps.specs.Steps.{steps_of}

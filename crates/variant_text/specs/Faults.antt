@@ -1,8 +1,7 @@
 -- Faults of a scenario's messages as a text: `lost 9`, `late 9 12`, `twice 9 12`, `again 9`; of several with a comma between.
 use Rattle.std.specs.Prelude.{ℕ, List, [], ◌∷◌, ◌++◌, codes}
 use Rattle.std.specs.Fmt.{decimal}
-use Rattle.item_faults.specs.declared.changes.Fault.{Fault}
-use Rattle.item_faults.specs.declared.changes.Kind.{Kind}
+use Rattle.item_faults.specs.{declared.changes.Fault.Fault, declared.changes.Kind.Kind}
 use Rattle.item_faults.specs.declared.changes.Kind.TheVariants as kind
 use Rattle.variant_text.specs.Joined.{joined}
 

@@ -1,12 +1,9 @@
 -- The lines of the answer for a scenario.
 use Rattle.std.specs.Prelude.{ℕ, List, ◌++◌, codes}
 use Rattle.std.specs.Fmt.{decimal}
-use Rattle.item_faults.specs.declared.changes.Fault.{Fault}
-use Rattle.item_faults.specs.declared.messages.Message.{Message}
+use Rattle.item_faults.specs.{declared.changes.Fault.Fault, declared.messages.Message.Message}
 use Rattle.item_outcomes.specs.declared.judging.Outcome.{Outcome}
-use Rattle.variant_text.specs.Faults.{faults_text}
-use Rattle.variant_text.specs.Messages.{message_name}
-use Rattle.variant_text.specs.Outcomes.{outcomes_text}
+use Rattle.variant_text.specs.{Faults.faults_text, Messages.message_name, Outcomes.outcomes_text}
 
 -- `scenario 27 16 serving 1`: how many steps and messages a scenario has, and the station that serves its phone behind them
 unfoldable pub scenario_line : ℕ → ℕ → ℕ → List ℕ

@@ -1,7 +1,6 @@
 -- The tables of the code against the S-boxes.
 use Rattle.std.proofs.Common.{◌≡◌, ℕ, ◌+◌, ◌*◌, ◌^◌, ◌<◌, [], ◌∷◌, map, get_or, refl, ap, ◌∙◌, arith}
-use Rattle.std.specs.Int.{w32, from_be_bytes}
-use Rattle.std.specs.List.{range_with_len}
+use Rattle.std.specs.{Int.w32, Int.from_be_bytes, List.range_with_len}
 use Rattle.std.proofs.lemmas.List.FromFn.{get_or-map-range_with_len}
 use Rattle.zuc.specs.Boxes.{affine, inverse, multiply, s0, s1}
 use Rattle.zuc.specs.declared.s_boxes.TheConstants.{S0, S1}

@@ -1,9 +1,6 @@
 -- The ring of stages of the code against the state, and the sum modulo 2^31 - 1.
 use Rattle.std.proofs.Common.{◌≡◌, ℕ, zero, suc, slice_index, ◌+◌, ◌*◌, ◌%◌, ◌<◌, ◌≤◌, List, [], ◌∷◌, ◌++◌, length, get_or, set, take, drop, append-nil, append_assoc, inl, inr, length-set, ap, eqb, false, refl, sym, ◌∙◌, arith}
-use Rattle.std.proofs.lemmas.Bool.Decides.{nat_tests}
-use Rattle.std.proofs.lemmas.Bool.{cases_lt}
-use Rattle.std.proofs.lemmas.Nat.{mod-mul-add}
-use Rattle.std.proofs.lemmas.List.FromFn.{get_or-map-range_with_len}
+use Rattle.std.proofs.{lemmas.Bool.Decides.nat_tests, lemmas.Bool.cases_lt, lemmas.Nat.mod-mul-add, lemmas.List.FromFn.get_or-map-range_with_len}
 use Rattle.std.proofs.lemmas.List.{drop-set-lt, drop_all, drop_more, take_all, take_more_set}
 use Rattle.zuc.specs.State.{State, after, keystream_word, next, sixteen_words, word, never_zero, prime}
 

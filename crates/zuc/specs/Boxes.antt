@@ -1,7 +1,6 @@
 -- The S-boxes S0 and S1 of ZUC (its specification, TS 35.222, 3.4.2; the clause numbers are from memory).
 use Rattle.std.specs.Prelude.{ℕ, zero, suc, ◌+◌, ◌*◌, ◌/◌, ◌%◌, ◌^◌, ◌==◌, List, [], ◌∷◌, bit_xor, find, map, slice_index, sum, unwrap_or}
-use Rattle.std.specs.Int.{bit_at}
-use Rattle.std.specs.List.{range_with_len}
+use Rattle.std.specs.{Int.bit_at, List.range_with_len}
 
 -- the three tables of four bits that S0 is made of
 abbrev pub p1 : List ℕ

@@ -1,10 +1,8 @@
 -- ZUC: its state, its clock and its keystream (its specification, TS 35.222, 3.2 to 3.6; the clause numbers are from
 -- memory). Stages are numbers below 2^31, words are numbers of 32 bits.
 use Rattle.std.specs.Prelude.{ℕ, zero, suc, ◌+◌, ◌-◌, ◌*◌, ◌/◌, ◌%◌, ◌^◌, ◌==◌, if◌then◌else◌, List, [], ◌∷◌, ◌++◌, bit_xor, drop, map, slice_index, take}
-use Rattle.std.specs.Int.{w32, rotate_left}
-use Rattle.std.specs.List.{range_with_len}
-use Rattle.zuc.specs.declared.generator.Generator.{Generator}
-use Rattle.zuc.specs.Boxes.{boxes}
+use Rattle.std.specs.{Int.w32, Int.rotate_left, List.range_with_len}
+use Rattle.zuc.specs.{declared.generator.Generator.Generator, Boxes.boxes}
 
 -- the stages s0 to s15 of the shift register, and the registers R1 and R2 of F (3.2, 3.4)
 pub record State : Type 0 where

@@ -1,8 +1,7 @@
 use Rattle.std.proofs.Common.{◌≡◌, ℕ, ◌*◌, ◌+◌, ◌-◌, ◌<◌, ◌++◌, min, length, take, drop, slice_index, refl, arith, sym, ◌∙◌, ap}
 use Rattle.std.proofs.lemmas.List.{take_min, drop_min}
 use Rattle.aes_core.specs.Aes.{aes}
-use Rattle.rec_base.specs.BigEndian.{octets_of}
-use Rattle.rec_base.specs.Header.{header_of}
+use Rattle.rec_base.specs.{BigEndian.octets_of, Header.header_of}
 use Rattle.keystream.specs.Combined.{combined}
 use Rattle.keystream.proofs.CombinedLemmas.{combined_all, combined_piece}
 use Rattle.ctr_eea2.specs.Eea2.{eea2_of, keystream_octet}

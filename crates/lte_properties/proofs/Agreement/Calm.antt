@@ -3,49 +3,36 @@
 use Rattle.std.proofs.Common.{◌≡◌, refl, sym, ap, ◌∙◌, subst, ℕ, ◌≤◌, nat_lt, Bool, true, false, List, length, Option, Some, None, Result, Ok, Err, arith}
 use Rattle.std.specs.Prelude.{⊤, if◌then◌else◌}
 use Rattle.rec_base.specs.declared.uses.Dir.TheVariants.{Up, Down}
-use Rattle.lte_events.specs.declared.events.Event.{Event}
-use Rattle.lte_events.specs.Site.{Site}
-use Rattle.key_model.specs.Term.{Term}
-use Rattle.key_model.specs.Reading.{term_reading_by, Reading}
+use Rattle.lte_events.specs.{declared.events.Event.Event, Site.Site}
+use Rattle.key_model.specs.{Term.Term, Reading.term_reading_by, Reading.Reading, Least.least}
 use Rattle.lte_machine.specs.Bearers.{Srb, Signalling1, Which, OnSrb, which, srb_counts}
 use Rattle.lte_machine.specs.Wire.{KeyUse, Ciphering, Outgoing, SealedNas, PlainNas, SealedRrc, UserPacket, Between, srb_ciphering, address_of, srb_use}
 use Rattle.lte_machine.specs.Opening.{Opening, Outcome, Opened, Differs, OpensSrb}
-use Rattle.lte_machine.specs.Reply.{BySetup, Took}
+use Rattle.lte_machine.specs.{Reply.BySetup, Reply.Took, PhoneStep.plain_phone, CoreStep.core_front_of, World.Machine, World.content_in, StationStep.station_front_of, Distinct.Member}
 use Rattle.lte_machine.specs.PhoneState.{Phone, PhoneInput, PhoneAuth, PhoneActs, PhoneNasPdu, PhoneAirPdu, Waiting, Link, Radio, Connecting, NasContext, Partial}
-use Rattle.lte_machine.specs.PhoneStep.{plain_phone}
 use Rattle.lte_machine.specs.StationState.{Station, Context, StationInput, StationActs, AirPdu, StationRecord}
 use Rattle.lte_machine.specs.CoreState.{Core, CoreInput, CoreActs, CoreNasPdu, CoreRecord, CoreContext}
-use Rattle.lte_machine.specs.CoreStep.{core_front_of}
-use Rattle.lte_machine.specs.World.{Machine, content_in}
 use Rattle.lte_machine.specs.Step.{Attempted, phone_attempts, core_attempts, attempts_at}
 use Rattle.ho_prep.specs.Prep.{at_air, Prep}
 use Rattle.lte_machine.proofs.Routing.{IsTurn, PhoneGets, Turns, happens_by}
 use Rattle.lte_properties.proofs.Agreement.Came.{CameTo, none_came, sent_came}
-use Rattle.lte_properties.specs.ChainHolds.{machine_by}
-use Rattle.lte_properties.specs.Agreement.{made_at}
+use Rattle.lte_properties.specs.{ChainHolds.machine_by, Agreement.made_at}
 use Rattle.lte_properties.proofs.Agreement.Openings.{IsHonest, IsCalm, outcome_of, Honest, Calm, WasSealed, CipheredAs}
-use Rattle.lte_properties.proofs.ChainNumbers.Lists.{all_map, all_each}
+use Rattle.lte_properties.proofs.{ChainNumbers.Lists.all_map, ChainNumbers.Lists.all_each, Agreement.Later.same_found}
 use Rattle.lte_properties.proofs.Agreement.Ghost.{Ghost, RadioOk, SentOk, keys_of, LinkIs}
 use Rattle.lte_properties.proofs.Agreement.PhoneWalk.{CameDown, by_test, one_key}
-use Rattle.key_model.specs.Least.{least}
 use Rattle.alg_choice.specs.declared.algs.Algs.{Algs}
-use Rattle.nas_guard.specs.Open.{first_in}
-use Rattle.pdcp_guard.specs.declared.pdus.PdcpFault.{PdcpFault}
-use Rattle.pdcp_guard.specs.Counts.{in_32_bits, count_limit}
-use Rattle.pdcp_guard.specs.Srb.{srb_sn, srb_count}
+use Rattle.nas_guard.specs.{Open.first_in, Keys.Keys}
+use Rattle.pdcp_guard.specs.{declared.pdus.PdcpFault.PdcpFault, Counts.in_32_bits, Counts.count_limit, Srb.srb_sn, Srb.srb_count}
 use Rattle.lte_machine.specs.PhoneChoice.{NasFront, NasSettled, AtCommand, AtMessage, AirFront, AirSettled, AtStart, AtSignalling, AtPacket, nas_by_header, header_for_phone}
 use Rattle.lte_machine.specs.PhoneKeys.{nas_expects, air_expects, start_expects, signalling_expects, packet_expects, command_expects, message_expects}
 use Rattle.lte_machine.specs.StationChoice as st
 use Rattle.lte_machine.specs.StationKeys as stk
-use Rattle.lte_machine.specs.StationStep.{station_front_of}
 use Rattle.lte_machine.specs.CoreChoice.{CoreFront, Settled, FromNas, CoreNasFront, NasSettled as CoreSettled, OpensComplete, OpensProtected}
 use Rattle.lte_machine.specs.CoreKeys.{core_expects, core_nas_expects, opens_by_procedure, opens_by_context}
-use Rattle.nas_guard.specs.Keys.{Keys}
 use Rattle.lte_machine.proofs.PhoneAirFacts.{FrontHas, phone_air, front_has}
 use Rattle.lte_machine.proofs.Worlds.{TheWorld}
-use Rattle.lte_properties.proofs.Agreement.Later.{same_found}
 use Rattle.lte_properties.proofs.Agreement.World.{Conns, ghost, WorldOk, OctetsTell}
-use Rattle.lte_machine.specs.Distinct.{Member}
 
 -- a phone that waits for the security of its connection took its KeNB nowhere yet
 abbrev pub NewKenb : List (Took Term ℕ) → Radio Term ℕ → Type 0

@@ -3,18 +3,12 @@ use Rattle.std.proofs.Common.{refl, ap, ◌∙◌, List, ℕ, Option, Some, None
 use Rattle.std.specs.Prelude.{⊤}
 use Rattle.rec_base.specs.declared.uses.Dir.TheVariants.{Up, Down}
 use Rattle.lte_events.specs.declared.addresses.Address.{Address}
-use Rattle.key_model.specs.HandoverTable.{NumberedKey}
-use Rattle.key_model.specs.Term.{Term}
+use Rattle.key_model.specs.{HandoverTable.NumberedKey, Term.Term}
 use Rattle.s1x2_rec.specs.Fields.{Fields}
-use Rattle.lte_machine.specs.Bearers.{which}
-use Rattle.lte_machine.specs.PhoneChoice.{unciphered_text}
+use Rattle.lte_machine.specs.{Bearers.which, PhoneChoice.unciphered_text}
 use Rattle.lte_machine.specs.Wire.{Outgoing, SealedNas, PlainNas, SealedRrc, UserPacket, Between, address_of}
-use Rattle.lte_properties.proofs.Agreement.CoreOpens.{CameNas}
+use Rattle.lte_properties.proofs.{Agreement.CoreOpens.CameNas, Agreement.PhoneWalk.CameDown, Agreement.StationOpens.CameUp, Agreement.World.OctetsTell, Agreement.World.ReadOk, Opening.Steps.which_srb}
 use Rattle.lte_properties.proofs.Agreement.Ghost.{Ghost, SentOk, BetweenOk}
-use Rattle.lte_properties.proofs.Agreement.PhoneWalk.{CameDown}
-use Rattle.lte_properties.proofs.Agreement.StationOpens.{CameUp}
-use Rattle.lte_properties.proofs.Agreement.World.{OctetsTell, ReadOk}
-use Rattle.lte_properties.proofs.Opening.Steps.{which_srb}
 
 abbrev pub CameTo : Ghost → Address → List ℕ → Option (Outgoing Term ℕ) → Type 0
 CameTo g Address.PhoneNas pdu came = ⊤

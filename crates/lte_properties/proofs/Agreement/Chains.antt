@@ -4,30 +4,21 @@ use Rattle.std.proofs.Common.{◌≡◌, ℕ, zero, suc, ◌+◌, ◌-◌, ◌�
 use Rattle.lte_events.specs.Site.{Site}
 use Rattle.std.specs.Prelude.{find}
 use Rattle.key_model.specs.Term.{Term, Kenb, Star}
-use Rattle.key_model.specs.Chain.{nh, ncc_of}
-use Rattle.key_model.specs.Number.{chain_number}
-use Rattle.key_model.specs.HandoverTable.{NumberedKey}
-use Rattle.key_model.specs.HandoverLines.{steps_to}
+use Rattle.key_model.specs.{Chain.nh, Chain.ncc_of, Number.chain_number, HandoverTable.NumberedKey, HandoverLines.steps_to}
 use Rattle.key_model.proofs.TermFacts.{chain_number_nh}
 use Rattle.s1x2_rec.specs.Fields.{InitialContext, PathSwitchAnswer, HandoverRequest, X2Request, ContextModification}
 use Rattle.ho_prep.specs.Prep.{Prep}
-use Rattle.lte_machine.specs.CoreState.{CoreLink}
+use Rattle.lte_machine.specs.{CoreState.CoreLink, Wire.Outgoing, Wire.Between, Distinct.Member}
 use Rattle.lte_machine.specs.Reply.{From, BySetup, ByAttempt, ByChange, Made, Tried, Came, Secured, Commanded, Changed, Took, Handover, BySource, ByTarget}
 use Rattle.lte_machine.specs.StationState.{Context, Via, Renewing, Progress, Open, Ready, Commanded as Sent, Attempt}
-use Rattle.lte_machine.specs.Wire.{Outgoing, Between}
 use Rattle.lte_properties.specs.Agreement.{made_at, TookMade, ObeysMade, KeyGrows}
-use Rattle.lte_properties.specs.Origins.{root_of, nas_count_of}
+use Rattle.lte_properties.specs.{Origins.root_of, Origins.nas_count_of, ChainBelow.AllOf, ChainBelow.LinkTop, ChainHolds.Holds}
 use Rattle.lte_properties.specs.Chains.{chain_key, OnChain, Chains, IsKeyOf, IsPairOf, ArePairsOf, GivenOn, TriedOn, ContextOn, OpenedUnder, ChangeOn, ViaOn, AttemptOn, AttemptsOn, PrepOn, LinkOn, RecordOn, StarOf, MadeHow, BelongsTo, TookOn, AreChains}
-use Rattle.lte_properties.specs.ChainBelow.{AllOf, LinkTop}
-use Rattle.lte_properties.specs.ChainHolds.{Holds}
-use Rattle.lte_properties.proofs.ChainNumbers.Lists.{all_map}
+use Rattle.lte_properties.proofs.{ChainNumbers.Lists.all_map, Agreement.Later.same_found, Agreement.PhoneWalk.both_named}
 use Rattle.lte_properties.proofs.Agreement.Terms.{climb, lands, climb-nh, root_base, root_nh, on_chain_lands}
 use Rattle.lte_properties.proofs.Agreement.Ghost.{is_tried_at, taken, TermOk, PairOk, PairsOk, FromIs, FromOk, MadeOk, GivenOk, TriedOk, TookOk, UnderKey, ProgressOk, ChangeOk, ViaOk, AttemptOk, CtxOk, PrepOk, StationOk, CoreLinkOk, SentOk}
-use Rattle.lte_properties.proofs.Agreement.Later.{same_found}
-use Rattle.lte_properties.proofs.Agreement.PhoneWalk.{both_named}
 use Rattle.lte_properties.proofs.Agreement.ToldIsFound.{all_found, found_holds, term_number}
 use Rattle.lte_properties.proofs.Agreement.World.{Conns, ghost, WorldOk}
-use Rattle.lte_machine.specs.Distinct.{Member}
 use Rattle.lte_machine.proofs.Worlds.{TheWorld}
 
 -- a key on two chains has one number

@@ -1,31 +1,19 @@
 -- What the rows of the core leave of the invariant of agreement, and what its choice of a row establishes.
 use Rattle.std.proofs.Common.{◌≡◌, ℕ, suc, ◌+◌, ◌<◌, ◌≤◌, refl, sym, ◌∙◌, ap, subst, arith, Bool, true, false, cond, List, Option, Some, None}
 use Rattle.std.specs.Prelude.{◌==◌, ⊤}
-use Rattle.std.proofs.lemmas.Bool.{eqb-true}
-use Rattle.std.proofs.lemmas.Bool.Decides.{nat_tests}
+use Rattle.std.proofs.{lemmas.Bool.eqb-true, lemmas.Bool.Decides.nat_tests}
 use Rattle.rec_base.specs.declared.faults.RecFault.{RecFault}
-use Rattle.lte_events.specs.declared.acts.CoreAct.{CoreAct}
-use Rattle.lte_events.specs.declared.addresses.Address.{Address}
+use Rattle.lte_events.specs.{declared.acts.CoreAct.CoreAct, declared.addresses.Address.Address, Site.Site, Site.station_of, declared.setups.FirstNcc.FirstNcc}
 use Rattle.lte_events.specs.declared.answers.Answer.TheVariants.{Done, BadRecord}
-use Rattle.lte_events.specs.Site.{Site, station_of}
-use Rattle.lte_events.specs.declared.setups.FirstNcc.{FirstNcc}
 use Rattle.lte_events.specs.declared.setups.FirstNcc.TheVariants.{One, Two}
 use Rattle.key_model.specs.Term.{Term, Kenb, Nh}
-use Rattle.key_model.specs.Chain.{nh}
-use Rattle.key_model.specs.HandoverTable.{NumberedKey}
-use Rattle.key_model.specs.Reading.{term_reading_by}
+use Rattle.key_model.specs.{Chain.nh, HandoverTable.NumberedKey, Reading.term_reading_by}
 use Rattle.s1x2_rec.specs.Fields.{Fields}
-use Rattle.lte_machine.specs.Opening.{Outcome}
-use Rattle.lte_machine.specs.Reply.{only, ByTarget}
-use Rattle.lte_machine.specs.CoreState.{Core, CoreLink}
-use Rattle.lte_machine.specs.CoreRows.{CoreNasRow, RecordRefused}
+use Rattle.lte_machine.specs.{Opening.Outcome, Reply.only, Reply.ByTarget, CoreState.Core, CoreState.CoreLink, CoreRows.CoreNasRow, CoreRows.RecordRefused, CoreChoice.core_fields_row, CoreChoice.core_act_row, CoreStep.plain_core}
 use Rattle.lte_machine.specs.CoreKeys.{CoreDone, chain_from, number_from, core_does_nas, core_does_record, core_does_act}
-use Rattle.lte_machine.specs.CoreChoice.{core_fields_row, core_act_row}
-use Rattle.lte_machine.specs.CoreStep.{plain_core}
 use Rattle.lte_machine.proofs.CoreCases.{with_link, NasCases, nas_case, RecordCases, record_case, ActCases, act_case}
-use Rattle.lte_machine.proofs.ActFacts.{ActHas, act_has}
+use Rattle.lte_machine.proofs.{ActFacts.ActHas, ActFacts.act_has, S1Facts.RecordHas, S1Facts.record_has}
 use Rattle.lte_machine.proofs.NasFacts.{NasHas, Completes, nas_row, nas_has}
-use Rattle.lte_machine.proofs.S1Facts.{RecordHas, record_has}
 use Rattle.lte_properties.specs.ChainBelow.{AllOf}
 use Rattle.lte_properties.proofs.Agreement.Ghost.{Ghost, chain_at, PairOk, TriedOk, CoreLinkOk, CoreOk, AskedIs, IsOther, BetweenOk, OutOk}
 use Rattle.lte_properties.proofs.Agreement.Later.{Later, later_itself, same_found}

@@ -3,12 +3,8 @@
 use Rattle.std.proofs.Common.{◌≡◌, ℕ, sym, ◌∙◌, subst, Bool, List, Option, Some, None, Ok}
 use Rattle.std.specs.Prelude.{⊤}
 use Rattle.rec_base.specs.declared.uses.Dir.TheVariants.{Up, Down}
-use Rattle.key_model.specs.Reading.{term_reading_by}
-use Rattle.key_model.specs.Term.{Term}
-use Rattle.lte_machine.specs.CoreChoice.{core_header}
-use Rattle.lte_machine.specs.CoreKeys.{opens_by_procedure, core_nas_expects}
-use Rattle.lte_machine.specs.CoreState.{Core}
-use Rattle.lte_machine.specs.Opening.{Outcome, Opened}
+use Rattle.key_model.specs.{Reading.term_reading_by, Term.Term}
+use Rattle.lte_machine.specs.{CoreChoice.core_header, CoreKeys.opens_by_procedure, CoreKeys.core_nas_expects, CoreState.Core, Opening.Outcome, Opening.Opened}
 use Rattle.lte_machine.specs.Wire.{Outgoing, SealedNas, SealedRrc}
 use Rattle.lte_machine.proofs.NasFacts.{Completes, nas_front}
 use Rattle.lte_properties.proofs.Agreement.Openings.{WasCounted, IsHonest}

@@ -4,35 +4,25 @@ use Rattle.std.proofs.lemmas.Bool.{eqb-true, eqb-false}
 use Rattle.lte_machine.specs.CoreState.{CoreLink, CoreActs, CoreNasPdu, CoreRecord}
 use Rattle.alg_choice.specs.declared.caps.Caps.{Caps}
 use Rattle.rec_base.specs.declared.faults.RecFault.{RecFault}
-use Rattle.lte_events.specs.declared.addresses.Address.{Address}
-use Rattle.lte_events.specs.declared.events.Event.{Event}
-use Rattle.lte_events.specs.Site.{Site}
-use Rattle.lte_events.specs.Ranges.{IsEvent}
-use Rattle.key_model.specs.Term.{Term}
+use Rattle.lte_events.specs.{declared.addresses.Address.Address, declared.events.Event.Event, Site.Site, Ranges.IsEvent}
+use Rattle.key_model.specs.{Term.Term, Reading.term_reading_by}
 use Rattle.lte_machine.specs.Wire.{KeyUse, Outgoing, Between, address_of}
-use Rattle.lte_machine.specs.Opening.{Opening, Outcome}
+use Rattle.lte_machine.specs.{Opening.Opening, Opening.Outcome, CoreStep.core_step}
 use Rattle.lte_machine.specs.PhoneState.{PhoneInput, PhoneAuth, PhoneActs, PhoneNasPdu, PhoneAirPdu}
 use Rattle.lte_machine.specs.StationState.{Interface, OnS1, OnX2}
 use Rattle.lte_machine.specs.World.{Machine, Line, phone_turn, authenticated, next_root, content_in, happens}
 use Rattle.lte_machine.specs.Step.{Attempted, phone_attempts, core_attempts}
-use Rattle.lte_machine.specs.CoreStep.{core_step}
-use Rattle.key_model.specs.Reading.{term_reading_by}
 use Rattle.lte_machine.proofs.Routing.{address_on, IsTurn, PhoneGets, Turns, happens_by}
 use Rattle.lte_machine.proofs.Worlds.{TheWorld}
 use Rattle.lte_properties.proofs.Agreement.Came.{CameTo, none_came, sent_came}
-use Rattle.lte_properties.specs.ChainBelow.{AllOf}
-use Rattle.lte_properties.specs.ChainAbove.{StationAbove, InFlight}
+use Rattle.lte_properties.specs.{ChainBelow.AllOf, ChainAbove.StationAbove, ChainAbove.InFlight}
 use Rattle.lte_properties.specs.ChainHolds.{machine_by, run, noted, core_numbers, Holds}
 use Rattle.lte_properties.proofs.Agreement.Openings.{IsHonest, IsCalm, outcome_of, Honest, Calm, Along}
 use Rattle.lte_properties.proofs.ChainNumbers.Lists.{OfSome, all_both, each_of}
 use Rattle.lte_properties.proofs.Agreement.Ghost.{CoreLinkOk, StationOk, SentOk, BetweenOk}
 use Rattle.lte_properties.proofs.Agreement.Later.{Later, later_itself, later_after}
-use Rattle.lte_properties.proofs.Agreement.PhoneWalk.{by_test}
-use Rattle.lte_properties.proofs.Agreement.ToldIsFound.{SiteOk}
+use Rattle.lte_properties.proofs.{Agreement.PhoneWalk.by_test, Agreement.ToldIsFound.SiteOk, Agreement.CoreOpens.core_nas_zero, Agreement.StationContext.CellFits, ChainNumbers.World.FitsAll, ChainNumbers.World.happens_holds}
 use Rattle.lte_properties.proofs.Agreement.Core.{equal_below, StaysOff, as_before, CoreGoes, core_unread_goes, core_record_goes, core_nas_goes, core_act_goes}
-use Rattle.lte_properties.proofs.Agreement.CoreOpens.{core_nas_zero}
-use Rattle.lte_properties.proofs.Agreement.StationContext.{CellFits}
-use Rattle.lte_properties.proofs.ChainNumbers.World.{FitsAll, happens_holds}
 use Rattle.lte_properties.proofs.Agreement.World.{Conns, ghost, WorldOk, Goes, OctetsTell, Settled, ReadOk, by_world_goes, phone_turn_goes, phone_air_goes, core_turn_goes, IsAt, station_acts_goes, station_air_goes, station_record_goes}
 
 module _ (same : Term → Term → Bool) (root : ℕ → List ℕ → Term) (octets : Outgoing Term ℕ → List ℕ)

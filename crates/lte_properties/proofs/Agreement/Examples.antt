@@ -6,12 +6,10 @@ use Rattle.std.proofs.Common.{◌≡◌, ℕ, false, refl, List, [], ◌∷◌, 
 use Rattle.std.specs.Prelude.{◌+◌, replicate, reverse}
 use Rattle.lte_events.specs.declared.events.Event.{Event}
 use Rattle.key_model.specs.Term.{Term, Root, Kenb, same_term}
-use Rattle.lte_machine.specs.Opening.{open_octets}
+use Rattle.lte_machine.specs.{Opening.open_octets, Wire.Outgoing}
 use Rattle.lte_machine.specs.Reply.{ByChange, Made, Changed, Took}
 use Rattle.lte_machine.specs.Run.{RunState, Running, Stopped, replay}
-use Rattle.lte_machine.specs.Wire.{Outgoing}
-use Rattle.lte_machine.proofs.KeyChanges.{changed, changed_twice}
-use Rattle.lte_machine.proofs.LateAnswers.{seven_ahead, eight_ahead}
+use Rattle.lte_machine.proofs.{KeyChanges.changed, KeyChanges.changed_twice, LateAnswers.seven_ahead, LateAnswers.eight_ahead}
 use Rattle.lte_machine.proofs.Scenario.{computing, machine, start, toy}
 use Rattle.lte_properties.specs.Agreement.{made_at, ahead, TookMade}
 

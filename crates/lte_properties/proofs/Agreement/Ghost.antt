@@ -2,22 +2,15 @@
 -- states and records only point to it.
 use Rattle.std.proofs.Common.{◌≡◌, ℕ, ◌-◌, ◌<◌, ◌≤◌, List, Option, Some, None, Ok}
 use Rattle.rec_base.specs.declared.uses.Dir.TheVariants.{Up, Down}
-use Rattle.alg_choice.specs.Algs.{eia2_identity}
-use Rattle.alg_choice.specs.declared.algs.Algs.{Algs}
+use Rattle.alg_choice.specs.{Algs.eia2_identity, declared.algs.Algs.Algs}
 use Rattle.annex_a_keys.specs.Cell.{Place, IsCell}
-use Rattle.lte_events.specs.declared.addresses.Address.{Address}
+use Rattle.lte_events.specs.{declared.addresses.Address.Address, Site.Site, Site.station_of}
 use Rattle.lte_events.specs.declared.addresses.Address.TheVariants.{StationS1, StationX2}
-use Rattle.lte_events.specs.Site.{Site, station_of}
 use Rattle.key_model.specs.Term.{Term, Kenb, Star, Alg}
-use Rattle.key_model.specs.Chain.{nh, ncc_of}
-use Rattle.key_model.specs.Number.{chain_number}
-use Rattle.key_model.specs.Reading.{term_reading}
-use Rattle.key_model.specs.HandoverTable.{NumberedKey}
-use Rattle.key_model.specs.HandoverLines.{steps_to}
+use Rattle.key_model.specs.{Chain.nh, Chain.ncc_of, Number.chain_number, Reading.term_reading, HandoverTable.NumberedKey, HandoverLines.steps_to}
 use Rattle.pdcp_guard.specs.AsKeys.{AsKeys, as_keys_of}
-use Rattle.rrc_rec.specs.declared.records.RrcRecord.{RrcRecord}
+use Rattle.rrc_rec.specs.{declared.records.RrcRecord.RrcRecord, Reading.read_rrc}
 use Rattle.rrc_rec.specs.declared.records.RrcRecord.TheVariants.{SecurityModeCommand, Reconfiguration, KeyChange}
-use Rattle.rrc_rec.specs.Reading.{read_rrc}
 use Rattle.s1x2_rec.specs.Fields.{Fields, InitialContext, PathSwitchAnswer, HandoverRequired, HandoverRequest, HandoverRequestAck, HandoverCommand, X2Request, X2Ack, ContextModification}
 use Rattle.ho_prep.specs.Prep.{Prep}
 use Rattle.x2_handover.specs.declared.orders.Order.{Order}
@@ -26,15 +19,12 @@ use Rattle.lte_machine.specs.Wire.{KeyUse, Ciphering, Outgoing, SealedNas, Seale
 use Rattle.lte_machine.specs.Reply.{Origin, From, BySetup, ByAttempt, ByChange, Made, Tried, Came, Secured, Commanded, Changed, Took, Handover, BySource, ByTarget}
 use Rattle.lte_machine.specs.PhoneState.{Link, Radio, Idle, Connecting, Connected}
 use Rattle.lte_machine.specs.StationState.{Station, Context, Via, Renewing, Progress, Open, Ready, Commanded as Sent, Attempt}
-use Rattle.lte_machine.specs.StationKeys.{spent_of}
-use Rattle.lte_machine.specs.CoreState.{Core, CoreLink}
+use Rattle.lte_machine.specs.{StationKeys.spent_of, CoreState.Core, CoreState.CoreLink}
 use Rattle.std.specs.Prelude.{slice_index, length, ◌==◌, ◌&&◌, Bool, true, false, find, ⊤}
-use Rattle.lte_properties.specs.ChainBelow.{AllOf}
+use Rattle.lte_properties.specs.{ChainBelow.AllOf, Origins.root_of, Origins.nas_count_of, Chains.chain_key, Chains.OnChain}
 use Rattle.lte_properties.specs.Agreement.{made_at, Obeys, KeyGrows, HadTaken, TakenIfTried}
-use Rattle.lte_properties.specs.Origins.{root_of, nas_count_of}
 use Rattle.lte_properties.proofs.Agreement.Sources.{handover_by, HasStar}
 use Rattle.lte_properties.proofs.Agreement.Terms.{lands, ChainOf}
-use Rattle.lte_properties.specs.Chains.{chain_key, OnChain}
 
 -- of each connection its KASME, the COUNT of its KeNB and the greatest chain number so far; the next connection; and what
 -- was told of the run

@@ -1,31 +1,20 @@
 -- Agreement in every world of every run: from the invariant, which the first world has.
 use Rattle.std.proofs.Common.{◌≡◌, refl, sym, ap, ◌∙◌, subst, ℕ, ◌==◌, ◌≤◌, arith, Bool, true, false, List, [], ◌∷◌, Option, Some, None, inl, inr}
 use Rattle.std.specs.Prelude.{◌||◌, IsTrue, replicate}
-use Rattle.std.proofs.lemmas.Bool.{eqb-true}
-use Rattle.std.proofs.lemmas.List.Elements.{recursion_from_All}
+use Rattle.std.proofs.{lemmas.Bool.eqb-true, lemmas.List.Elements.recursion_from_All}
 use Rattle.lte_events.specs.Ranges.{has_station, IsSetup, IsStation, IsSiteOf}
-use Rattle.lte_events.specs.declared.setups.Setup.{Setup}
-use Rattle.lte_events.specs.declared.setups.StationSetup.{StationSetup}
-use Rattle.lte_events.specs.Site.{Site}
-use Rattle.key_model.specs.Term.{Term, Root}
-use Rattle.key_model.specs.Number.{chain_number}
+use Rattle.lte_events.specs.{declared.setups.Setup.Setup, declared.setups.StationSetup.StationSetup, Site.Site}
+use Rattle.key_model.specs.{Term.Term, Term.Root, Number.chain_number}
 use Rattle.ho_prep.specs.Prep.{Prep}
 use Rattle.lte_machine.specs.Reply.{From, BySetup, ByAttempt, ByChange, Made, Came, Secured, Commanded, Changed, Took}
 use Rattle.lte_machine.specs.PhoneState.{Radio, Idle, Connecting, Connected, Link}
-use Rattle.lte_machine.specs.StationState.{Station, Context}
-use Rattle.lte_machine.specs.Run.{stations_of, first_world}
+use Rattle.lte_machine.specs.{StationState.Station, StationState.Context, Run.stations_of, Run.first_world, Distinct.Member}
 use Rattle.lte_properties.specs.ChainBelow.{AllOf}
 use Rattle.lte_properties.specs.Agreement.{made_at, ahead, ObeysMade, Obeys, KeyGrows, OneTerm, key_before, NoneUnder, ContextAt, EachStation, Agree, JoinedBy, IsFar, NoneThere, ComesMade, PrepMade, Agrees}
-use Rattle.lte_properties.proofs.ChainNumbers.Lists.{all_map}
+use Rattle.lte_properties.proofs.{ChainNumbers.Lists.all_map, Freshness.Order.not_before_itself, Freshness.PhoneUses.TookInOrder, Freshness.Sequence.IsBefore, Agreement.Follows.InTurn, Agreement.ToldIsFound.SiteOk, Agreement.ToldIsFound.term_number}
 use Rattle.lte_properties.proofs.Agreement.Ghost.{MadeOk, SeenBy, Ghost, tried_at, keys_of, taken, FromIs, HereIs, CtxOk, PrepOk, StationOk, LinkIs, RadioOk, HadMade, UnderIs, TookOk}
-use Rattle.lte_properties.proofs.Freshness.Order.{not_before_itself}
-use Rattle.lte_properties.proofs.Freshness.PhoneUses.{TookInOrder}
-use Rattle.lte_properties.proofs.Freshness.Sequence.{IsBefore}
-use Rattle.lte_properties.proofs.Agreement.Follows.{InTurn}
 use Rattle.lte_properties.proofs.Agreement.Later.{Later, same_found, here_later}
-use Rattle.lte_properties.proofs.Agreement.ToldIsFound.{SiteOk, term_number}
 use Rattle.lte_properties.proofs.Agreement.World.{Conns, ghost, WorldOk}
-use Rattle.lte_machine.specs.Distinct.{Member}
 use Rattle.lte_machine.proofs.Worlds.{TheWorld}
 
 -- THE FIRST WORLD

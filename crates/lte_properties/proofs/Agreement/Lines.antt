@@ -3,31 +3,20 @@ use Rattle.std.proofs.Common.{◌≡◌, ◌==◌, refl, subst, take, ℕ, suc, 
 use Rattle.std.specs.Prelude.{⊤}
 use Rattle.std.proofs.lemmas.Bool.{eqb-false}
 use Rattle.rec_base.specs.declared.ways.Way.{Way}
-use Rattle.lte_events.specs.declared.lines.Who.{Who}
-use Rattle.lte_events.specs.declared.events.Event.{Event}
-use Rattle.lte_events.specs.Site.{Site}
-use Rattle.key_model.specs.Term.{Term}
-use Rattle.key_model.specs.HandoverTable.{NumberedKey}
-use Rattle.key_model.specs.Reading.{term_reading_by}
+use Rattle.lte_events.specs.{declared.lines.Who.Who, declared.events.Event.Event, Site.Site}
+use Rattle.key_model.specs.{Term.Term, HandoverTable.NumberedKey, Reading.term_reading_by}
 use Rattle.nh_chain.specs.Station.{way_of, opened}
-use Rattle.lte_machine.proofs.StationCases.{station_case}
-use Rattle.lte_machine.specs.Wire.{KeyUse, Outgoing}
-use Rattle.lte_machine.specs.Opening.{Opening, Outcome}
-use Rattle.lte_machine.specs.Reply.{Note, Reply}
+use Rattle.lte_machine.proofs.{StationCases.station_case, Routing.happens_each, Worlds.TheWorld}
+use Rattle.lte_machine.specs.{Wire.KeyUse, Wire.Outgoing, Opening.Opening, Opening.Outcome, Reply.Note, Reply.Reply, StationRows.StationRow, Distinct.Member}
 use Rattle.lte_machine.specs.StationState.{Station, Context, StationInput}
-use Rattle.lte_machine.specs.StationRows.{StationRow}
 use Rattle.lte_machine.specs.StationKeys.{started_by_x2, started_within, station_does}
 use Rattle.lte_machine.specs.StationStep.{station_opens, station_pdu_in, station_row_of, station_key, station_step}
 use Rattle.lte_machine.specs.World.{Machine, Line, put_if, put_station, station_after, station_of_id, turn_of, happens}
-use Rattle.lte_machine.proofs.Routing.{happens_each}
-use Rattle.lte_machine.proofs.Worlds.{TheWorld}
-use Rattle.lte_properties.specs.ChainBelow.{AllOf}
-use Rattle.lte_properties.specs.ChainHolds.{machine_by, run}
+use Rattle.lte_properties.specs.{ChainBelow.AllOf, ChainHolds.machine_by, ChainHolds.run}
 use Rattle.lte_properties.specs.Agreement.{HadTaken, OfStation, HasContext, TellsWay, TellsNote, CompletedLines}
 use Rattle.lte_properties.proofs.ChainNumbers.Lists.{all_both, all_put}
 use Rattle.lte_properties.proofs.Agreement.Ghost.{Ghost, CtxOk, StartedOk, StationOk}
 use Rattle.lte_properties.proofs.Agreement.World.{Conns, ghost, WorldOk}
-use Rattle.lte_machine.specs.Distinct.{Member}
 
 -- the context is active, and has this key
 abbrev IsNew : Option (Context Term ℕ) → Term → Type 0

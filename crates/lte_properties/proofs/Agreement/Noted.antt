@@ -1,29 +1,17 @@
 -- What a station makes and what the phone takes is told in the line of its event: its key, and the NCC of its number.
 use Rattle.std.proofs.Common.{◌≡◌, refl, sym, ap, ◌∙◌, subst, ℕ, Bool, List, [], ◌∷◌, ◌++◌, Option, Some, None, ◌≢◌, inl, inr}
 use Rattle.std.specs.Prelude.{⊤, ◌⊎◌}
-use Rattle.lte_events.specs.declared.lines.Who.{Who}
-use Rattle.lte_events.specs.declared.events.Event.{Event}
-use Rattle.key_model.specs.Term.{Term}
-use Rattle.key_model.specs.HandoverTable.{NumberedKey}
-use Rattle.key_model.specs.Reading.{term_reading_by}
-use Rattle.lte_machine.proofs.StationCases.{station_case}
-use Rattle.lte_machine.specs.Wire.{KeyUse, Outgoing}
-use Rattle.lte_machine.specs.Opening.{Opening, Outcome}
+use Rattle.lte_events.specs.{declared.lines.Who.Who, declared.events.Event.Event}
+use Rattle.key_model.specs.{Term.Term, HandoverTable.NumberedKey, Reading.term_reading_by}
+use Rattle.lte_machine.proofs.{StationCases.station_case, Routing.happens_each, Worlds.TheWorld}
+use Rattle.lte_machine.specs.{Wire.KeyUse, Wire.Outgoing, Opening.Opening, Opening.Outcome, PhoneState.PhoneInput, StationState.Station, StationState.StationInput, PhoneChoice.phone_row, StationRows.StationRow, StationKeys.station_does, PhoneKeys.phone_does}
 use Rattle.lte_machine.specs.Reply.{Note, Reply, Made, Took}
-use Rattle.lte_machine.specs.PhoneState.{PhoneInput}
-use Rattle.lte_machine.specs.StationState.{Station, StationInput}
 use Rattle.lte_machine.specs.StationStep.{station_opens, station_pdu_in, station_row_of, station_key}
 use Rattle.lte_machine.specs.World.{Machine, phone_turn, turn_of, happens, with_one, Line}
-use Rattle.lte_machine.specs.PhoneChoice.{phone_row}
 use Rattle.lte_machine.specs.PhoneStep.{plain_phone, front_of, phone_root, phone_opens, phone_pdu_in}
-use Rattle.lte_machine.specs.StationRows.{StationRow}
-use Rattle.lte_machine.specs.StationKeys.{station_does}
-use Rattle.lte_machine.specs.PhoneKeys.{phone_does}
-use Rattle.lte_machine.proofs.Routing.{happens_each}
 use Rattle.lte_properties.specs.ChainHolds.{machine_by}
 use Rattle.lte_properties.specs.Agreement.{Reported, MadeIsTold, TookIsTold, KeysTold, TellsNoneGiven}
 use Rattle.lte_machine.proofs.PhoneGives.{NotedAs, TookNoted, phone_gives}
-use Rattle.lte_machine.proofs.Worlds.{TheWorld}
 use Rattle.rec_base.specs.declared.ways.Way.{Way}
 use Rattle.nh_chain.specs.Station.{way_of}
 

@@ -6,26 +6,20 @@ use Rattle.std.proofs.lemmas.List.{take_at, length-append}
 use Rattle.alg_choice.specs.Algs.{identity_of}
 use Rattle.rec_base.specs.declared.uses.Dir.{Dir}
 use Rattle.rec_base.specs.declared.uses.Dir.TheVariants.{Up, Down}
-use Rattle.lte_events.specs.declared.events.Event.{Event}
-use Rattle.key_model.specs.Term.{Term, same_term}
-use Rattle.key_model.specs.HandoverTable.{NumberedKey}
+use Rattle.lte_events.specs.{declared.events.Event.Event, declared.answers.Answer.Answer}
+use Rattle.key_model.specs.{Term.Term, Term.same_term, HandoverTable.NumberedKey}
 use Rattle.key_model.proofs.TermFacts.{same_term-Decides}
 use Rattle.s1x2_rec.specs.Fields.{Fields}
-use Rattle.lte_machine.specs.Bearers.{Srb}
+use Rattle.lte_machine.specs.{Bearers.Srb, CoreChoice.core_takes, CoreChoice.core_header, World.World, Step.attempted}
 use Rattle.lte_machine.specs.Wire.{KeyUse, Ciphering, Outgoing, SealedNas, SealedRrc}
-use Rattle.lte_events.specs.declared.answers.Answer.{Answer}
 use Rattle.lte_events.specs.declared.answers.Answer.TheVariants.{Short, BadHeader}
-use Rattle.lte_machine.specs.CoreChoice.{core_takes, core_header}
 use Rattle.lte_machine.specs.Ciphers.{Ciphers, nas_octets, srb_octets, octets_of}
 use Rattle.lte_machine.specs.Opening.{Opening, OpensNothing, OpensNas, OpensSrb, OpensDrb, Outcome, Opened, Differs, open_octets, open_foreign, same_dir, same_uses, same_ciphering, judged, open_case, open_by_uses}
-use Rattle.lte_machine.specs.World.{World}
-use Rattle.lte_machine.specs.Step.{attempted}
 use Rattle.lte_properties.specs.ChainHolds.{machine_by}
 use Rattle.lte_properties.proofs.Agreement.Openings.{IsHonest, Honest, OpensByTerms}
 use Rattle.lte_properties.proofs.Agreement.PhoneWalk.{by_test}
 use Rattle.lte_properties.proofs.Agreement.World.{PlainReads, HeaderReads, OctetsTell}
-use Rattle.lte_machine.proofs.CipherLaws.{AreCiphers}
-use Rattle.lte_machine.proofs.Tests.{both_true}
+use Rattle.lte_machine.proofs.{CipherLaws.AreCiphers, Tests.both_true}
 
 one_dir : (a b : Dir) → same_dir a b ≡ true → a ≡ b
 one_dir Up Up e = refl

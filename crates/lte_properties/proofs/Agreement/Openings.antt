@@ -1,14 +1,12 @@
 -- What is so of each opening of a run that has met no coincidence, step by step: proved in `Opener` and `Calm`.
 use Rattle.std.specs.Prelude.{◌≡◌, ℕ, Bool, true, false, List, [], ◌∷◌, Option, Some, None, ⊤}
-use Rattle.rec_base.specs.declared.uses.Dir.{Dir}
-use Rattle.rec_base.specs.declared.uses.Dir.TheVariants.{Down}
+use Rattle.rec_base.specs.{declared.uses.Dir.Dir, declared.uses.Dir.TheVariants.Down}
 use Rattle.lte_events.specs.declared.events.Event.{Event}
 use Rattle.key_model.specs.Term.{Term, same_term}
 use Rattle.lte_machine.specs.Wire.{KeyUse, Ciphering, Outgoing, SealedNas, SealedRrc}
-use Rattle.lte_machine.specs.Ciphers.{Ciphers}
+use Rattle.lte_machine.specs.{Ciphers.Ciphers, Step.Attempted, Step.attempted}
 use Rattle.lte_machine.specs.Opening.{Opening, OpensNas, OpensSrb, Outcome, Opened, open_by_uses}
 use Rattle.lte_machine.specs.World.{Machine, World, happens}
-use Rattle.lte_machine.specs.Step.{Attempted, attempted}
 
 -- a record that opened under an integrity use was sealed on an SRB under that use; where its ciphering is the expected one,
 -- it opened to the text that was sent

@@ -6,12 +6,7 @@ use Rattle.key_model.specs.Term.{Term}
 use Rattle.lte_machine.specs.Reply.{From, BySetup, ByAttempt, ByChange, Origin, Made, Before, Came, Secured, Commanded, Changed, Took}
 use Rattle.lte_properties.specs.Agreement.{made_at, ObeysMade, Obeys, Joins, Follow}
 use Rattle.lte_properties.specs.ChainBelow.{AllOf}
-use Rattle.lte_properties.proofs.Freshness.Sequence.{IsBefore, IsNotAfter}
-use Rattle.lte_properties.proofs.Freshness.PhoneUses.{TookInOrder}
-use Rattle.lte_properties.proofs.Freshness.Order.{not_before_itself, not_after_before}
-use Rattle.lte_properties.proofs.Agreement.Ghost.{is_took_at, took_at}
-use Rattle.lte_properties.proofs.Agreement.Later.{same_found}
-use Rattle.lte_properties.proofs.Agreement.PhoneWalk.{both_named}
+use Rattle.lte_properties.proofs.{Freshness.Sequence.IsBefore, Freshness.Sequence.IsNotAfter, Freshness.PhoneUses.TookInOrder, Freshness.Order.not_before_itself, Freshness.Order.not_after_before, Agreement.Ghost.is_took_at, Agreement.Ghost.took_at, Agreement.Later.same_found, Agreement.PhoneWalk.both_named}
 
 -- what was taken last comes before all of these
 abbrev IsBehind : Option (Before Term ℕ) → List (Took Term ℕ) → Type 0

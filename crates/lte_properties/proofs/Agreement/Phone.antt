@@ -5,23 +5,17 @@ use Rattle.alg_choice.specs.declared.algs.Algs.{Algs}
 use Rattle.annex_a_keys.specs.Cell.{Place}
 use Rattle.key_model.specs.Term.{Term, Kenb, Star, same_term}
 use Rattle.key_model.proofs.TermFacts.{same_term-Decides}
-use Rattle.key_model.specs.Chain.{nh, ncc_of}
-use Rattle.key_model.specs.Number.{chain_number}
-use Rattle.key_model.specs.Reading.{term_reading_by}
-use Rattle.key_model.specs.HandoverLines.{steps_to}
+use Rattle.key_model.specs.{Chain.nh, Chain.ncc_of, Number.chain_number, Reading.term_reading_by, HandoverLines.steps_to}
 use Rattle.nh_chain.specs.Reach.{reached_after}
 use Rattle.lte_machine.specs.Bearers.{Srb, Signalling1, Signalling2, Drb, User1, User2, User3, User4, Which, OnSrb, OnDrb, Bearers, srb_counts, srb_taken, drb_taken, srb_sent, drb_sent, skipped_on}
 use Rattle.lte_machine.specs.Reply.{Origin, From, BySetup, ByAttempt, ByChange, Made, Tried, Before, Secured, Commanded, Changed, Took}
-use Rattle.lte_machine.specs.World.{with_one}
+use Rattle.lte_machine.specs.{World.with_one, Wire.srb_use, Wire.srb_ciphering}
 use Rattle.lte_machine.specs.PhoneState.{Waiting, Link, Radio, Connecting, Connected, Phone}
 use Rattle.lte_machine.specs.PhoneRows.{AuthRow, Authenticated, AirRow, LinkSecured, HandedOver, KeyChanged, PhoneRow, OfAuth, OfNas, OfAir, OfAct}
 use Rattle.lte_machine.specs.PhoneKeys.{PhoneDone, auth_does, link_secured, handed_over, before_of, changed_unless, phone_does}
-use Rattle.lte_properties.specs.ChainBelow.{AllOf}
+use Rattle.lte_properties.specs.{ChainBelow.AllOf, Origins.root_of, Origins.nas_count_of, Chains.chain_key}
 use Rattle.lte_properties.specs.Agreement.{made_at, change_ahead, ahead, TookMade, ObeysCommand, ObeysChange, Obeys, KeyGrows, HadTaken}
-use Rattle.lte_properties.specs.Origins.{root_of, nas_count_of}
 use Rattle.lte_properties.proofs.Agreement.Terms.{climb, lands, climb-nh, IsKenb, number_lands, ChainOf, reached_key, reached_number, reached_chain, steps_below, steps_near, lands_near, steps_far, lands_far}
-use Rattle.lte_properties.specs.Chains.{chain_key}
-use Rattle.lte_machine.specs.Wire.{srb_use, srb_ciphering}
 use Rattle.lte_machine.proofs.PhoneCases.{NasCases, nas_case, AirCases, air_case, ActCases, act_case}
 use Rattle.lte_machine.proofs.Tests.{Anything}
 use Rattle.rec_base.specs.declared.uses.Dir.TheVariants.{Up}

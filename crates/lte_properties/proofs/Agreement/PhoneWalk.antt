@@ -3,12 +3,9 @@ use Rattle.std.proofs.Common.{◌≡◌, ℕ, refl, sym, ◌∙◌, ap, subst, B
 use Rattle.std.specs.Prelude.{⊤}
 use Rattle.rec_base.specs.declared.uses.Dir.TheVariants.{Up, Down}
 use Rattle.alg_choice.specs.declared.algs.Algs.{Algs}
-use Rattle.key_model.specs.Term.{Term, Alg}
-use Rattle.key_model.specs.HandoverLines.{steps_to}
-use Rattle.key_model.specs.Reading.{Reading, term_reading_by}
-use Rattle.rrc_rec.specs.declared.records.RrcRecord.{RrcRecord}
+use Rattle.key_model.specs.{Term.Term, Term.Alg, HandoverLines.steps_to, Reading.Reading, Reading.term_reading_by}
+use Rattle.rrc_rec.specs.{declared.records.RrcRecord.RrcRecord, Reading.read_rrc}
 use Rattle.rrc_rec.specs.declared.records.RrcRecord.TheVariants.{SecurityModeCommand, Reconfiguration, KeyChange}
-use Rattle.rrc_rec.specs.Reading.{read_rrc}
 use Rattle.lte_machine.specs.Bearers.{Srb, Signalling1, Which, OnSrb}
 use Rattle.lte_machine.specs.Wire.{KeyUse, Ciphering, Outgoing, SealedNas, SealedRrc, srb_use, srb_ciphering}
 use Rattle.lte_machine.specs.Opening.{Opening, Outcome, Opened}

@@ -6,14 +6,10 @@ use Rattle.std.proofs.lemmas.List.{get_or-set_same, get_or-set_other}
 use Rattle.key_model.specs.Term.{Term}
 use Rattle.lte_machine.specs.Reply.{Origin, From, BySetup, ByAttempt, ByChange, Made, Tried}
 use Rattle.lte_machine.specs.World.{with_one}
-use Rattle.lte_machine.proofs.KnownLists.{all_each}
-use Rattle.lte_properties.specs.Agreement.{OneOf}
-use Rattle.lte_properties.specs.ChainBelow.{AllOf}
-use Rattle.lte_properties.proofs.ChainNumbers.Lists.{all_map, all_both}
+use Rattle.lte_machine.proofs.{KnownLists.all_each, KnownLists.one_more}
+use Rattle.lte_properties.specs.{Agreement.OneOf, ChainBelow.AllOf}
+use Rattle.lte_properties.proofs.{ChainNumbers.Lists.all_map, ChainNumbers.Lists.all_both, Agreement.Later.same_found, Agreement.ToldIsFound.MadeBy}
 use Rattle.lte_properties.proofs.Agreement.Ghost.{Ghost, tried_at, SeenBy, FromOk, MadeOk}
-use Rattle.lte_properties.proofs.Agreement.Later.{same_found}
-use Rattle.lte_properties.proofs.Agreement.ToldIsFound.{MadeBy}
-use Rattle.lte_machine.proofs.KnownLists.{one_more}
 
 -- two things that were made did not come of one attempt
 abbrev pub NotBoth : Made Term ℕ → Made Term ℕ → Type 0

@@ -2,48 +2,27 @@
 use Rattle.std.proofs.Common.{◌≡◌, ℕ, ◌<◌, ◌≤◌, ◌+◌, refl, sym, ◌∙◌, ap, subst, arith, Bool, false, List, [], ◌∷◌, ◌++◌, Option, Some, None, Ok, option_map}
 use Rattle.std.specs.Prelude.{⊤, length, slice_index, slice_set}
 use Rattle.std.proofs.lemmas.List.{length-set}
-use Rattle.alg_choice.specs.declared.algs.Algs.{Algs}
-use Rattle.alg_choice.specs.declared.caps.Caps.{Caps}
+use Rattle.alg_choice.specs.{declared.algs.Algs.Algs, declared.caps.Caps.Caps}
 use Rattle.annex_a_keys.specs.Cell.{Place, IsCell}
-use Rattle.lte_events.specs.declared.answers.Answer.TheVariants.{Done}
-use Rattle.lte_events.specs.declared.addresses.Address.{Address}
-use Rattle.lte_events.specs.Site.{Site}
-use Rattle.key_model.specs.Term.{Term, Star}
-use Rattle.key_model.specs.Chain.{ncc_of}
-use Rattle.key_model.specs.Reading.{Reading, term_reading_by}
-use Rattle.key_model.specs.HandoverTable.{NumberedKey}
-use Rattle.key_model.specs.HandoverLines.{star_line}
+use Rattle.lte_events.specs.{declared.answers.Answer.TheVariants.Done, declared.addresses.Address.Address, Site.Site}
+use Rattle.key_model.specs.{Term.Term, Term.Star, Chain.ncc_of, Reading.Reading, Reading.term_reading_by, HandoverTable.NumberedKey, HandoverLines.star_line}
 use Rattle.rrc_rec.specs.declared.records.RrcRecord.TheVariants.{SecurityModeCommand}
 use Rattle.x2_handover.specs.declared.orders.Order.{Order}
 use Rattle.s1x2_rec.specs.Content.{Content, map_content}
 use Rattle.s1x2_rec.specs.Fields.{Fields, HandoverRequest, HandoverCommand, X2Request, X2Ack, ContextModification}
 use Rattle.ho_prep.specs.declared.origins.By.{By}
-use Rattle.lte_machine.specs.Bearers.{Signalling1}
+use Rattle.lte_machine.specs.{Bearers.Signalling1, Wire.Outgoing, Wire.Between, StationRows.Admitted, StationRows.RecordRow, StationChoice.star_ncc, StationChoice.record_row, StationStep.plain_station}
 use Rattle.lte_machine.specs.Reply.{Origin, BySetup, ByAttempt, ByChange, Made, Tried, Reply, Handover, BySource, only, unseen}
-use Rattle.lte_machine.specs.Wire.{Outgoing, Between}
 use Rattle.lte_machine.specs.StationState.{Station, Context, Via, OverX2, Renewing, Open, Commanded, SourceKeys, Attempt, Interface, OnS1, OnX2, map_source_keys}
-use Rattle.lte_machine.specs.StationRows.{Admitted, RecordRow}
 use Rattle.lte_machine.specs.StationRecords.{context_given, with_pair, source_release, pair_taken, admitted_prep, admitted_made, with_admitted, prepared_by_s1, prepared_by_x2, answered, with_answer, order_text, change_order, key_renewed, record_does}
-use Rattle.lte_machine.specs.StationChoice.{star_ncc, record_row}
-use Rattle.lte_machine.specs.StationStep.{plain_station}
 use Rattle.lte_machine.proofs.RecordFacts.{Takes, Admits, AnswerSays, Answers, Renews, RecordHas, record_has}
-use Rattle.lte_machine.proofs.Routing.{address_on}
-use Rattle.lte_machine.proofs.StationCases.{RecordCases, record_case}
-use Rattle.lte_machine.proofs.KnownLists.{one_more, all_filter}
-use Rattle.lte_machine.proofs.Tests.{by_some}
-use Rattle.lte_properties.specs.ChainBelow.{AllOf}
-use Rattle.lte_properties.specs.ChainAbove.{AnswerOk, InFlight}
-use Rattle.lte_properties.specs.Agreement.{made_at, HadTaken}
-use Rattle.lte_properties.specs.Chains.{chain_key}
-use Rattle.lte_properties.proofs.Agreement.Terms.{base_nh}
+use Rattle.lte_machine.proofs.{Routing.address_on, StationCases.RecordCases, StationCases.record_case, KnownLists.one_more, KnownLists.all_filter, Tests.by_some}
+use Rattle.lte_properties.specs.{ChainBelow.AllOf, ChainAbove.AnswerOk, ChainAbove.InFlight, Agreement.made_at, Agreement.HadTaken, Chains.chain_key}
+use Rattle.lte_properties.proofs.{Agreement.Terms.base_nh, Agreement.Sources.handover_by, Agreement.Sources.HasStar, ChainNumbers.Lists.all_map, Agreement.PhoneWalk.both_named, Agreement.StationSends.sends_down, Agreement.StationSends.change_says}
 use Rattle.lte_properties.proofs.Agreement.Ghost.{Ghost, is_tried_at, tried_at, chain_at, TermOk, PairOk, Leads, GivenFits, FromOk, MadeOk, TriedOk, GivenOk, ProgressOk, ChangeOk, ViaOk, AttemptOk, CtxOk, PrepOk, FreshFrom, SeenBy, StationOk, SaysOk, IsOther, StartIs, OrderIs, IsOrder, UnderKey, ChangeIs, AckIs, HasNcc, AnyMade, BetweenOk, OutOk}
-use Rattle.lte_properties.proofs.Agreement.Sources.{handover_by, HasStar}
 use Rattle.lte_properties.proofs.Agreement.Later.{same_found, made_later, ctx_later, preps_later}
-use Rattle.lte_properties.proofs.ChainNumbers.Lists.{all_map}
-use Rattle.lte_properties.proofs.Agreement.PhoneWalk.{both_named}
 use Rattle.lte_properties.proofs.Agreement.Seen.{NotBoth, setup_no_attempt, change_no_attempt, change_no_setup, apart_always, apart_unseen, seen_more, seen_there}
 use Rattle.lte_properties.proofs.Agreement.StationContext.{CellFits, started_map, started_any, had_by, with_attempt_ok, with_both, mapped_at, with_ctx, ctx_at}
-use Rattle.lte_properties.proofs.Agreement.StationSends.{sends_down, change_says}
 use Rattle.lte_properties.proofs.Agreement.ToldIsFound.{all_found, found_holds, told, told_more, made_new, made_none, MadeBy, TriedBy, reads_as, term_number, leads_up, star_term}
 
 not_commanded : {order : Order} → Open ≡ Commanded order → ⊥

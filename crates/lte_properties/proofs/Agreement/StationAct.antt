@@ -2,40 +2,23 @@
 use Rattle.std.proofs.Common.{◌≡◌, ℕ, ◌+◌, ◌-◌, ◌<◌, ◌≤◌, refl, sym, ◌∙◌, ap, subst, arith, Bool, true, false, List, [], ◌∷◌, ◌++◌, Option, Some, None, option_map}
 use Rattle.std.proofs.lemmas.Bool.{eqb-false}
 use Rattle.annex_a_keys.specs.Cell.{Place}
-use Rattle.lte_events.specs.declared.acts.StationAct.{StationAct}
-use Rattle.lte_events.specs.declared.acts.StationAct.TheVariants.{SendRrc}
-use Rattle.lte_events.specs.declared.answers.Answer.TheVariants.{Done}
-use Rattle.lte_events.specs.Site.{Site, station_of}
-use Rattle.key_model.specs.Term.{Term}
-use Rattle.key_model.specs.Number.{chain_number}
-use Rattle.key_model.specs.Reading.{Reading, term_reading_by}
-use Rattle.key_model.specs.HandoverTable.{NumberedKey}
-use Rattle.key_model.specs.HandoverLines.{star_line}
+use Rattle.lte_events.specs.{declared.acts.StationAct.StationAct, declared.acts.StationAct.TheVariants.SendRrc, declared.answers.Answer.TheVariants.Done, Site.Site, Site.station_of, Ranges.IsStationAct}
+use Rattle.key_model.specs.{Term.Term, Number.chain_number, Reading.Reading, Reading.term_reading_by, HandoverTable.NumberedKey, HandoverLines.star_line}
 use Rattle.nh_chain.specs.Station.{restored_if, pair_after, opened, base_of}
-use Rattle.rrc_rec.specs.declared.records.RrcRecord.TheVariants.{RrcData}
-use Rattle.rrc_rec.specs.Spelling.{spelling_of}
+use Rattle.rrc_rec.specs.{declared.records.RrcRecord.TheVariants.RrcData, Spelling.spelling_of}
 use Rattle.x2_handover.specs.declared.orders.Order.{Order}
-use Rattle.lte_machine.specs.Bearers.{Srb, Signalling1}
-use Rattle.lte_events.specs.Ranges.{IsStationAct}
+use Rattle.lte_machine.specs.{Bearers.Srb, Bearers.Signalling1, Wire.Outgoing, StationChoice.act_row, StationRecords.order_text, StationStep.plain_station}
 use Rattle.lte_machine.specs.Reply.{Origin, ByAttempt, Made, Tried, Handover, BySource, ByTarget, Reply, only}
-use Rattle.lte_machine.specs.Wire.{Outgoing}
 use Rattle.lte_machine.specs.StationState.{Station, Context, Via, Renewing, Progress, Open, Ready, Commanded, Attempt}
 use Rattle.lte_machine.specs.StationKeys.{started_by_x2, started_by_s1, started_within, commanded, commands, spent_in, given_up, sends_rrc, with_skipped, act_does}
-use Rattle.lte_machine.specs.StationChoice.{act_row}
-use Rattle.lte_machine.specs.StationRecords.{order_text}
-use Rattle.lte_machine.specs.StationStep.{plain_station}
 use Rattle.lte_machine.proofs.StationActFacts.{Orders, SendsText, StationActHas, station_act_has}
-use Rattle.lte_machine.proofs.StationCases.{ActCases, act_case}
-use Rattle.lte_machine.proofs.KnownLists.{one_more, all_filter}
-use Rattle.lte_machine.proofs.Tests.{by_some}
+use Rattle.lte_machine.proofs.{StationCases.ActCases, StationCases.act_case, KnownLists.one_more, KnownLists.all_filter, Tests.by_some}
 use Rattle.lte_properties.specs.ChainBelow.{AllOf, OfPair, IsAbove}
-use Rattle.lte_properties.specs.ChainAbove.{ContextAbove}
-use Rattle.lte_properties.specs.Agreement.{made_at, HadTaken}
-use Rattle.lte_properties.proofs.Agreement.Terms.{lands}
+use Rattle.lte_properties.specs.{ChainAbove.ContextAbove, Agreement.made_at, Agreement.HadTaken}
+use Rattle.lte_properties.proofs.{Agreement.Terms.lands, Agreement.Station.StationGoes}
 use Rattle.lte_properties.proofs.Agreement.Ghost.{Ghost, tried_at, TermOk, PairOk, PairsOk, MadeOk, TriedOk, GivenOk, IsOrder, UnderKey, ProgressOk, ChangeOk, ViaOk, AttemptOk, StartedOk, CtxOk, FreshFrom, SeenBy, StationOk, SaysOk, TextOk, OutOk}
 use Rattle.lte_properties.proofs.Agreement.Later.{term_later, ctx_later, preps_later}
 use Rattle.lte_properties.proofs.Agreement.ToldIsFound.{told, told_more, made_new, made_none, tried_new, tried_none, SiteOk, reads_as, term_number, leads_up, leads_level, star_term}
-use Rattle.lte_properties.proofs.Agreement.Station.{StationGoes}
 use Rattle.lte_properties.proofs.Agreement.StationContext.{started_map, started_any, with_attempt_ok, with_both, next_drawn, with_ctx, mapped, ctx_at, had}
 use Rattle.lte_properties.proofs.Agreement.Seen.{setup_no_attempt, one_origin, apart_new}
 use Rattle.lte_properties.proofs.Agreement.StationSends.{sends_down, order_says, change_says}

@@ -7,8 +7,7 @@ use Rattle.lte_events.specs.Site.{Site}
 use Rattle.key_model.specs.Term.{Term}
 use Rattle.lte_machine.specs.StationState.{Station, Context, Attempt}
 use Rattle.lte_machine.proofs.Tests.{by_some}
-use Rattle.lte_properties.specs.ChainBelow.{AllOf}
-use Rattle.lte_properties.specs.Agreement.{HadTaken}
+use Rattle.lte_properties.specs.{ChainBelow.AllOf, Agreement.HadTaken}
 use Rattle.lte_properties.proofs.Agreement.Ghost.{Ghost, FreshFrom, AttemptOk, StartedOk, CtxOk, PrepOk, StationOk}
 
 -- the cell of a context is a cell

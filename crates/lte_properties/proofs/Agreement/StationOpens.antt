@@ -4,27 +4,19 @@ use Rattle.std.specs.Prelude.{⊤}
 use Rattle.std.proofs.lemmas.Bool.{eqb-true}
 use Rattle.rec_base.specs.declared.uses.Dir.TheVariants.{Up, Down}
 use Rattle.lte_events.specs.Site.{Site}
-use Rattle.key_model.specs.Term.{Term, Alg}
-use Rattle.key_model.specs.Reading.{Reading, term_reading_by}
+use Rattle.key_model.specs.{Term.Term, Term.Alg, Reading.Reading, Reading.term_reading_by}
 use Rattle.ho_prep.specs.declared.origins.By.{By}
 use Rattle.ho_prep.specs.Prep.{Prep, is_at, at_air}
-use Rattle.lte_machine.specs.Bearers.{Signalling1, Which}
+use Rattle.lte_machine.specs.{Bearers.Signalling1, Bearers.Which, Opening.Outcome, Opening.Opened, StationState.Station, StationRows.SecurityStarted, StationStep.plain_station}
 use Rattle.lte_machine.specs.Wire.{KeyUse, Ciphering, Outgoing, SealedNas, SealedRrc, srb_use}
-use Rattle.lte_machine.specs.Opening.{Outcome, Opened}
 use Rattle.lte_machine.specs.Reply.{Origin, Made, Reply}
-use Rattle.lte_machine.specs.StationState.{Station}
-use Rattle.lte_machine.specs.StationRows.{SecurityStarted}
 use Rattle.lte_machine.specs.StationChoice.{AirFront, OnStarting, OnPrepared, air_front, air_row}
 use Rattle.lte_machine.specs.StationKeys.{with_security, with_rrc_taken, with_packet_taken, arrived, air_expects, starting_expects, prepared_expects, air_does}
-use Rattle.lte_machine.specs.StationStep.{plain_station}
 use Rattle.lte_machine.proofs.AirFacts.{Opens, Completes, AirHas, air_has}
 use Rattle.lte_machine.proofs.StationCases.{AirCases, air_case}
 use Rattle.lte_properties.specs.Agreement.{HadTaken}
-use Rattle.lte_properties.proofs.Agreement.Openings.{WasSealed, IsHonest}
+use Rattle.lte_properties.proofs.{Agreement.Openings.WasSealed, Agreement.Openings.IsHonest, Agreement.Later.same_found, Agreement.PhoneWalk.one_key, Agreement.Station.StationGoes}
 use Rattle.lte_properties.proofs.Agreement.Ghost.{Ghost, FromIs, HereIs, CtxOk, PrepOk, StationOk, UpOk}
-use Rattle.lte_properties.proofs.Agreement.Later.{same_found}
-use Rattle.lte_properties.proofs.Agreement.PhoneWalk.{one_key}
-use Rattle.lte_properties.proofs.Agreement.Station.{StationGoes}
 use Rattle.lte_properties.proofs.Agreement.StationContext.{with_both, next_drawn, mapped, mapped_at, ctx_at}
 use Rattle.lte_properties.proofs.Agreement.ToldIsFound.{all_found, found_holds, if_tried}
 

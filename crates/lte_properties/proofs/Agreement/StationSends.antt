@@ -6,13 +6,9 @@ use Rattle.lte_events.specs.Site.{Site}
 use Rattle.key_model.specs.Term.{Term}
 use Rattle.rrc_rec.specs.declared.records.RrcRecord.TheVariants.{Reconfiguration, KeyChange}
 use Rattle.x2_handover.specs.declared.orders.Order.{Order}
-use Rattle.lte_machine.specs.Bearers.{Srb}
-use Rattle.lte_machine.specs.Reply.{ByChange}
-use Rattle.lte_machine.specs.StationRecords.{signalling_sent, order_text}
+use Rattle.lte_machine.specs.{Bearers.Srb, Reply.ByChange, StationRecords.signalling_sent, StationRecords.order_text, Wire.srb_use, Wire.srb_ciphering}
 use Rattle.lte_machine.specs.StationState.{Context, OverX2, Renewing}
-use Rattle.lte_machine.specs.Wire.{srb_use, srb_ciphering}
-use Rattle.lte_properties.specs.ChainBelow.{AllOf}
-use Rattle.lte_properties.specs.Agreement.{HadTaken}
+use Rattle.lte_properties.specs.{ChainBelow.AllOf, Agreement.HadTaken}
 use Rattle.lte_properties.proofs.Agreement.Ghost.{Ghost, keys_of, FromOk, MadeOk, TriedOk, IsOrder, ChangeIs, CtxOk, SaysOk, TextOk, OutOk}
 use Rattle.lte_properties.proofs.Agreement.ToldIsFound.{all_found, made_there, SiteOk, cell_found, reads_as}
 

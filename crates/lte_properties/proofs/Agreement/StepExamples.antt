@@ -5,12 +5,10 @@ use Rattle.std.proofs.Common.{◌≡◌, ℕ, ◌+◌, Bool, true, false, refl, 
 use Rattle.std.specs.Prelude.{slice_get}
 use Rattle.lte_events.specs.declared.events.Event.{Event}
 use Rattle.key_model.specs.Term.{Term, same_term}
-use Rattle.lte_machine.specs.Opening.{open_octets}
+use Rattle.lte_machine.specs.{Opening.open_octets, Wire.Outgoing}
 use Rattle.lte_machine.specs.Reply.{Note, Made, Took}
 use Rattle.lte_machine.specs.Run.{RunState, Running, Stopped, turn, EventReport, Reported, report}
-use Rattle.lte_machine.specs.Wire.{Outgoing}
-use Rattle.lte_machine.proofs.LateAnswers.{seven_ahead, eight_ahead}
-use Rattle.lte_machine.proofs.Ordinary.{ordinary}
+use Rattle.lte_machine.proofs.{LateAnswers.seven_ahead, LateAnswers.eight_ahead, Ordinary.ordinary}
 use Rattle.lte_machine.proofs.Scenario.{computing, machine, start, toy}
 
 abbrev Runs : Type 0

@@ -3,16 +3,10 @@ use Rattle.std.proofs.Common.{◌≡◌, ℕ, zero, suc, ◌+◌, ◌-◌, ◌<�
 use Rattle.std.proofs.lemmas.Bool.Decides.{nat_tests}
 use Rattle.annex_a_keys.specs.Cell.{Place}
 use Rattle.key_model.specs.Term.{Term, Nh, Star}
-use Rattle.key_model.specs.Chain.{nh, ncc_of}
-use Rattle.key_model.specs.Number.{chain_number}
-use Rattle.key_model.specs.Least.{least}
-use Rattle.key_model.specs.Reading.{term_reading_by}
-use Rattle.key_model.specs.HandoverLines.{nh_after, steps_to}
+use Rattle.key_model.specs.{Chain.nh, Chain.ncc_of, Number.chain_number, Least.least, Reading.term_reading_by, HandoverLines.nh_after, HandoverLines.steps_to}
 use Rattle.key_model.proofs.LeastFacts.{least_near, least_from_remainder, eight_ahead}
-use Rattle.nh_chain.specs.Chain.{ChainState, number_after}
-use Rattle.nh_chain.specs.Reach.{reached_after}
-use Rattle.lte_properties.specs.Origins.{root_of, nas_count_of}
-use Rattle.lte_properties.specs.Chains.{chain_key, OnChain}
+use Rattle.nh_chain.specs.{Chain.ChainState, Chain.number_after, Reach.reached_after}
+use Rattle.lte_properties.specs.{Origins.root_of, Origins.nas_count_of, Chains.chain_key, Chains.OnChain}
 
 -- so many NH steps from a key
 abbrev pub climb : Term → Term → ℕ → Term

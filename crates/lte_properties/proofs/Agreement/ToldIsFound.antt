@@ -2,27 +2,19 @@
 use Rattle.std.proofs.Common.{◌≡◌, ◌≢◌, ℕ, zero, suc, ◌+◌, ◌-◌, ◌<◌, ◌≤◌, refl, sym, ◌∙◌, ap, subst, arith, Bool, true, false, cond, List, [], ◌∷◌, ◌++◌, Option, Some, None, Ok, inl, inr}
 use Rattle.std.specs.Prelude.{◌&&◌, ◌==◌, find, filter, ⊤, ◌⊎◌, Result, option_map}
 use Rattle.std.specs.Option.{option_or}
-use Rattle.std.proofs.lemmas.List.Folds.{find-append}
-use Rattle.std.proofs.lemmas.Bool.Decides.{nat_tests}
+use Rattle.std.proofs.{lemmas.List.Folds.find-append, lemmas.Bool.Decides.nat_tests}
 use Rattle.rec_base.specs.declared.faults.RecFault.{RecFault}
 use Rattle.annex_a_keys.specs.Cell.{Place, IsCell}
 use Rattle.lte_events.specs.Site.{Site, is_site, station_of}
-use Rattle.key_model.specs.Term.{Term, Star}
-use Rattle.key_model.specs.Chain.{nh}
-use Rattle.key_model.specs.Number.{chain_number}
-use Rattle.key_model.specs.HandoverTable.{NumberedKey}
+use Rattle.key_model.specs.{Term.Term, Term.Star, Chain.nh, Number.chain_number, HandoverTable.NumberedKey}
 use Rattle.key_model.proofs.TermFacts.{chain_number_nh}
-use Rattle.rrc_rec.specs.declared.records.RrcRecord.{RrcRecord}
-use Rattle.rrc_rec.specs.Reading.{read_rrc}
-use Rattle.rrc_rec.specs.Spelling.{spelling_of, InRange}
+use Rattle.rrc_rec.specs.{declared.records.RrcRecord.RrcRecord, Reading.read_rrc, Spelling.spelling_of, Spelling.InRange}
 use Rattle.rrc_rec.proofs.Laws.{spelled_is_read}
 use Rattle.lte_machine.specs.Reply.{From, BySetup, ByAttempt, ByChange, Made, Tried, Took}
 use Rattle.lte_machine.specs.World.{with_one}
-use Rattle.lte_properties.specs.ChainBelow.{AllOf}
+use Rattle.lte_properties.specs.{ChainBelow.AllOf, Origins.root_of, Chains.chain_key}
 use Rattle.lte_properties.specs.Agreement.{is_made_at, made_at, HadTaken, TakenIfTried}
-use Rattle.lte_properties.specs.Origins.{root_of}
 use Rattle.lte_properties.proofs.Agreement.Terms.{climb, lands, climb-nh, base_nh, root_nh, root_base, number_base}
-use Rattle.lte_properties.specs.Chains.{chain_key}
 use Rattle.lte_properties.proofs.Agreement.Ghost.{Ghost, is_tried_at, tried_at, TermOk, PairOk, FreshFrom}
 use Rattle.lte_properties.proofs.Agreement.Later.{Later, found_later, same_found}
 

@@ -1,47 +1,23 @@
 -- Agreement of phone and stations in every world of every run.
 use Rattle.std.proofs.Common.{◌≡◌, ◌≤◌, ℕ, zero, suc, Bool, List, [], ◌∷◌, Option, Some, None}
-use Rattle.lte_events.specs.declared.events.Event.{Event}
-use Rattle.lte_events.specs.declared.setups.Setup.{Setup}
-use Rattle.lte_events.specs.Site.{Site}
-use Rattle.lte_events.specs.Ranges.{IsSetup, IsEvent}
-use Rattle.key_model.specs.Term.{Term, Root}
-use Rattle.key_model.specs.HandoverTable.{NumberedKey}
+use Rattle.lte_events.specs.{declared.events.Event.Event, declared.setups.Setup.Setup, Site.Site, Ranges.IsSetup, Ranges.IsEvent}
+use Rattle.key_model.specs.{Term.Term, Term.Root, HandoverTable.NumberedKey}
 use Rattle.s1x2_rec.specs.Fields.{Fields}
-use Rattle.lte_machine.specs.Wire.{KeyUse, Outgoing}
-use Rattle.lte_machine.specs.Ciphers.{Ciphers, octets_of}
-use Rattle.lte_machine.specs.Opening.{Opening, Outcome}
+use Rattle.lte_machine.specs.{Wire.KeyUse, Wire.Outgoing, Ciphers.Ciphers, Ciphers.octets_of, Opening.Opening, Opening.Outcome, Reply.Took, World.Machine, World.happens, Machines.machine_over, Machines.sender_of, Run.first_world, StationState.Station, StationState.Context}
 use Rattle.lte_machine.specs.PhoneState.{Radio, Idle, Connecting, Connected}
-use Rattle.lte_machine.specs.Reply.{Took}
-use Rattle.lte_machine.specs.World.{Machine, happens}
-use Rattle.lte_machine.specs.Machines.{machine_over, sender_of}
-use Rattle.lte_machine.specs.Run.{first_world}
-use Rattle.lte_properties.specs.ChainBelow.{AllOf}
+use Rattle.lte_properties.specs.{ChainBelow.AllOf, Chains.ChainsHold}
 use Rattle.lte_properties.specs.ChainHolds.{machine_by, run, noted, core_numbers, Holds}
 use Rattle.lte_properties.specs.Agreement.{Agrees, NoneEver, CompletedLines, KeysTold}
 use Rattle.lte_properties.proofs.Agreement.Openings.{Honest, Calm, Along, OpensByTerms}
 use Rattle.lte_properties.proofs.ChainNumbers.World.{happens_holds, run_holds, first_holds}
-use Rattle.lte_properties.proofs.Freshness.PhoneUses.{RadioInOrder, PhoneFresh}
+use Rattle.lte_properties.proofs.{Freshness.PhoneUses.RadioInOrder, Freshness.PhoneUses.PhoneFresh, Agreement.Later.later_itself, Agreement.ToldIsFound.SiteOk, Agreement.StationContext.CellFits, ChainNumbers.Lists.all_map, SameKeys.IsReflexive, Agreement.Lines.line_told, Agreement.Chains.are_chains, Agreement.Noted.keys_told, Agreement.Calm.NewKenb, Agreement.Calm.calm_at, Agreement.Opener.honest, Agreement.Opener.octets_tell}
 use Rattle.lte_properties.proofs.Freshness.PhoneRun.{in_order, happens_order, first_order, phone_always_in_order}
-use Rattle.lte_properties.proofs.Agreement.Later.{later_itself}
-use Rattle.lte_properties.proofs.Agreement.ToldIsFound.{SiteOk}
 use Rattle.lte_properties.proofs.Agreement.World.{Conns, ghost, WorldOk, OctetsTell, Settled}
 use Rattle.lte_properties.proofs.Agreement.Events.{fits_after, RunGoes, happens_goes, run_goes}
 use Rattle.lte_properties.proofs.Agreement.Holds.{cells_of, no_conns, first_ok, first_fits, agrees, none_before, of_each}
 use Rattle.lte_properties.proofs.Agreement.Follows.{InTurn, happens_in_turn, in_turn}
-use Rattle.lte_properties.proofs.Agreement.StationContext.{CellFits}
-use Rattle.lte_properties.proofs.ChainNumbers.Lists.{all_map}
 use Rattle.lte_machine.proofs.RangeHolds.{ContextRanged, StationRanged, Ranged}
-use Rattle.lte_machine.proofs.RangeWorld.{ranged_keeps, first_ranged}
-use Rattle.lte_machine.specs.StationState.{Station, Context}
-use Rattle.lte_properties.proofs.SameKeys.{IsReflexive}
-use Rattle.lte_properties.proofs.Agreement.Lines.{line_told}
-use Rattle.lte_properties.proofs.Agreement.Chains.{are_chains}
-use Rattle.lte_properties.specs.Chains.{ChainsHold}
-use Rattle.lte_properties.proofs.Agreement.Noted.{keys_told}
-use Rattle.lte_properties.proofs.Agreement.Calm.{NewKenb, calm_at}
-use Rattle.lte_properties.proofs.Agreement.Opener.{honest, octets_tell}
-use Rattle.lte_machine.proofs.CipherLaws.{AreCiphers}
-use Rattle.lte_machine.proofs.Worlds.{TheWorld}
+use Rattle.lte_machine.proofs.{RangeWorld.ranged_keeps, RangeWorld.first_ranged, CipherLaws.AreCiphers, Worlds.TheWorld}
 
 -- the four statements of a run: in the world after these events, of far commands in each world on the way, of the lines of
 -- completed handovers, and of what each line tells

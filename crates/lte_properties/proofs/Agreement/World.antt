@@ -2,54 +2,32 @@
 use Rattle.std.proofs.Common.{◌≡◌, refl, sym, ◌∙◌, subst, ℕ, ◌≤◌, Bool, List, Option, Some, None, Ok}
 use Rattle.std.specs.Prelude.{⊤}
 use Rattle.std.proofs.lemmas.Bool.{eqb-false}
-use Rattle.rec_base.specs.declared.bearers.Bearer.{Bearer}
-use Rattle.rec_base.specs.declared.uses.Dir.{Dir}
-use Rattle.lte_events.specs.declared.acts.StationAct.{StationAct}
-use Rattle.lte_events.specs.declared.answers.Answer.{Answer}
-use Rattle.lte_events.specs.Site.{Site}
-use Rattle.lte_events.specs.Ranges.{IsStationAct}
-use Rattle.key_model.specs.Term.{Term}
-use Rattle.key_model.specs.HandoverTable.{NumberedKey}
-use Rattle.key_model.specs.Reading.{term_reading_by}
+use Rattle.rec_base.specs.{declared.bearers.Bearer.Bearer, declared.uses.Dir.Dir}
+use Rattle.lte_events.specs.{declared.acts.StationAct.StationAct, declared.answers.Answer.Answer, Site.Site, Ranges.IsStationAct}
+use Rattle.key_model.specs.{Term.Term, HandoverTable.NumberedKey, Reading.term_reading_by}
 use Rattle.s1x2_rec.specs.Fields.{Fields}
-use Rattle.lte_machine.specs.Bearers.{Srb, which}
+use Rattle.lte_machine.specs.{Bearers.Srb, Bearers.which, Opening.Opening, Opening.Outcome, PhoneChoice.unciphered_text, PhoneChoice.phone_row, PhoneKeys.PhoneDone, StationStep.station_step, CoreState.CoreInput, CoreKeys.CoreDone, CoreStep.core_step, CoreChoice.core_header}
 use Rattle.lte_machine.specs.Wire.{KeyUse, Ciphering, Outgoing, SealedNas, SealedRrc, Between, address_of}
-use Rattle.lte_machine.specs.Opening.{Opening, Outcome}
 use Rattle.lte_machine.specs.Reply.{Made, Tried, Took, Reply}
 use Rattle.lte_machine.specs.PhoneState.{PhoneInput, PhoneAirPdu, Radio, Idle, Connecting, Connected}
-use Rattle.lte_machine.specs.PhoneChoice.{unciphered_text, phone_row}
-use Rattle.lte_machine.specs.PhoneKeys.{PhoneDone}
 use Rattle.lte_machine.specs.PhoneStep.{plain_phone, front_of, phone_root, phone_step}
 use Rattle.lte_machine.specs.StationState.{Station, StationInput, StationActs, AirPdu, StationRecord, Interface}
-use Rattle.lte_machine.specs.StationStep.{station_step}
-use Rattle.lte_machine.specs.CoreState.{CoreInput}
-use Rattle.lte_machine.specs.CoreKeys.{CoreDone}
-use Rattle.lte_machine.specs.CoreStep.{core_step}
 use Rattle.lte_machine.specs.World.{Machine, with_one, phone_after, core_after, station_after, by_world, phone_turn, core_turn, turn_of, content_in}
 use Rattle.lte_machine.specs.Step.{phone_attempts, core_attempts, attempts_at}
-use Rattle.lte_machine.proofs.Routing.{address_on, Found}
-use Rattle.lte_machine.proofs.Worlds.{TheWorld}
-use Rattle.lte_properties.specs.ChainBelow.{AllOf}
-use Rattle.lte_properties.specs.ChainAbove.{StationAbove, InFlight}
-use Rattle.lte_properties.specs.ChainHolds.{machine_by}
-use Rattle.lte_machine.specs.CoreChoice.{core_header}
+use Rattle.lte_machine.proofs.{Routing.address_on, Routing.Found, Worlds.TheWorld}
+use Rattle.lte_properties.specs.{ChainBelow.AllOf, ChainAbove.StationAbove, ChainAbove.InFlight, ChainHolds.machine_by}
 use Rattle.lte_properties.proofs.Freshness.PhoneUses.{TookInOrder, RadioInOrder, PhoneInOrder}
 use Rattle.lte_properties.specs.Agreement.{made_at, OneOf, TriedOnce, Obeys, Follow}
 use Rattle.lte_properties.proofs.Agreement.Seen.{NotBoth, seen_beside, once_more}
-use Rattle.lte_properties.proofs.Agreement.Follows.{InTurn}
-use Rattle.lte_properties.proofs.Agreement.Order.{new_at}
+use Rattle.lte_properties.proofs.{Agreement.Follows.InTurn, Agreement.Order.new_at, ChainNumbers.World.FitsAll, Agreement.StationContext.CellFits, Agreement.StationAct.act_goes, Agreement.StationOpens.CameUp, Agreement.StationOpens.air_goes}
 use Rattle.lte_properties.proofs.Agreement.Openings.{IsHonest, IsCalm, outcome_of}
 use Rattle.lte_properties.proofs.ChainNumbers.Lists.{OfSome, all_one, all_map, all_put}
-use Rattle.lte_properties.proofs.ChainNumbers.World.{FitsAll}
 use Rattle.lte_properties.proofs.Agreement.Ghost.{Ghost, tried_at, SeenBy, CoreOk, RadioOk, StationOk, SentOk, MadeOk, TriedOk, TookOk, OutOk, BetweenOk}
 use Rattle.lte_properties.proofs.Agreement.Later.{Later, later_itself, ctx_later, preps_later, radio_later, sent_later, made_later, tried_later, took_later}
 use Rattle.lte_properties.proofs.Agreement.Phone.{PhoneGoes, NewTook, PhoneNeeds, took_more, phone_goes}
 use Rattle.lte_properties.proofs.Agreement.PhoneWalk.{CameDown, NothingYet, air_walks}
 use Rattle.lte_properties.proofs.Agreement.ToldIsFound.{told_more, fresh_beside, SiteOk}
 use Rattle.lte_properties.proofs.Agreement.Station.{StationGoes, NewMade, NewTried, record_goes}
-use Rattle.lte_properties.proofs.Agreement.StationContext.{CellFits}
-use Rattle.lte_properties.proofs.Agreement.StationAct.{act_goes}
-use Rattle.lte_properties.proofs.Agreement.StationOpens.{CameUp, air_goes}
 use Rattle.lte_properties.proofs.Agreement.Core.{StaysOff, as_before, CoreGoes}
 
 -- of each connection its KASME, the COUNT of its KeNB and its greatest number; the next connection

@@ -4,27 +4,15 @@ use Rattle.std.proofs.lemmas.Bool.Decides.{nat_tests}
 use Rattle.std.specs.Prelude.{⊤}
 use Rattle.alg_choice.specs.declared.caps.Caps.{Caps}
 use Rattle.rec_base.specs.declared.faults.RecFault.{RecFault}
-use Rattle.lte_events.specs.declared.acts.CoreAct.{CoreAct}
-use Rattle.lte_events.specs.declared.addresses.Address.{Address}
-use Rattle.key_model.specs.Term.{Term}
-use Rattle.key_model.specs.HandoverTable.{NumberedKey}
-use Rattle.key_model.specs.Reading.{term_reading_by}
+use Rattle.lte_events.specs.{declared.acts.CoreAct.CoreAct, declared.addresses.Address.Address}
+use Rattle.key_model.specs.{Term.Term, HandoverTable.NumberedKey, Reading.term_reading_by}
 use Rattle.nh_chain.specs.Chain.{stepped}
 use Rattle.s1x2_rec.specs.Fields.{Fields}
-use Rattle.lte_machine.specs.Machines.{content_of}
-use Rattle.lte_machine.specs.Opening.{Outcome}
-use Rattle.lte_machine.specs.Wire.{Outgoing, Between}
-use Rattle.lte_machine.specs.StationKeys.{spent_in}
-use Rattle.lte_machine.specs.StationState.{Station, Context}
+use Rattle.lte_machine.specs.{Machines.content_of, Opening.Outcome, Wire.Outgoing, Wire.Between, StationKeys.spent_in, StationState.Station, StationState.Context, CoreChoice.core_fields_row, CoreChoice.core_act_row, CoreKeys.CoreDone, CoreKeys.number_from, CoreStep.plain_core, CoreStep.core_step}
 use Rattle.lte_machine.specs.CoreState.{Core, CoreLink, CoreInput, CoreAuth, CoreActs, CoreNasPdu, CoreRecord}
-use Rattle.lte_machine.specs.CoreChoice.{core_fields_row, core_act_row}
-use Rattle.lte_machine.specs.CoreKeys.{CoreDone, number_from}
-use Rattle.lte_machine.specs.CoreStep.{plain_core, core_step}
 use Rattle.lte_machine.proofs.CoreCases.{with_link, NasCases, nas_case, RecordCases, record_case, ActCases, act_case}
-use Rattle.lte_machine.proofs.ActFacts.{ActHas, act_has}
+use Rattle.lte_machine.proofs.{ActFacts.ActHas, ActFacts.act_has, S1Facts.RecordHas, S1Facts.record_has, Tests.by_test, Tests.same_of}
 use Rattle.lte_machine.proofs.NasFacts.{NasHas, nas_row, nas_has}
-use Rattle.lte_machine.proofs.S1Facts.{RecordHas, record_has}
-use Rattle.lte_machine.proofs.Tests.{by_test, same_of}
 use Rattle.lte_properties.specs.ChainBelow.{OfPair, star_in, EachNumber, AtMost, IsUnder, ContextBelow, RecordBelow, LinkTop, CoreTop}
 use Rattle.lte_properties.specs.ChainAbove.{RequestOk, AnswerOk, InFlight}
 use Rattle.lte_properties.specs.ChainHolds.{noted}

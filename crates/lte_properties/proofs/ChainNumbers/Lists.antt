@@ -1,8 +1,7 @@
 -- Lists each of whose items is so.
 use Rattle.std.proofs.Common.{◌≡◌, refl, ap, ◌∙◌, ℕ, suc, ◌+◌, Bool, true, false, cond, ◌==◌, List, [], ◌∷◌, ◌++◌, length, filter, map, Option, Some, None, arith}
 use Rattle.std.specs.Prelude.{find}
-use Rattle.key_model.specs.Derivation.{Derivation}
-use Rattle.key_model.specs.Term.{Term}
+use Rattle.key_model.specs.{Derivation.Derivation, Term.Term}
 use Rattle.lte_machine.specs.Ladder.{RowOrigin, OfRoot, Of}
 use Rattle.lte_machine.specs.StationState.{Station}
 use Rattle.lte_machine.specs.World.{put_if, put_station, is_root_row, with_one}

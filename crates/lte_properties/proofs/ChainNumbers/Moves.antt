@@ -2,11 +2,9 @@
 use Rattle.std.proofs.Common.{◌≡◌, sym, ◌∙◌, ℕ, ◌≤◌, ◌<◌, Option, Some, None, arith}
 use Rattle.std.specs.Prelude.{⊤}
 use Rattle.key_model.specs.Term.{Term}
-use Rattle.lte_events.specs.declared.addresses.Address.{Address}
-use Rattle.lte_events.specs.declared.addresses.Address.TheVariants.{StationS1}
+use Rattle.lte_events.specs.{declared.addresses.Address.Address, declared.addresses.Address.TheVariants.StationS1}
 use Rattle.s1x2_rec.specs.Fields.{PathSwitchRequest, PathSwitchAnswer}
-use Rattle.lte_machine.specs.Wire.{Outgoing, Between}
-use Rattle.lte_machine.specs.StationState.{Station, Context}
+use Rattle.lte_machine.specs.{Wire.Outgoing, Wire.Between, StationState.Station, StationState.Context}
 use Rattle.lte_properties.specs.ChainBelow.{EachNumber, IsUnder}
 use Rattle.lte_properties.specs.ChainAbove.{RequestOk, AnswerOk, AnswerTo, InFlight}
 

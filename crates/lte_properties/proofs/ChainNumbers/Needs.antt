@@ -1,36 +1,21 @@
 -- A record that comes supplies what its row needs, and the phone sends no pair.
 use Rattle.std.proofs.Common.{◌≡◌, refl, sym, ap, ◌∙◌, subst, ℕ, ◌≤◌, Bool, List, Option, Some, None, Ok, Err}
-use Rattle.rec_base.specs.declared.bearers.Bearer.{Bearer}
-use Rattle.rec_base.specs.declared.faults.RecFault.{RecFault}
-use Rattle.lte_events.specs.declared.acts.StationAct.{StationAct}
-use Rattle.lte_events.specs.declared.addresses.Address.{Address}
-use Rattle.lte_events.specs.declared.addresses.Address.TheVariants.{StationS1}
-use Rattle.lte_events.specs.declared.answers.Answer.TheVariants.{BadRecord}
-use Rattle.key_model.specs.Term.{Term}
-use Rattle.key_model.specs.HandoverTable.{NumberedKey}
-use Rattle.key_model.specs.Reading.{Reading, term_reading_by}
+use Rattle.rec_base.specs.{declared.bearers.Bearer.Bearer, declared.faults.RecFault.RecFault}
+use Rattle.lte_events.specs.{declared.acts.StationAct.StationAct, declared.addresses.Address.Address, declared.addresses.Address.TheVariants.StationS1, declared.answers.Answer.TheVariants.BadRecord}
+use Rattle.key_model.specs.{Term.Term, HandoverTable.NumberedKey, Reading.Reading, Reading.term_reading_by}
 use Rattle.s1x2_rec.specs.Fields.{Fields, ContextRelease, PathSwitchAnswer}
-use Rattle.lte_machine.specs.Bearers.{which}
-use Rattle.lte_machine.specs.Opening.{Outcome}
+use Rattle.lte_machine.specs.{Bearers.which, Opening.Outcome, PhoneState.Phone, PhoneRows.PhoneRow, PhoneKeys.phone_does, StationStep.plain_station, StationStep.station_step, Machines.content_of}
 use Rattle.lte_machine.specs.Reply.{Origin, Reply, unseen}
 use Rattle.lte_machine.specs.Wire.{Outgoing, SealedNas, PlainNas, SealedRrc, UserPacket, Between, address_of}
-use Rattle.lte_machine.specs.PhoneState.{Phone}
-use Rattle.lte_machine.specs.PhoneRows.{PhoneRow}
-use Rattle.lte_machine.specs.PhoneKeys.{phone_does}
 use Rattle.lte_machine.specs.StationState.{Station, Context, StationActs, AirPdu, StationRecord, Interface, map_read}
 use Rattle.lte_machine.specs.StationRows.{RecordRow, PairTaken, PreparedByS1, PreparedByX2, OfRecord}
 use Rattle.lte_machine.specs.StationChoice.{record_row, air_front, air_row, act_row}
-use Rattle.lte_machine.specs.StationStep.{plain_station, station_step}
-use Rattle.lte_machine.specs.Machines.{content_of}
-use Rattle.lte_machine.proofs.Routing.{address_on}
-use Rattle.lte_machine.proofs.PhoneGives.{NotBetween, phone_gives}
+use Rattle.lte_machine.proofs.{Routing.address_on, PhoneGives.NotBetween, PhoneGives.phone_gives, AirFacts.AirHas, AirFacts.air_has, StationActFacts.StationActHas, StationActFacts.station_act_has}
 use Rattle.lte_properties.specs.ChainBelow.{StationBelow, conn_of, RecordBelow}
 use Rattle.lte_properties.specs.ChainAbove.{AnswerOk, AnswerTo, StationAbove, InFlight}
 use Rattle.lte_properties.proofs.ChainNumbers.RowFacts.{PairNeeds, RecordNeeds, RowNeeds}
 use Rattle.lte_machine.proofs.StationCases.{record_case, air_case, act_case}
 use Rattle.lte_machine.proofs.RecordFacts.{Takes, RecordHas, record_has}
-use Rattle.lte_machine.proofs.AirFacts.{AirHas, air_has}
-use Rattle.lte_machine.proofs.StationActFacts.{StationActHas, station_act_has}
 use Rattle.lte_properties.proofs.ChainNumbers.Station.{Kept, record_kept, air_kept, act_kept}
 use Rattle.lte_properties.proofs.ChainNumbers.Core.{Plainly}
 

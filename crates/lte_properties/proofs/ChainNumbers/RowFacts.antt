@@ -2,8 +2,7 @@
 use Rattle.std.specs.Prelude.{ℕ, ◌≤◌, Option, Some, None, ⊤}
 use Rattle.lte_machine.specs.StationState.{Station, Context}
 use Rattle.lte_machine.specs.StationRows.{RecordRow, PairTaken, PreparedByS1, PreparedByX2, StationRow, OfRecord}
-use Rattle.key_model.specs.Term.{Term}
-use Rattle.key_model.specs.HandoverTable.{NumberedKey}
+use Rattle.key_model.specs.{Term.Term, HandoverTable.NumberedKey}
 use Rattle.lte_properties.specs.ChainBelow.{EachNumber, IsUnder}
 
 -- what a row needs of the key of the record that it read. A pair that is taken is above each number of the context, and

@@ -1,19 +1,13 @@
 -- What each row of a station keeps of the chain numbers.
 use Rattle.std.proofs.Common.{◌≡◌, refl, sym, subst, ℕ, ◌+◌, ◌≤◌, nat_le, List, [], ◌∷◌, ◌++◌, Option, Some, None, option_map, arith}
 use Rattle.std.specs.Prelude.{not, slice_set, Bool, true, ⊤}
-use Rattle.key_model.specs.Term.{Term}
-use Rattle.key_model.specs.Reading.{term_reading_by}
-use Rattle.key_model.specs.HandoverTable.{NumberedKey}
+use Rattle.key_model.specs.{Term.Term, Reading.term_reading_by, HandoverTable.NumberedKey}
 use Rattle.nh_chain.specs.Station.{StationKey, pair_after, restored_if, base_of}
 use Rattle.lte_events.specs.declared.acts.StationAct.{StationAct}
 use Rattle.s1x2_rec.specs.Fields.{Fields, PathSwitchRequest, PathSwitchAnswer}
 use Rattle.ho_prep.specs.Prep.{Prep, at_air, without, drop_below, is_of, is_at}
-use Rattle.lte_machine.specs.Bearers.{Which}
-use Rattle.lte_machine.specs.Opening.{Outcome}
-use Rattle.lte_machine.specs.Wire.{Outgoing, Between}
-use Rattle.lte_machine.specs.Reply.{Origin, Reply}
+use Rattle.lte_machine.specs.{Bearers.Which, Opening.Outcome, Wire.Outgoing, Wire.Between, Reply.Origin, Reply.Reply, StationRows.Admitted, StationRows.OfRecord}
 use Rattle.lte_machine.specs.StationState.{Interface, Station, Context}
-use Rattle.lte_machine.specs.StationRows.{Admitted, OfRecord}
 use Rattle.lte_machine.specs.StationKeys.{spent_in, given_up, with_security, with_rrc_taken, with_packet_taken, with_skipped, arrived, started_by_x2, started_by_s1, started_within, commands, asks_again, sends_packet, sends_rrc}
 use Rattle.lte_machine.specs.StationRecords.{with_pair, with_answer, with_admitted, source_release, key_renewed}
 use Rattle.lte_properties.specs.ChainBelow.{star_in, AllOf, OfPair, EachNumber, AtMost, IsUnder, IsAbove, ContextBelow, PrepBelow, StationBelow, RecordBelow}
@@ -21,9 +15,7 @@ use Rattle.lte_properties.specs.ChainAbove.{ContextAbove, HasNoPair, StationAbov
 use Rattle.lte_properties.proofs.ChainNumbers.RowFacts.{PairNeeds, RowNeeds}
 use Rattle.lte_machine.proofs.Tests.{none_some, by_some, changed_so}
 use Rattle.lte_machine.proofs.StationCases.{RecordCases, AirCases, ActCases}
-use Rattle.lte_machine.proofs.RecordFacts.{RecordHas}
-use Rattle.lte_machine.proofs.AirFacts.{AirHas}
-use Rattle.lte_machine.proofs.StationActFacts.{StationActHas}
+use Rattle.lte_machine.proofs.{RecordFacts.RecordHas, AirFacts.AirHas, StationActFacts.StationActHas}
 use Rattle.lte_properties.proofs.ChainNumbers.Lists.{OfSome, all_append, all_filter, all_find}
 use Rattle.lte_properties.proofs.ChainNumbers.Moves.{Stands, Moves, Stays, Renewed}
 

@@ -4,23 +4,12 @@ use Rattle.std.proofs.lemmas.Bool.Decides.{nat_tests}
 use Rattle.std.specs.Prelude.{⊤}
 use Rattle.alg_choice.specs.declared.caps.Caps.{Caps}
 use Rattle.rec_base.specs.declared.faults.RecFault.{RecFault}
-use Rattle.lte_events.specs.declared.acts.CoreAct.{CoreAct}
-use Rattle.lte_events.specs.declared.addresses.Address.{Address}
-use Rattle.lte_events.specs.declared.answers.Answer.{Answer}
-use Rattle.lte_events.specs.declared.events.Event.{Event}
-use Rattle.lte_events.specs.declared.setups.Setup.{Setup}
-use Rattle.lte_events.specs.declared.setups.StationSetup.{StationSetup}
-use Rattle.lte_events.specs.Site.{Site}
-use Rattle.key_model.specs.Term.{Term, Root}
-use Rattle.key_model.specs.HandoverTable.{NumberedKey}
-use Rattle.key_model.specs.Reading.{term_reading_by}
+use Rattle.lte_events.specs.{declared.acts.CoreAct.CoreAct, declared.addresses.Address.Address, declared.answers.Answer.Answer, declared.events.Event.Event, declared.setups.Setup.Setup, declared.setups.StationSetup.StationSetup, Site.Site}
+use Rattle.key_model.specs.{Term.Term, Term.Root, HandoverTable.NumberedKey, Reading.term_reading_by}
 use Rattle.s1x2_rec.specs.Fields.{Fields, PathSwitchRequest, PathSwitchAnswer}
 use Rattle.lte_machine.specs.Wire.{KeyUse, Outgoing, Between, address_of}
-use Rattle.lte_machine.specs.Ciphers.{Ciphers, octets_of}
+use Rattle.lte_machine.specs.{Ciphers.Ciphers, Ciphers.octets_of, Reply.Reply, PhoneState.Phone, PhoneState.PhoneInput, PhoneChoice.phone_row, Run.stations_of, Run.first_world}
 use Rattle.lte_machine.specs.Opening.{Opening, Outcome, Opened, open_octets, open_by_uses}
-use Rattle.lte_machine.specs.Reply.{Reply}
-use Rattle.lte_machine.specs.PhoneState.{Phone, PhoneInput}
-use Rattle.lte_machine.specs.PhoneChoice.{phone_row}
 use Rattle.lte_machine.specs.PhoneStep.{plain_phone, front_of, phone_root, phone_opens, phone_pdu_in, phone_step}
 use Rattle.lte_machine.specs.StationState.{Station, Context, StationInput, StationActs, AirPdu, StationRecord, Interface}
 use Rattle.lte_machine.specs.StationStep.{station_opens, station_pdu_in, station_step}
@@ -28,13 +17,11 @@ use Rattle.lte_machine.specs.CoreState.{Core, CoreInput, CoreAuth, CoreActs, Cor
 use Rattle.lte_machine.specs.CoreStep.{core_opens, core_pdu_in, core_step}
 use Rattle.lte_machine.specs.World.{Machine, World, with_one, phone_after, core_after, station_after, by_world, phone_turn, core_turn, turn_of, authenticated, next_root, content_in, happens}
 use Rattle.lte_machine.specs.Machines.{content_of, sender_of, machine_over, opening_by_octets}
-use Rattle.lte_machine.specs.Run.{stations_of, first_world}
 use Rattle.lte_properties.specs.ChainBelow.{AllOf, AtMost, ContextBelow, PrepBelow, StationBelow, conn_of, RecordBelow}
 use Rattle.lte_properties.specs.ChainAbove.{StationAbove, InFlight}
 use Rattle.lte_properties.specs.ChainHolds.{machine_by, run, noted, core_numbers, Holds, ChainNumbersHold}
 use Rattle.lte_properties.proofs.ChainNumbers.Lists.{OfSome, all_one, all_map, all_both, all_put, all_each, each_of}
-use Rattle.lte_properties.proofs.ChainNumbers.Moves.{flight_moves}
-use Rattle.lte_properties.proofs.ChainNumbers.Station.{OwnRequest, SentOk}
+use Rattle.lte_properties.proofs.{ChainNumbers.Moves.flight_moves, ChainNumbers.Station.OwnRequest, ChainNumbers.Station.SentOk}
 use Rattle.lte_properties.proofs.ChainNumbers.Core.{CoreKept, CoreStepKept, Plainly, each_weaker, core_auth_kept, core_act_kept, core_nas_kept, core_unread_kept, core_record_kept, silent_kept}
 use Rattle.lte_properties.proofs.ChainNumbers.Needs.{StepKept, act_step_kept, air_step_kept, record_step_kept, unread_step_kept, phone_does_plain}
 use Rattle.lte_machine.proofs.Routing.{address_on, Found, Turns, happens_by}

@@ -1,35 +1,26 @@
 -- What each row of the core keeps of the keys that it gives and uses.
 use Rattle.std.proofs.Common.{◌≡◌, refl, sym, ap, subst, ℕ, ◌+◌, ◌<◌, ◌≤◌, ◌⊎◌, inl, inr, Bool, List, Option, Some, None, arith}
 use Rattle.std.specs.Prelude.{IfSome}
-use Rattle.alg_choice.specs.declared.algs.Algs.{Algs}
-use Rattle.alg_choice.specs.declared.caps.Caps.{Caps}
-use Rattle.alg_choice.specs.Algs.{identity_of, eia2_identity}
+use Rattle.alg_choice.specs.{declared.algs.Algs.Algs, declared.caps.Caps.Caps, Algs.identity_of, Algs.eia2_identity}
 use Rattle.annex_a_keys.specs.Cell.{Place}
 use Rattle.rec_base.specs.declared.uses.Dir.TheVariants.{Down}
 use Rattle.lte_events.specs.declared.acts.CoreAct.{CoreAct}
 use Rattle.key_model.specs.Term.{Term, Kenb, Alg}
 use Rattle.key_model.specs.Reading.{term_reading_by}
 use Rattle.nas_count.specs.Estimate.{nas_count_limit}
-use Rattle.nas_guard.specs.Keys.{Keys}
-use Rattle.nas_guard.specs.Seal.{nas_bearer}
-use Rattle.lte_machine.specs.Bearers.{skipped}
-use Rattle.lte_machine.specs.Opening.{Outcome}
+use Rattle.nas_guard.specs.{Keys.Keys, Seal.nas_bearer}
+use Rattle.lte_machine.specs.{Bearers.skipped, Opening.Outcome, World.uses_in}
 use Rattle.lte_machine.specs.Wire.{KeyUse, Outgoing, nas_use}
 use Rattle.lte_machine.specs.CoreState.{Core, CorePartial, CoreContext}
 use Rattle.lte_machine.specs.CoreRows.{CoreNasRow, CoreRecordRow, CoreActRow}
 use Rattle.lte_machine.specs.CoreKeys.{CoreDone, smc_started, nas_taken, nas_sent_to, nas_sent, context_set_up, core_does_nas, core_does_record, core_does_act, nas_text}
-use Rattle.lte_machine.specs.World.{uses_in}
 use Rattle.lte_machine.proofs.CoreCases.{with_partial, with_context, NasCases, nas_case, RecordCases, record_case, ActCases, act_case}
-use Rattle.lte_machine.proofs.ActFacts.{ActHas}
-use Rattle.lte_machine.proofs.NasFacts.{NasHas, opens_above}
-use Rattle.lte_machine.proofs.Tests.{Anything, by_some}
+use Rattle.lte_machine.proofs.{ActFacts.ActHas, NasFacts.NasHas, NasFacts.opens_above, Tests.Anything, Tests.by_some}
 use Rattle.lte_properties.specs.ChainBelow.{AllOf}
-use Rattle.lte_properties.proofs.Freshness.Sequence.{authentication_of}
+use Rattle.lte_properties.proofs.{Freshness.Sequence.authentication_of, Freshness.Lists.both_apart, Freshness.PhoneNas.types_apart}
 use Rattle.lte_properties.proofs.Freshness.Uses.{Home, home_at, Homes, HomesStay, OnKey, IsNas, NasDown, CoreUse, AllApart}
 use Rattle.lte_properties.proofs.Freshness.Stands.{IsPast, NasKeysOf, core_partial_root, core_context_root, due, core_mark, CoreStands, RecordStands}
 use Rattle.lte_properties.proofs.Freshness.Order.{homed, homed_here, homed_is, homed_grows, later_mark}
-use Rattle.lte_properties.proofs.Freshness.Lists.{both_apart}
-use Rattle.lte_properties.proofs.Freshness.PhoneNas.{types_apart}
 
 -- a use that the core had not made before, and has made now, of a NAS key
 abbrev pub NewDown : ℕ → Core Term ℕ → Core Term ℕ → KeyUse Term → Type 0

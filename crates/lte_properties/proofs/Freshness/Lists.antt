@@ -1,15 +1,10 @@
 -- Lists of uses that are apart, and what is said of their places.
 use Rattle.std.proofs.Common.{◌≡◌, refl, sym, ap, ◌∙◌, subst, ℕ, zero, suc, List, [], ◌∷◌, ◌++◌, map, slice_get, Option, Some, None}
-use Rattle.key_model.specs.Term.{Term}
-use Rattle.key_model.specs.Use.{map_use}
-use Rattle.key_model.specs.Value.{value_of}
+use Rattle.key_model.specs.{Term.Term, Use.map_use, Value.value_of}
 use Rattle.lte_machine.specs.Wire.{KeyUse}
-use Rattle.lte_properties.specs.ChainBelow.{AllOf}
-use Rattle.lte_properties.specs.Freshness.{NoUseTwice}
-use Rattle.lte_properties.proofs.Freshness.Premises.{ValuesApart}
-use Rattle.lte_properties.proofs.Freshness.Uses.{AllApart}
+use Rattle.lte_properties.specs.{ChainBelow.AllOf, Freshness.NoUseTwice}
+use Rattle.lte_properties.proofs.{Freshness.Premises.ValuesApart, Freshness.Uses.AllApart, ChainNumbers.Lists.all_append, ChainNumbers.Lists.all_map}
 use Rattle.lte_machine.proofs.Tests.{by_some, none_some}
-use Rattle.lte_properties.proofs.ChainNumbers.Lists.{all_append, all_map}
 
 -- uses apart, and more that are apart from them
 pub apart_append : (us vs : List (KeyUse Term)) → AllApart us → AllApart vs → AllOf (λ v. AllOf (λ u. u ≡ v → ⊥) us) vs → AllApart (us ++ vs)

@@ -3,12 +3,9 @@ use Rattle.std.proofs.Common.{◌≡◌, refl, sym, ap, ◌∙◌, ℕ, zero, su
 use Rattle.std.specs.Prelude.{IfSome}
 use Rattle.annex_a_keys.specs.Cell.{Place}
 use Rattle.key_model.specs.Term.{Term, Kenb, Alg, same_term}
-use Rattle.key_model.specs.Number.{chain_number}
-use Rattle.key_model.specs.Reading.{term_reading_by}
-use Rattle.key_model.specs.HandoverLines.{nh_after}
+use Rattle.key_model.specs.{Number.chain_number, Reading.term_reading_by, HandoverLines.nh_after}
 use Rattle.key_model.proofs.TermFacts.{same_term-Decides}
-use Rattle.nh_chain.specs.Chain.{ChainState}
-use Rattle.nh_chain.specs.Reach.{reached_after}
+use Rattle.nh_chain.specs.{Chain.ChainState, Reach.reached_after}
 use Rattle.lte_properties.proofs.Freshness.Sequence.{authentication_of, IsBefore, IsNotAfter, IsLevel}
 use Rattle.lte_properties.specs.Origins.{nas_count_of}
 use Rattle.lte_properties.proofs.Freshness.Uses.{Home, Homes, HomesStay, OnKey, home_of}

@@ -1,25 +1,20 @@
 -- What each row of the phone keeps of the keys that it takes and uses.
 use Rattle.std.proofs.Common.{◌≡◌, refl, sym, ap, ◌∙◌, subst, ℕ, ◌<◌, ◌==◌, ◌⊎◌, inl, inr, Bool, true, false, List, Option, Some, None, arith}
 use Rattle.std.specs.Prelude.{IfSome}
-use Rattle.alg_choice.specs.declared.algs.Algs.{Algs}
-use Rattle.alg_choice.specs.Algs.{identity_of, eia2_identity}
+use Rattle.alg_choice.specs.{declared.algs.Algs.Algs, Algs.identity_of, Algs.eia2_identity}
 use Rattle.annex_a_keys.specs.Cell.{Place}
-use Rattle.rec_base.specs.declared.uses.Dir.TheVariants.{Up}
-use Rattle.rec_base.specs.Bearer.{bearer5_of}
+use Rattle.rec_base.specs.{declared.uses.Dir.TheVariants.Up, Bearer.bearer5_of}
 use Rattle.key_model.specs.Term.{Term, Kenb, Star, Alg}
 use Rattle.key_model.specs.Reading.{term_reading, term_reading_by}
 use Rattle.nas_count.specs.Estimate.{nas_count_limit}
 use Rattle.rrc_rec.specs.declared.records.RrcRecord.{RrcRecord}
-use Rattle.nh_chain.specs.Chain.{begun}
-use Rattle.nh_chain.specs.Reach.{reached_after}
+use Rattle.nh_chain.specs.{Chain.begun, Reach.reached_after}
 use Rattle.pdcp_guard.specs.AsKeys.{AsKeys, as_keys_of}
 use Rattle.lte_machine.specs.Bearers.{Srb, Signalling1, Drb, Bearers, of_srb, of_drb, srb_counts, drb_counts, srb_sent, drb_sent, srb_taken, skipped, new_bearers}
 use Rattle.lte_machine.specs.Wire.{Outgoing, UserPacket, uses_of, drb_use, drb_ciphering}
-use Rattle.lte_machine.specs.Reply.{Took, Commanded}
+use Rattle.lte_machine.specs.{Reply.Took, Reply.Commanded, PhoneRows.AirRow, PhoneRows.ActRow, World.uses_in}
 use Rattle.lte_machine.specs.PhoneState.{Waiting, NasContext, Link, Radio, Idle, Connecting, Connected, Phone}
-use Rattle.lte_machine.specs.PhoneRows.{AirRow, ActRow}
 use Rattle.lte_machine.specs.PhoneKeys.{rrc_sealed, with_bearers, link_secured, arrived, air_does, act_does, before_of, changed_unless}
-use Rattle.lte_machine.specs.World.{uses_in}
 use Rattle.lte_machine.proofs.PhoneCases.{with_context, with_radio, AirCases, air_case, ActCases, act_case}
 use Rattle.lte_machine.proofs.Tests.{Anything}
 use Rattle.lte_properties.specs.ChainBelow.{AllOf}
@@ -27,9 +22,8 @@ use Rattle.lte_properties.proofs.Freshness.Sequence.{authentication_of, IsBefore
 use Rattle.lte_properties.proofs.Freshness.Uses.{Home, home_at, Homes, OnKey, IsAs, next_on, send_on, AllApart}
 use Rattle.lte_properties.proofs.Freshness.Stands.{IsPast, AsKeysOf, partial_root, phone_mark, PhoneStands, RecordStands, KeyOlder, kasme_in_use}
 use Rattle.lte_properties.proofs.Freshness.Order.{not_before_itself, before_is_not_after, not_after_itself, not_after_before, past_alike, star_is_later, homed, homed_here, homed_is, homed_grows}
-use Rattle.lte_properties.proofs.Freshness.Lists.{both_apart}
+use Rattle.lte_properties.proofs.{Freshness.Lists.both_apart, SameKeys.IsReflexive}
 use Rattle.lte_properties.proofs.Freshness.Bearers.{Rise, below_stays, srb_taken_rises, drb_taken_rises, srb_sent_rises, drb_sent_rises, left_out_rises, srb_is_next, srb_is_used, drb_is_next, drb_is_used}
-use Rattle.lte_properties.proofs.SameKeys.{IsReflexive}
 use Rattle.lte_properties.proofs.Freshness.PhoneNas.{Keeps, NewUp, PhoneKeeps, types_apart, true_false, still, sealed, left_out, requested}
 
 module _ (roots : ℕ) (taken : Homes) where

@@ -1,26 +1,20 @@
 -- What a row of the phone keeps of the keys that it takes and uses, and the rows of NAS.
 use Rattle.std.proofs.Common.{◌≡◌, refl, sym, ap, ◌∙◌, subst, ℕ, ◌+◌, ◌<◌, ◌≤◌, inl, inr, Bool, true, false, List, Option, Some, None, arith}
 use Rattle.std.specs.Prelude.{IfSome}
-use Rattle.alg_choice.specs.declared.algs.Algs.{Algs}
-use Rattle.alg_choice.specs.Algs.{identity_of, eia2_identity}
+use Rattle.alg_choice.specs.{declared.algs.Algs.Algs, Algs.identity_of, Algs.eia2_identity}
 use Rattle.rec_base.specs.declared.uses.Dir.TheVariants.{Up}
 use Rattle.key_model.specs.Term.{Term, Kenb, Alg}
 use Rattle.key_model.specs.Reading.{term_reading_by}
 use Rattle.nas_guard.specs.Keys.{Keys}
 use Rattle.lte_machine.specs.Wire.{KeyUse, Outgoing, SealedNas, PlainNas, nas_use, nas_ciphering}
-use Rattle.lte_machine.specs.Reply.{Took}
+use Rattle.lte_machine.specs.{Reply.Took, PhoneRows.NasRow, World.uses_in}
 use Rattle.lte_machine.specs.PhoneState.{nas_keys_of, Partial, NasContext, Radio, Idle, Connecting, Connected, Phone}
-use Rattle.lte_machine.specs.PhoneRows.{NasRow}
 use Rattle.lte_machine.specs.PhoneKeys.{PhoneDone, one_nas_sent, context_of, nas_does}
-use Rattle.lte_machine.specs.World.{uses_in}
-use Rattle.lte_machine.proofs.PhoneCases.{NasCases, nas_case}
-use Rattle.lte_machine.proofs.Tests.{Anything}
+use Rattle.lte_machine.proofs.{PhoneCases.NasCases, PhoneCases.nas_case, Tests.Anything}
 use Rattle.lte_properties.specs.ChainBelow.{AllOf}
-use Rattle.lte_properties.proofs.Freshness.Sequence.{authentication_of, IsBefore}
+use Rattle.lte_properties.proofs.{Freshness.Sequence.authentication_of, Freshness.Sequence.IsBefore, Freshness.Order.past_is_before, Freshness.Order.later_mark, Freshness.Lists.both_apart}
 use Rattle.lte_properties.proofs.Freshness.Uses.{Home, home_at, Homes, HomesStay, IsNas, NasUp, AsUp, UpUse, AllApart}
 use Rattle.lte_properties.proofs.Freshness.Stands.{Mark, IsPast, partial_root, phone_mark, RadioStands, PhoneStands, RecordStands, RadioOlder, kasme_in_use}
-use Rattle.lte_properties.proofs.Freshness.Order.{past_is_before, later_mark}
-use Rattle.lte_properties.proofs.Freshness.Lists.{both_apart}
 
 -- a use that the phone had not made before, and has made now
 abbrev pub NewUp : ℕ → Homes → Homes → Phone Term ℕ → Phone Term ℕ → KeyUse Term → Type 0

@@ -2,33 +2,21 @@
 use Rattle.std.proofs.Common.{◌≡◌, refl, ap, ◌∙◌, subst, ℕ, ◌+◌, List, [], ◌∷◌, ◌++◌, Bool, Option, Some, None}
 use Rattle.std.specs.Prelude.{IfSome}
 use Rattle.alg_choice.specs.declared.caps.Caps.{Caps}
-use Rattle.lte_events.specs.declared.events.Event.{Event}
-use Rattle.lte_events.specs.declared.setups.Setup.{Setup}
-use Rattle.key_model.specs.Term.{Term, Root}
-use Rattle.key_model.specs.Reading.{term_reading_by}
-use Rattle.lte_machine.specs.Wire.{KeyUse, Outgoing}
-use Rattle.lte_machine.specs.Opening.{Opening, Outcome}
-use Rattle.lte_machine.specs.Reply.{Took}
+use Rattle.lte_events.specs.{declared.events.Event.Event, declared.setups.Setup.Setup}
+use Rattle.key_model.specs.{Term.Term, Term.Root, Reading.term_reading_by}
+use Rattle.lte_machine.specs.{Wire.KeyUse, Wire.Outgoing, Opening.Opening, Opening.Outcome, Reply.Took, StationState.Station, StationState.StationInput, CoreState.CoreInput, Run.first_world}
 use Rattle.lte_machine.specs.PhoneState.{Radio, Idle, Connecting, Connected, PhoneInput}
 use Rattle.lte_machine.specs.PhoneStep.{phone_step, phone_opens, phone_pdu_in}
-use Rattle.lte_machine.specs.StationState.{Station, StationInput}
 use Rattle.lte_machine.specs.StationStep.{station_step, station_opens, station_pdu_in}
-use Rattle.lte_machine.specs.CoreState.{CoreInput}
 use Rattle.lte_machine.specs.CoreStep.{core_step, core_opens, core_pdu_in}
 use Rattle.lte_machine.specs.World.{Machine, World, with_one, phone_turn, core_turn, turn_of, authenticated, next_root, happens}
-use Rattle.lte_machine.specs.Run.{first_world}
-use Rattle.lte_machine.proofs.Routing.{IsTurn, happens_each}
-use Rattle.lte_properties.specs.ChainBelow.{AllOf}
-use Rattle.lte_properties.specs.ChainHolds.{machine_by, run}
-use Rattle.lte_properties.proofs.Freshness.Sequence.{IsBefore, IsNotAfter}
+use Rattle.lte_machine.proofs.{Routing.IsTurn, Routing.happens_each, Tests.none_some}
+use Rattle.lte_properties.specs.{ChainBelow.AllOf, ChainHolds.machine_by, ChainHolds.run}
+use Rattle.lte_properties.proofs.{Freshness.Sequence.IsBefore, Freshness.Sequence.IsNotAfter, Freshness.Order.not_before_itself, Freshness.Run.turn_keeps, Freshness.Run.phone_more, SameKeys.IsReflexive}
 use Rattle.lte_properties.proofs.Freshness.Uses.{Home, home_at, Homes}
 use Rattle.lte_properties.proofs.Freshness.Stands.{partial_root, phone_mark, RadioStands}
 use Rattle.lte_properties.proofs.Freshness.PhoneUses.{TookInOrder, NeverTook, RadioInOrder, PhoneInOrder, PhoneFresh}
-use Rattle.lte_machine.proofs.Tests.{none_some}
 use Rattle.lte_properties.proofs.ChainNumbers.Lists.{all_append, all_one, all_map, roots_kept, one_root_more}
-use Rattle.lte_properties.proofs.Freshness.Order.{not_before_itself}
-use Rattle.lte_properties.proofs.Freshness.Run.{turn_keeps, phone_more}
-use Rattle.lte_properties.proofs.SameKeys.{IsReflexive}
 
 -- one more key, that comes after all
 order_append : (xs : List (Took Term ℕ)) (x : Took Term ℕ) → TookInOrder xs → AllOf (λ y. IsBefore y.key x.key) xs → TookInOrder (xs ++ x ∷ [])

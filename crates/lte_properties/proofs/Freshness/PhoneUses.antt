@@ -2,14 +2,10 @@
 -- else does.
 use Rattle.std.specs.Prelude.{◌≡◌, ℕ, List, [], ◌∷◌, Some, ⊤}
 use Rattle.key_model.specs.Term.{Term}
-use Rattle.lte_machine.specs.Wire.{Outgoing}
-use Rattle.lte_machine.specs.Reply.{Took}
+use Rattle.lte_machine.specs.{Wire.Outgoing, Reply.Took, World.World, World.next_root}
 use Rattle.lte_machine.specs.PhoneState.{Radio, Idle, Connecting, Connected}
-use Rattle.lte_machine.specs.World.{World, next_root}
 use Rattle.lte_properties.specs.ChainBelow.{AllOf}
-use Rattle.lte_properties.proofs.Freshness.Sequence.{IsBefore, IsNotAfter}
-use Rattle.lte_properties.proofs.Freshness.Uses.{home_at, Homes}
-use Rattle.lte_properties.proofs.Freshness.Stands.{PhoneStands}
+use Rattle.lte_properties.proofs.{Freshness.Sequence.IsBefore, Freshness.Sequence.IsNotAfter, Freshness.Uses.home_at, Freshness.Uses.Homes, Freshness.Stands.PhoneStands}
 
 -- each key that was taken comes before those that were taken later
 abbrev pub TookInOrder : List (Took Term ℕ) → Type 0

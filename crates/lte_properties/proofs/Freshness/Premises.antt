@@ -2,13 +2,10 @@
 use Rattle.std.specs.Prelude.{◌≡◌, ℕ, List, [], ◌∷◌, slice_get, Option, Some, None, ⊤}
 use Rattle.rec_base.specs.declared.uses.Dir.TheVariants.{Up}
 use Rattle.lte_events.specs.declared.events.Event.{Event}
-use Rattle.key_model.specs.Term.{Term}
-use Rattle.key_model.specs.Value.{value_of}
-use Rattle.lte_machine.specs.Wire.{KeyUse, Outgoing}
+use Rattle.key_model.specs.{Term.Term, Value.value_of}
+use Rattle.lte_machine.specs.{Wire.KeyUse, Wire.Outgoing, Step.Attempted, Step.attempted, Machines.sender_of}
 use Rattle.lte_machine.specs.Opening.{Opening, OpensSrb, Outcome, Opened}
 use Rattle.lte_machine.specs.World.{Machine, World, happens}
-use Rattle.lte_machine.specs.Step.{Attempted, attempted}
-use Rattle.lte_machine.specs.Machines.{sender_of}
 
 -- keys of the list that have one value are one key
 abbrev pub ValuesApart : List (KeyUse Term) → Type 0

@@ -2,56 +2,37 @@
 use Rattle.std.proofs.Common.{◌≡◌, refl, sym, ap, ◌∙◌, subst, ℕ, ◌+◌, ◌<◌, Bool, List, [], ◌∷◌, Option, Some, None, Result, Ok, Err, arith}
 use Rattle.std.specs.Prelude.{IfSome, ⊤}
 use Rattle.alg_choice.specs.declared.caps.Caps.{Caps}
-use Rattle.rec_base.specs.declared.bearers.Bearer.{Bearer}
-use Rattle.rec_base.specs.declared.faults.RecFault.{RecFault}
+use Rattle.rec_base.specs.{declared.bearers.Bearer.Bearer, declared.faults.RecFault.RecFault}
 use Rattle.rec_base.specs.declared.uses.Dir.TheVariants.{Up, Down}
-use Rattle.lte_events.specs.declared.addresses.Address.{Address}
+use Rattle.lte_events.specs.{declared.addresses.Address.Address, declared.acts.StationAct.StationAct, declared.answers.Answer.Answer, declared.answers.Answer.TheVariants.BadRecord, declared.events.Event.Event}
 use Rattle.lte_events.specs.declared.addresses.Address.TheVariants as at
-use Rattle.lte_events.specs.declared.acts.StationAct.{StationAct}
-use Rattle.lte_events.specs.declared.answers.Answer.{Answer}
-use Rattle.lte_events.specs.declared.answers.Answer.TheVariants.{BadRecord}
-use Rattle.lte_events.specs.declared.events.Event.{Event}
-use Rattle.key_model.specs.Term.{Term, Root}
-use Rattle.key_model.specs.Reading.{Reading, term_reading_by}
+use Rattle.key_model.specs.{Term.Term, Term.Root, Reading.Reading, Reading.term_reading_by}
 use Rattle.s1x2_rec.specs.Content.{Content}
 use Rattle.ho_prep.specs.Prep.{Prep, at_air}
-use Rattle.lte_machine.specs.Bearers.{which}
+use Rattle.lte_machine.specs.{Bearers.which, PhoneChoice.act_row, StationRows.RecordRefused, StationStep.station_step, StationStep.station_opens, CoreStep.core_step, CoreStep.core_opens, Machines.sender_of, Step.attempts_at}
 use Rattle.lte_machine.specs.Wire.{KeyUse, Outgoing, SealedNas, PlainNas, SealedRrc, UserPacket, Between, address_of, integrity_of}
 use Rattle.lte_machine.specs.Opening.{Opening, Outcome, Opened, Differs}
 use Rattle.lte_machine.specs.PhoneState.{Radio, Idle, Connecting, Connected, Phone, PhoneInput, PhoneAuth, PhoneActs, PhoneNasPdu, PhoneAirPdu}
 use Rattle.lte_machine.specs.PhoneStep.{phone_step, phone_opens, phone_pdu_in, plain_phone}
-use Rattle.lte_machine.specs.PhoneChoice.{act_row}
 use Rattle.lte_machine.specs.StationState.{Station, Context, StationActs, AirPdu, StationRecord, Interface, OnS1, OnX2}
 use Rattle.lte_machine.specs.StationChoice.{AirFront, AirSettled, OnStarting, OnSignalling, OnUser, OnPrepared}
-use Rattle.lte_machine.specs.StationRows.{RecordRefused}
-use Rattle.lte_machine.specs.StationStep.{station_step, station_opens}
 use Rattle.lte_machine.specs.StationKeys.{air_expects, starting_expects, signalling_expects, user_expects, prepared_expects}
 use Rattle.lte_machine.specs.CoreState.{Core, CoreActs, CoreNasPdu, CoreRecord}
-use Rattle.lte_machine.specs.CoreStep.{core_step, core_opens}
 use Rattle.lte_machine.specs.World.{Machine, World, by_world, phone_turn, turn_of, content_in, authenticated, next_root, happens}
-use Rattle.lte_machine.specs.Machines.{sender_of}
-use Rattle.lte_machine.specs.Step.{attempts_at}
-use Rattle.lte_machine.proofs.ActFacts.{act_has}
-use Rattle.lte_machine.proofs.NasFacts.{nas_has}
+use Rattle.lte_machine.proofs.{ActFacts.act_has, NasFacts.nas_has, Tests.by_some, Tests.none_some, AirFacts.air_has, StationActFacts.station_act_has}
 use Rattle.lte_machine.proofs.Routing.{address_on, IsTurn, Found, Turns, happens_by}
-use Rattle.lte_properties.specs.ChainBelow.{AllOf}
-use Rattle.lte_properties.specs.ChainHolds.{machine_by, run}
+use Rattle.lte_properties.specs.{ChainBelow.AllOf, ChainHolds.machine_by, ChainHolds.run}
 use Rattle.lte_properties.proofs.Freshness.Premises.{srb_accepted, SealedAsAccepted, SentUnder, AllSentUnder}
-use Rattle.lte_properties.proofs.Freshness.Sequence.{authentication_of}
+use Rattle.lte_properties.proofs.{Freshness.Sequence.authentication_of, Freshness.Order.on_key, SameKeys.IsReflexive}
 use Rattle.lte_properties.proofs.Freshness.Uses.{home_at, Homes, OnKey, IsNas, IsAs, NasUp, AsUp, UpUse, NasDown, CoreUse, StationUse}
 use Rattle.lte_properties.proofs.Freshness.Stands.{Mark, IsPast, partial_root, context_root, phone_mark, RadioStands, PhoneStands, core_partial_root, core_context_root, core_mark, CoreStands, StationStands, BetweenStands, RecordStands, Fresh}
-use Rattle.lte_machine.proofs.Tests.{by_some, none_some}
-use Rattle.lte_machine.proofs.AirFacts.{air_has}
-use Rattle.lte_machine.proofs.StationActFacts.{station_act_has}
 use Rattle.lte_properties.proofs.ChainNumbers.Lists.{OfSome, all_map, all_both, one_root_more}
-use Rattle.lte_properties.proofs.Freshness.Order.{on_key}
 use Rattle.lte_properties.proofs.Freshness.Phone as phone
 use Rattle.lte_properties.proofs.Freshness.PhoneNas as phone_nas
 use Rattle.lte_properties.proofs.Freshness.Core.{core_nas_keeps, core_record_keeps, core_act_keeps}
 use Rattle.lte_properties.proofs.Freshness.Station as station
 use Rattle.lte_properties.proofs.Freshness.StationFront.{air_row_needs, record_needs, GoesHere, on_s1, on_x2}
 use Rattle.lte_properties.proofs.Freshness.World.{phone_fresh, core_fresh, station_fresh}
-use Rattle.lte_properties.proofs.SameKeys.{IsReflexive}
 
 -- AUTHENTICATIONS
 

@@ -2,23 +2,18 @@
 -- stations have stand to those that were taken, given and used before (TS 33.401 7.2.6.2 and 7.2.8).
 use Rattle.std.specs.Prelude.{◌≡◌, ℕ, ◌<◌, ◌≤◌, ◌⊎◌, true, false, Option, Some, None, option_map, IfSome, ⊤}
 use Rattle.rec_base.specs.declared.uses.Dir.TheVariants.{Up, Down}
-use Rattle.lte_events.specs.declared.addresses.Address.{Address}
-use Rattle.lte_events.specs.declared.addresses.Address.TheVariants.{StationS1}
-use Rattle.key_model.specs.Term.{Term}
-use Rattle.key_model.specs.Reading.{term_reading}
-use Rattle.key_model.specs.HandoverTable.{NumberedKey}
+use Rattle.lte_events.specs.{declared.addresses.Address.Address, declared.addresses.Address.TheVariants.StationS1}
+use Rattle.key_model.specs.{Term.Term, Reading.term_reading, HandoverTable.NumberedKey}
 use Rattle.nas_guard.specs.Keys.{Keys}
 use Rattle.pdcp_guard.specs.AsKeys.{AsKeys, as_keys_of}
 use Rattle.s1x2_rec.specs.Fields.{Fields, InitialContext, X2Request}
 use Rattle.ho_prep.specs.Prep.{Prep}
 use Rattle.lte_machine.specs.Wire.{Outgoing, SealedRrc, Between}
 use Rattle.lte_machine.specs.PhoneState.{nas_keys_of, Partial, NasContext, Radio, Idle, Connecting, Connected, Phone}
-use Rattle.lte_machine.specs.StationState.{Station, Context}
+use Rattle.lte_machine.specs.{StationState.Station, StationState.Context, World.World, World.next_root}
 use Rattle.lte_machine.specs.CoreState.{Core, CorePartial, CoreContext}
-use Rattle.lte_machine.specs.World.{World, next_root}
-use Rattle.lte_properties.specs.ChainBelow.{AllOf}
+use Rattle.lte_properties.specs.{ChainBelow.AllOf, Origins.nas_count_of}
 use Rattle.lte_properties.proofs.Freshness.Sequence.{authentication_of, IsBefore, IsNotAfter, IsLevel}
-use Rattle.lte_properties.specs.Origins.{nas_count_of}
 use Rattle.lte_properties.proofs.Freshness.Uses.{Home, home_at, Homes, is_star, home, IsSpent, OnKey, UpUse, CoreUse, StationUse, AllApart}
 
 -- KASMES

@@ -2,44 +2,31 @@
 use Rattle.std.proofs.Common.{◌≡◌, refl, sym, ap, ◌∙◌, subst, subst₂, ℕ, ◌+◌, ◌<◌, ◌≤◌, Bool, true, false, not, nat_le, List, [], ◌∷◌, ◌++◌, Option, Some, None, option_map, arith}
 use Rattle.std.specs.Prelude.{IfSome}
 use Rattle.std.proofs.lemmas.Bool.Decides.{nat_tests}
-use Rattle.alg_choice.specs.declared.algs.Algs.{Algs}
-use Rattle.alg_choice.specs.declared.caps.Caps.{Caps}
-use Rattle.alg_choice.specs.Algs.{identity_of, eia2_identity}
+use Rattle.alg_choice.specs.{declared.algs.Algs.Algs, declared.caps.Caps.Caps, Algs.identity_of, Algs.eia2_identity}
 use Rattle.annex_a_keys.specs.Cell.{Place}
 use Rattle.lte_events.specs.declared.acts.StationAct.{StationAct}
-use Rattle.rec_base.specs.declared.uses.Dir.TheVariants.{Down}
-use Rattle.rec_base.specs.Bearer.{bearer5_of}
-use Rattle.key_model.specs.Term.{Term, Alg}
-use Rattle.key_model.specs.Reading.{term_reading, term_reading_by}
-use Rattle.key_model.specs.HandoverTable.{NumberedKey}
-use Rattle.key_model.specs.HandoverLines.{star_line}
+use Rattle.rec_base.specs.{declared.uses.Dir.TheVariants.Down, Bearer.bearer5_of}
+use Rattle.key_model.specs.{Term.Term, Term.Alg, Reading.term_reading, Reading.term_reading_by, HandoverTable.NumberedKey, HandoverLines.star_line}
 use Rattle.nh_chain.specs.Station.{opened}
 use Rattle.pdcp_guard.specs.AsKeys.{AsKeys, as_keys_of}
-use Rattle.rrc_rec.specs.declared.records.RrcRecord.TheVariants.{RrcData}
-use Rattle.rrc_rec.specs.Spelling.{spelling_of}
+use Rattle.rrc_rec.specs.{declared.records.RrcRecord.TheVariants.RrcData, Spelling.spelling_of}
 use Rattle.ho_prep.specs.declared.origins.By.{By}
 use Rattle.ho_prep.specs.Prep.{Prep, is_at, at_air, without, drop_below, is_of}
-use Rattle.lte_machine.specs.Opening.{Outcome}
+use Rattle.lte_machine.specs.{Opening.Outcome, Reply.Origin, Reply.Reply, World.uses_in}
 use Rattle.lte_machine.specs.Bearers.{Which, Srb, Signalling1, Drb, Bearers, of_srb, of_drb, srb_counts, drb_counts, srb_sent, drb_sent}
 use Rattle.lte_machine.specs.Wire.{KeyUse, Outgoing, uses_of, drb_use}
-use Rattle.lte_machine.specs.Reply.{Origin, Reply}
 use Rattle.lte_machine.specs.StationState.{Station, Context, Attempt}
 use Rattle.lte_machine.specs.StationRows.{Admitted, RecordRow, RecordRefused, ContextGiven, ContextReleased, PairTaken, PreparedByS1, PreparedByX2, AttemptAnswered, PreparationCancelled, SourceReleased, AirRow, ActRow, KeyRenewed}
 use Rattle.lte_machine.specs.StationKeys.{with_security, with_rrc_taken, with_packet_taken, arrived, air_does, started_by_x2, started_by_s1, started_within, commands, commanded, given_up, spent_in, asks_again, sends_packet, sends_rrc, with_skipped, act_does}
 use Rattle.lte_machine.specs.StationRecords.{signalling_sent, packet_sent, initial_context, context_given, with_pair, pair_taken, admitted_prep, prepared_by_s1, prepared_by_x2, with_admitted, with_answer, record_does, own_prep, order_text, key_renewed}
-use Rattle.lte_machine.specs.World.{uses_in}
 use Rattle.lte_properties.specs.ChainBelow.{AllOf}
-use Rattle.lte_machine.proofs.AirFacts.{AirHas}
+use Rattle.lte_machine.proofs.{AirFacts.AirHas, StationActFacts.StationActHas, Tests.by_some}
 use Rattle.lte_machine.proofs.StationCases.{AirCases, ActCases, air_case, act_case}
-use Rattle.lte_machine.proofs.StationActFacts.{StationActHas}
 use Rattle.lte_properties.proofs.Freshness.Uses.{Home, home_at, Homes, IsAs, is_star, home_of, home, NoneWaits, IsSpent, next_on, send_on, AsDown, StationUse, AllApart}
 use Rattle.lte_properties.proofs.Freshness.Stands.{AsKeysOf, PrepStands, StationStands, RecordStands}
-use Rattle.lte_machine.proofs.Tests.{by_some}
 use Rattle.lte_properties.proofs.ChainNumbers.Lists.{OfSome, all_append, all_filter, all_find, all_map}
-use Rattle.lte_properties.proofs.Freshness.Lists.{both_apart}
+use Rattle.lte_properties.proofs.{Freshness.Lists.both_apart, Freshness.PhoneNas.types_apart, Freshness.Order.on_key}
 use Rattle.lte_properties.proofs.Freshness.Bearers.{Rise, rise_same, srb_taken_rises, drb_taken_rises, srb_sent_rises, drb_sent_rises, left_out_rises, srb_is_next, srb_is_used, drb_is_next, drb_is_used}
-use Rattle.lte_properties.proofs.Freshness.PhoneNas.{types_apart}
-use Rattle.lte_properties.proofs.Freshness.Order.{on_key}
 use Rattle.lte_properties.proofs.Freshness.StationKeeps.{Later, later_spent, context_later, ahead_later, Stays, ContextStays, stays_same, stays_map, restored_kenb, NewAt, StationKeeps, RecordNeeds, TakenHere, AirNeeds}
 
 module _ (taken given : Homes) where

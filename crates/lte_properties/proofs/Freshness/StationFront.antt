@@ -1,33 +1,22 @@
 -- What the choice of a station's row established, as its rows need it.
 use Rattle.std.proofs.Common.{◌≡◌, refl, sym, ap, ◌∙◌, subst, ℕ, ◌<◌, true, List, Option, Some, None, Ok, ◌≤◌, arith, IfSome}
-use Rattle.alg_choice.specs.declared.algs.Algs.{Algs}
-use Rattle.alg_choice.specs.declared.caps.Caps.{Caps}
+use Rattle.alg_choice.specs.{declared.algs.Algs.Algs, declared.caps.Caps.Caps}
 use Rattle.annex_a_keys.specs.Cell.{Place}
 use Rattle.lte_events.specs.declared.addresses.Address.{Address}
 use Rattle.lte_events.specs.declared.addresses.Address.TheVariants.{StationS1, StationX2}
-use Rattle.s1x2_rec.specs.Content.{map_content}
-use Rattle.s1x2_rec.specs.Fields.{Fields, InitialContext}
-use Rattle.key_model.specs.Term.{Term}
-use Rattle.key_model.specs.Reading.{Reading}
-use Rattle.key_model.specs.HandoverTable.{NumberedKey}
+use Rattle.s1x2_rec.specs.{Content.map_content, Fields.Fields, Fields.InitialContext}
+use Rattle.key_model.specs.{Term.Term, Reading.Reading, HandoverTable.NumberedKey}
 use Rattle.ho_prep.specs.declared.origins.By.{By}
 use Rattle.ho_prep.specs.Prep.{Prep, is_at, at_air}
-use Rattle.lte_machine.specs.Bearers.{Which}
-use Rattle.lte_machine.specs.Wire.{KeyUse}
+use Rattle.lte_machine.specs.{Bearers.Which, Wire.KeyUse, Reply.unseen, StationState.Station, StationState.Interface, StationKeys.air_expects, StationKeys.prepared_expects, StationStep.plain_station}
 use Rattle.lte_machine.specs.Opening.{Opening, Outcome, Opened}
-use Rattle.lte_machine.specs.Reply.{unseen}
-use Rattle.lte_machine.specs.StationState.{Station, Interface}
 use Rattle.lte_machine.specs.StationRows.{RecordRow, ContextGiven, PreparedByS1, PreparedByX2, KeyRenewed, AirRow, CompletedByS1, CompletedWithin, CompletedByX2}
-use Rattle.lte_machine.specs.StationKeys.{air_expects, prepared_expects}
 use Rattle.lte_machine.specs.StationChoice.{air_front, air_row, record_row}
-use Rattle.lte_machine.specs.StationStep.{plain_station}
 use Rattle.lte_properties.specs.ChainBelow.{AllOf}
 use Rattle.lte_machine.proofs.RecordFacts.{RecordHas, record_has}
 use Rattle.lte_machine.proofs.AirFacts.{Completes, AirHas, air_has}
-use Rattle.lte_properties.proofs.Freshness.Premises.{srb_accepted}
+use Rattle.lte_properties.proofs.{Freshness.Premises.srb_accepted, Freshness.Stands.PrepStands, Freshness.Stands.BetweenStands, ChainNumbers.Lists.OfSome, ChainNumbers.Lists.all_find}
 use Rattle.lte_properties.proofs.Freshness.Uses.{home_at, Homes, OnKey}
-use Rattle.lte_properties.proofs.Freshness.Stands.{PrepStands, BetweenStands}
-use Rattle.lte_properties.proofs.ChainNumbers.Lists.{OfSome, all_find}
 use Rattle.lte_properties.proofs.Freshness.StationKeeps.{RecordNeeds, TakenHere, AirNeeds}
 
 -- PDUS

@@ -2,15 +2,12 @@
 use Rattle.std.proofs.Common.{◌≡◌, refl, sym, ◌∙◌, subst₂, ℕ, ◌+◌, ◌<◌, ◌≤◌, Bool, true, false, Option, Some, None, option_map, arith}
 use Rattle.std.specs.Prelude.{IfSome, ⊤}
 use Rattle.rec_base.specs.declared.uses.Dir.TheVariants.{Down}
-use Rattle.key_model.specs.Term.{Term}
-use Rattle.key_model.specs.HandoverTable.{NumberedKey}
+use Rattle.key_model.specs.{Term.Term, HandoverTable.NumberedKey}
 use Rattle.nh_chain.specs.Station.{StationKey, restored_if}
 use Rattle.ho_prep.specs.Prep.{Prep, at_air}
 use Rattle.pdcp_guard.specs.AsKeys.{AsKeys}
-use Rattle.lte_machine.specs.Wire.{KeyUse, Outgoing}
-use Rattle.lte_machine.specs.StationState.{Station, Context}
+use Rattle.lte_machine.specs.{Wire.KeyUse, Wire.Outgoing, StationState.Station, StationState.Context, World.uses_in}
 use Rattle.lte_machine.specs.StationRows.{RecordRow, ContextGiven, PreparedByS1, PreparedByX2, AirRow, CompletedByS1, CompletedWithin, CompletedByX2, KeyRenewed}
-use Rattle.lte_machine.specs.World.{uses_in}
 use Rattle.lte_properties.specs.ChainBelow.{AllOf}
 use Rattle.lte_properties.proofs.Freshness.Uses.{Home, home_at, Homes, OnKey, IsAs, is_star, home, NoneWaits, IsSpent, ContextAhead, AsDown, StationUse, AllApart}
 use Rattle.lte_properties.proofs.Freshness.Stands.{ContextStands, Sits, StationStands, RecordStands}

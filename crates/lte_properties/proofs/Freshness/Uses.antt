@@ -2,10 +2,8 @@
 use Rattle.std.specs.Prelude.{◌≡◌, ℕ, ◌<◌, ◌≤◌, ◌==◌, Bool, true, false, if◌then◌else◌, List, [], ◌∷◌, Option, Some, IfSome, ⊤}
 use Rattle.key_model.specs.Term.{Term, Root, Kenb, Nh, Star, Alg}
 use Rattle.ho_prep.specs.Prep.{Prep}
-use Rattle.lte_machine.specs.Bearers.{Bearers}
-use Rattle.lte_machine.specs.Wire.{KeyUse}
+use Rattle.lte_machine.specs.{Bearers.Bearers, Wire.KeyUse, StationState.Station, StationState.Context}
 use Rattle.lte_machine.specs.PhoneState.{Partial, NasContext, Radio, Idle, Connecting, Connected, Phone}
-use Rattle.lte_machine.specs.StationState.{Station, Context}
 use Rattle.lte_machine.specs.CoreState.{Core, CorePartial, CoreContext}
 use Rattle.lte_properties.specs.ChainBelow.{AllOf}
 use Rattle.lte_properties.proofs.Freshness.Sequence.{authentication_of}

@@ -2,31 +2,18 @@
 use Rattle.std.proofs.Common.{◌≡◌, refl, sym, ap, ◌∙◌, ℕ, ◌==◌, ◌&&◌, Bool, true, false, List, [], ◌∷◌, map, Option, Some, None}
 use Rattle.rec_base.specs.declared.uses.Dir.{Dir}
 use Rattle.rec_base.specs.declared.uses.Dir.TheVariants.{Up, Down}
-use Rattle.lte_events.specs.declared.events.Event.{Event}
-use Rattle.lte_events.specs.declared.setups.Setup.{Setup}
-use Rattle.lte_events.specs.declared.setups.StationSetup.{StationSetup}
-use Rattle.lte_events.specs.Site.{Site}
+use Rattle.lte_events.specs.{declared.events.Event.Event, declared.setups.Setup.Setup, declared.setups.StationSetup.StationSetup, Site.Site}
 use Rattle.key_model.specs.Term.{Term, Root, same_term}
-use Rattle.key_model.specs.Value.{value_of}
-use Rattle.key_model.specs.Use.{map_use}
+use Rattle.key_model.specs.{Value.value_of, Use.map_use}
 use Rattle.key_model.proofs.TermFacts.{same_term-Decides}
 use Rattle.lte_machine.specs.Wire.{KeyUse, Ciphering, Outgoing, SealedNas, SealedRrc}
-use Rattle.lte_machine.specs.Ciphers.{Ciphers}
+use Rattle.lte_machine.specs.{Ciphers.Ciphers, Machines.sender_of, Step.attempted, Run.stations_of, Run.first_world}
 use Rattle.lte_machine.specs.Opening.{Opening, OpensSrb, Outcome, Opened, Differs, open_by_uses, open_octets, open_foreign, open_case, judged, same_uses, same_ciphering, same_dir}
-use Rattle.lte_machine.specs.Machines.{sender_of}
 use Rattle.lte_machine.specs.World.{Machine, World, happens}
-use Rattle.lte_machine.specs.Step.{attempted}
-use Rattle.lte_machine.specs.Run.{stations_of, first_world}
-use Rattle.lte_properties.specs.ChainBelow.{AllOf}
-use Rattle.lte_properties.specs.ChainHolds.{machine_by, run}
-use Rattle.lte_properties.specs.Freshness.{NoUseTwice}
+use Rattle.lte_properties.specs.{ChainBelow.AllOf, ChainHolds.machine_by, ChainHolds.run, Freshness.NoUseTwice}
 use Rattle.lte_properties.proofs.Freshness.Premises.{ValuesApart, srb_accepted, SentUnder, AllSentUnder}
-use Rattle.lte_properties.proofs.Freshness.Uses.{StationUse}
-use Rattle.lte_properties.proofs.Freshness.Stands.{StationStands, Fresh}
+use Rattle.lte_properties.proofs.{Freshness.Uses.StationUse, Freshness.Stands.StationStands, Freshness.Stands.Fresh, Freshness.Lists.no_use_twice, Freshness.Lists.no_value_twice, Freshness.Run.run_fresh, SameKeys.IsReflexive}
 use Rattle.lte_machine.proofs.Tests.{by_some, none_some, same_of, both_true}
-use Rattle.lte_properties.proofs.Freshness.Lists.{no_use_twice, no_value_twice}
-use Rattle.lte_properties.proofs.Freshness.Run.{run_fresh}
-use Rattle.lte_properties.proofs.SameKeys.{IsReflexive}
 
 -- THE FIRST WORLD
 

@@ -5,24 +5,17 @@ use Rattle.std.proofs.lemmas.Bool.Decides.{nat_tests}
 use Rattle.rec_base.specs.declared.uses.Dir.{Dir}
 use Rattle.rec_base.specs.declared.uses.Dir.TheVariants.{Up, Down}
 use Rattle.lte_events.specs.declared.addresses.Address.{Address}
-use Rattle.key_model.specs.Term.{Term}
-use Rattle.key_model.specs.HandoverTable.{NumberedKey}
+use Rattle.key_model.specs.{Term.Term, HandoverTable.NumberedKey}
 use Rattle.s1x2_rec.specs.Fields.{Fields, InitialContext}
 use Rattle.lte_machine.specs.Wire.{KeyUse, Outgoing, SealedRrc, Between}
-use Rattle.lte_machine.specs.Reply.{Reply, Took}
-use Rattle.lte_machine.specs.PhoneState.{Phone}
-use Rattle.lte_machine.specs.StationState.{Station, Context}
-use Rattle.lte_machine.specs.CoreState.{Core}
+use Rattle.lte_machine.specs.{Reply.Reply, Reply.Took, PhoneState.Phone, StationState.Station, StationState.Context, CoreState.Core}
 use Rattle.lte_machine.specs.World.{Machine, World, uses_in, with_one, phone_after, core_after, station_after}
 use Rattle.lte_properties.specs.ChainBelow.{AllOf}
 use Rattle.lte_properties.proofs.Freshness.Uses.{Home, home_at, Homes, HomesStay, OnKey, IsNas, IsAs, is_star, home, NasUp, AsUp, UpUse, NasDown, CoreUse, ContextAhead, AsDown, StationUse}
 use Rattle.lte_properties.proofs.Freshness.Stands.{ContextStands, StationStands, BetweenStands, RecordStands, Fresh}
 use Rattle.lte_machine.proofs.Tests.{by_some}
 use Rattle.lte_properties.proofs.ChainNumbers.Lists.{OfSome, all_append, all_one, all_map, all_both, all_put, roots_kept}
-use Rattle.lte_properties.proofs.Freshness.Order.{home_grows, on_key}
-use Rattle.lte_properties.proofs.Freshness.Lists.{apart_append, apart_by}
-use Rattle.lte_properties.proofs.Freshness.PhoneNas.{PhoneKeeps, NewUp}
-use Rattle.lte_properties.proofs.Freshness.Core.{CoreKeeps, NewDown}
+use Rattle.lte_properties.proofs.{Freshness.Order.home_grows, Freshness.Order.on_key, Freshness.Lists.apart_append, Freshness.Lists.apart_by, Freshness.PhoneNas.PhoneKeeps, Freshness.PhoneNas.NewUp, Freshness.Core.CoreKeeps, Freshness.Core.NewDown}
 use Rattle.lte_properties.proofs.Freshness.StationKeeps.{StationKeeps, NewAt, IsOwn}
 
 -- DIRECTIONS

@@ -3,40 +3,18 @@ use Rattle.std.proofs.Common.{◌≡◌, refl, sym, ◌∙◌, subst, ℕ, Bool,
 use Rattle.std.specs.Prelude.{◌⊎◌, option_map}
 use Rattle.std.proofs.lemmas.List.{map-append}
 use Rattle.alg_choice.specs.declared.caps.Caps.{Caps}
-use Rattle.lte_events.specs.declared.events.Event.{Event}
-use Rattle.lte_events.specs.declared.setups.Setup.{Setup}
-use Rattle.lte_events.specs.declared.setups.StationSetup.{StationSetup}
-use Rattle.lte_events.specs.Site.{Site}
-use Rattle.key_model.specs.Derivation.{Derivation}
-use Rattle.key_model.specs.HandoverTable.{NumberedKey}
-use Rattle.key_model.specs.Reading.{term_reading_by}
-use Rattle.key_model.specs.Term.{Term}
-use Rattle.lte_machine.specs.Wire.{KeyUse, Outgoing}
-use Rattle.lte_machine.specs.Opening.{Opening, Outcome}
-use Rattle.lte_machine.specs.Reply.{Reply}
+use Rattle.lte_events.specs.{declared.events.Event.Event, declared.setups.Setup.Setup, declared.setups.StationSetup.StationSetup, Site.Site}
+use Rattle.key_model.specs.{Derivation.Derivation, HandoverTable.NumberedKey, Reading.term_reading_by, Term.Term}
+use Rattle.lte_machine.specs.{Wire.KeyUse, Wire.Outgoing, Opening.Opening, Opening.Outcome, Reply.Reply, Distinct.keys_of, Distinct.Member, Known.PairKnown, Known.StationKnown, StationState.Station, StationState.StationInput, PhoneState.PhoneInput, CoreState.CoreInput, Run.first_world, Run.stations_of}
 use Rattle.lte_machine.specs.Ladder.{RowOrigin, OfRoot, Of, row_key}
-use Rattle.lte_machine.specs.Distinct.{keys_of, Member}
-use Rattle.lte_machine.specs.Known.{PairKnown, StationKnown}
-use Rattle.lte_machine.specs.StationState.{Station, StationInput}
 use Rattle.lte_machine.specs.StationStep.{station_key, station_opens, station_pdu_in, station_row_of, station_step}
-use Rattle.lte_machine.specs.PhoneState.{PhoneInput}
 use Rattle.lte_machine.specs.PhoneStep.{phone_step, phone_opens, phone_pdu_in}
-use Rattle.lte_machine.specs.CoreState.{CoreInput}
 use Rattle.lte_machine.specs.CoreStep.{core_step, core_opens, core_pdu_in}
-use Rattle.lte_machine.specs.Run.{first_world, stations_of}
 use Rattle.lte_machine.specs.World.{Machine, World, Holder, AtPhone, AtCore, AtStation, Holding, holds, station_after, turn_of, phone_turn, core_turn, by_world, authenticated, next_root, happens}
-use Rattle.lte_machine.proofs.Rows.{member_either}
-use Rattle.lte_machine.proofs.KnownLists.{AllOut, station_more}
-use Rattle.lte_machine.proofs.KnownLadder.{outs_more}
-use Rattle.lte_machine.proofs.KnownStation.{station_does_keeps}
-use Rattle.lte_machine.proofs.Routing.{found_in, happens_each}
-use Rattle.lte_machine.proofs.Worlds.{TheWorld}
-use Rattle.lte_properties.specs.ChainBelow.{AllOf}
-use Rattle.lte_properties.specs.ChainHolds.{machine_by, run}
+use Rattle.lte_machine.proofs.{Rows.member_either, KnownLists.AllOut, KnownLists.station_more, KnownLadder.outs_more, KnownStation.station_does_keeps, Routing.found_in, Routing.happens_each, Worlds.TheWorld}
+use Rattle.lte_properties.specs.{ChainBelow.AllOf, ChainHolds.machine_by, ChainHolds.run}
 use Rattle.lte_properties.specs.Separation.{IsStationOf, HeldBy, WasHeld, AllHeld, OwnHeld}
-use Rattle.lte_properties.proofs.ChainNumbers.Lists.{all_map, all_put}
-use Rattle.lte_properties.proofs.KeySeparation.Attempts.{Numbered, step_numbered}
-use Rattle.lte_properties.proofs.KeySeparation.Keys.{any_before, any_behind}
+use Rattle.lte_properties.proofs.{ChainNumbers.Lists.all_map, ChainNumbers.Lists.all_put, KeySeparation.Attempts.Numbered, KeySeparation.Attempts.step_numbered, KeySeparation.Keys.any_before, KeySeparation.Keys.any_behind}
 
 -- WHAT A STEP GIVES ITS ACTOR
 

@@ -1,32 +1,16 @@
 -- The attempts of a station are numbered apart: its next number rises, and an attempt draws it.
 use Rattle.std.proofs.Common.{◌≡◌, refl, sym, ◌∙◌, subst, ℕ, ◌+◌, ◌≤◌, ◌<◌, ◌==◌, Bool, false, List, [], ◌∷◌, ◌++◌, Option, Some, None, arith}
 use Rattle.std.proofs.lemmas.Bool.Decides.{nat_tests}
-use Rattle.lte_events.specs.declared.acts.StationAct.{StationAct}
-use Rattle.lte_events.specs.declared.events.Event.{Event}
-use Rattle.lte_events.specs.declared.setups.Setup.{Setup}
-use Rattle.lte_events.specs.declared.setups.StationSetup.{StationSetup}
-use Rattle.lte_events.specs.Site.{Site}
-use Rattle.key_model.specs.Term.{Term}
-use Rattle.key_model.specs.Reading.{term_reading_by}
+use Rattle.lte_events.specs.{declared.acts.StationAct.StationAct, declared.events.Event.Event, declared.setups.Setup.Setup, declared.setups.StationSetup.StationSetup, Site.Site}
+use Rattle.key_model.specs.{Term.Term, Reading.term_reading_by}
 use Rattle.s1x2_rec.specs.Fields.{Fields}
-use Rattle.lte_machine.specs.Bearers.{Which}
-use Rattle.lte_machine.specs.Wire.{KeyUse, Outgoing}
-use Rattle.lte_machine.specs.Opening.{Opening, Outcome}
-use Rattle.lte_machine.specs.Reply.{Tried, Reply}
+use Rattle.lte_machine.specs.{Bearers.Which, Wire.KeyUse, Wire.Outgoing, Opening.Opening, Opening.Outcome, Reply.Tried, Reply.Reply, StationKeys.station_does, Run.stations_of, Run.first_world}
 use Rattle.lte_machine.specs.StationState.{Station, StationInput, Interface}
-use Rattle.lte_machine.specs.StationKeys.{station_does}
 use Rattle.lte_machine.specs.StationStep.{station_opens, station_pdu_in, station_row_of, station_key, station_step}
 use Rattle.lte_machine.specs.World.{Machine, World, with_one, station_after, turn_of, happens}
-use Rattle.lte_machine.specs.Run.{stations_of, first_world}
-use Rattle.lte_properties.specs.ChainBelow.{AllOf}
-use Rattle.lte_properties.specs.ChainHolds.{machine_by, run}
-use Rattle.lte_properties.specs.Separation.{AttemptsDiffer}
-use Rattle.lte_machine.proofs.RecordFacts.{RecordHas}
-use Rattle.lte_machine.proofs.AirFacts.{AirHas}
-use Rattle.lte_machine.proofs.StationActFacts.{StationActHas}
+use Rattle.lte_properties.specs.{ChainBelow.AllOf, ChainHolds.machine_by, ChainHolds.run, Separation.AttemptsDiffer}
+use Rattle.lte_machine.proofs.{RecordFacts.RecordHas, AirFacts.AirHas, StationActFacts.StationActHas, Routing.found_in, Routing.happens_each, Worlds.TheWorld}
 use Rattle.lte_machine.proofs.StationCases.{RecordCases, AirCases, ActCases, step_case}
-use Rattle.lte_machine.proofs.Routing.{found_in, happens_each}
-use Rattle.lte_machine.proofs.Worlds.{TheWorld}
 use Rattle.lte_properties.proofs.ChainNumbers.Lists.{OfSome, all_one, all_put}
 
 -- ROWS

@@ -4,38 +4,25 @@ use Rattle.std.specs.Prelude.{⊤}
 use Rattle.alg_choice.specs.declared.caps.Caps.{Caps}
 use Rattle.annex_a_keys.specs.Cell.{Place}
 use Rattle.rec_base.specs.declared.faults.RecFault.{RecFault}
-use Rattle.lte_events.specs.Site.{Site}
-use Rattle.lte_events.specs.declared.acts.CoreAct.{CoreAct}
-use Rattle.lte_events.specs.declared.addresses.Address.TheVariants.{StationS1}
-use Rattle.lte_events.specs.declared.answers.Answer.TheVariants.{BadRecord}
-use Rattle.lte_events.specs.declared.setups.FirstNcc.{FirstNcc}
+use Rattle.lte_events.specs.{Site.Site, declared.acts.CoreAct.CoreAct, declared.addresses.Address.TheVariants.StationS1, declared.answers.Answer.TheVariants.BadRecord, declared.setups.FirstNcc.FirstNcc}
 use Rattle.lte_events.specs.declared.setups.FirstNcc.TheVariants.{One, Two}
 use Rattle.nas_count.specs.Estimate.{nas_count_limit}
 use Rattle.nas_guard.specs.Keys.{Keys}
 use Rattle.key_model.specs.Term.{Term, Kenb, Nh, IsRoot, IsDerivationKey, IsWellFormed}
-use Rattle.key_model.specs.HandoverTable.{NumberedKey}
-use Rattle.key_model.specs.Number.{chain_number}
-use Rattle.key_model.specs.Reading.{term_reading_by}
+use Rattle.key_model.specs.{HandoverTable.NumberedKey, Number.chain_number, Reading.term_reading_by}
 use Rattle.s1x2_rec.specs.Content.{Content}
 use Rattle.s1x2_rec.specs.Fields.{Fields, InitialContext, ContextRelease, PathSwitchAnswer, HandoverRequest, ContextModification}
 use Rattle.nh_chain.specs.Chain.{ChainState, stepped, present_pair}
-use Rattle.lte_machine.specs.Bearers.{skipped}
-use Rattle.lte_machine.specs.Wire.{Outgoing, Between}
-use Rattle.lte_machine.specs.Opening.{Outcome}
+use Rattle.lte_machine.specs.{Bearers.skipped, Wire.Outgoing, Wire.Between, Opening.Outcome, CoreChoice.core_fields_row, CoreChoice.core_act_row, CoreStep.plain_core, CoreStep.core_step, World.with_one}
 use Rattle.lte_machine.specs.Reply.{Reply, Tried, only}
 use Rattle.lte_machine.specs.CoreState.{Core, CorePartial, CoreContext, CoreLink, CoreInput, CoreActs, CoreNasPdu, CoreRecord}
-use Rattle.lte_machine.specs.CoreChoice.{core_fields_row, core_act_row}
-use Rattle.lte_machine.specs.CoreStep.{plain_core, core_step}
 use Rattle.lte_machine.specs.CoreKeys.{nas_sent_to, CoreDone, chain_from, nh_kept, authenticated, smc_complete, service_asked, context_set_up, path_switched, handover_asked, key_changed, new_context}
-use Rattle.lte_machine.specs.World.{with_one}
 use Rattle.lte_machine.proofs.CoreCases.{with_procedure, with_partial, with_context, with_link, NasCases, nas_case, RecordCases, record_case, ActCases, act_case}
-use Rattle.lte_machine.proofs.ActFacts.{ActHas, act_has}
+use Rattle.lte_machine.proofs.{ActFacts.ActHas, ActFacts.act_has, S1Facts.RecordHas, S1Facts.record_has}
 use Rattle.lte_machine.proofs.NasFacts.{NasHas, nas_row, nas_has, opens_above}
-use Rattle.lte_machine.proofs.S1Facts.{RecordHas, record_has}
 use Rattle.lte_properties.specs.Separation.{GivenTo}
-use Rattle.lte_properties.proofs.ChainNumbers.Lists.{OfSome}
+use Rattle.lte_properties.proofs.{ChainNumbers.Lists.OfSome, KeySeparation.Phone.root_derives}
 use Rattle.lte_properties.proofs.KeySeparation.Keys.{Gifts, GivesIn, given_split, FieldsOk, FlyOk, OutsAre}
-use Rattle.lte_properties.proofs.KeySeparation.Phone.{root_derives}
 use Rattle.lte_properties.proofs.KeySeparation.CoreKeeps.{root_number, count_of, BelowPartial, next_count, BelowContext, Past, AtMost, PartialOk, ContextOk, TriggerOk, ChainOk, LinkOk, CoreOk, CoreKept, below_partial_same, past_same}
 
 -- a record that was read: one that asks for a handover is of an attempt

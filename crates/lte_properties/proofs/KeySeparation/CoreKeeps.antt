@@ -5,10 +5,8 @@ use Rattle.lte_events.specs.Site.{Site}
 use Rattle.key_model.specs.Term.{Term, Root, Kenb, Nh, Star, Alg, IsRoot, IsDerivationKey, IsWellFormed}
 use Rattle.key_model.specs.Number.{chain_number}
 use Rattle.nh_chain.specs.Chain.{ChainState}
-use Rattle.lte_machine.specs.Wire.{Outgoing}
-use Rattle.lte_machine.specs.Reply.{Reply, Tried}
+use Rattle.lte_machine.specs.{Wire.Outgoing, Reply.Reply, Reply.Tried, World.with_one}
 use Rattle.lte_machine.specs.CoreState.{Core, CorePartial, CoreContext, CoreLink}
-use Rattle.lte_machine.specs.World.{with_one}
 use Rattle.lte_properties.specs.Separation.{GivenTo}
 use Rattle.lte_properties.proofs.ChainNumbers.Lists.{OfSome}
 use Rattle.lte_properties.proofs.KeySeparation.Keys.{Gifts, GivesIn, FlyOk, OutsAre}

@@ -1,26 +1,13 @@
 -- Separation and holding in every run.
 use Rattle.std.proofs.Common.{ℕ, Bool, List, Option}
-use Rattle.lte_events.specs.declared.events.Event.{Event}
-use Rattle.lte_events.specs.declared.setups.Setup.{Setup}
-use Rattle.key_model.specs.Term.{Term, Root}
-use Rattle.key_model.specs.HandoverTable.{NumberedKey}
+use Rattle.lte_events.specs.{declared.events.Event.Event, declared.setups.Setup.Setup}
+use Rattle.key_model.specs.{Term.Term, Term.Root, HandoverTable.NumberedKey}
 use Rattle.s1x2_rec.specs.Fields.{Fields}
-use Rattle.lte_machine.specs.Ciphers.{Ciphers}
-use Rattle.lte_machine.specs.Opening.{Opening, Outcome}
-use Rattle.lte_machine.specs.Wire.{KeyUse, Outgoing}
-use Rattle.lte_machine.specs.World.{World}
-use Rattle.lte_machine.specs.Machines.{machine_over, opening_by_octets}
-use Rattle.lte_machine.specs.Run.{first_world}
-use Rattle.lte_properties.specs.ChainHolds.{machine_by, run}
-use Rattle.lte_properties.specs.Agreement.{ObeysAgreement}
+use Rattle.lte_machine.specs.{Ciphers.Ciphers, Opening.Opening, Opening.Outcome, Wire.KeyUse, Wire.Outgoing, World.World, Machines.machine_over, Machines.opening_by_octets, Run.first_world}
+use Rattle.lte_properties.specs.{ChainHolds.machine_by, ChainHolds.run, Agreement.ObeysAgreement, SharedKeys.SharedApart}
 use Rattle.lte_properties.specs.Separation.{GivenTo, SeparationHolds, GivingHolds}
-use Rattle.lte_properties.specs.SharedKeys.{SharedApart}
 use Rattle.lte_properties.proofs.KeySeparation.All.{HeldAll, run_held, first_held}
-use Rattle.lte_properties.proofs.KeySeparation.Holders.{HoldersIn, now}
-use Rattle.lte_properties.proofs.KeySeparation.World.{run_holds, first_holds}
-use Rattle.lte_properties.proofs.KeySeparation.Run.{separates, made_from}
-use Rattle.lte_properties.proofs.KeySeparation.Attempts.{run_apart, first_apart}
-use Rattle.lte_properties.proofs.KeySeparation.Shared.{shared_apart}
+use Rattle.lte_properties.proofs.{KeySeparation.Holders.HoldersIn, KeySeparation.Holders.now, KeySeparation.World.run_holds, KeySeparation.World.first_holds, KeySeparation.Run.separates, KeySeparation.Run.made_from, KeySeparation.Attempts.run_apart, KeySeparation.Attempts.first_apart, KeySeparation.Shared.shared_apart}
 
 -- of any machine over terms whose roots are numbered, with any opener
 module _ (same : Term → Term → Bool) (octets : Outgoing Term ℕ → List ℕ)

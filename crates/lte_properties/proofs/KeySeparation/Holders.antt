@@ -1,39 +1,23 @@
 -- The keys of each actor, of what is in flight and of what anybody held; and what a step of an actor adds to them.
 use Rattle.std.proofs.Common.{◌≡◌, refl, sym, ◌∙◌, subst, ℕ, ◌⊎◌, inl, inr, Bool, List, [], ◌∷◌, Option, Some, None, Err}
-use Rattle.rec_base.specs.declared.faults.RecFault.{RecFault}
-use Rattle.rec_base.specs.declared.bearers.Bearer.{Bearer}
-use Rattle.lte_events.specs.declared.acts.StationAct.{StationAct}
-use Rattle.lte_events.specs.declared.addresses.Address.{Address}
-use Rattle.lte_events.specs.declared.addresses.Address.TheVariants.{StationS1}
-use Rattle.lte_events.specs.declared.answers.Answer.TheVariants.{BadRecord}
-use Rattle.lte_events.specs.Site.{Site}
-use Rattle.key_model.specs.Term.{Term}
-use Rattle.key_model.specs.HandoverTable.{NumberedKey}
-use Rattle.key_model.specs.Reading.{Reading, term_reading_by}
+use Rattle.rec_base.specs.{declared.faults.RecFault.RecFault, declared.bearers.Bearer.Bearer}
+use Rattle.lte_events.specs.{declared.acts.StationAct.StationAct, declared.addresses.Address.Address, declared.addresses.Address.TheVariants.StationS1, declared.answers.Answer.TheVariants.BadRecord, Site.Site}
+use Rattle.key_model.specs.{Term.Term, HandoverTable.NumberedKey, Reading.Reading, Reading.term_reading_by}
 use Rattle.s1x2_rec.specs.Fields.{Fields}
-use Rattle.lte_machine.specs.Bearers.{which}
+use Rattle.lte_machine.specs.{Bearers.which, Opening.Outcome, StationStep.plain_station, StationStep.station_step, CoreState.Core, Machines.content_of}
 use Rattle.lte_machine.specs.Wire.{Outgoing, Between, address_of}
-use Rattle.lte_machine.specs.Opening.{Outcome}
 use Rattle.lte_machine.specs.Reply.{Tried, Reply, unseen}
 use Rattle.lte_machine.specs.StationState.{Station, StationActs, AirPdu, StationRecord, Interface, OnS1, OnX2, map_read}
 use Rattle.lte_machine.specs.StationRows.{RecordRow, RecordRefused, ContextGiven, PairTaken, PreparedByS1, PreparedByX2, KeyRenewed}
 use Rattle.lte_machine.specs.StationChoice.{record_row, air_front, air_row, act_row}
-use Rattle.lte_machine.specs.StationStep.{plain_station, station_step}
-use Rattle.lte_machine.specs.CoreState.{Core}
 use Rattle.lte_machine.specs.World.{World, with_one, next_root}
-use Rattle.lte_machine.specs.Machines.{content_of}
 use Rattle.lte_properties.specs.ChainBelow.{AllOf}
 use Rattle.lte_properties.specs.Separation.{AnyOf, Gives, GivenTo}
-use Rattle.lte_machine.proofs.RecordFacts.{RecordHas, record_has}
-use Rattle.lte_machine.proofs.StationActFacts.{station_act_has}
-use Rattle.lte_machine.proofs.Routing.{address_on}
-use Rattle.lte_machine.proofs.PhoneGives.{NotBetween}
-use Rattle.lte_properties.proofs.ChainNumbers.Lists.{OfSome, all_map}
+use Rattle.lte_machine.proofs.{RecordFacts.RecordHas, RecordFacts.record_has, StationActFacts.station_act_has, Routing.address_on, PhoneGives.NotBetween}
+use Rattle.lte_properties.proofs.{ChainNumbers.Lists.OfSome, ChainNumbers.Lists.all_map, KeySeparation.Phone.PhoneOk, KeySeparation.CoreKeeps.CoreOk}
 use Rattle.lte_properties.proofs.KeySeparation.Keys.{Gifts, GivesIn, given_split, May, MayHold, may_hold, StationOk, OwnCell, TriedOk, KeyGoes, FieldsOk, FlyOk, MadeOk, HoldOk, OwnPlace}
 use Rattle.lte_properties.proofs.KeySeparation.Station.{StationKept, RecordNeeds, record_kept, air_kept, act_kept}
-use Rattle.lte_properties.proofs.KeySeparation.Phone.{PhoneOk}
 use Rattle.lte_properties.proofs.KeySeparation.CoreKeeps as core
-use Rattle.lte_properties.proofs.KeySeparation.CoreKeeps.{CoreOk}
 use Rattle.annex_a_keys.specs.Cell.{Place}
 
 -- THE INVARIANT

@@ -2,18 +2,14 @@
 use Rattle.std.proofs.Common.{◌≡◌, subst, ℕ, ◌⊎◌, inl, inr, List, [], ◌∷◌, ◌++◌, map, Option, Some, None}
 use Rattle.std.specs.Prelude.{⊤}
 use Rattle.annex_a_keys.specs.Cell.{Place}
-use Rattle.lte_events.specs.declared.addresses.Address.{Address}
+use Rattle.lte_events.specs.{declared.addresses.Address.Address, Site.Site, Site.station_of}
 use Rattle.lte_events.specs.declared.addresses.Address.TheVariants.{StationS1, StationX2}
-use Rattle.lte_events.specs.Site.{Site, station_of}
 use Rattle.key_model.specs.Term.{Term, Root, Kenb, Nh, Star, Alg, IsRoot, IsDerivationKey, IsWellFormed}
-use Rattle.key_model.specs.Derivation.{Derivation}
-use Rattle.key_model.specs.HandoverTable.{NumberedKey}
+use Rattle.key_model.specs.{Derivation.Derivation, HandoverTable.NumberedKey}
 use Rattle.s1x2_rec.specs.Fields.{Fields, InitialContext, HandoverRequired, HandoverRequest, X2Request}
 use Rattle.ho_prep.specs.Prep.{Prep}
-use Rattle.lte_machine.specs.Wire.{Outgoing, Between}
+use Rattle.lte_machine.specs.{Wire.Outgoing, Wire.Between, StationState.Station, StationState.Context, StationKeys.spent_in}
 use Rattle.lte_machine.specs.Reply.{Made, Tried, From, BySetup, ByAttempt, ByChange, Handover, BySource, ByTarget}
-use Rattle.lte_machine.specs.StationState.{Station, Context}
-use Rattle.lte_machine.specs.StationKeys.{spent_in}
 use Rattle.lte_machine.specs.World.{Holder, AtPhone, AtCore, AtStation, Holding, with_one, holds}
 use Rattle.lte_properties.specs.ChainBelow.{AllOf}
 use Rattle.lte_properties.specs.Separation.{AnyOf, Gives, GivenTo}

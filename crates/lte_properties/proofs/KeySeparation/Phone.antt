@@ -3,20 +3,15 @@ use Rattle.std.proofs.Common.{ℕ, zero, suc, Bool, List, Option, Some, None}
 use Rattle.std.specs.Prelude.{⊤}
 use Rattle.annex_a_keys.specs.Cell.{Place}
 use Rattle.key_model.specs.Term.{Term, Root, IsRoot, IsDerivationKey, IsWellFormed}
-use Rattle.key_model.specs.Derivation.{Derivation}
-use Rattle.key_model.specs.Reading.{term_reading_by}
-use Rattle.key_model.specs.HandoverLines.{nh_after, key_after}
-use Rattle.nh_chain.specs.Chain.{ChainState, nhs_made}
-use Rattle.nh_chain.specs.Reach.{phone_of, base_after}
-use Rattle.lte_machine.specs.Wire.{Outgoing, Between}
-use Rattle.lte_machine.specs.Reply.{Reply, Tried}
+use Rattle.key_model.specs.{Derivation.Derivation, Reading.term_reading_by, HandoverLines.nh_after, HandoverLines.key_after}
+use Rattle.nh_chain.specs.{Chain.ChainState, Chain.nhs_made, Reach.phone_of, Reach.base_after}
+use Rattle.lte_machine.specs.{Wire.Outgoing, Wire.Between, Reply.Reply, Reply.Tried}
 use Rattle.lte_events.specs.Site.{Site}
 use Rattle.lte_machine.specs.PhoneState.{Radio, Idle, Connecting, Connected, Phone}
 use Rattle.lte_machine.specs.PhoneRows.{AuthRow, Authenticated, PhoneRow, OfAuth, OfNas, OfAir, OfAct}
 use Rattle.lte_machine.specs.PhoneKeys.{PhoneDone, auth_does, phone_does}
 use Rattle.lte_machine.proofs.PhoneCases.{NasCases, nas_case, AirCases, air_case, ActCases, act_case}
-use Rattle.lte_machine.proofs.Tests.{Anything}
-use Rattle.lte_machine.proofs.PhoneGives.{NotBetween}
+use Rattle.lte_machine.proofs.{Tests.Anything, PhoneGives.NotBetween}
 use Rattle.lte_properties.proofs.ChainNumbers.Lists.{OfSome, all_append}
 use Rattle.lte_properties.proofs.KeySeparation.Keys.{Gifts, FlyOk, OutsAre}
 

@@ -4,18 +4,15 @@ use Rattle.std.specs.Prelude.{⊤}
 use Rattle.annex_a_keys.specs.Cell.{Place}
 use Rattle.lte_events.specs.Site.{Site, station_of}
 use Rattle.key_model.specs.Term.{Term, Root, Star, IsWellFormed}
-use Rattle.key_model.specs.Chain.{nh}
-use Rattle.key_model.specs.Derivable.{Derivable, HasNoRoot}
+use Rattle.key_model.specs.{Chain.nh, Derivable.Derivable, Derivable.HasNoRoot}
 use Rattle.key_model.proofs.DerivableFacts.{star_held, derivable_is}
 use Rattle.lte_machine.specs.Wire.{Outgoing}
 use Rattle.lte_machine.specs.Reply.{Made, Tried, From, BySetup, ByAttempt, ByChange, Handover, BySource, ByTarget}
 use Rattle.lte_machine.specs.World.{World, Holder, AtPhone, AtCore, AtStation}
 use Rattle.lte_properties.specs.ChainBelow.{AllOf}
 use Rattle.lte_properties.specs.Separation.{IsStationOf, HeldBy, GivenTo, HasNeither, Those, AllBut, AllWellFormed, Separates, GivenAt, MadeAsGiven}
-use Rattle.lte_properties.proofs.ChainNumbers.Lists.{all_map}
+use Rattle.lte_properties.proofs.{ChainNumbers.Lists.all_map, KeySeparation.All.HeldAll, KeySeparation.Holders.HoldersIn}
 use Rattle.lte_properties.proofs.KeySeparation.Keys.{any_with, any_out, Gifts, MayHold, may_hold_well, BaseGiven, TriedOk, MadeBy, MadeFrom, MadeOk, HolderMay, HoldOk}
-use Rattle.lte_properties.proofs.KeySeparation.All.{HeldAll}
-use Rattle.lte_properties.proofs.KeySeparation.Holders.{HoldersIn}
 
 -- a key of a chain that a station may hold was given to it
 chain_given : (G : Gifts) (sites : List Site) (id : ℕ) (r : ℕ) (octets : List ℕ) (n i : ℕ)

@@ -3,20 +3,17 @@ use Rattle.std.proofs.Common.{◌≡◌, sym, ◌∙◌, subst, ℕ, ◌<◌, �
 use Rattle.std.proofs.lemmas.Bool.Decides.{nat_tests}
 use Rattle.annex_a_keys.specs.Cell.{Place}
 use Rattle.lte_events.specs.Site.{Site, station_of}
-use Rattle.key_model.specs.Derivable.{Derivable}
+use Rattle.key_model.specs.{Derivable.Derivable, Chain.nh}
 use Rattle.key_model.specs.Term.{Term, Root, Star}
-use Rattle.key_model.specs.Chain.{nh}
-use Rattle.lte_machine.specs.Wire.{Outgoing}
+use Rattle.lte_machine.specs.{Wire.Outgoing, World.World}
 use Rattle.lte_machine.specs.Reply.{Origin, ByAttempt, ByChange, Made, Came, Secured, Commanded, Changed, Took, Handover, BySource, ByTarget}
-use Rattle.lte_machine.specs.World.{World}
 use Rattle.lte_properties.specs.Agreement.{is_made_at, ahead, Obeys, ObeysMade, ObeysAgreement}
 use Rattle.lte_properties.specs.Separation.{HeldBy, Those, GivenTo, GivenAt}
 use Rattle.lte_properties.specs.SharedKeys.{OutsideCannot, SharedBy, RenewedBy, SharedBetween, SharedAt, SharedApart}
 use Rattle.lte_machine.proofs.Tests.{by_some}
 use Rattle.lte_properties.proofs.ChainNumbers.Lists.{OfSome, all_find, all_map}
 use Rattle.lte_properties.proofs.KeySeparation.Keys.{any_map, OwnCell, MadeFrom, MadeOk}
-use Rattle.lte_properties.proofs.KeySeparation.Run.{neither_derives, as_given}
-use Rattle.lte_properties.proofs.KeySeparation.Holders.{HoldersIn}
+use Rattle.lte_properties.proofs.{KeySeparation.Run.neither_derives, KeySeparation.Run.as_given, KeySeparation.Holders.HoldersIn}
 
 -- made at this station
 at_station : (a b c d : ℕ) → ((a == b) && (c == d)) ≡ true → a ≡ b

@@ -2,24 +2,19 @@
 use Rattle.std.proofs.Common.{◌≡◌, refl, sym, subst, ℕ, List, [], Option, Some, None, option_map}
 use Rattle.std.specs.Prelude.{not, nat_le, Bool, ⊤}
 use Rattle.annex_a_keys.specs.Cell.{Place}
-use Rattle.lte_events.specs.Site.{Site, station_of}
-use Rattle.lte_events.specs.declared.acts.StationAct.{StationAct}
+use Rattle.lte_events.specs.{Site.Site, Site.station_of, declared.acts.StationAct.StationAct}
 use Rattle.key_model.specs.Term.{Term, Kenb, Nh, Star}
-use Rattle.key_model.specs.Derivation.{Derivation}
-use Rattle.key_model.specs.Reading.{term_reading_by}
-use Rattle.key_model.specs.HandoverTable.{NumberedKey}
+use Rattle.key_model.specs.{Derivation.Derivation, Reading.term_reading_by, HandoverTable.NumberedKey}
 use Rattle.nh_chain.specs.Station.{StationKey, pair_after, restored_if, base_of, opened}
 use Rattle.ho_prep.specs.Prep.{Prep, at_air, drop_below, without, is_of, is_at}
-use Rattle.lte_machine.specs.Wire.{Outgoing}
+use Rattle.lte_machine.specs.{Wire.Outgoing, StationState.Station, StationState.Context}
 use Rattle.lte_machine.specs.Reply.{Origin, Made, Tried, Reply, ByAttempt, Handover, BySource, ByTarget}
-use Rattle.lte_machine.specs.StationState.{Station, Context}
 use Rattle.lte_machine.specs.StationRows.{Admitted, RecordRow, ContextGiven, PairTaken, PreparedByS1, PreparedByX2, AirRow, ActRow, KeyRenewed}
 use Rattle.lte_machine.specs.StationKeys.{spent_in, given_up, with_security, with_rrc_taken, with_packet_taken, with_skipped, started_by_x2, started_within, air_does, act_does}
 use Rattle.lte_machine.specs.StationRecords.{with_pair, with_answer, source_release, admitted_made, prepared_by_s1, prepared_by_x2, record_does, key_renewed}
 use Rattle.lte_properties.specs.Separation.{AnyOf}
 use Rattle.lte_machine.proofs.StationCases.{Any, RecordCases, AirCases, ActCases, record_case, air_case, act_case}
-use Rattle.lte_machine.proofs.StationActFacts.{StationActHas}
-use Rattle.lte_machine.proofs.Tests.{changed_so}
+use Rattle.lte_machine.proofs.{StationActFacts.StationActHas, Tests.changed_so}
 use Rattle.lte_properties.proofs.ChainNumbers.Lists.{OfSome, all_append, all_filter, all_find}
 use Rattle.lte_properties.proofs.KeySeparation.Keys.{any_map, any_this, GivesIn, Gifts, May, MayHold, may_star, may_go, OfPairKey, ContextHas, PrepHas, StationHas, BaseGiven, TriedOk, HasTried, IsKenb, OwnCell, FlyOk, MadeBy, MadeOk, OutsAre, OwnPlace}
 

@@ -3,43 +3,27 @@ use Rattle.std.proofs.Common.{◌≡◌, refl, sym, ap, ◌∙◌, subst, ℕ, B
 use Rattle.std.specs.Prelude.{⊤}
 use Rattle.alg_choice.specs.declared.caps.Caps.{Caps}
 use Rattle.rec_base.specs.declared.faults.RecFault.{RecFault}
-use Rattle.lte_events.specs.declared.acts.CoreAct.{CoreAct}
-use Rattle.lte_events.specs.declared.addresses.Address.{Address}
-use Rattle.lte_events.specs.declared.addresses.Address.TheVariants.{CoreS1}
-use Rattle.lte_events.specs.declared.answers.Answer.{Answer}
-use Rattle.lte_events.specs.declared.events.Event.{Event}
-use Rattle.lte_events.specs.declared.setups.Setup.{Setup}
-use Rattle.lte_events.specs.declared.setups.StationSetup.{StationSetup}
-use Rattle.lte_events.specs.Site.{Site}
+use Rattle.lte_events.specs.{declared.acts.CoreAct.CoreAct, declared.addresses.Address.Address, declared.addresses.Address.TheVariants.CoreS1, declared.answers.Answer.Answer, declared.events.Event.Event, declared.setups.Setup.Setup, declared.setups.StationSetup.StationSetup, Site.Site}
 use Rattle.key_model.specs.Term.{Term, Root, IsRoot, IsWellFormed}
 use Rattle.key_model.specs.Reading.{term_reading_by}
 use Rattle.s1x2_rec.specs.Content.{Content}
 use Rattle.lte_machine.specs.Wire.{KeyUse, Outgoing, SealedNas, PlainNas, SealedRrc, UserPacket, Between, address_of}
 use Rattle.lte_machine.specs.Opening.{Opening, Outcome, Opened}
-use Rattle.lte_machine.specs.Reply.{Tried, Reply}
-use Rattle.lte_machine.specs.PhoneState.{Phone as PhoneState, PhoneInput}
-use Rattle.lte_machine.specs.PhoneChoice.{phone_row}
-use Rattle.lte_machine.specs.PhoneRows.{Authenticated, OfAuth}
+use Rattle.lte_machine.specs.{Reply.Tried, Reply.Reply, PhoneState.Phone as PhoneState, PhoneState.PhoneInput, PhoneChoice.phone_row, PhoneRows.Authenticated, PhoneRows.OfAuth, Machines.content_of, Run.stations_of, Run.first_world}
 use Rattle.lte_machine.specs.PhoneStep.{plain_phone, front_of, phone_root, phone_opens, phone_pdu_in, phone_step}
 use Rattle.lte_machine.specs.StationState.{Station, StationInput, StationActs, AirPdu, StationRecord, Interface}
 use Rattle.lte_machine.specs.StationStep.{station_opens, station_pdu_in, station_step}
 use Rattle.lte_machine.specs.CoreState.{Core, CoreInput, CoreAuth, CoreActs, CoreNasPdu, CoreRecord}
 use Rattle.lte_machine.specs.CoreStep.{core_opens, core_pdu_in, core_received, core_step}
 use Rattle.lte_machine.specs.World.{Machine, AtPhone, AtCore, AtStation, with_one, phone_after, core_after, station_after, by_world, phone_turn, core_turn, turn_of, authenticated, next_root, content_in, happens}
-use Rattle.lte_machine.specs.Machines.{content_of}
-use Rattle.lte_machine.specs.Run.{stations_of, first_world}
-use Rattle.lte_properties.specs.ChainBelow.{AllOf}
-use Rattle.lte_properties.specs.ChainHolds.{machine_by, run}
-use Rattle.lte_properties.specs.Separation.{AnyOf, GivenTo}
+use Rattle.lte_properties.specs.{ChainBelow.AllOf, ChainHolds.machine_by, ChainHolds.run, Separation.AnyOf, Separation.GivenTo}
 use Rattle.lte_properties.proofs.ChainNumbers.Lists.{OfSome, all_append, all_one, all_old, all_new, all_put, all_map, roots_kept, one_root_more}
 use Rattle.lte_properties.proofs.KeySeparation.Keys.{Gifts, GivesIn, given_old, given_new, May, MayHold, StationHas, StationOk, TriedOk, KeyGoes, FlyOk, MadeOk, HoldOk, OutsAre, step_held, OwnPlace}
 use Rattle.lte_machine.proofs.Routing.{address_on, IsTurn, no_root, Found, Turns, happens_by, happens_each}
-use Rattle.lte_machine.proofs.PhoneGives.{NotBetween, phone_gives}
-use Rattle.lte_machine.proofs.Worlds.{TheWorld}
+use Rattle.lte_machine.proofs.{PhoneGives.NotBetween, PhoneGives.phone_gives, Worlds.TheWorld}
 use Rattle.lte_properties.proofs.KeySeparation.Phone.{PhoneKept, keyless_flies, phone_kept}
 use Rattle.lte_properties.proofs.KeySeparation.Core as core
-use Rattle.lte_properties.proofs.KeySeparation.CoreKeeps.{CoreOk, CoreKept}
-use Rattle.lte_properties.proofs.KeySeparation.Core.{auth_kept}
+use Rattle.lte_properties.proofs.{KeySeparation.CoreKeeps.CoreOk, KeySeparation.CoreKeeps.CoreKept, KeySeparation.Core.auth_kept}
 use Rattle.lte_properties.proofs.KeySeparation.Holders.{HoldersIn, Within, Holders, now, keyless_gives, once_one, core_stays, StationStepped, act_stepped, air_stepped, unread_stepped, record_stepped}
 
 -- what an event leaves: the invariant, and at most one record more, whose key was never given before

@@ -1,20 +1,14 @@
 -- The core names the stations of its connection, of the record that came, and of its cells alone, in its state and in what it sends.
 use Rattle.std.proofs.Common.{◌≡◌, ℕ, Bool, List, Option, Some, Ok, Err, subst, sym}
 use Rattle.annex_a_keys.specs.Cell.{Place}
-use Rattle.lte_events.specs.Site.{Site, station_of}
-use Rattle.lte_events.specs.declared.acts.CoreAct.{CoreAct}
-use Rattle.key_model.specs.Reading.{Reading, term_reading_by}
-use Rattle.key_model.specs.Term.{Term}
+use Rattle.lte_events.specs.{Site.Site, Site.station_of, declared.acts.CoreAct.CoreAct}
+use Rattle.key_model.specs.{Reading.Reading, Reading.term_reading_by, Term.Term}
 use Rattle.s1x2_rec.specs.Fields.{Fields}
-use Rattle.lte_machine.specs.Opening.{Outcome}
+use Rattle.lte_machine.specs.{Opening.Outcome, CoreChoice.core_fields_row, CoreChoice.core_act_row, CoreKeys.CoreDone, CoreStep.plain_core, CoreStep.core_step}
 use Rattle.lte_machine.specs.CoreState.{Core, CoreLink, CoreInput, CoreAuth, CoreActs, CoreNasPdu, CoreRecord}
-use Rattle.lte_machine.specs.CoreChoice.{core_fields_row, core_act_row}
-use Rattle.lte_machine.specs.CoreKeys.{CoreDone}
-use Rattle.lte_machine.specs.CoreStep.{plain_core, core_step}
 use Rattle.lte_machine.proofs.CoreCases.{NasCases, nas_case, RecordCases, record_case, ActCases, act_case}
-use Rattle.lte_machine.proofs.ActFacts.{ActHas, act_has}
+use Rattle.lte_machine.proofs.{ActFacts.ActHas, ActFacts.act_has, S1Facts.RecordHas, S1Facts.record_has}
 use Rattle.lte_machine.proofs.NasFacts.{NasHas, nas_row, nas_has}
-use Rattle.lte_machine.proofs.S1Facts.{RecordHas, record_has}
 use Rattle.lte_properties.proofs.Named.Facts.{LinkNamed, CoreNamed, FieldsNamed, SentNamed, CoreInputNamed}
 
 module _ (P : ℕ → Type 0) (cells : List Site) (sites : (cell : Place) (id : ℕ) → station_of cell cells ≡ Some id → P id) where

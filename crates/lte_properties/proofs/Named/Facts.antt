@@ -3,16 +3,13 @@ use Rattle.std.proofs.Common.{◌≡◌, ℕ, List, Option, Some, None, option_m
 use Rattle.std.specs.Prelude.{⊤}
 use Rattle.rec_base.specs.declared.faults.RecFault.{RecFault}
 use Rattle.lte_events.specs.Site.{Site}
-use Rattle.ho_prep.specs.declared.origins.By.{By}
-use Rattle.ho_prep.specs.Prep.{Prep}
+use Rattle.ho_prep.specs.{declared.origins.By.By, Prep.Prep}
 use Rattle.s1x2_rec.specs.Content.{Content}
 use Rattle.s1x2_rec.specs.Fields.{Fields, PathSwitchRequest, HandoverRequired, HandoverRequest, HandoverRequestAck, HandoverNotify, X2Request}
-use Rattle.lte_machine.specs.Reply.{Origin}
-use Rattle.lte_machine.specs.Wire.{Outgoing, Between}
+use Rattle.lte_machine.specs.{Reply.Origin, Wire.Outgoing, Wire.Between}
 use Rattle.lte_machine.specs.StationState.{Station, Context, Via, OverX2, Attempt, StationInput, StationRecord}
 use Rattle.lte_machine.specs.CoreState.{Core, CoreLink, CoreInput, CoreRecord}
-use Rattle.lte_properties.specs.ChainBelow.{AllOf}
-use Rattle.lte_properties.specs.Reach.{IsAmong}
+use Rattle.lte_properties.specs.{ChainBelow.AllOf, Reach.IsAmong}
 
 -- by whatever says that a station is one of them
 module _ (P : ℕ → Type 0) where

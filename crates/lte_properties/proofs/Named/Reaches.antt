@@ -7,25 +7,16 @@ use Rattle.std.proofs.lemmas.List.Elements.{recursion_from_All}
 use Rattle.alg_choice.specs.declared.caps.Caps.{Caps}
 use Rattle.annex_a_keys.specs.Cell.{Place}
 use Rattle.lte_events.specs.Ranges.{has_station, TakesInjected, IsSiteOf, IsSetup}
-use Rattle.lte_events.specs.Scenario.{IsThere, CanHappen}
-use Rattle.lte_events.specs.declared.addresses.Address.{Address}
-use Rattle.lte_events.specs.declared.events.Event.{Event}
-use Rattle.lte_events.specs.declared.setups.Setup.{Setup}
-use Rattle.lte_events.specs.declared.setups.StationSetup.{StationSetup}
+use Rattle.lte_events.specs.{Scenario.IsThere, Scenario.CanHappen, declared.addresses.Address.Address, declared.events.Event.Event, declared.setups.Setup.Setup, declared.setups.StationSetup.StationSetup, Class.class_of}
 use Rattle.lte_events.specs.Site.{Site, is_site, station_of}
 use Rattle.key_model.specs.Term.{Term}
-use Rattle.lte_machine.specs.Opening.{Opening, Outcome}
-use Rattle.lte_machine.specs.Run.{stations_of, first_world}
+use Rattle.lte_machine.specs.{Opening.Opening, Opening.Outcome, Run.stations_of, Run.first_world}
 use Rattle.lte_machine.specs.StationState.{Station, StationInput, StationActs, AirPdu, StationRecord, OnS1, OnX2}
 use Rattle.lte_machine.specs.Wire.{KeyUse, Outgoing, address_of}
-use Rattle.lte_events.specs.Class.{class_of}
 use Rattle.lte_machine.specs.World.{Machine, World, station_of_id, turn_of, station_turn, auth_unless, known_root, next_root, content_in, arrives, record_at, delivery, is_sent, injected, happens}
-use Rattle.lte_properties.specs.ChainBelow.{AllOf}
-use Rattle.lte_properties.specs.ChainHolds.{machine_by}
+use Rattle.lte_properties.specs.{ChainBelow.AllOf, ChainHolds.machine_by}
 use Rattle.lte_properties.specs.Reach.{IsAmong, AllReach, ReachesActor}
-use Rattle.lte_properties.proofs.ChainNumbers.Lists.{OfSome, all_chosen}
-use Rattle.lte_properties.proofs.Named.Facts.{StationNamed}
-use Rattle.lte_properties.proofs.Named.World.{AllNamed}
+use Rattle.lte_properties.proofs.{ChainNumbers.Lists.OfSome, ChainNumbers.Lists.all_chosen, Named.Facts.StationNamed, Named.World.AllNamed}
 
 abbrev Has : Setup → ℕ → Type 0
 Has setup id = IsTrue (has_station setup.stations id)

@@ -2,29 +2,22 @@
 use Rattle.std.proofs.Common.{◌≡◌, refl, sym, subst, ℕ, Bool, true, List, [], ◌∷◌, ◌++◌, Option, Some, None, option_map, Ok, Err}
 use Rattle.std.specs.Prelude.{filter, not, nat_le, ⊤}
 use Rattle.annex_a_keys.specs.Cell.{Place}
-use Rattle.key_model.specs.Reading.{Reading, term_reading_by}
-use Rattle.key_model.specs.Term.{Term}
-use Rattle.s1x2_rec.specs.Content.{map_content}
-use Rattle.s1x2_rec.specs.Fields.{Fields}
+use Rattle.key_model.specs.{Reading.Reading, Reading.term_reading_by, Term.Term}
+use Rattle.s1x2_rec.specs.{Content.map_content, Fields.Fields}
 use Rattle.ho_prep.specs.declared.origins.By.{By}
 use Rattle.ho_prep.specs.Prep.{Prep, at_air, is_of, is_at}
-use Rattle.lte_events.specs.declared.acts.StationAct.{StationAct}
-use Rattle.lte_machine.specs.Bearers.{Which, which}
-use Rattle.lte_machine.specs.Opening.{Outcome}
+use Rattle.lte_events.specs.{declared.acts.StationAct.StationAct, Site.Site, Site.station_of}
+use Rattle.lte_machine.specs.{Bearers.Which, Bearers.which, Opening.Outcome, StationRows.Admitted, StationStep.plain_station, StationStep.station_step}
 use Rattle.lte_machine.specs.Reply.{Origin, Reply, unseen, Made}
 use Rattle.lte_machine.specs.StationState.{Station, Context, Interface, StationInput, StationActs, AirPdu, StationRecord}
-use Rattle.lte_machine.specs.StationRows.{Admitted}
 use Rattle.lte_machine.specs.StationKeys.{given_up, with_security, with_rrc_taken, with_packet_taken, with_skipped}
 use Rattle.lte_machine.specs.StationRecords.{with_pair, with_answer, source_release}
-use Rattle.lte_machine.specs.StationStep.{plain_station, station_step}
 use Rattle.lte_machine.specs.StationChoice.{record_row, air_front, air_row, act_row}
-use Rattle.lte_events.specs.Site.{Site, station_of}
 use Rattle.lte_properties.specs.ChainBelow.{AllOf}
 use Rattle.lte_properties.proofs.ChainNumbers.Lists.{OfSome, all_append, all_filter, all_find}
 use Rattle.lte_properties.proofs.Named.Facts.{OriginNamed, ByNamed, PrepNamed, TargetNamed, AttemptNamed, ContextNamed, StationNamed, FieldsNamed, SentNamed, InputNamed}
-use Rattle.lte_machine.proofs.Tests.{changed_so}
+use Rattle.lte_machine.proofs.{Tests.changed_so, RecordFacts.RecordHas, RecordFacts.record_has}
 use Rattle.lte_machine.proofs.StationCases.{RecordCases, AirCases, ActCases, record_case, air_case, act_case}
-use Rattle.lte_machine.proofs.RecordFacts.{RecordHas, record_has}
 use Rattle.lte_machine.proofs.AirFacts.{AtPrepared, AirHas, air_has}
 use Rattle.lte_machine.proofs.StationActFacts.{CancelsX2, StationActHas, station_act_has}
 

@@ -2,36 +2,22 @@
 use Rattle.std.proofs.Common.{◌≡◌, subst, ℕ, Bool, List, [], ◌∷◌, Option, Some, None}
 use Rattle.annex_a_keys.specs.Cell.{Place}
 use Rattle.rec_base.specs.declared.uses.Dir.TheVariants.{Up, Down}
-use Rattle.lte_events.specs.declared.events.Event.{Event}
-use Rattle.lte_events.specs.Site.{Site, station_of}
+use Rattle.lte_events.specs.{declared.events.Event.Event, Site.Site, Site.station_of}
 use Rattle.key_model.specs.Term.{Term}
 use Rattle.lte_machine.specs.CoreState.{CoreInput, CoreAuth, CoreActs, CoreNasPdu, CoreRecord}
 use Rattle.lte_machine.specs.CoreStep.{core_opens, core_pdu_in, core_step}
-use Rattle.lte_machine.specs.Machines.{content_of}
+use Rattle.lte_machine.specs.{Machines.content_of, PhoneChoice.phone_row, PhoneState.PhoneInput, Reply.Made, Run.run}
 use Rattle.lte_machine.specs.Opening.{Opening, Outcome, Opened}
-use Rattle.lte_machine.specs.PhoneChoice.{phone_row}
-use Rattle.lte_machine.specs.PhoneState.{PhoneInput}
 use Rattle.lte_machine.specs.PhoneStep.{plain_phone, front_of, phone_root, phone_opens, phone_pdu_in, phone_step}
-use Rattle.lte_machine.specs.Reply.{Made}
-use Rattle.lte_machine.specs.Run.{run}
 use Rattle.lte_machine.specs.StationState.{Station, StationInput, StationActs, AirPdu, StationRecord}
 use Rattle.lte_machine.specs.StationStep.{station_opens, station_pdu_in, station_step}
 use Rattle.lte_machine.specs.Wire.{KeyUse, Outgoing, SealedNas, PlainNas, SealedRrc, UserPacket, Between, address_of}
 use Rattle.lte_machine.specs.World.{Machine, World, phone_turn, core_turn, turn_of, next_root, content_in, happens}
-use Rattle.lte_machine.proofs.Routing.{Turns, happens_by}
-use Rattle.lte_properties.specs.Agreement.{is_made_at, made_at}
-use Rattle.lte_properties.specs.ChainBelow.{AllOf}
-use Rattle.lte_properties.specs.Reach.{IsAmong}
-use Rattle.lte_properties.specs.ChainHolds.{machine_by}
+use Rattle.lte_machine.proofs.{Routing.Turns, Routing.happens_by, PhoneGives.NotBetween, PhoneGives.phone_gives}
+use Rattle.lte_properties.specs.{Agreement.is_made_at, Agreement.made_at, ChainBelow.AllOf, Reach.IsAmong, ChainHolds.machine_by}
 use Rattle.lte_properties.proofs.ChainNumbers.Lists.{OfSome, all_one, all_put}
-use Rattle.lte_properties.proofs.Agreement.Ghost.{SentOk}
-use Rattle.lte_properties.proofs.Agreement.ToldIsFound.{all_found, made_there}
-use Rattle.lte_properties.proofs.Agreement.World.{Conns, ghost}
-use Rattle.lte_properties.proofs.Opening.Air.{AirOk}
+use Rattle.lte_properties.proofs.{Agreement.Ghost.SentOk, Agreement.ToldIsFound.all_found, Agreement.ToldIsFound.made_there, Agreement.World.Conns, Agreement.World.ghost, Opening.Air.AirOk, Named.Station.MadeNamed, Named.Station.station_step_named, Named.Core.core_step_named}
 use Rattle.lte_properties.proofs.Named.Facts.{StationNamed, CoreNamed, RecordNamed, SentNamed, ReadNamed, InputNamed, CoreInputNamed}
-use Rattle.lte_properties.proofs.Named.Station.{MadeNamed, station_step_named}
-use Rattle.lte_properties.proofs.Named.Core.{core_step_named}
-use Rattle.lte_machine.proofs.PhoneGives.{NotBetween, phone_gives}
 
 module _ (P : ℕ → Type 0) (cells : List Site) (sites : (cell : Place) (id : ℕ) → station_of cell cells ≡ Some id → P id) where
   pub record AllNamed (w : World Term ℕ (Outgoing Term ℕ)) : Type 0 where

@@ -2,16 +2,11 @@
 use Rattle.std.proofs.Common.{◌≡◌, ℕ, ◌≤◌, ◌<◌, Bool, List, length, drop, Option, Some, None, refl, ap, sym, subst, ◌∙◌, arith}
 use Rattle.std.specs.Prelude.{⊤, slice_index}
 use Rattle.rec_base.specs.declared.uses.Dir.{Dir}
-use Rattle.lte_events.specs.Ranges.{IsPhoneAct}
-use Rattle.lte_events.specs.declared.acts.PhoneAct.{PhoneAct}
-use Rattle.key_model.specs.HandoverTable.{NumberedKey}
-use Rattle.key_model.specs.Term.{Term}
-use Rattle.key_model.specs.Reading.{Reading, term_reading_by}
-use Rattle.pdcp_guard.specs.Counts.{count_limit}
-use Rattle.pdcp_guard.specs.AsKeys.{AsKeys}
-use Rattle.rrc_rec.specs.declared.records.RrcRecord.{RrcRecord}
+use Rattle.lte_events.specs.{Ranges.IsPhoneAct, declared.acts.PhoneAct.PhoneAct}
+use Rattle.key_model.specs.{HandoverTable.NumberedKey, Term.Term, Reading.Reading, Reading.term_reading_by}
+use Rattle.pdcp_guard.specs.{Counts.count_limit, AsKeys.AsKeys}
+use Rattle.rrc_rec.specs.{declared.records.RrcRecord.RrcRecord, Spelling.spelling_of}
 use Rattle.rrc_rec.specs.declared.records.RrcRecord.TheVariants.{SecurityModeCommand, SecurityModeComplete, Reconfiguration, ReconfigurationComplete, RrcData, KeyChange}
-use Rattle.rrc_rec.specs.Spelling.{spelling_of}
 use Rattle.lte_machine.proofs.PhoneCases as at_phone
 use Rattle.lte_machine.proofs.StationCases.{Any, record_case, air_case, act_case}
 use Rattle.lte_machine.specs.Bearers.{Srb, Drb, srb_counts, drb_counts}
@@ -19,23 +14,18 @@ use Rattle.lte_machine.specs.Wire.{KeyUse, Ciphering, Outgoing, SealedNas, Seale
 use Rattle.lte_machine.specs.Reply.{Origin, Made, Reply}
 use Rattle.lte_machine.specs.PhoneState.{Radio, Idle, Connecting, Connected, Phone}
 use Rattle.lte_machine.specs.PhoneRows as phone
-use Rattle.lte_machine.specs.PhoneRows.{PhoneRow}
+use Rattle.lte_machine.specs.{PhoneRows.PhoneRow, PhoneKeys.PhoneDone, PhoneKeys.phone_does, StationRecords.order_record, StationRows.StationRow, StationKeys.station_does}
 use Rattle.lte_machine.specs.PhoneKeys as phone_keys
-use Rattle.lte_machine.specs.PhoneKeys.{PhoneDone, phone_does}
 use Rattle.lte_machine.specs.StationState.{Station, Context, Via, Renewing}
 use Rattle.x2_handover.specs.declared.orders.Order.{Order}
-use Rattle.lte_machine.specs.StationRecords.{order_record}
 use Rattle.lte_machine.specs.StationRows as station
-use Rattle.lte_machine.specs.StationRows.{StationRow}
 use Rattle.lte_machine.specs.StationRecords as station_records
-use Rattle.lte_machine.specs.StationKeys.{station_does}
 use Rattle.lte_machine.proofs.PhoneActFacts.{SendsPacket, SendsRrc, ByAct}
 use Rattle.lte_machine.proofs.Tests.{Anything, above_of}
 use Rattle.lte_properties.specs.Agreement.{made_at}
 use Rattle.lte_properties.proofs.Agreement.Ghost.{Ghost, keys_of, FromIs, RadioOk, CtxOk}
 use Rattle.lte_properties.proofs.Agreement.Later.{Later, same_found, from_later}
-use Rattle.lte_properties.proofs.Agreement.Holds.{one_here}
-use Rattle.lte_properties.proofs.Opening.Delivered.{RrcUnder, PacketUnder}
+use Rattle.lte_properties.proofs.{Agreement.Holds.one_here, Opening.Delivered.RrcUnder, Opening.Delivered.PacketUnder}
 
 -- these are the AS keys of what the phone takes at a station and air address, for the algorithms of what was made there
 abbrev pub KeysAre : Ghost → ℕ → ℕ → AsKeys Term → Type 0

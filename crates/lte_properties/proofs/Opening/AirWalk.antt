@@ -1,18 +1,12 @@
 -- What the choice of an act's row of a station established: where data are sent on the air, a COUNT is left.
 use Rattle.std.proofs.Common.{ℕ, ◌<◌, sym, subst}
-use Rattle.lte_events.specs.Ranges.{IsStationAct}
-use Rattle.lte_events.specs.declared.acts.StationAct.{StationAct}
+use Rattle.lte_events.specs.{Ranges.IsStationAct, declared.acts.StationAct.StationAct}
 use Rattle.lte_events.specs.declared.acts.StationAct as station_acts
-use Rattle.key_model.specs.Term.{Term}
-use Rattle.key_model.specs.Reading.{Reading}
+use Rattle.key_model.specs.{Term.Term, Reading.Reading}
 use Rattle.pdcp_guard.specs.Counts.{count_limit}
-use Rattle.lte_machine.specs.Bearers.{srb_counts, drb_counts}
-use Rattle.lte_machine.specs.StationState.{Station}
+use Rattle.lte_machine.specs.{Bearers.srb_counts, Bearers.drb_counts, StationState.Station, StationChoice.act_row, StationStep.plain_station}
 use Rattle.lte_machine.specs.StationRows as station
-use Rattle.lte_machine.specs.StationChoice.{act_row}
-use Rattle.lte_machine.specs.StationStep.{plain_station}
-use Rattle.lte_machine.proofs.StationActFacts.{StationActHas, station_act_has}
-use Rattle.lte_machine.proofs.Tests.{above_of}
+use Rattle.lte_machine.proofs.{StationActFacts.StationActHas, StationActFacts.station_act_has, Tests.above_of}
 use Rattle.lte_properties.proofs.Opening.Air.{SendNeeds}
 
 module _ (r : Reading Term ℕ) (s : Station Term ℕ) (act : StationAct) where

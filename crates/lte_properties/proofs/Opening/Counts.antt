@@ -1,25 +1,18 @@
 -- The COUNT that a receiver takes of what was sent in its window is the COUNT that was sent.
 use Rattle.std.proofs.Common.{◌≡◌, ℕ, ◌+◌, ◌*◌, ◌/◌, ◌%◌, ◌<◌, ◌≤◌, nat_lt, true, false, List, [], ◌∷◌, ◌++◌, length, Option, Some, None, Result, Ok, Err, refl, ap, ◌∙◌, arith, mod-lt}
 use Rattle.std.specs.Prelude.{◌==◌}
-use Rattle.std.proofs.lemmas.Bool.Decides.{nat_tests}
-use Rattle.std.proofs.lemmas.List.{length-append}
-use Rattle.std.proofs.Math.Nat.{mod-mod}
-use Rattle.key_model.specs.Least.{least}
+use Rattle.std.proofs.{lemmas.Bool.Decides.nat_tests, lemmas.List.length-append, Math.Nat.mod-mod}
+use Rattle.key_model.specs.{Least.least, Term.Term}
 use Rattle.key_model.proofs.LeastFacts.{least_in_window}
-use Rattle.key_model.specs.Term.{Term}
 use Rattle.nas_count.specs.Estimate.{estimate_of, nas_count_limit}
 use Rattle.nas_guard.specs.Seal.{first_octet}
 use Rattle.nas_guard.specs.Open.{sn_in, sent_in, first_in}
-use Rattle.pdcp_guard.specs.Counts.{count_limit, in_32_bits}
-use Rattle.pdcp_guard.specs.Srb.{srb_count}
+use Rattle.pdcp_guard.specs.{Counts.count_limit, Counts.in_32_bits, Srb.srb_count}
 use Rattle.pdcp_guard.specs.Drb.{drb_count, drb_first_octet, drb_second_octet}
 use Rattle.pdcp_guard.proofs.CountFacts.{in_32_bits-below}
-use Rattle.lte_events.specs.declared.answers.Answer.{Answer}
-use Rattle.lte_events.specs.declared.answers.Answer.TheVariants.{BadHeader}
-use Rattle.lte_machine.specs.Wire.{KeyUse, Ciphering}
+use Rattle.lte_events.specs.{declared.answers.Answer.Answer, declared.answers.Answer.TheVariants.BadHeader}
+use Rattle.lte_machine.specs.{Wire.KeyUse, Wire.Ciphering, PhoneChoice.header_for_phone, PhoneChoice.is_for_phone, CoreChoice.core_header, CoreChoice.core_takes}
 use Rattle.lte_machine.specs.Ciphers.{Ciphers, ciphered_by, nas_octets, srb_octets, drb_octets}
-use Rattle.lte_machine.specs.PhoneChoice.{header_for_phone, is_for_phone}
-use Rattle.lte_machine.specs.CoreChoice.{core_header, core_takes}
 use Rattle.lte_properties.specs.Packets.{InWindow}
 use Rattle.lte_machine.proofs.CipherLaws.{AreCiphers}
 

@@ -2,21 +2,14 @@
 use Rattle.std.proofs.Common.{◌≡◌, ℕ, ◌+◌, ◌*◌, ◌≤◌, ◌<◌, Bool, List, length, Option, Some, None, refl, ap, sym, ◌∙◌, subst}
 use Rattle.std.specs.Prelude.{⊤}
 use Rattle.rec_base.specs.declared.uses.Dir.TheVariants.{Up, Down}
-use Rattle.lte_events.specs.declared.addresses.Address.{Address}
-use Rattle.lte_events.specs.declared.answers.Answer.TheVariants.{Done}
-use Rattle.key_model.specs.HandoverTable.{NumberedKey}
-use Rattle.key_model.specs.Term.{Term}
+use Rattle.lte_events.specs.{declared.addresses.Address.Address, declared.answers.Answer.TheVariants.Done}
+use Rattle.key_model.specs.{HandoverTable.NumberedKey, Term.Term}
 use Rattle.nas_count.specs.Estimate.{nas_count_limit}
-use Rattle.nas_rec.specs.declared.records.NasRecord.TheVariants.{NasData}
-use Rattle.nas_rec.specs.Spelling.{spelling_of as nas_spelling}
-use Rattle.nas_rec.specs.Reading.{read_nas}
+use Rattle.nas_rec.specs.{declared.records.NasRecord.TheVariants.NasData, Spelling.spelling_of as nas_spelling, Reading.read_nas}
 use Rattle.nas_rec.proofs.Laws.{spelled_is_read as nas_is_read}
-use Rattle.rrc_rec.specs.declared.records.RrcRecord.TheVariants.{RrcData}
-use Rattle.rrc_rec.specs.Spelling.{spelling_of as rrc_spelling}
-use Rattle.rrc_rec.specs.Reading.{read_rrc}
+use Rattle.rrc_rec.specs.{declared.records.RrcRecord.TheVariants.RrcData, Spelling.spelling_of as rrc_spelling, Reading.read_rrc}
 use Rattle.rrc_rec.proofs.Laws.{spelled_is_read as rrc_is_read}
-use Rattle.pdcp_guard.specs.Counts.{count_limit}
-use Rattle.pdcp_guard.specs.AsKeys.{AsKeys}
+use Rattle.pdcp_guard.specs.{Counts.count_limit, AsKeys.AsKeys}
 use Rattle.s1x2_rec.specs.Fields.{Fields}
 use Rattle.lte_machine.specs.Bearers.{Srb, Drb, of_srb, of_drb}
 use Rattle.lte_machine.specs.Wire.{KeyUse, Ciphering, ciphering_by, nas_use, srb_use, drb_use, Outgoing, SealedNas, PlainNas, SealedRrc, UserPacket, Between}
@@ -27,11 +20,9 @@ use Rattle.lte_machine.specs.StationState.{Station, Context, AirPdu}
 use Rattle.lte_machine.specs.CoreState.{CoreContext}
 use Rattle.nas_guard.specs.Keys.{Keys}
 use Rattle.lte_machine.specs.World.{Machine, World, Line, arrives, delivery, station_of_id, turn_of}
-use Rattle.lte_properties.specs.ChainBelow.{AllOf}
-use Rattle.lte_properties.specs.ChainHolds.{machine_by}
+use Rattle.lte_properties.specs.{ChainBelow.AllOf, ChainHolds.machine_by}
 use Rattle.lte_properties.specs.Packets.{IsPacket, UsesRootOf, OpensToSent}
-use Rattle.lte_properties.proofs.ChainNumbers.Lists.{OfSome, all_chosen}
-use Rattle.lte_properties.proofs.Opening.Opens.{OpensBack}
+use Rattle.lte_properties.proofs.{ChainNumbers.Lists.OfSome, ChainNumbers.Lists.all_chosen, Opening.Opens.OpensBack}
 use Rattle.lte_properties.proofs.Opening.Counts.{estimated, nas_parts, header_down, header_up, srb_counted, drb_counted}
 use Rattle.lte_properties.proofs.Opening.Ready.{ConnectedAt, HasActive, ActiveAt, PhoneUses, CoreUses, InSrb, InDrb, InSrbOf, InDrbOf, InNas, ReadyFor, ready_for}
 use Rattle.lte_properties.proofs.Opening.Steps.{phone_nas_opens, phone_rrc_opens, phone_packet_opens, station_rrc_opens, station_packet_opens, core_nas_opens}

@@ -1,13 +1,10 @@
 -- Worked runs in which packets come to a receiver that is ready, in its window: their last COUNTs.
 use Rattle.std.proofs.Common.{ℕ, refl, List, [], ◌∷◌, ◌++◌, Some, None, negsuc, arith}
 use Rattle.rec_base.specs.declared.bearers.Bearer.TheVariants.{Srb2, Drb1}
-use Rattle.lte_events.specs.declared.acts.PhoneAct.{PhoneAct}
-use Rattle.lte_events.specs.declared.events.Event.{Event}
+use Rattle.lte_events.specs.{declared.acts.PhoneAct.PhoneAct, declared.events.Event.Event}
 use Rattle.key_model.specs.Term.{Term}
-use Rattle.lte_machine.specs.Wire.{Outgoing}
-use Rattle.lte_machine.specs.Opening.{open_octets}
+use Rattle.lte_machine.specs.{Wire.Outgoing, Opening.open_octets, World.World, World.record_at}
 use Rattle.lte_machine.specs.Run.{RunState, Running, Stopped, replay}
-use Rattle.lte_machine.specs.World.{World, record_at}
 use Rattle.lte_machine.proofs.Scenario.{computing, machine, opening, start, toy}
 use Rattle.lte_properties.specs.Packets.{IsReady, InWindow, next_for, count_of, window_of}
 use Rattle.lte_properties.proofs.ChainNumbers.Lists.{OfSome}

@@ -2,31 +2,25 @@
 use Rattle.std.proofs.Common.{◌≡◌, sym, ap, ◌∙◌, subst, ℕ, ◌<◌, ◌≤◌, ◌==◌, true, List, length, drop, Option, Some, arith}
 use Rattle.std.specs.Prelude.{slice_index}
 use Rattle.std.proofs.lemmas.Bool.Decides.{nat_tests}
-use Rattle.alg_choice.specs.Algs.{eia2_identity}
-use Rattle.alg_choice.specs.declared.algs.Algs.{Algs}
+use Rattle.alg_choice.specs.{Algs.eia2_identity, declared.algs.Algs.Algs}
 use Rattle.rec_base.specs.declared.uses.Dir.{Dir}
 use Rattle.rec_base.specs.declared.uses.Dir.TheVariants.{Up, Down}
 use Rattle.lte_events.specs.Site.{Site}
 use Rattle.key_model.specs.Term.{Term, Alg}
 use Rattle.nas_count.specs.Estimate.{nas_count_limit}
-use Rattle.nas_rec.specs.declared.records.NasRecord.{NasRecord}
+use Rattle.nas_rec.specs.{declared.records.NasRecord.NasRecord, Spelling.spelling_of}
 use Rattle.nas_rec.specs.declared.records.NasRecord.TheVariants.{SecurityModeCommand, SecurityModeComplete, SecurityModeReject, ServiceRequest, NasData}
-use Rattle.nas_rec.specs.Spelling.{spelling_of}
 use Rattle.pdcp_guard.specs.AsKeys.{AsKeys}
 use Rattle.lte_machine.specs.Wire.{KeyUse, Ciphering, ciphering_by, nas_use, Outgoing, SealedNas, PlainNas, SealedRrc, UserPacket, Between}
-use Rattle.lte_machine.specs.PhoneState.{NasContext, Radio}
-use Rattle.lte_machine.specs.StationState.{Station}
-use Rattle.lte_machine.specs.World.{next_root, station_of_id}
+use Rattle.lte_machine.specs.{PhoneState.NasContext, PhoneState.Radio, StationState.Station, World.next_root, World.station_of_id}
 use Rattle.lte_machine.proofs.Worlds.{TheWorld}
-use Rattle.lte_properties.specs.ChainBelow.{AllOf}
-use Rattle.lte_properties.specs.Packets.{IsPacket, UsesRootOf}
+use Rattle.lte_properties.specs.{ChainBelow.AllOf, Packets.IsPacket, Packets.UsesRootOf}
 use Rattle.lte_properties.proofs.ChainNumbers.Lists.{OfSome, all_find, all_both}
-use Rattle.lte_properties.proofs.Agreement.Ghost.{Ghost, StationOk}
+use Rattle.lte_properties.proofs.{Agreement.Ghost.Ghost, Agreement.Ghost.StationOk, Opening.World.PacketsOk}
 use Rattle.lte_properties.proofs.Agreement.World.{Conns, ghost, WorldOk}
 use Rattle.lte_properties.proofs.Opening.Delivered.{RrcUnder, PacketUnder, NasUnder, Fits, AtPhone, AtContext}
 use Rattle.lte_properties.proofs.Opening.Nas.{Choices, nas_keys, RootHas, ContextOk, PhoneContextOk, CoreContextOk, SealedSo, SealedOk, SentOk, one_choice}
 use Rattle.lte_properties.proofs.Opening.Air.{KeysAre, one_keys, RadioKeys, ContextKeys, AirOk, radio_keys, context_keys}
-use Rattle.lte_properties.proofs.Opening.World.{PacketsOk}
 
 -- WHAT IS KNOWN OF PACKETS FITS THEIR RECEIVERS
 

@@ -1,24 +1,15 @@
 -- A station whose context is active took the first record of the phone there, so that its next COUNT on SRB1 is not 0.
 use Rattle.std.proofs.Common.{subst, ◌≡◌, ℕ, ◌+◌, ◌≤◌, false, List, [], ◌∷◌, Option, Some, None, option_map, arith}
 use Rattle.std.specs.Prelude.{⊤}
-use Rattle.lte_events.specs.declared.events.Event.{Event}
-use Rattle.lte_events.specs.declared.setups.Setup.{Setup}
-use Rattle.lte_events.specs.declared.setups.StationSetup.{StationSetup}
-use Rattle.lte_events.specs.Site.{Site}
-use Rattle.key_model.specs.HandoverTable.{NumberedKey}
-use Rattle.key_model.specs.Reading.{Reading}
-use Rattle.key_model.specs.Term.{Term}
-use Rattle.lte_machine.proofs.StationCases.{station_case}
-use Rattle.lte_machine.specs.Bearers.{Signalling1}
-use Rattle.lte_machine.specs.Wire.{Outgoing}
+use Rattle.lte_events.specs.{declared.events.Event.Event, declared.setups.Setup.Setup, declared.setups.StationSetup.StationSetup, Site.Site}
+use Rattle.key_model.specs.{HandoverTable.NumberedKey, Reading.Reading, Term.Term}
+use Rattle.lte_machine.proofs.{StationCases.station_case, Routing.found_in, Routing.happens_each}
+use Rattle.lte_machine.specs.{Bearers.Signalling1, Wire.Outgoing, StationRows.StationRow, StationRecords.with_pair, StationRecords.with_answer}
 use Rattle.lte_machine.specs.StationState.{Station, Context, StationInput}
-use Rattle.lte_machine.specs.StationRows.{StationRow}
-use Rattle.lte_machine.specs.StationRecords.{with_pair, with_answer}
 use Rattle.lte_machine.specs.StationKeys.{with_security, with_rrc_taken, with_packet_taken, given_up, with_skipped, station_does}
 use Rattle.lte_machine.specs.StationStep.{station_row_of, station_key, station_opens, station_pdu_in}
 use Rattle.lte_machine.specs.World.{Machine, World, turn_of, happens}
 use Rattle.lte_machine.specs.Run.{stations_of, first_world, run}
-use Rattle.lte_machine.proofs.Routing.{found_in, happens_each}
 use Rattle.lte_properties.specs.ChainBelow.{AllOf}
 use Rattle.lte_properties.proofs.ChainNumbers.Lists.{all_put}
 use Rattle.lte_properties.proofs.Agreement.Phone.{heard_taken, heard_packet, heard_sent, heard_packet_sent, heard_left}

@@ -2,19 +2,13 @@
 use Rattle.std.proofs.Common.{◌≡◌, ℕ, ◌≤◌, ◌<◌, List, Option, Some, None, Result, Ok, ap, sym, ◌∙◌, le_trans}
 use Rattle.std.specs.Prelude.{⊤, length}
 use Rattle.rec_base.specs.declared.uses.Dir.{Dir}
-use Rattle.alg_choice.specs.Algs.{eia2_identity}
-use Rattle.alg_choice.specs.Choice.{choice_of}
-use Rattle.alg_choice.specs.declared.algs.Algs.{Algs}
-use Rattle.alg_choice.specs.declared.algs.Eea.{Eea}
-use Rattle.alg_choice.specs.declared.choices.NoAlgorithm.{NoAlgorithm as NoneChosen}
+use Rattle.alg_choice.specs.{Algs.eia2_identity, Choice.choice_of, declared.algs.Algs.Algs, declared.algs.Eea.Eea, declared.choices.NoAlgorithm.NoAlgorithm as NoneChosen}
 use Rattle.key_model.specs.Term.{Term, Root, Alg}
 use Rattle.key_model.specs.Reading.{term_reading}
 use Rattle.nas_count.specs.Estimate.{nas_count_limit}
-use Rattle.nas_guard.specs.Keys.{Keys}
-use Rattle.nas_rec.specs.declared.records.NasRecord.{NasRecord}
+use Rattle.nas_guard.specs.{Keys.Keys, Seal.is_ciphered}
+use Rattle.nas_rec.specs.{declared.records.NasRecord.NasRecord, Spelling.spelling_of}
 use Rattle.nas_rec.specs.declared.records.NasRecord.TheVariants.{SecurityModeCommand, SecurityModeComplete, SecurityModeReject, ServiceRequest, NasData}
-use Rattle.nas_rec.specs.Spelling.{spelling_of}
-use Rattle.nas_guard.specs.Seal.{is_ciphered}
 use Rattle.lte_machine.specs.Wire.{KeyUse, Ciphering, ciphering_if, ciphering_by, nas_use, Outgoing, SealedNas}
 use Rattle.lte_machine.specs.PhoneState.{nas_keys_of, Partial, NasContext, Phone}
 use Rattle.lte_machine.specs.CoreState.{Core, CorePartial, CoreContext}

@@ -1,35 +1,20 @@
 -- What the phone's choice of a row on a NAS message established: the algorithms of a command are those chosen for its KASME.
 use Rattle.std.proofs.Common.{◌≡◌, ℕ, ◌+◌, ◌*◌, ◌≤◌, Bool, List, [], ◌∷◌, ◌++◌, length, map, inl, inr, Option, Some, None, Result, Ok, refl, ap, sym, subst, ◌∙◌, arith}
 use Rattle.std.specs.Prelude.{⊤}
-use Rattle.rec_base.specs.declared.faults.RecFault.{RecFault}
-use Rattle.rec_base.specs.declared.uses.Dir.TheVariants.{Down}
-use Rattle.alg_choice.specs.Algs.{eia2_identity}
-use Rattle.alg_choice.specs.declared.algs.Algs.{Algs}
-use Rattle.alg_choice.specs.declared.caps.Caps.{Caps}
-use Rattle.lte_events.specs.declared.answers.Answer.{Answer}
-use Rattle.lte_events.specs.declared.answers.Answer.TheVariants.{Done}
-use Rattle.key_model.specs.Term.{Term, Alg}
-use Rattle.key_model.specs.Reading.{Reading, term_reading_by}
-use Rattle.nas_guard.specs.Seal.{first_octet}
-use Rattle.nas_guard.specs.Open.{sent_in, first_in}
-use Rattle.nas_rec.specs.declared.records.NasRecord.{NasRecord}
+use Rattle.rec_base.specs.{declared.faults.RecFault.RecFault, declared.uses.Dir.TheVariants.Down}
+use Rattle.alg_choice.specs.{Algs.eia2_identity, declared.algs.Algs.Algs, declared.caps.Caps.Caps}
+use Rattle.lte_events.specs.{declared.answers.Answer.Answer, declared.answers.Answer.TheVariants.Done}
+use Rattle.key_model.specs.{Term.Term, Term.Alg, Reading.Reading, Reading.term_reading_by, Derivation.Derivation}
+use Rattle.nas_guard.specs.{Seal.first_octet, Open.sent_in, Open.first_in}
+use Rattle.nas_rec.specs.{declared.records.NasRecord.NasRecord, Spelling.spelling_of, Reading.read_nas}
 use Rattle.nas_rec.specs.declared.records.NasRecord.TheVariants.{SecurityModeCommand, SecurityModeComplete, SecurityModeReject, ServiceRequest, NasData}
-use Rattle.nas_rec.specs.Spelling.{spelling_of}
-use Rattle.nas_rec.specs.Reading.{read_nas}
 use Rattle.nas_rec.proofs.Laws.{spelled_is_read}
 use Rattle.lte_machine.specs.Wire.{KeyUse, Ciphering, Outgoing, SealedNas, Between}
 use Rattle.lte_machine.specs.Ciphers.{Ciphers, ciphered_by, nas_octets}
-use Rattle.lte_machine.specs.Opening.{Outcome, Opened}
-use Rattle.lte_machine.specs.PhoneState.{Partial, Phone}
+use Rattle.lte_machine.specs.{Opening.Outcome, Opening.Opened, PhoneState.Partial, PhoneState.Phone, PhoneChoice.header_for_phone, PhoneStep.plain_phone, Machines.sender_of, Ladder.RowOrigin, Ladder.Of, Distinct.Member, Distinct.keys_of}
 use Rattle.lte_machine.specs.PhoneRows as phone
 use Rattle.lte_machine.specs.PhoneChoice as choice
-use Rattle.lte_machine.specs.PhoneChoice.{header_for_phone}
 use Rattle.lte_machine.specs.PhoneKeys as keys
-use Rattle.lte_machine.specs.PhoneStep.{plain_phone}
-use Rattle.lte_machine.specs.Machines.{sender_of}
-use Rattle.lte_machine.specs.Ladder.{RowOrigin, Of}
-use Rattle.lte_machine.specs.Distinct.{Member, keys_of}
-use Rattle.key_model.specs.Derivation.{Derivation}
 use Rattle.lte_machine.proofs.PhoneNasFacts.{NasHas, TakesContext, phone_nas, nas_has}
 use Rattle.lte_properties.proofs.Opening.Openings.{SealedUnder, SenderIs}
 use Rattle.lte_properties.proofs.Opening.Counts.{nas_parts, header_down, header_other}

@@ -3,33 +3,22 @@ use Rattle.std.proofs.Common.{◌≡◌, ℕ, ◌≤◌, ◌<◌, Bool, List, le
 use Rattle.std.specs.Prelude.{⊤}
 use Rattle.rec_base.specs.declared.uses.Dir.{Dir}
 use Rattle.rec_base.specs.declared.uses.Dir.TheVariants.{Up, Down}
-use Rattle.alg_choice.specs.Choice.{choice_of}
-use Rattle.alg_choice.specs.declared.algs.Algs.{Algs}
-use Rattle.alg_choice.specs.declared.algs.Eea.{Eea}
-use Rattle.alg_choice.specs.declared.caps.Caps.{Caps}
-use Rattle.lte_events.specs.Ranges.{IsCoreAct, IsPhoneAct}
-use Rattle.lte_events.specs.declared.acts.CoreAct.{CoreAct}
-use Rattle.key_model.specs.Term.{Term}
-use Rattle.key_model.specs.Reading.{Reading, term_reading_by}
+use Rattle.alg_choice.specs.{Choice.choice_of, declared.algs.Algs.Algs, declared.algs.Eea.Eea, declared.caps.Caps.Caps}
+use Rattle.lte_events.specs.{Ranges.IsCoreAct, Ranges.IsPhoneAct, declared.acts.CoreAct.CoreAct}
+use Rattle.key_model.specs.{Term.Term, Reading.Reading, Reading.term_reading_by}
 use Rattle.nas_count.specs.Estimate.{nas_count_limit}
-use Rattle.nas_rec.specs.declared.records.NasRecord.{NasRecord}
+use Rattle.nas_rec.specs.{declared.records.NasRecord.NasRecord, Spelling.spelling_of}
 use Rattle.nas_rec.specs.declared.records.NasRecord.TheVariants.{SecurityModeCommand, SecurityModeComplete, SecurityModeReject, ServiceRequest, NasData}
-use Rattle.nas_rec.specs.Spelling.{spelling_of}
 use Rattle.lte_machine.specs.Wire.{Ciphering, ciphering_by, nas_use}
 use Rattle.lte_machine.specs.PhoneState.{Partial, NasContext, Phone}
 use Rattle.lte_machine.specs.PhoneRows as phone
-use Rattle.lte_machine.specs.PhoneRows.{PhoneRow}
+use Rattle.lte_machine.specs.{PhoneRows.PhoneRow, PhoneKeys.PhoneDone, PhoneKeys.phone_does, CoreState.Core, CoreState.CorePartial, CoreRows.CoreRow, CoreKeys.CoreDone, CoreKeys.core_does}
 use Rattle.lte_machine.specs.PhoneKeys as phone_keys
-use Rattle.lte_machine.specs.PhoneKeys.{PhoneDone, phone_does}
-use Rattle.lte_machine.specs.CoreState.{Core, CorePartial}
 use Rattle.lte_machine.specs.CoreRows as core
-use Rattle.lte_machine.specs.CoreRows.{CoreRow}
-use Rattle.lte_machine.specs.CoreKeys.{CoreDone, core_does}
 use Rattle.lte_machine.proofs.CoreCases as at_core
 use Rattle.lte_machine.proofs.PhoneCases as at_phone
 use Rattle.lte_machine.proofs.ActFacts.{ActHas, Starts, Sends}
-use Rattle.lte_machine.proofs.PhoneActFacts.{HasCount, ByAct}
-use Rattle.lte_machine.proofs.Tests.{Anything, above_of}
+use Rattle.lte_machine.proofs.{PhoneActFacts.HasCount, PhoneActFacts.ByAct, Tests.Anything, Tests.above_of}
 use Rattle.lte_properties.proofs.Opening.Nas.{Choices, nas_keys, IsRootOf, AnyNumber, ChosenIs, RootHas, ContextOk, ProcedureOk, PhoneOk, CoreOk, SealedSo, ciphered_for, SealedOk, OutOk}
 
 -- THE CORE

@@ -1,15 +1,11 @@
 -- What is so of each NAS opening of a run that has met no coincidence, step by step: proved in `Sender`.
 use Rattle.std.specs.Prelude.{◌≡◌, ℕ, List, Option, Some, None, ⊤}
 use Rattle.rec_base.specs.declared.uses.Dir.TheVariants.{Down}
-use Rattle.lte_events.specs.declared.answers.Answer.TheVariants.{Done}
-use Rattle.lte_events.specs.declared.events.Event.{Event}
+use Rattle.lte_events.specs.{declared.answers.Answer.TheVariants.Done, declared.events.Event.Event}
 use Rattle.key_model.specs.Term.{Term}
-use Rattle.lte_machine.specs.Wire.{KeyUse, Outgoing}
+use Rattle.lte_machine.specs.{Wire.KeyUse, Wire.Outgoing, Step.attempted, Machines.sender_of, Distinct.Member, Distinct.keys_of}
 use Rattle.lte_machine.specs.Opening.{Opening, OpensNas, Outcome, Opened}
 use Rattle.lte_machine.specs.World.{Machine, World, happens}
-use Rattle.lte_machine.specs.Step.{attempted}
-use Rattle.lte_machine.specs.Machines.{sender_of}
-use Rattle.lte_machine.specs.Distinct.{Member, keys_of}
 
 -- a message was sealed under this key
 abbrev pub SealedUnder : Term → Option (KeyUse Term) → Type 0

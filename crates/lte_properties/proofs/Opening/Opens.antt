@@ -6,13 +6,11 @@ use Rattle.rec_base.specs.declared.uses.Dir.{Dir}
 use Rattle.rec_base.specs.declared.uses.Dir.TheVariants.{Up, Down}
 use Rattle.alg_choice.specs.Algs.{identity_of}
 use Rattle.key_model.specs.Term.{Term}
-use Rattle.lte_machine.specs.Bearers.{Srb, Drb}
+use Rattle.lte_machine.specs.{Bearers.Srb, Bearers.Drb, Ciphers.Ciphers, Ciphers.drb_octets}
 use Rattle.lte_machine.specs.Wire.{KeyUse, Ciphering, Outgoing, SealedNas, SealedRrc, UserPacket}
-use Rattle.lte_machine.specs.Ciphers.{Ciphers, drb_octets}
 use Rattle.lte_machine.specs.Opening.{Opening, OpensNas, OpensSrb, OpensDrb, Outcome, Opened, open_by_uses, open_case, judged, same_dir, same_uses, same_ciphering}
-use Rattle.lte_machine.proofs.Opens.{drb_opens}
+use Rattle.lte_machine.proofs.{Opens.drb_opens, CipherLaws.AreCiphers}
 use Rattle.lte_properties.proofs.SameKeys.{IsReflexive}
-use Rattle.lte_machine.proofs.CipherLaws.{AreCiphers}
 
 -- an opener that opens what comes from its sender under the uses that it was sealed with, and a packet by its octets
 pub record OpensBack (c : Ciphers Term) (opener : Opening Term → List ℕ → Option (Outgoing Term ℕ) → Outcome) : Type 0 where

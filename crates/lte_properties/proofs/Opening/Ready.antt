@@ -5,9 +5,7 @@ use Rattle.key_model.specs.Term.{Term}
 use Rattle.lte_machine.specs.Bearers.{Srb, Drb, Bearers, srb_counts, drb_counts}
 use Rattle.lte_machine.specs.Wire.{KeyUse, Outgoing, SealedNas, PlainNas, SealedRrc, UserPacket, Between}
 use Rattle.lte_machine.specs.PhoneState.{NasContext, Link, Radio, Idle, Connecting, Connected}
-use Rattle.lte_machine.specs.StationState.{Station, Context}
-use Rattle.lte_machine.specs.CoreState.{CoreContext}
-use Rattle.lte_machine.specs.World.{World, station_of_id}
+use Rattle.lte_machine.specs.{StationState.Station, StationState.Context, CoreState.CoreContext, World.World, World.station_of_id}
 use Rattle.lte_properties.specs.Packets.{InWindow, on_srb, on_drb, on_nas, UsesRootOf, IsConnectedAt, IsActiveAt, HasActiveAt, PhoneHasRoot, CoreHasRoot, IsReady, next_of_phone, next_of_context, next_of_station, next_of_nas, next_of_core, next_for, count_of, window_of}
 
 -- a phone that is connected at this station and air address

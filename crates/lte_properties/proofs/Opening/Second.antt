@@ -2,20 +2,13 @@
 use Rattle.std.proofs.Common.{◌≡◌, refl, sym, ap, ◌∙◌, subst, ℕ, Bool, List, Option, Some, None}
 use Rattle.std.specs.Prelude.{⊤}
 use Rattle.rec_base.specs.declared.uses.Dir.TheVariants.{Up, Down}
-use Rattle.lte_events.specs.declared.addresses.Address.{Address}
-use Rattle.lte_events.specs.declared.lines.Who.{Who}
-use Rattle.lte_events.specs.Site.{Site}
-use Rattle.key_model.specs.HandoverTable.{NumberedKey}
-use Rattle.key_model.specs.Reading.{term_reading_by}
-use Rattle.key_model.specs.Term.{Term, Root}
+use Rattle.lte_events.specs.{declared.addresses.Address.Address, declared.lines.Who.Who, Site.Site}
+use Rattle.key_model.specs.{HandoverTable.NumberedKey, Reading.term_reading_by, Term.Term, Term.Root}
 use Rattle.ho_prep.specs.Prep.{at_air}
 use Rattle.s1x2_rec.specs.Fields.{Fields}
-use Rattle.lte_machine.specs.Bearers.{which}
-use Rattle.lte_machine.specs.Ciphers.{Ciphers, octets_of}
+use Rattle.lte_machine.specs.{Bearers.which, Ciphers.Ciphers, Ciphers.octets_of, PhoneChoice.unciphered_text, StationStep.plain_station}
 use Rattle.lte_machine.specs.Opening.{Opening, Outcome, CipheredElse}
-use Rattle.lte_machine.specs.PhoneChoice.{unciphered_text}
 use Rattle.lte_machine.specs.StationState.{Station, Context, AirPdu}
-use Rattle.lte_machine.specs.StationStep.{plain_station}
 use Rattle.lte_machine.specs.Step.{Attempted, phone_attempts, attempts_at}
 use Rattle.lte_machine.specs.Wire.{KeyUse, Outgoing, SealedNas, PlainNas, SealedRrc, UserPacket, Between}
 use Rattle.lte_machine.specs.World.{Machine, Line, phone_turn, station_of_id, turn_of, next_root}
@@ -24,24 +17,13 @@ use Rattle.lte_machine.specs.PhoneState.{PhoneInput, PhoneAuth, PhoneActs, Phone
 use Rattle.lte_machine.proofs.Routing.{IsTurn, PhoneGets, Found, Turns, happens_by}
 use Rattle.lte_properties.specs.ChainHolds.{machine_by}
 use Rattle.lte_properties.specs.SecondCase.{sender_at, IsStarting, SecondAtStarting}
-use Rattle.lte_properties.proofs.ChainNumbers.Lists.{all_both}
-use Rattle.lte_properties.proofs.Agreement.Calm.{NewKenb}
-use Rattle.lte_properties.proofs.Opening.Steps.{which_srb}
-use Rattle.lte_properties.proofs.Agreement.Ghost.{StationOk, SentOk}
-use Rattle.lte_properties.proofs.Agreement.Opener.{octets_tell}
-use Rattle.lte_properties.proofs.Agreement.PhoneWalk.{CameDown}
-use Rattle.lte_properties.proofs.Agreement.StationOpens.{CameUp}
+use Rattle.lte_properties.proofs.{ChainNumbers.Lists.all_both, Agreement.Calm.NewKenb, Opening.Steps.which_srb, Agreement.Ghost.StationOk, Agreement.Ghost.SentOk, Agreement.Opener.octets_tell, Agreement.PhoneWalk.CameDown, Agreement.StationOpens.CameUp, Opening.Heard.Heard, Opening.Heard.AllHeard, Opening.Nas.Choices, Opening.SecondNas.phone_nas_never, Opening.SecondNas.core_nas_never, Opening.World.PacketsOk}
 use Rattle.lte_properties.proofs.Agreement.World.{Conns, ghost, WorldOk}
-use Rattle.lte_properties.proofs.Opening.Heard.{Heard, AllHeard}
 use Rattle.lte_properties.proofs.Opening.Nas as nas
-use Rattle.lte_properties.proofs.Opening.Nas.{Choices}
 use Rattle.lte_properties.proofs.Opening.NasOpens as nas_opens
 use Rattle.lte_properties.proofs.Opening.SecondAir.{Starts, phone_air_never, station_air_second}
 use Rattle.lte_properties.proofs.Opening.SecondNas as second_nas
-use Rattle.lte_properties.proofs.Opening.SecondNas.{phone_nas_never, core_nas_never}
-use Rattle.lte_properties.proofs.Opening.World.{PacketsOk}
-use Rattle.lte_machine.proofs.CipherLaws.{AreCiphers}
-use Rattle.lte_machine.proofs.Worlds.{TheWorld}
+use Rattle.lte_machine.proofs.{CipherLaws.AreCiphers, Worlds.TheWorld}
 
 module _ (same : Term → Term → Bool) (sender : Option (Outgoing Term ℕ) → Option (KeyUse Term))
     (opener : Opening Term → List ℕ → Option (Outgoing Term ℕ) → Outcome) (c : Ciphers Term) (good : AreCiphers c)

@@ -6,36 +6,25 @@ use Rattle.alg_choice.specs.declared.algs.Algs.{Algs}
 use Rattle.rec_base.specs.Bearer.{bearer5_of}
 use Rattle.rec_base.specs.declared.uses.Dir.TheVariants.{Up, Down}
 use Rattle.lte_events.specs.Site.{Site}
-use Rattle.key_model.specs.Chain.{ncc_of}
-use Rattle.key_model.specs.Reading.{Reading, term_reading_by}
-use Rattle.key_model.specs.Term.{Term}
+use Rattle.key_model.specs.{Chain.ncc_of, Reading.Reading, Reading.term_reading_by, Term.Term}
 use Rattle.ho_prep.specs.Prep.{Prep, is_at, at_air}
 use Rattle.ho_prep.specs.declared.origins.By.{By}
-use Rattle.pdcp_guard.specs.AsKeys.{AsKeys}
-use Rattle.pdcp_guard.specs.Drb.{drb_count}
-use Rattle.pdcp_guard.specs.Srb.{srb_count}
-use Rattle.pdcp_guard.specs.declared.pdus.PdcpFault.{PdcpFault}
+use Rattle.pdcp_guard.specs.{AsKeys.AsKeys, Drb.drb_count, Srb.srb_count, declared.pdus.PdcpFault.PdcpFault}
 use Rattle.lte_machine.specs.Bearers.{Srb, Signalling1, Signalling2, Drb, Which, OnSrb, OnDrb, of_srb, srb_counts, drb_counts}
-use Rattle.lte_machine.specs.Opening.{CipheredElse}
+use Rattle.lte_machine.specs.{Opening.CipheredElse, Reply.Made, Reply.unseen}
 use Rattle.lte_machine.specs.PhoneChoice.{AirFront, AirSettled, AtStart, AtSignalling, AtPacket}
 use Rattle.lte_machine.specs.PhoneKeys.{air_expects, start_expects, signalling_expects, packet_expects}
 use Rattle.lte_machine.specs.PhoneState.{Waiting, Link, Connecting, Connected, Phone}
-use Rattle.lte_machine.specs.Reply.{Made, unseen}
 use Rattle.lte_machine.specs.StationChoice as st
 use Rattle.lte_machine.specs.StationKeys as stk
 use Rattle.lte_machine.specs.StationState.{Station, Context, map_context}
 use Rattle.lte_machine.specs.Wire.{KeyUse, Ciphering, Outgoing, SealedNas, PlainNas, SealedRrc, UserPacket, Between, srb_use, srb_ciphering}
 use Rattle.lte_machine.proofs.PhoneAirFacts.{FrontHas, phone_air, front_has}
-use Rattle.lte_properties.specs.Agreement.{made_at}
-use Rattle.lte_properties.specs.SecondCase.{sender_at}
+use Rattle.lte_properties.specs.{Agreement.made_at, SecondCase.sender_at}
 use Rattle.lte_properties.proofs.Agreement.Calm.{NewKenb, count_low, plain_here, ciphered_here}
 use Rattle.lte_properties.proofs.Agreement.Ghost.{Ghost, keys_of, CtxOk, PrepOk, StationOk, LinkIs, RadioOk, UpOk}
-use Rattle.lte_properties.proofs.Agreement.Later.{same_found}
+use Rattle.lte_properties.proofs.{Agreement.Later.same_found, Agreement.StationOpens.CameUp, Agreement.ToldIsFound.all_found, Agreement.ToldIsFound.found_holds, Opening.Heard.Heard, Opening.SecondNas.Never, Opening.SecondNas.never_srb}
 use Rattle.lte_properties.proofs.Agreement.PhoneWalk.{CameDown, by_test, one_key, no_cipher}
-use Rattle.lte_properties.proofs.Agreement.StationOpens.{CameUp}
-use Rattle.lte_properties.proofs.Agreement.ToldIsFound.{all_found, found_holds}
-use Rattle.lte_properties.proofs.Opening.Heard.{Heard}
-use Rattle.lte_properties.proofs.Opening.SecondNas.{Never, never_srb}
 
 -- THE PHONE
 

@@ -1,37 +1,30 @@
 -- On NAS the second case of opening never comes: a message whose integrity use is the expected one is ciphered as its header type
 -- says, by the one choice of algorithms of its KASME.
 use Rattle.std.proofs.Common.{◌≡◌, refl, sym, ap, ◌∙◌, subst, ℕ, ◌==◌, ◌+◌, ◌*◌, ◌/◌, nat_lt, Bool, true, false, List, length, Option, Some, None, Result, Ok, arith}
-use Rattle.alg_choice.specs.Algs.{eia2_identity}
-use Rattle.alg_choice.specs.declared.algs.Algs.{Algs}
+use Rattle.alg_choice.specs.{Algs.eia2_identity, declared.algs.Algs.Algs}
 use Rattle.rec_base.specs.declared.uses.Dir.{Dir}
 use Rattle.rec_base.specs.declared.uses.Dir.TheVariants.{Up, Down}
 use Rattle.lte_events.specs.declared.answers.Answer.{Answer}
 use Rattle.lte_events.specs.declared.answers.Answer.TheVariants.{Short, BadHeader}
-use Rattle.key_model.specs.HandoverTable.{NumberedKey}
-use Rattle.key_model.specs.Reading.{Reading, term_reading_by}
+use Rattle.key_model.specs.{HandoverTable.NumberedKey, Reading.Reading, Reading.term_reading_by}
 use Rattle.key_model.specs.Term.{Term, Alg, same_term}
-use Rattle.nas_guard.specs.Keys.{Keys}
-use Rattle.nas_guard.specs.Seal.{is_ciphered}
+use Rattle.nas_guard.specs.{Keys.Keys, Seal.is_ciphered}
 use Rattle.s1x2_rec.specs.Fields.{Fields}
-use Rattle.lte_machine.specs.Ciphers.{Ciphers, nas_octets}
+use Rattle.lte_machine.specs.{Ciphers.Ciphers, Ciphers.nas_octets, CoreChoice.core_header, PhoneChoice.is_for_phone, PhoneChoice.header_for_phone, Bearers.Srb}
 use Rattle.lte_machine.specs.CoreChoice as core_choice
-use Rattle.lte_machine.specs.CoreChoice.{core_header}
 use Rattle.lte_machine.specs.CoreKeys as core_keys
 use Rattle.lte_machine.specs.CoreState.{Core, CorePartial, CoreContext}
 use Rattle.lte_machine.specs.Opening.{Opening, OpensNas, OpensSrb, CipheredElse, judged, same_uses, same_ciphering}
 use Rattle.lte_machine.specs.PhoneChoice as choice
-use Rattle.lte_machine.specs.PhoneChoice.{is_for_phone, header_for_phone}
 use Rattle.lte_machine.specs.PhoneKeys as keys
 use Rattle.lte_machine.specs.PhoneState.{Partial, NasContext, Phone}
-use Rattle.lte_machine.specs.Bearers.{Srb}
 use Rattle.lte_machine.specs.Wire.{KeyUse, Ciphering, ciphering_if, ciphering_by, nas_use, nas_ciphering, Outgoing, SealedNas, SealedRrc, Between}
 use Rattle.lte_machine.proofs.NasFacts.{FrontHas as CoreFrontHas, nas_front, front_has as core_front_has}
 use Rattle.lte_machine.proofs.PhoneNasFacts.{FrontHas, phone_nas, front_has}
 use Rattle.lte_properties.specs.SecondCase.{sender_at}
 use Rattle.lte_properties.proofs.Agreement.Opener.{one_use, one_ciphering, plain_header, one_header, no_header}
-use Rattle.lte_properties.proofs.Agreement.PhoneWalk.{by_test}
+use Rattle.lte_properties.proofs.{Agreement.PhoneWalk.by_test, Opening.NasOpens.CameDown}
 use Rattle.lte_properties.proofs.Opening.Nas.{Choices, RootHas, PhoneContextOk, CoreContextOk, ProcedureOk, PhoneOk, CoreOk, ciphered_for, SealedOk, one_choice}
-use Rattle.lte_properties.proofs.Opening.NasOpens.{CameDown}
 use Rattle.lte_machine.proofs.CipherLaws.{AreCiphers}
 
 -- the second case does not come

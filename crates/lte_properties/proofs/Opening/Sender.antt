@@ -1,34 +1,19 @@
 -- In a run that has met no coincidence a NAS message that the phone accepts was sealed under the key that it expected.
 use Rattle.std.proofs.Common.{◌≡◌, refl, sym, ap, subst, ℕ, Bool, true, false, List, [], ◌∷◌, Option, Some, None}
 use Rattle.lte_events.specs.declared.events.Event.{Event}
-use Rattle.key_model.specs.HandoverTable.{NumberedKey}
-use Rattle.key_model.specs.Term.{Term, Root}
-use Rattle.key_model.specs.Value.{same_value}
+use Rattle.key_model.specs.{HandoverTable.NumberedKey, Term.Term, Term.Root, Value.same_value}
 use Rattle.s1x2_rec.specs.Fields.{Fields}
 use Rattle.lte_machine.specs.Wire.{KeyUse, Ciphering, Outgoing, SealedNas, PlainNas, SealedRrc, UserPacket, Between}
-use Rattle.lte_machine.specs.Ciphers.{Ciphers, octets_of}
+use Rattle.lte_machine.specs.{Ciphers.Ciphers, Ciphers.octets_of, Ladder.ladder_of, Step.attempted, Machines.machine_over, Machines.sender_of, Run.Running, Run.replay, Known.SentKnown, Known.IsReported}
 use Rattle.lte_machine.specs.Opening.{Opening, OpensNas, Outcome, Opened, Differs, same_uses, same_ciphering, judged, nas_wanted, open_case, open_foreign}
 use Rattle.nas_guard.specs.Open.{mac_in}
-use Rattle.lte_machine.specs.Ladder.{ladder_of}
 use Rattle.lte_machine.specs.PhoneState.{PhoneInput, PhoneAuth, PhoneActs, PhoneNasPdu, PhoneAirPdu}
 use Rattle.lte_machine.specs.World.{Machine, World, Line, happens}
-use Rattle.lte_machine.specs.Step.{attempted}
-use Rattle.lte_machine.specs.Machines.{machine_over, sender_of}
-use Rattle.lte_machine.specs.Run.{Running, replay}
 use Rattle.lte_machine.specs.Distinct.{keys_of, Member, OneValueOneTerm}
-use Rattle.lte_machine.proofs.Mixed.{by_terms, mixed}
-use Rattle.lte_machine.specs.Known.{SentKnown, IsReported}
-use Rattle.lte_machine.proofs.History.{one_value_one_term}
-use Rattle.lte_machine.proofs.KnownLadder.{still_in}
+use Rattle.lte_machine.proofs.{Mixed.by_terms, Mixed.mixed, History.one_value_one_term, KnownLadder.still_in, KnownWorld.Grounds, KnownWorld.happens_grounds, LadderRun.one_use, MixedRun.happens_same, StillRun.goes_on, Worlds.TheWorld}
 use Rattle.lte_machine.proofs.KnownLists.{OfSome, all_each, sent_more}
-use Rattle.lte_machine.proofs.KnownWorld.{Grounds, happens_grounds}
-use Rattle.lte_machine.proofs.LadderRun.{one_use}
-use Rattle.lte_machine.proofs.MixedRun.{happens_same}
-use Rattle.lte_machine.proofs.StillRun.{goes_on}
 use Rattle.lte_machine.proofs.Routing.{IsTurn, PhoneGets, Turns, happens_by, happens_each}
-use Rattle.lte_machine.proofs.Worlds.{TheWorld}
-use Rattle.lte_properties.proofs.Agreement.Openings.{Along}
-use Rattle.lte_properties.proofs.Opening.Openings.{SenderIs, SameRoot}
+use Rattle.lte_properties.proofs.{Agreement.Openings.Along, Opening.Openings.SenderIs, Opening.Openings.SameRoot}
 
 -- WHAT IS REPORTED STAYS SO
 

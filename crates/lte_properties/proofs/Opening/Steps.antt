@@ -4,38 +4,30 @@ use Rattle.std.specs.Prelude.{◌==◌, ◌&&◌, take, nat_lt}
 use Rattle.std.proofs.lemmas.Bool.Decides.{nat_tests}
 use Rattle.rec_base.specs.declared.uses.Dir.TheVariants.{Up, Down}
 use Rattle.lte_events.specs.declared.answers.Answer.TheVariants.{Done, NotAddressed, Short}
-use Rattle.key_model.specs.Term.{Term}
-use Rattle.key_model.specs.Reading.{Reading, term_reading_by}
+use Rattle.key_model.specs.{Term.Term, Reading.Reading, Reading.term_reading_by}
 use Rattle.nas_count.specs.Estimate.{estimate_of}
 use Rattle.nas_guard.specs.Open.{sn_in}
-use Rattle.nas_rec.specs.declared.records.NasRecord.TheVariants.{NasData}
-use Rattle.nas_rec.specs.Reading.{read_nas}
-use Rattle.rrc_rec.specs.declared.records.RrcRecord.TheVariants.{RrcData}
-use Rattle.rrc_rec.specs.Reading.{read_rrc}
-use Rattle.pdcp_guard.specs.Srb.{srb_count}
-use Rattle.pdcp_guard.specs.Drb.{drb_count}
+use Rattle.nas_rec.specs.{declared.records.NasRecord.TheVariants.NasData, Reading.read_nas}
+use Rattle.rrc_rec.specs.{declared.records.RrcRecord.TheVariants.RrcData, Reading.read_rrc}
+use Rattle.pdcp_guard.specs.{Srb.srb_count, Drb.drb_count}
 use Rattle.ho_prep.specs.Prep.{at_air}
 use Rattle.lte_machine.specs.Bearers.{Srb, Signalling1, Signalling2, Drb, User1, User2, User3, User4, Which, OnSrb, OnDrb, which, of_srb, of_drb, srb_counts, drb_counts}
 use Rattle.lte_machine.specs.Wire.{nas_use, srb_use, Outgoing, drb_ciphering, nas_ciphering, srb_ciphering}
 use Rattle.lte_machine.specs.Opening.{Opening, OpensNas, OpensSrb, OpensDrb, Outcome, Opened}
-use Rattle.lte_machine.specs.Reply.{Reply, unseen}
+use Rattle.lte_machine.specs.{Reply.Reply, Reply.unseen, PhoneChoice.header_for_phone, StationRows.RrcOpened, StationRows.PacketOpened, StationKeys.signalling_opening, StationKeys.user_opening, CoreChoice.core_header}
 use Rattle.lte_machine.specs.PhoneState.{NasContext, Link, Connected, Phone, PhoneNasPdu, PhoneAirPdu, map_context, map_link, map_radio}
 use Rattle.lte_machine.specs.PhoneRows.{NasOpened, AirRefused, RrcOpened, PacketOpened}
 use Rattle.lte_machine.specs.PhoneChoice as at_phone
-use Rattle.lte_machine.specs.PhoneChoice.{header_for_phone}
 use Rattle.lte_machine.specs.PhoneKeys as by_phone
 use Rattle.lte_machine.specs.PhoneStep.{plain_phone, phone_step, phone_opens}
 use Rattle.lte_machine.specs.StationState as station_state
 use Rattle.lte_machine.specs.StationState.{Station, Context, AirPdu}
-use Rattle.lte_machine.specs.StationRows.{RrcOpened, PacketOpened}
 use Rattle.lte_machine.specs.StationChoice as at_station
 use Rattle.lte_machine.specs.StationKeys as by_station
-use Rattle.lte_machine.specs.StationKeys.{signalling_opening, user_opening}
 use Rattle.lte_machine.specs.StationStep.{plain_station, station_step, station_opens}
 use Rattle.lte_machine.specs.CoreState.{Core, CoreContext, CoreNasPdu, map_core_context}
 use Rattle.lte_machine.specs.CoreRows as core_rows
 use Rattle.lte_machine.specs.CoreChoice as at_core
-use Rattle.lte_machine.specs.CoreChoice.{core_header}
 use Rattle.lte_machine.specs.CoreKeys as by_core
 use Rattle.lte_machine.specs.CoreStep.{plain_core, core_step, core_opens}
 

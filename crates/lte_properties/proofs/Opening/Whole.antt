@@ -1,69 +1,30 @@
 -- Packets open to what was sent, in every world of every run.
 use Rattle.std.proofs.Common.{◌≡◌, refl, ℕ, ◌+◌, ◌<◌, ◌≤◌, Bool, List, [], ◌∷◌, Option, Some, None, arith}
 use Rattle.std.specs.Prelude.{IsTrue}
-use Rattle.alg_choice.specs.Choice.{choice_of}
-use Rattle.alg_choice.specs.declared.caps.Caps.{Caps}
+use Rattle.alg_choice.specs.{Choice.choice_of, declared.caps.Caps.Caps}
 use Rattle.rec_base.specs.declared.uses.Dir.TheVariants.{Up, Down}
-use Rattle.lte_events.specs.declared.addresses.Address.{Address}
-use Rattle.lte_events.specs.declared.answers.Answer.TheVariants.{Done}
-use Rattle.lte_events.specs.declared.events.Event.{Event}
-use Rattle.lte_events.specs.declared.setups.Setup.{Setup}
-use Rattle.lte_events.specs.Site.{Site}
-use Rattle.key_model.specs.Term.{Term, Root}
-use Rattle.key_model.specs.HandoverTable.{NumberedKey}
-use Rattle.key_model.specs.Reading.{Reading, term_reading_by}
+use Rattle.lte_events.specs.{declared.addresses.Address.Address, declared.answers.Answer.TheVariants.Done, declared.events.Event.Event, declared.setups.Setup.Setup, Site.Site}
+use Rattle.key_model.specs.{Term.Term, Term.Root, HandoverTable.NumberedKey, Reading.Reading, Reading.term_reading_by}
 use Rattle.s1x2_rec.specs.Fields.{Fields}
 use Rattle.lte_machine.specs.Wire.{KeyUse, Outgoing, SealedNas, PlainNas, SealedRrc, UserPacket, Between, address_of}
-use Rattle.lte_machine.specs.Ciphers.{Ciphers, octets_of}
-use Rattle.lte_machine.specs.Opening.{Opening, Outcome}
+use Rattle.lte_machine.specs.{Ciphers.Ciphers, Ciphers.octets_of, Opening.Opening, Opening.Outcome, PhoneStep.phone_opens, Run.first_world, Step.Attempted, Step.phone_attempts, Machines.machine_over, Machines.sender_of, Distinct.keys_of}
 use Rattle.lte_machine.specs.PhoneState.{PhoneInput, PhoneAuth, PhoneActs, PhoneNasPdu, PhoneAirPdu}
-use Rattle.lte_machine.specs.PhoneStep.{phone_opens}
 use Rattle.lte_machine.specs.PhoneRows as phone
 use Rattle.lte_machine.specs.StationState.{StationActs, AirPdu, StationRecord}
 use Rattle.lte_machine.specs.CoreState.{CoreActs, CoreNasPdu, CoreRecord}
-use Rattle.lte_machine.specs.Run.{first_world}
 use Rattle.lte_machine.specs.World.{Machine, Line, phone_turn, content_in, authenticated, next_root, happens}
-use Rattle.lte_machine.specs.Step.{Attempted, phone_attempts}
-use Rattle.lte_machine.specs.Machines.{machine_over, sender_of}
-use Rattle.lte_machine.specs.Distinct.{keys_of}
-use Rattle.lte_machine.proofs.ActFacts.{act_has}
+use Rattle.lte_machine.proofs.{ActFacts.act_has, PhoneActFacts.act_has as phone_act_has, CipherLaws.AreCiphers, Worlds.TheWorld}
 use Rattle.lte_machine.proofs.Routing.{IsTurn, PhoneGets, Turns, happens_by}
-use Rattle.lte_machine.proofs.PhoneActFacts.{act_has as phone_act_has}
-use Rattle.lte_properties.specs.ChainBelow.{AllOf}
+use Rattle.lte_properties.specs.{ChainBelow.AllOf, Packets.OpensToSent, SecondCase.SecondAtStarting, Reach.AllReach}
 use Rattle.lte_properties.specs.ChainHolds.{machine_by, run, noted, Holds}
 use Rattle.lte_properties.proofs.Agreement.Openings.{Honest, Calm, Along, OpensByTerms}
-use Rattle.lte_properties.specs.Packets.{OpensToSent}
-use Rattle.lte_properties.proofs.Opening.Openings.{SenderIs, SameRoot}
-use Rattle.lte_properties.proofs.ChainNumbers.Lists.{all_map, one_root_more}
-use Rattle.lte_properties.proofs.ChainNumbers.World.{happens_holds, first_holds}
-use Rattle.lte_properties.proofs.Agreement.Ghost.{Ghost, StationOk}
-use Rattle.lte_properties.proofs.Agreement.Later.{Later}
-use Rattle.lte_properties.proofs.Agreement.ToldIsFound.{SiteOk}
+use Rattle.lte_properties.proofs.{Opening.Openings.SenderIs, Opening.Openings.SameRoot, ChainNumbers.Lists.all_map, ChainNumbers.Lists.one_root_more, ChainNumbers.World.happens_holds, ChainNumbers.World.first_holds, Agreement.Ghost.Ghost, Agreement.Ghost.StationOk, Agreement.Later.Later, Agreement.ToldIsFound.SiteOk, Agreement.Events.happens_goes, Agreement.Opener.octets_tell, Opening.Opens.OpensBack, SameKeys.IsReflexive, Opening.Delivered.opens_where_fits, Opening.NasRows.phone_goes, Opening.NasRows.core_auth_goes, Opening.NasOpens.CameDown, Opening.NasOpens.nas_pdu_needs, Opening.Air.AirOk, Opening.Air.air_later, Opening.AirWalk.station_act_needs, Opening.Fits.packets_fit, Freshness.PhoneRun.phone_always_in_order, Opening.Heard.always_heard, Opening.Second.second_at, Named.Reaches.sites, Named.Reaches.first_named, Named.World.run_named, Named.World.addresses_named}
 use Rattle.lte_properties.proofs.Agreement.World.{Conns, ghost, WorldOk, Settled}
-use Rattle.lte_properties.proofs.Agreement.Events.{happens_goes}
 use Rattle.lte_properties.proofs.Agreement.Holds.{cells_of, no_conns, first_ok}
-use Rattle.lte_properties.proofs.Agreement.Opener.{octets_tell}
 use Rattle.lte_properties.proofs.Agreement.Whole.{honest_along, settled_from_first, calm_over, new_kenb}
-use Rattle.lte_properties.proofs.Opening.Opens.{OpensBack}
-use Rattle.lte_properties.proofs.SameKeys.{IsReflexive}
-use Rattle.lte_properties.proofs.Opening.Delivered.{opens_where_fits}
 use Rattle.lte_properties.proofs.Opening.Nas.{Choices, SentOk, More, phone_more, core_more, sent_more}
-use Rattle.lte_properties.proofs.Opening.NasRows.{phone_goes, core_auth_goes}
-use Rattle.lte_properties.proofs.Opening.NasOpens.{CameDown, nas_pdu_needs}
-use Rattle.lte_properties.proofs.Opening.Air.{AirOk, air_later}
-use Rattle.lte_properties.proofs.Opening.AirWalk.{station_act_needs}
 use Rattle.lte_properties.proofs.Opening.World.{PacketsOk, Keeps, chosen_at, chosen_below, chosen_there, by_world_keeps, phone_turn_keeps, core_turn_keeps, station_turn_keeps}
-use Rattle.lte_properties.proofs.Opening.Fits.{packets_fit}
-use Rattle.lte_properties.specs.SecondCase.{SecondAtStarting}
-use Rattle.lte_properties.proofs.Freshness.PhoneRun.{phone_always_in_order}
-use Rattle.lte_properties.proofs.Opening.Heard.{always_heard}
-use Rattle.lte_properties.proofs.Opening.Second.{second_at}
 use Rattle.lte_events.specs.Ranges.{has_station, IsEvent, IsSetup}
-use Rattle.lte_properties.specs.Reach.{AllReach}
-use Rattle.lte_properties.proofs.Named.Reaches.{sites, first_named}
-use Rattle.lte_properties.proofs.Named.World.{run_named, addresses_named}
-use Rattle.lte_machine.proofs.CipherLaws.{AreCiphers}
-use Rattle.lte_machine.proofs.Worlds.{TheWorld}
 
 module _ (same : Term → Term → Bool) (sender : Option (Outgoing Term ℕ) → Option (KeyUse Term))
     (opener : Opening Term → List ℕ → Option (Outgoing Term ℕ) → Outcome) (c : Ciphers Term) (good : AreCiphers c)

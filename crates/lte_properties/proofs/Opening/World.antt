@@ -2,47 +2,26 @@
 use Rattle.std.proofs.Common.{◌≡◌, refl, sym, ap, ℕ, ◌<◌, ◌==◌, Bool, true, false, if◌then◌else◌, List, ◌++◌, length, map, Option, Some, None, Result, le_of_eq, arith}
 use Rattle.std.specs.Prelude.{⊤, filter}
 use Rattle.std.proofs.lemmas.Bool.Decides.{nat_tests}
-use Rattle.alg_choice.specs.declared.algs.Algs.{Algs}
-use Rattle.alg_choice.specs.declared.choices.NoAlgorithm.{NoAlgorithm as NoneChosen}
-use Rattle.lte_events.specs.declared.answers.Answer.{Answer}
-use Rattle.lte_events.specs.Site.{Site}
-use Rattle.key_model.specs.Derivation.{Derivation}
-use Rattle.key_model.specs.Term.{Term, Root}
-use Rattle.key_model.specs.HandoverTable.{NumberedKey}
-use Rattle.key_model.specs.Reading.{Reading, term_reading_by}
+use Rattle.alg_choice.specs.{declared.algs.Algs.Algs, declared.choices.NoAlgorithm.NoAlgorithm as NoneChosen}
+use Rattle.lte_events.specs.{declared.answers.Answer.Answer, Site.Site}
+use Rattle.key_model.specs.{Derivation.Derivation, Term.Term, Term.Root, HandoverTable.NumberedKey, Reading.Reading, Reading.term_reading_by}
 use Rattle.s1x2_rec.specs.Fields.{Fields}
 use Rattle.lte_machine.specs.Wire.{KeyUse, Outgoing, SealedNas, SealedRrc, UserPacket}
-use Rattle.lte_machine.specs.Ciphers.{Ciphers, octets_of}
-use Rattle.lte_machine.specs.Opening.{Opening, Outcome}
-use Rattle.lte_machine.specs.Ladder.{Of}
-use Rattle.lte_machine.specs.Reply.{Reply}
-use Rattle.lte_machine.specs.PhoneState.{PhoneInput}
-use Rattle.lte_machine.specs.PhoneRows.{PhoneRow}
-use Rattle.lte_machine.specs.PhoneChoice.{phone_row}
-use Rattle.lte_machine.specs.PhoneKeys.{PhoneDone}
+use Rattle.lte_machine.specs.{Ciphers.Ciphers, Ciphers.octets_of, Opening.Opening, Opening.Outcome, Ladder.Of, Reply.Reply, PhoneState.PhoneInput, PhoneRows.PhoneRow, PhoneChoice.phone_row, PhoneKeys.PhoneDone, StationState.Station, StationState.StationInput, CoreState.Core, CoreState.CoreInput, CoreRows.CoreRow, CoreChoice.core_row, CoreKeys.CoreDone, CoreKeys.core_does}
 use Rattle.lte_machine.specs.PhoneStep.{plain_phone, front_of, phone_root, phone_opens, phone_pdu_in, phone_step}
-use Rattle.lte_machine.specs.StationState.{Station, StationInput}
 use Rattle.lte_machine.specs.StationStep.{station_opens, station_pdu_in, station_step, station_row_of, station_key}
-use Rattle.lte_machine.specs.CoreState.{Core, CoreInput}
 use Rattle.lte_machine.specs.CoreRows as core
-use Rattle.lte_machine.specs.CoreRows.{CoreRow}
-use Rattle.lte_machine.specs.CoreChoice.{core_row}
-use Rattle.lte_machine.specs.CoreKeys.{CoreDone, core_does}
 use Rattle.lte_machine.specs.CoreStep.{plain_core, core_root, core_front_of, core_opens, core_pdu_in, core_step}
 use Rattle.lte_machine.specs.World.{Machine, phone_after, core_after, station_after, by_world, phone_turn, core_turn, turn_of, is_root_row, next_root}
-use Rattle.lte_properties.specs.ChainBelow.{AllOf}
-use Rattle.lte_properties.specs.ChainHolds.{machine_by}
+use Rattle.lte_properties.specs.{ChainBelow.AllOf, ChainHolds.machine_by}
 use Rattle.lte_properties.proofs.ChainNumbers.Lists.{OfSome, all_one, all_map, roots_kept}
-use Rattle.lte_properties.proofs.Agreement.Ghost.{Ghost, StationOk}
-use Rattle.lte_properties.proofs.Agreement.Later.{Later}
+use Rattle.lte_properties.proofs.{Agreement.Ghost.Ghost, Agreement.Ghost.StationOk, Agreement.Later.Later}
 use Rattle.lte_properties.proofs.Agreement.World.{Conns, ghost, WorldOk}
 use Rattle.lte_properties.proofs.Opening.Nas.{Choices, PhoneOk, CoreOk, SentOk, OutOk, More, phone_more, core_more, sent_more}
 use Rattle.lte_properties.proofs.Opening.NasRows.{RowNeeds, CoreRowNeeds, NoAuth, phone_goes, core_goes}
 use Rattle.lte_properties.proofs.Opening.Air.{AirOk, FromStation, StationNeeds, FromPhone, PhoneNeeds, air_later, radio_keys, context_keys, station_sends, phone_sends}
-use Rattle.lte_machine.proofs.CipherLaws.{AreCiphers}
+use Rattle.lte_machine.proofs.{CipherLaws.AreCiphers, Tests.Anything, Worlds.TheWorld}
 use Rattle.lte_machine.proofs.CoreCases.{NasCases, nas_case, RecordCases, record_case, ActCases, act_case}
-use Rattle.lte_machine.proofs.Tests.{Anything}
-use Rattle.lte_machine.proofs.Worlds.{TheWorld}
 
 -- what is known of packets in a world: the NAS keys of core and phone, and how each record that was sent is sealed
 pub record PacketsOk (g : Choices) (k : Conns) (w : TheWorld) : Type 0 where

@@ -1,9 +1,7 @@
 use Rattle.std.proofs.Common.{◌≡◌, ◌+◌, ◌∙◌, length, map, take, refl, sym, ap, arith, length-set}
 use Rattle.std.proofs.lemmas.List.{take_all, map-set, length-map}
-use Rattle.aes_core.specs.KeyExpansion.{first_words, key_expansion}
-use Rattle.aes_core.specs.Word.{word_octets}
-use Rattle.aes_core.proofs.KeyExpansionLemmas.{first_words_more}
-use Rattle.aes_core.proofs.WordLemmas.{four_lists}
+use Rattle.aes_core.specs.{KeyExpansion.first_words, KeyExpansion.key_expansion, Word.word_octets}
+use Rattle.aes_core.proofs.{KeyExpansionLemmas.first_words_more, WordLemmas.four_lists}
 use Rattle.aes_core.proofs.key_expansion.expand_key.Goals as goal
 
 pub loop-i-init : goal.loop-i-init

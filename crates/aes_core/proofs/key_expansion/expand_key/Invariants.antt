@@ -1,6 +1,5 @@
 use Rattle.std.proofs.Common.{◌≡◌, ◌-◌, length, map, take}
-use Rattle.aes_core.specs.KeyExpansion.{first_words}
-use Rattle.aes_core.specs.Word.{word_octets}
+use Rattle.aes_core.specs.{KeyExpansion.first_words, Word.word_octets}
 use Rattle.aes_core.proofs.key_expansion.expand_key.Given as goal
 
 abbrev pub invariant-loop-i : goal.invariant-loop-i

@@ -1,11 +1,9 @@
 use Rattle.std.proofs.Common.{◌≡◌, ◌-◌, ◌/◌, ◌<◌, get_or, sym, ◌∙◌, arith}
 use Rattle.std.specs.Prelude.{bit_xor}
 use Rattle.std.proofs.lemmas.Nat.{xor_of_8}
-use Rattle.aes_core.specs.Word.{word_octets}
-use Rattle.aes_core.specs.declared.key_expansion.TheConstants.{POWERS_OF_X}
-use Rattle.aes_core.proofs.AesLemmas.{octet-power_of_x}
+use Rattle.aes_core.specs.{Word.word_octets, declared.key_expansion.TheConstants.POWERS_OF_X}
+use Rattle.aes_core.proofs.{AesLemmas.octet-power_of_x, WordLemmas.word_octets-from}
 use Rattle.aes_core.proofs.KeyExpansionLemmas.{get_or-POWERS_OF_X, key_mask-fourth, key_mask-other}
-use Rattle.aes_core.proofs.WordLemmas.{word_octets-from}
 use Rattle.aes_core.proofs.key_expansion.key_mask.Goals as goal
 
 octets : (c : goal.After-from_be_bytes) → c.to_be_bytes-octets.result ≡ word_octets c.args.word

@@ -1,7 +1,6 @@
 use Rattle.std.proofs.Common.{◌≡◌, ◌-◌, length, get_or, map, [], rules, refl, sym, ◌∙◌, arith}
 use Rattle.std.proofs.lemmas.List.{get_or-map}
-use Rattle.aes_core.specs.KeyExpansion.{next_word}
-use Rattle.aes_core.specs.Word.{word_octets}
+use Rattle.aes_core.specs.{KeyExpansion.next_word, Word.word_octets}
 use Rattle.aes_core.proofs.WordLemmas.{word_octets-xor}
 use Rattle.aes_core.proofs.key_expansion.next_word.Goals as goal
 

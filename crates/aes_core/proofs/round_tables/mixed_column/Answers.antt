@@ -1,8 +1,5 @@
 use Rattle.std.proofs.Common.{◌≡◌, ◌/◌, ◌%◌, ◌^◌, get_or, ap, sym, ◌∙◌, arith}
-use Rattle.aes_core.specs.KeyExpansion.{add_words}
-use Rattle.aes_core.specs.RoundTable.{table_entry}
-use Rattle.aes_core.specs.Word.{word_octets}
-use Rattle.aes_core.specs.declared.round_tables.TheConstants.{ROUND_0}
+use Rattle.aes_core.specs.{KeyExpansion.add_words, RoundTable.table_entry, Word.word_octets, declared.round_tables.TheConstants.ROUND_0}
 use Rattle.aes_core.proofs.WordLemmas.{entry_0, entry_1, entry_2, entry_3, mixed_entries, word_octets-xor}
 use Rattle.aes_core.proofs.round_tables.mixed_column.Goals as goal
 

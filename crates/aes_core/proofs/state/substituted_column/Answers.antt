@@ -1,6 +1,5 @@
 use Rattle.std.proofs.Common.{◌≡◌, ◌/◌, ◌%◌, ◌^◌, ap, ◌∙◌, arith}
-use Rattle.aes_core.specs.SBox.{sub_byte}
-use Rattle.aes_core.specs.Word.{word_octets}
+use Rattle.aes_core.specs.{SBox.sub_byte, Word.word_octets}
 use Rattle.aes_core.proofs.WordLemmas.{four_same, word_octets-from}
 use Rattle.aes_core.proofs.state.substituted_column.Goals as goal
 

@@ -1,6 +1,5 @@
 use Rattle.std.proofs.Common.{rules, ◌≡◌, true, refl, sym, ◌∙◌}
-use Rattle.alg_choice.specs.Caps.{holds_eea, holds_eia2}
-use Rattle.alg_choice.specs.Choice.{are_supported}
+use Rattle.alg_choice.specs.{Caps.holds_eea, Caps.holds_eia2, Choice.are_supported}
 use Rattle.alg_choice.proofs.FindFacts.{find_passes, list_any-find, list_any-find_none}
 use Rattle.alg_choice.proofs.choices.choose.Goals as goal
 

@@ -3,9 +3,7 @@ use Rattle.lte_machine.specs.BothRuns.{octet_run}
 use Rattle.lte_world.specs.Whole.{run_of}
 use Rattle.run_report.specs.Counted.{ComesOut}
 use Rattle.run_report.proofs.Partly.{one_piece, never_done}
-use Rattle.audit_report.proofs.OfRun.{audit_of_run}
-use Rattle.audit_report.proofs.Together.{exact_in}
-use Rattle.audit_report.proofs.Reported.{audit_ended, audit_coincidence}
+use Rattle.audit_report.proofs.{OfRun.audit_of_run, Together.exact_in, Reported.audit_ended, Reported.audit_coincidence}
 use Rattle.audit_report.proofs.audits.audit_run.Goals as goal
 
 pub returns-in-Ok-Ended-clause-report : goal.returns-in-Ok-Ended-clause-report

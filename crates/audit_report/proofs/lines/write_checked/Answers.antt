@@ -1,5 +1,4 @@
-use Rattle.std.proofs.Common.{◌++◌, length}
-use Rattle.std.proofs.lemmas.Result.{err_from_is_err_and}
+use Rattle.std.proofs.{Common.◌++◌, Common.length, lemmas.Result.err_from_is_err_and}
 use Rattle.key_audit.specs.Local.{exact_mark}
 use Rattle.key_audit.specs.Text.{first_line, row_lines, last_line}
 use Rattle.run_report.proofs.Partly.{both_written, first_cut}

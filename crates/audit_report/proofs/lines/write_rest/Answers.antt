@@ -1,7 +1,6 @@
 use Rattle.std.proofs.Common.{ap, subst, ◌∙◌, length}
 use Rattle.std.proofs.lemmas.Result.{err_from_is_err_and}
-use Rattle.key_audit.specs.Local.{exact_mark}
-use Rattle.key_audit.specs.Text.{row_lines, last_line}
+use Rattle.key_audit.specs.{Local.exact_mark, Text.row_lines, Text.last_line}
 use Rattle.run_report.specs.Written.{WritesText}
 use Rattle.run_report.proofs.Partly.{both_written, first_cut}
 use Rattle.edge_io.specs.Lines.{are_lines}

@@ -1,11 +1,9 @@
 use Rattle.std.proofs.Common.{◌≡◌, ◌-◌, ap, subst, length, arith}
 use Rattle.std.proofs.lemmas.Result.{err_from_is_err_and}
-use Rattle.key_audit.specs.Local.{exact_mark}
-use Rattle.key_audit.specs.Text.{row_lines}
+use Rattle.key_audit.specs.{Local.exact_mark, Text.row_lines}
 use Rattle.run_report.proofs.Partly.{Partly, none_written, more_written, cut_written, all_written}
-use Rattle.audit_report.proofs.Growing.{row_more}
+use Rattle.audit_report.proofs.{Growing.row_more, Ends.row_ends}
 use Rattle.edge_io.proofs.Ending.{is_lines, text_is}
-use Rattle.audit_report.proofs.Ends.{row_ends}
 use Rattle.audit_report.proofs.lines.write_rows.Goals as goal
 
 pub loop-k-init : goal.loop-k-init

@@ -1,6 +1,5 @@
 use Rattle.std.proofs.Common.{◌-◌, length}
-use Rattle.key_audit.specs.Local.{exact_mark}
-use Rattle.key_audit.specs.Text.{row_lines}
+use Rattle.key_audit.specs.{Local.exact_mark, Text.row_lines}
 use Rattle.run_report.proofs.Partly.{Partly}
 use Rattle.audit_report.proofs.lines.write_rows.Given as goal
 

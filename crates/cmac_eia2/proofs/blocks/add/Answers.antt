@@ -1,6 +1,5 @@
-use Rattle.std.proofs.Common.{get_or, rules}
+use Rattle.std.proofs.{Common.get_or, Common.rules, lemmas.List.FromFn.fill_by_all}
 use Rattle.std.specs.Int.Bits.{bit_xor}
-use Rattle.std.proofs.lemmas.List.FromFn.{fill_by_all}
 use Rattle.cmac_eia2.specs.Cmac.{xor_blocks}
 use Rattle.cmac_eia2.proofs.blocks.add.Goals as goal
 

@@ -1,12 +1,10 @@
 use Rattle.std.proofs.Common.{sym, ap, ◌∙◌, Err, length}
-use Rattle.run_report.proofs.Partly.{one_piece, never_done}
+use Rattle.run_report.proofs.{Partly.one_piece, Partly.never_done, CoincidenceHasString.shown_in}
 use Rattle.core_relocation.specs.Report.{answer_report}
 use Rattle.lte_world.specs.Whole.{told_of}
-use Rattle.run_report.proofs.CoincidenceHasString.{shown_in}
 use Rattle.core_relocation.specs.Holder.{acting, away, station_in}
-use Rattle.core_relocation.proofs.Applied.{coincidence_told}
+use Rattle.core_relocation.proofs.{Applied.coincidence_told, Ends.two_ends}
 use Rattle.edge_io.proofs.Ending.{is_lines, text_is}
-use Rattle.core_relocation.proofs.Ends.{two_ends}
 use Rattle.core_relocation.proofs.reports.write_answer.Goals as goal
 
 pub write_coincidence-requires-clause-string : goal.write_coincidence-requires-clause-string

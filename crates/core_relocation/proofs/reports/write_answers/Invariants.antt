@@ -1,7 +1,6 @@
 use Rattle.std.proofs.Common.{◌≡◌, take}
 use Rattle.run_report.proofs.Partly.{ReportPartly}
-use Rattle.core_relocation.specs.Report.{two_report_of}
-use Rattle.core_relocation.specs.Whole.{StillRuns}
+use Rattle.core_relocation.specs.{Report.two_report_of, Whole.StillRuns}
 use Rattle.core_relocation.proofs.SoFar.{rest_at}
 use Rattle.core_relocation.proofs.reports.write_answers.Given as goal
 

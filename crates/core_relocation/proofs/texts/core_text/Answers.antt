@@ -1,6 +1,5 @@
 use Rattle.std.proofs.Common.{◌≡◌, ◌∙◌, ap, ◌++◌, rules}
-use Rattle.std.specs.Prelude.{codes}
-use Rattle.std.specs.Fmt.{decimal}
+use Rattle.std.specs.{Prelude.codes, Fmt.decimal}
 use Rattle.lte_events.specs.declared.lines.Who.{Who}
 use Rattle.report_text.specs.Line.{line_text}
 use Rattle.core_relocation.proofs.CoreText.{fits, numbered}

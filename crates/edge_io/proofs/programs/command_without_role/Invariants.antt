@@ -1,6 +1,5 @@
 use Rattle.std.proofs.Common.{◌≡◌, map, take, string_bytes}
-use Rattle.std.specs.Process.{command_program, command_args}
-use Rattle.std.specs.Path.{path_buf_bytes}
+use Rattle.std.specs.{Process.command_program, Process.command_args, Path.path_buf_bytes}
 use Rattle.edge_io.proofs.programs.command_without_role.Given as goal
 
 abbrev pub invariant-words : goal.invariant-words

@@ -1,6 +1,5 @@
 use Rattle.std.proofs.Common.{◌≡◌, ◌+◌, ◌-◌, ◌≤◌, IsTrue, length, take}
-use Rattle.edge_io.specs.Cause.{NoFault}
-use Rattle.edge_io.specs.Octets.{Gives}
+use Rattle.edge_io.specs.{Cause.NoFault, Octets.Gives}
 use Rattle.edge_io.proofs.reading.read_fill.Given as goal
 
 abbrev pub invariant-pieces : goal.invariant-pieces

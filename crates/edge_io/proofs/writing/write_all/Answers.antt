@@ -1,6 +1,5 @@
 use Rattle.std.proofs.Common.{◌∙◌, rules}
-use Rattle.edge_io.proofs.Ending.{lines_kept, pieces_kept}
-use Rattle.edge_io.proofs.Known.{grows_on}
+use Rattle.edge_io.proofs.{Ending.lines_kept, Ending.pieces_kept, Known.grows_on}
 use Rattle.edge_io.proofs.writing.write_all.Goals as goal
 
 pub pieces-preserved : goal.pieces-preserved

@@ -1,7 +1,5 @@
 use Rattle.std.proofs.Common.{◌≡◌, ◌-◌, ◌≤◌, true, IsTrue, length, take}
-use Rattle.edge_io.specs.Cause.{NoFault}
-use Rattle.edge_io.specs.Lines.{are_lines}
-use Rattle.edge_io.specs.Octets.{Grows}
+use Rattle.edge_io.specs.{Cause.NoFault, Lines.are_lines, Octets.Grows}
 use Rattle.edge_io.proofs.writing.write_all.Given as goal
 
 abbrev pub invariant-pieces : goal.invariant-pieces

@@ -1,8 +1,7 @@
 use Rattle.std.proofs.Common.{◌≡◌, suc, ◌+◌, ◌/◌, ◌^◌, ◌<◌, length, refl, ap, ◌∙◌, arith}
 use Rattle.std.specs.Prelude.{bit_xor}
 use Rattle.std.proofs.lemmas.Nat.{xor_lt}
-use Rattle.eia1.specs.Eia1.{evaluated}
-use Rattle.eia1.specs.Rows.{sum_of}
+use Rattle.eia1.specs.{Eia1.evaluated, Rows.sum_of}
 use Rattle.eia1.proofs.RowLemmas.{sum_of-rows_of}
 use Rattle.eia1.proofs.evaluation.evaluated.Goals as goal
 

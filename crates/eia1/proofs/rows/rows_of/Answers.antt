@@ -1,8 +1,6 @@
 use Rattle.std.proofs.Common.{◌≡◌, ℕ, suc, ◌+◌, ◌*◌, [], length, length-set, slice_index_or, slice_set, refl, ap, ◌∙◌, arith}
-use Rattle.std.proofs.lemmas.List.Edits.{fill_by_more}
-use Rattle.std.proofs.lemmas.List.FromFn.{fill_by_all}
-use Rattle.eia1.specs.Polynomial.{times_power, times_x}
-use Rattle.eia1.specs.Rows.{row_of, rows_of}
+use Rattle.std.proofs.{lemmas.List.Edits.fill_by_more, lemmas.List.FromFn.fill_by_all}
+use Rattle.eia1.specs.{Polynomial.times_power, Polynomial.times_x, Rows.row_of, Rows.rows_of}
 use Rattle.eia1.proofs.rows.rows_of.Goals as goal
 
 pub loop-j-init : goal.loop-j-init

@@ -1,6 +1,5 @@
 use Rattle.std.proofs.Common.{◌≡◌, ℕ, ◌*◌, ◌<◌, [], length, slice_index_or}
-use Rattle.eia1.specs.Polynomial.{times_power}
-use Rattle.eia1.specs.Rows.{row_of}
+use Rattle.eia1.specs.{Polynomial.times_power, Rows.row_of}
 use Rattle.eia1.proofs.rows.rows_of.Given as goal
 
 abbrev pub invariant-loop-j : goal.invariant-loop-j

@@ -1,6 +1,5 @@
 use Rattle.std.proofs.Common.{◌≡◌, ℕ, ◌*◌}
-use Rattle.eia3.specs.Eia3.{sums}
-use Rattle.eia3.specs.Words.{HasWords}
+use Rattle.eia3.specs.{Eia3.sums, Words.HasWords}
 use Rattle.eia3.proofs.summing.piece_sum.Given as goal
 
 abbrev pub invariant-loop-i : goal.invariant-loop-i

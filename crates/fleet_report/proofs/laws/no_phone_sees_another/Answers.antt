@@ -1,5 +1,4 @@
-use Rattle.fleet_report.proofs.Holding.{holds}
-use Rattle.fleet_report.proofs.Looping.{all_in_range}
+use Rattle.fleet_report.proofs.{Holding.holds, Looping.all_in_range}
 use Rattle.fleet_report.proofs.laws.no_phone_sees_another.Goals as goal
 
 pub returns : goal.returns

@@ -3,11 +3,10 @@ use Rattle.std.proofs.lemmas.Result.{err_from_is_err_and}
 use Rattle.lte_world.specs.Whole.{run_of}
 use Rattle.report_text.specs.End.{end_text}
 use Rattle.run_report.specs.Written.{WritesText}
-use Rattle.run_report.proofs.Partly.{both_written, first_cut}
+use Rattle.run_report.proofs.{Partly.both_written, Partly.first_cut, Ends.end_ends}
 use Rattle.fleet_report.specs.Lines.{texts, phone_text, row_outputs}
 use Rattle.fleet_report.proofs.ReportByPiece.{end_is, if_ok}
 use Rattle.edge_io.specs.Lines.{EndsLine}
-use Rattle.run_report.proofs.Ends.{end_ends}
 use Rattle.fleet_report.proofs.reports.write_end.Goals as goal
 
 pub overflow_cast-events : goal.overflow_cast-events

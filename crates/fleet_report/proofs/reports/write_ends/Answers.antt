@@ -3,8 +3,7 @@ use Rattle.std.proofs.lemmas.Result.{err_from_is_err_and}
 use Rattle.run_report.specs.Written.{WritesText}
 use Rattle.run_report.proofs.Partly.{none_written, more_written, cut_written, all_written}
 use Rattle.fleet_world.specs.Fleets.{owns_in}
-use Rattle.fleet_report.specs.Lines.{texts}
-use Rattle.fleet_report.specs.Report.{ends_from}
+use Rattle.fleet_report.specs.{Lines.texts, Report.ends_from}
 use Rattle.fleet_report.proofs.Ending.{goes_on, few, text_is}
 use Rattle.fleet_report.proofs.ReportByPiece.{end_next, ends_past, many_owns}
 use Rattle.fleet_report.proofs.reports.write_ends.Goals as goal

@@ -1,7 +1,6 @@
 use Rattle.std.proofs.Common.{drop}
 use Rattle.fleet_world.specs.Fleets.{owns_in}
-use Rattle.fleet_report.specs.Lines.{texts}
-use Rattle.fleet_report.specs.Report.{ends_from}
+use Rattle.fleet_report.specs.{Lines.texts, Report.ends_from}
 use Rattle.run_report.proofs.Partly.{Partly}
 use Rattle.fleet_report.proofs.reports.write_ends.Given as goal
 

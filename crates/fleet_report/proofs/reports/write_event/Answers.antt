@@ -1,12 +1,8 @@
 use Rattle.std.proofs.Common.{◌≡◌, sym, ap, subst, ◌∙◌, length, Ok, Err, true}
 use Rattle.lte_world.specs.Whole.{Whole}
-use Rattle.fleet_world.specs.Answers.{own_at}
-use Rattle.fleet_world.specs.Fleets.{owns_in}
-use Rattle.fleet_report.specs.Events.{answer_report, event_report}
-use Rattle.fleet_report.specs.Lines.{output_text, answer_output}
-use Rattle.fleet_report.proofs.ReportByPiece.{if_ok}
-use Rattle.fleet_report.proofs.CoincidenceHasText.{fault_shown, fault_reported}
-use Rattle.fleet_report.proofs.Ends.{told_is}
+use Rattle.fleet_world.specs.{Answers.own_at, Fleets.owns_in}
+use Rattle.fleet_report.specs.{Events.answer_report, Events.event_report, Lines.output_text, Lines.answer_output}
+use Rattle.fleet_report.proofs.{ReportByPiece.if_ok, CoincidenceHasText.fault_shown, CoincidenceHasText.fault_reported, Ends.told_is}
 use Rattle.edge_io.specs.Lines.{are_lines}
 use Rattle.run_report.specs.Written.{WritesReport}
 use Rattle.run_report.proofs.Partly.{one_piece, never_done}

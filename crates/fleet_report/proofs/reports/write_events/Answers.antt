@@ -1,6 +1,5 @@
 use Rattle.std.proofs.Common.{◌≤◌, ◌+◌, ap, subst, ◌∙◌, Ok, length, length-append, arith}
-use Rattle.std.proofs.lemmas.List.{length-replicate}
-use Rattle.std.proofs.lemmas.Result.{err_from_is_err_and}
+use Rattle.std.proofs.{lemmas.List.length-replicate, lemmas.Result.err_from_is_err_and}
 use Rattle.fleet_world.specs.Fleets.{Fleeted}
 use Rattle.fleet_report.specs.Report.{fleet_report_of}
 use Rattle.fleet_report.proofs.Looping.{can_take, event_next, behind_is, end_is, first_is}

@@ -1,9 +1,7 @@
 use Rattle.std.proofs.Common.{◌≡◌, ◌<◌, sym, subst, [], length, get_or, arith}
 use Rattle.std.specs.Prelude.{slice_get, Some}
-use Rattle.std.proofs.lemmas.Option.{slice_get-get_or}
-use Rattle.std.proofs.lemmas.Result.{err_from_is_err_and}
-use Rattle.key_terms.specs.declared.row.Origin.{Origin}
-use Rattle.key_terms.specs.Ladder.{unheld}
+use Rattle.std.proofs.{lemmas.Option.slice_get-get_or, lemmas.Result.err_from_is_err_and}
+use Rattle.key_terms.specs.{declared.row.Origin.Origin, Ladder.unheld}
 use Rattle.report_text.specs.Ladder.{row_text}
 use Rattle.fleet_report.specs.Lines.{texts, row_outputs}
 use Rattle.fleet_report.proofs.ReportByPiece.{row_next, rows_past, if_ok}

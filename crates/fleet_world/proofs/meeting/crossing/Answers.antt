@@ -1,9 +1,8 @@
 use Rattle.std.proofs.Common.{◌≡◌, ◌+◌, ℕ, sym, ap, subst, ◌∙◌, ◌∷◌, drop, Some, None}
 use Rattle.std.specs.Option.{option_map}
 use Rattle.key_terms.specs.declared.row.Row.{Row}
-use Rattle.fleet_world.specs.Answers.{cross_of}
+use Rattle.fleet_world.specs.{Answers.cross_of, Worlds.ladders_in, Worlds.others_in}
 use Rattle.fleet_world.specs.Meeting.{met_or, meeting_from, row_among, ladder_at}
-use Rattle.fleet_world.specs.Worlds.{ladders_in, others_in}
 use Rattle.fleet_world.proofs.Searching.{goes_at, ladder_is, ladder_of_phone, rows_left}
 use Rattle.fleet_world.proofs.meeting.crossing.Goals as goal
 

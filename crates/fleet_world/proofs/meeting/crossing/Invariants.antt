@@ -1,6 +1,5 @@
 use Rattle.std.proofs.Common.{◌≡◌, drop}
-use Rattle.fleet_world.specs.Meeting.{meeting_from, ladder_at}
-use Rattle.fleet_world.specs.Worlds.{ladders_in, others_in}
+use Rattle.fleet_world.specs.{Meeting.meeting_from, Meeting.ladder_at, Worlds.ladders_in, Worlds.others_in}
 use Rattle.fleet_world.proofs.meeting.crossing.Given as goal
 
 abbrev pub invariant-loop-number : goal.invariant-loop-number

@@ -1,6 +1,5 @@
 use Rattle.std.proofs.Common.{sym, ◌∙◌, arith}
-use Rattle.fleet_world.specs.Meeting.{has_root}
-use Rattle.fleet_world.specs.Worlds.{others_in}
+use Rattle.fleet_world.specs.{Meeting.has_root, Worlds.others_in}
 use Rattle.fleet_world.proofs.Searching.{others_length, first_is, none_is}
 use Rattle.fleet_world.proofs.meeting.root_elsewhere.Goals as goal
 

@@ -1,6 +1,5 @@
 use Rattle.std.proofs.Common.{◌≡◌, ℕ, ◌<◌, false}
-use Rattle.fleet_world.specs.Meeting.{has_root, ladder_at}
-use Rattle.fleet_world.specs.Worlds.{others_in}
+use Rattle.fleet_world.specs.{Meeting.has_root, Meeting.ladder_at, Worlds.others_in}
 use Rattle.fleet_world.proofs.meeting.root_elsewhere.Given as goal
 
 abbrev pub invariant-loop-number : goal.invariant-loop-number

@@ -1,9 +1,7 @@
 use Rattle.std.proofs.Common.{◌≡◌, sym, ap, ◌∙◌, arith, Some, None}
 use Rattle.std.specs.Option.{option_map}
-use Rattle.key_terms.specs.declared.row.Row.{Row}
-use Rattle.key_terms.specs.Ladder.{row_of}
-use Rattle.fleet_world.specs.Meeting.{has_row, ladder_at}
-use Rattle.fleet_world.specs.Worlds.{others_in}
+use Rattle.key_terms.specs.{declared.row.Row.Row, Ladder.row_of}
+use Rattle.fleet_world.specs.{Meeting.has_row, Meeting.ladder_at, Worlds.others_in}
 use Rattle.fleet_world.proofs.Searching.{others_length, first_is, none_is, and_this, row_found, row_not_found, met_is, met_none}
 use Rattle.fleet_world.proofs.meeting.row_elsewhere.Goals as goal
 

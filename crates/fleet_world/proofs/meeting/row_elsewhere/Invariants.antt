@@ -1,6 +1,5 @@
 use Rattle.std.proofs.Common.{◌≡◌, ℕ, ◌<◌, false}
-use Rattle.fleet_world.specs.Meeting.{has_row, ladder_at}
-use Rattle.fleet_world.specs.Worlds.{others_in}
+use Rattle.fleet_world.specs.{Meeting.has_row, Meeting.ladder_at, Worlds.others_in}
 use Rattle.fleet_world.proofs.meeting.row_elsewhere.Given as goal
 
 abbrev pub invariant-loop-number : goal.invariant-loop-number

@@ -1,7 +1,6 @@
 use Rattle.std.proofs.Common.{ℕ, ◌<◌, length, get_or, rules}
 use Rattle.std.specs.Prelude.{bit_xor}
-use Rattle.std.proofs.lemmas.List.{get_or_default}
-use Rattle.std.proofs.lemmas.List.Edits.{map_over_more}
+use Rattle.std.proofs.{lemmas.List.get_or_default, lemmas.List.Edits.map_over_more}
 use Rattle.hmac_kdf.proofs.blocks.combine.Goals as goal
 
 pub loop-octet-preserved : goal.loop-octet-preserved

@@ -1,6 +1,5 @@
 use Rattle.std.proofs.Common.{◌≡◌, ℕ, ◌-◌, List, ◌++◌, length, drop}
-use Rattle.std.proofs.Math.ListN.{replicate}
-use Rattle.std.proofs.lemmas.List.{drop-replicate}
+use Rattle.std.proofs.{Math.ListN.replicate, lemmas.List.drop-replicate}
 use Rattle.hmac_kdf.proofs.blocks.with_zeros.Goals as goal
 
 -- octets written over the front of a block of zeros

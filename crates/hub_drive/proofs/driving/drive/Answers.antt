@@ -1,9 +1,7 @@
-use Rattle.hub_drive.proofs.Gone.{all_stopped}
-use Rattle.hub_drive.specs.Driven.{Plan}
+use Rattle.hub_drive.proofs.{Gone.all_stopped, Texts.Reports, Texts.plan_report}
+use Rattle.hub_drive.specs.{Driven.Plan, Plan.plan_of}
 use Rattle.run_report.specs.Report.{Report, report_of}
 use Rattle.hub_drive.proofs.Comes.{ok_text, ok_ends, fault_text, short_text, ok_made, fault_named, all_is_done}
-use Rattle.hub_drive.proofs.Texts.{Reports, plan_report}
-use Rattle.hub_drive.specs.Plan.{plan_of}
 use Rattle.hub_drive.proofs.driving.drive.Goals as goal
 
 pub returns : goal.returns

@@ -3,14 +3,11 @@ use Rattle.lte_machine.specs.Run.{Running, first_world}
 use Rattle.run_report.specs.declared.endings.Ending.{Ending}
 use Rattle.hub_drive.proofs.Gone.{started_went, set_ups_start, started_did}
 use Rattle.hub_drive.proofs.Running.{all_run_went, all_run_did}
-use Rattle.hub_drive.specs.declared.faults.DriveFault.{DriveFault}
+use Rattle.hub_drive.specs.{declared.faults.DriveFault.DriveFault, Acts.calls, Went.Went, Plan.events_plan}
 use Rattle.hub_drive.specs.declared.faults.DriveFault.TheVariants.{Memory, WriteFault}
-use Rattle.hub_drive.specs.Acts.{calls}
 use Rattle.hub_drive.specs.Exchanges.{roles_of, starts, seeds_of, set_ups}
 use Rattle.hub_drive.specs.Outside.{Outside, outside, AllDone, AllRun}
-use Rattle.hub_drive.specs.Went.{Went}
 use Rattle.hub_drive.proofs.Planned.{starts_cut, set_ups_cut, whole_went, seeds_good, events_count, plan_runs}
-use Rattle.hub_drive.specs.Plan.{events_plan}
 use Rattle.hub_drive.proofs.driving.play.Goals as goal
 
 -- a fault that is handed on with another answer

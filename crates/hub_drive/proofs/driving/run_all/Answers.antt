@@ -2,11 +2,9 @@ use Rattle.std.proofs.Common.{◌+◌, length, drop, Ok, ap, subst, sym, ◌∙�
 use Rattle.std.proofs.lemmas.Result.{err_from_is_err_and}
 use Rattle.lte_machine.specs.Run.{Running, first_world}
 use Rattle.lte_world.specs.Whole.{run_of}
-use Rattle.hub_drive.specs.Driven.{Plan, PlanWent}
-use Rattle.hub_drive.specs.Outside.{Outside, outside}
+use Rattle.hub_drive.specs.{Driven.Plan, Driven.PlanWent, Outside.Outside, Outside.outside}
 use Rattle.run_report.proofs.HappenedSoFar.{can_take, one_taken}
-use Rattle.run_report.specs.declared.endings.Ending.TheVariants.{Done}
-use Rattle.run_report.specs.Events.{told_of}
+use Rattle.run_report.specs.{declared.endings.Ending.TheVariants.Done, Events.told_of}
 use Rattle.hub_drive.proofs.Event.{plain_of}
 use Rattle.hub_drive.proofs.Planned.{PlanGoing, plan_on, plan_cut, plan_ended, plan_goes, plan_runs, event_left, end_done}
 use Rattle.hub_drive.specs.Plan.{event_plan, replies_at, turned, followed, events_plan}

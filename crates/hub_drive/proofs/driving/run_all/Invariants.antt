@@ -1,13 +1,10 @@
 use Rattle.std.proofs.Common.{◌≡◌, drop, length}
-use Rattle.edge_io.specs.Cause.{NoFault}
-use Rattle.edge_io.specs.Used.{UsedAsSink}
+use Rattle.edge_io.specs.{Cause.NoFault, Used.UsedAsSink}
 use Rattle.lte_machine.specs.Run.{Running, first_world}
 use Rattle.lte_world.specs.Whole.{run_of}
 use Rattle.run_report.proofs.HappenedSoFar.{Took}
-use Rattle.hub_drive.specs.Exchanges.{roles_of}
-use Rattle.hub_drive.specs.Outside.{AllRun, outside}
+use Rattle.hub_drive.specs.{Exchanges.roles_of, Outside.AllRun, Outside.outside, Plan.events_plan}
 use Rattle.hub_drive.proofs.Planned.{PlanGoing}
-use Rattle.hub_drive.specs.Plan.{events_plan}
 use Rattle.hub_drive.proofs.driving.run_all.Given as goal
 
 abbrev pub invariant-loop-number : goal.invariant-loop-number

@@ -1,14 +1,11 @@
 use Rattle.std.proofs.Common.{◌≡◌, length, Ok, sym, ap, subst, ◌∙◌, All}
 use Rattle.std.proofs.lemmas.Result.{err_from_is_err_and}
 use Rattle.lte_world.specs.Whole.{Whole, run_of}
-use Rattle.hub_drive.specs.Exchanges.{HasActor, replied}
+use Rattle.hub_drive.specs.{Exchanges.HasActor, Exchanges.replied, Went.CutAt, Plan.replies_at}
 use Rattle.hub_drive.specs.Outside.{Outside, outside, AllDone}
-use Rattle.hub_drive.specs.Went.{CutAt}
-use Rattle.run_report.specs.declared.endings.Ending.TheVariants.{Done}
-use Rattle.run_report.specs.Events.{told_of, event_ends}
+use Rattle.run_report.specs.{declared.endings.Ending.TheVariants.Done, Events.told_of, Events.event_ends}
 use Rattle.lte_world.proofs.TellsAsWritten.{not_over}
 use Rattle.hub_drive.proofs.Event.{goes_after, replies_are, all_have, event_told, event_untold, event_coincides, event_unwritten}
-use Rattle.hub_drive.specs.Plan.{replies_at}
 use Rattle.hub_drive.proofs.happening.happen.Goals as goal
 
 pub returns-in-Chance-clause-went : goal.returns-in-Chance-clause-went

@@ -1,5 +1,4 @@
-use Rattle.std.proofs.Common.{None, rules}
-use Rattle.std.proofs.lemmas.Result.{err_from_is_err_and}
+use Rattle.std.proofs.{Common.None, Common.rules, lemmas.Result.err_from_is_err_and}
 use Rattle.role_wire.specs.Ranges.{IsSetup}
 use Rattle.hub_drive.proofs.Composing.{going_on, going_cut, going_ended}
 use Rattle.hub_drive.proofs.Places.{all_at, as_many, set_ups_next, no_set_ups}

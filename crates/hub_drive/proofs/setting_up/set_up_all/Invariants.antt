@@ -1,10 +1,8 @@
 use Rattle.std.proofs.Common.{◌≡◌, ℕ, Option, List, drop, length}
-use Rattle.lte_events.specs.Reply.{reply_of}
-use Rattle.lte_events.specs.declared.answers.Answer.TheVariants.{Done}
+use Rattle.lte_events.specs.{Reply.reply_of, declared.answers.Answer.TheVariants.Done}
 use Rattle.role_wire.specs.Reply.{reply_spelling}
 use Rattle.hub_drive.proofs.Composing.{Going}
-use Rattle.hub_drive.specs.Exchanges.{seeds_of, set_ups}
-use Rattle.hub_drive.specs.Outside.{AllRun, outside}
+use Rattle.hub_drive.specs.{Exchanges.seeds_of, Exchanges.set_ups, Outside.AllRun, Outside.outside}
 use Rattle.hub_drive.proofs.setting_up.set_up_all.Given as goal
 
 abbrev pub invariant-loop-peer : goal.invariant-loop-peer

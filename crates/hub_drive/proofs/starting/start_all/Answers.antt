@@ -1,10 +1,7 @@
 use Rattle.std.proofs.Common.{None, Err, [], ◌∷◌, rules}
 use Rattle.hub_drive.proofs.Composing.{going_on, going_cut, going_ended}
-use Rattle.hub_drive.proofs.Places.{starts_next, no_starts}
-use Rattle.hub_drive.proofs.Running.{all_run_went}
-use Rattle.hub_drive.specs.Acts.{Starting, Calling}
-use Rattle.hub_drive.specs.Exchanges.{roles_of, starts}
-use Rattle.hub_drive.specs.Outside.{outside}
+use Rattle.hub_drive.proofs.{Places.starts_next, Places.no_starts, Running.all_run_went}
+use Rattle.hub_drive.specs.{Acts.Starting, Acts.Calling, Exchanges.roles_of, Exchanges.starts, Outside.outside}
 use Rattle.hub_drive.proofs.starting.start_all.Goals as goal
 
 pub returns-in-Err-clause-went : goal.returns-in-Err-clause-went

@@ -1,8 +1,6 @@
 use Rattle.std.proofs.Common.{◌≡◌, ℕ, ◌≤◌, Some, None, List, length, slice_get, refl, sym, subst, rules}
-use Rattle.std.proofs.lemmas.Option.{slice_get_read}
-use Rattle.std.proofs.lemmas.Result.{err_from_is_err_and}
-use Rattle.lte_events.specs.declared.inputs.ActorIn.{ActorIn}
-use Rattle.lte_events.specs.declared.replies.ActorOut.{ActorOut}
+use Rattle.std.proofs.{lemmas.Option.slice_get_read, lemmas.Result.err_from_is_err_and}
+use Rattle.lte_events.specs.{declared.inputs.ActorIn.ActorIn, declared.replies.ActorOut.ActorOut}
 use Rattle.role_wire.specs.Reply.{reply_octets}
 use Rattle.hub_drive.proofs.Composing.{going_on, going_cut, going_ended}
 use Rattle.hub_drive.proofs.Places.{all_at, has_length, peer_within, replied_next, none_replied}

@@ -1,7 +1,6 @@
 use Rattle.std.proofs.Common.{◌≡◌, ℕ, Option, List, drop, length}
 use Rattle.hub_drive.proofs.Composing.{Going}
-use Rattle.hub_drive.specs.Exchanges.{roles_of, replied}
-use Rattle.hub_drive.specs.Outside.{AllRun, outside}
+use Rattle.hub_drive.specs.{Exchanges.roles_of, Exchanges.replied, Outside.AllRun, Outside.outside}
 use Rattle.hub_drive.proofs.telling.tell_all.Given as goal
 
 abbrev pub invariant-loop-input : goal.invariant-loop-input

@@ -1,5 +1,4 @@
-use Rattle.item_faults.specs.Changes.{variant}
-use Rattle.item_faults.specs.Laws.{CanRun}
+use Rattle.item_faults.specs.{Changes.variant, Laws.CanRun}
 use Rattle.item_faults.proofs.Keeps.{some_of, variant_can_run}
 use Rattle.item_faults.proofs.changes.variant.Goals as goal
 

@@ -1,7 +1,5 @@
-use Rattle.std.proofs.Common.{◌≡◌, length}
-use Rattle.std.proofs.lemmas.List.{length-map}
-use Rattle.item_faults.specs.Laws.{AreEntries}
-use Rattle.item_faults.specs.Steps.{entries_of, entry_of}
+use Rattle.std.proofs.{Common.◌≡◌, Common.length, lemmas.List.length-map}
+use Rattle.item_faults.specs.{Laws.AreEntries, Steps.entries_of, Steps.entry_of}
 use Rattle.item_faults.proofs.Answered.{are_entries, ok_of}
 use Rattle.item_faults.proofs.steps.entries_of.Goals as goal
 

@@ -1,7 +1,6 @@
 use Rattle.std.proofs.Common.{◌≡◌, ◌+◌, All, length}
 use Rattle.lte_events.specs.Scenario.{CanHappen}
-use Rattle.item_probe.specs.Acts.{AreInPlace, acts_of}
-use Rattle.item_probe.specs.Places.{more_acts}
+use Rattle.item_probe.specs.{Acts.AreInPlace, Acts.acts_of, Places.more_acts}
 use Rattle.item_probe.proofs.Happens.{acts_can, length-acts, ok_of}
 use Rattle.item_probe.proofs.InPlace.{are_in_place}
 use Rattle.item_probe.proofs.acts.acts_of.Goals as goal

@@ -2,8 +2,7 @@ use Rattle.lte_events.specs.declared.acts.CoreAct.TheVariants as core
 use Rattle.lte_events.specs.declared.acts.PhoneAct.TheVariants as phone
 use Rattle.lte_events.specs.declared.events.Event.TheVariants as event
 use Rattle.item_outcomes.specs.Probe.{text_nas_up, text_nas_down}
-use Rattle.item_probe.proofs.Chained.{on_ok}
-use Rattle.item_probe.proofs.Joining.{two}
+use Rattle.item_probe.proofs.{Chained.on_ok, Joining.two}
 use Rattle.item_probe.proofs.acts.push_texts.Goals as goal
 
 pub returns-clause-acts : goal.returns-clause-acts

@@ -1,8 +1,7 @@
 use Rattle.std.proofs.Common.{◌≤◌, All, length, subst, arith}
 use Rattle.items.specs.Items.{IsItemOf}
 use Rattle.item_probe.specs.Parts.{first_part, most_first}
-use Rattle.item_probe.proofs.Chained.{first_is, length-first}
-use Rattle.item_probe.proofs.Happens.{ok_of}
+use Rattle.item_probe.proofs.{Chained.first_is, Chained.length-first, Happens.ok_of}
 use Rattle.item_probe.proofs.parts.first_part.Goals as goal
 
 pub returns-clause-are_items : goal.returns-clause-are_items

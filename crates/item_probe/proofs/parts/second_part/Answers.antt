@@ -1,8 +1,7 @@
 use Rattle.std.proofs.Common.{◌≤◌, All, length}
 use Rattle.items.specs.Items.{IsItemOf}
 use Rattle.item_probe.specs.Parts.{most_second, second_part}
-use Rattle.item_probe.proofs.Chained.{length-second, second_is}
-use Rattle.item_probe.proofs.Happens.{ok_of}
+use Rattle.item_probe.proofs.{Chained.length-second, Chained.second_is, Happens.ok_of}
 use Rattle.item_probe.proofs.parts.second_part.Goals as goal
 
 pub returns-clause-are_items : goal.returns-clause-are_items

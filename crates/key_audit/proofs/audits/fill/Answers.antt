@@ -2,8 +2,7 @@ use Rattle.std.proofs.Common.{◌≡◌, arith, subst, Some}
 use Rattle.std.specs.List.{slice_get}
 use Rattle.key_terms.specs.declared.row.LadderRow.{LadderRow}
 use Rattle.key_audit.specs.Local.{Fills}
-use Rattle.key_audit.proofs.Exactness.{exact_where_fits}
-use Rattle.key_audit.proofs.Filling.{filled_more, filled_all}
+use Rattle.key_audit.proofs.{Exactness.exact_where_fits, Filling.filled_more, Filling.filled_all}
 use Rattle.key_audit.proofs.audits.fill.Goals as goal
 
 pub loop-k-preserved : goal.loop-k-preserved

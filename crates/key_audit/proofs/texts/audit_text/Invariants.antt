@@ -1,6 +1,5 @@
 use Rattle.std.proofs.Common.{◌≡◌, ◌++◌, ◌-◌, ◌≤◌, length}
-use Rattle.key_audit.specs.Local.{exact_mark}
-use Rattle.key_audit.specs.Text.{row_lines, first_line}
+use Rattle.key_audit.specs.{Local.exact_mark, Text.row_lines, Text.first_line}
 use Rattle.key_audit.proofs.texts.audit_text.Given as goal
 
 abbrev pub invariant-loop-k : goal.invariant-loop-k

@@ -1,6 +1,5 @@
 use Rattle.std.proofs.Common.{ap, ◌∙◌, ◌++◌, Some}
-use Rattle.key_audit.specs.Local.{mark_of}
-use Rattle.key_audit.specs.Text.{name_if}
+use Rattle.key_audit.specs.{Local.mark_of, Text.name_if}
 use Rattle.key_audit.proofs.Ways.{one_station}
 use Rattle.key_audit.proofs.texts.names_text.Goals as goal
 

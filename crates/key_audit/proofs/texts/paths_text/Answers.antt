@@ -1,6 +1,5 @@
 use Rattle.std.proofs.Common.{ap, ◌∙◌, ◌++◌, Some}
-use Rattle.key_audit.specs.Local.{mark_of}
-use Rattle.key_audit.specs.Text.{by_if}
+use Rattle.key_audit.specs.{Local.mark_of, Text.by_if}
 use Rattle.key_audit.proofs.Ways.{one_station}
 use Rattle.key_audit.proofs.texts.paths_text.Goals as goal
 

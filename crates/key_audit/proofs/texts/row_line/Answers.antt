@@ -1,7 +1,6 @@
 use Rattle.std.proofs.Common.{◌≡◌, ℕ, ◌<◌, ◌∙◌, sym, subst}
 use Rattle.key_audit.specs.Local.{mark_at, exact_mark}
-use Rattle.key_audit.proofs.Exactness.{exact_marks}
-use Rattle.key_audit.proofs.Ways.{line_same}
+use Rattle.key_audit.proofs.{Exactness.exact_marks, Ways.line_same}
 use Rattle.key_audit.proofs.texts.row_line.Goals as goal
 
 pub returns-clause-text : goal.returns-clause-text

@@ -1,7 +1,6 @@
 use Rattle.std.proofs.Common.{Ok, sym, ap, subst, ◌∙◌}
 use Rattle.std.proofs.lemmas.Result.{IfOk-at_ok}
-use Rattle.ladder_text.specs.Report.{output_of, Writes}
-use Rattle.ladder_text.specs.Text.{reading_of}
+use Rattle.ladder_text.specs.{Report.output_of, Report.Writes, Text.reading_of}
 use Rattle.ladder_text.proofs.Answering.{lines_output, refused_output, read_never_refused}
 use Rattle.ladder_text.proofs.answer.write_answer.Goals as goal
 

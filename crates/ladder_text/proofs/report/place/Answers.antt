@@ -2,9 +2,7 @@ use Rattle.std.proofs.Common.{◌≡◌, true, List, map, sym, ap, subst}
 use Rattle.std.specs.Option.{is_some, IfSome}
 use Rattle.key_terms.specs.declared.row.Origin.TheVariants as origin
 use Rattle.key_terms.specs.Ladder.{HasRoot}
-use Rattle.ladder_text.specs.declared.line.LadderLine.{LadderLine}
-use Rattle.ladder_text.specs.Text.{meets}
-use Rattle.ladder_text.specs.Report.{KeyRow, octets_in}
+use Rattle.ladder_text.specs.{declared.line.LadderLine.LadderLine, Text.meets, Report.KeyRow, Report.octets_in}
 use Rattle.ladder_text.specs.Rows.{StandsFor, Asks, origin_in}
 use Rattle.ladder_text.proofs.Rows.{met_refers, needs_met}
 use Rattle.ladder_text.proofs.Placing.{answered, root_never_again, at_error}

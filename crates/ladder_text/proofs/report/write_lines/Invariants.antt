@@ -1,7 +1,6 @@
 use Rattle.std.proofs.Common.{◌≤◌, length}
-use Rattle.edge_io.specs.Cause.{NoFault}
+use Rattle.edge_io.specs.{Cause.NoFault, Used.UsedAsSink}
 use Rattle.key_terms.specs.Ladder.{IsLadder}
-use Rattle.edge_io.specs.Used.{UsedAsSink}
 use Rattle.ladder_text.proofs.Printing.{Printed}
 use Rattle.ladder_text.proofs.report.write_lines.Given as goal
 

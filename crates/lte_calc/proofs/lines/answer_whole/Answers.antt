@@ -1,8 +1,7 @@
 use Rattle.std.proofs.Common.{◌<◌, ◌≤◌, length, take, sym, ◌∙◌, rules, arith}
 use Rattle.std.proofs.lemmas.List.{length-take}
 use Rattle.text_lines.proofs.Ended.{cut_at_feed, no_feed}
-use Rattle.lte_calc.specs.Output.{longest_line}
-use Rattle.lte_calc.specs.Run.{IsLine}
+use Rattle.lte_calc.specs.{Output.longest_line, Run.IsLine}
 use Rattle.lte_calc.proofs.Answering.{none_answered, one_more, stopped_at, stopped_long, too_long_at, too_long_whole}
 use Rattle.lte_calc.proofs.lines.answer_whole.Goals as goal
 

@@ -1,6 +1,5 @@
 use Rattle.std.proofs.Common.{length}
-use Rattle.edge_io.specs.Cause.{NoFault}
-use Rattle.edge_io.specs.Used.{UsedAsSink}
+use Rattle.edge_io.specs.{Cause.NoFault, Used.UsedAsSink}
 use Rattle.lte_calc.specs.Lines.{AnsweredUpTo}
 use Rattle.lte_calc.proofs.lines.answer_whole.Given as goal
 

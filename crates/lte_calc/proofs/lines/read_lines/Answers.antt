@@ -1,7 +1,6 @@
 use Rattle.std.proofs.Common.{length-append, length-take, ◌≡◌, ◌+◌, ◌≤◌, [], ◌++◌, length, take, refl, sym, ap, subst, append-nil, rules, arith}
 use Rattle.edge_io.specs.Told.{HasEnded}
-use Rattle.lte_calc.specs.Output.{longest_line}
-use Rattle.lte_calc.specs.Run.{IsLine, Came}
+use Rattle.lte_calc.specs.{Output.longest_line, Run.IsLine, Run.Came}
 use Rattle.lte_calc.specs.Lines.{AnsweredUpTo, StoppedIn, LastAt}
 use Rattle.lte_calc.proofs.Running.{Midway, midway_first, came_more, answered_on, memory_run, stopped_run, last_run}
 use Rattle.lte_calc.proofs.lines.read_lines.Goals as goal

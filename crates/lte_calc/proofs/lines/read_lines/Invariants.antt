@@ -1,6 +1,5 @@
 use Rattle.std.proofs.Common.{◌≡◌}
-use Rattle.edge_io.specs.Cause.{NoFault}
-use Rattle.edge_io.specs.Used.{UsedAsSource, UsedAsSink}
+use Rattle.edge_io.specs.{Cause.NoFault, Used.UsedAsSource, Used.UsedAsSink}
 use Rattle.lte_calc.specs.Run.{IsLine}
 use Rattle.lte_calc.proofs.Running.{Midway}
 use Rattle.lte_calc.proofs.lines.read_lines.Given as goal

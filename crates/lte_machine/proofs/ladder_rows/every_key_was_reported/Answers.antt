@@ -1,7 +1,5 @@
 use Rattle.key_model.specs.Value.{value_of, same_value}
-use Rattle.lte_machine.specs.Ciphers.{under_keys}
-use Rattle.lte_machine.specs.Machines.{written_in_values}
-use Rattle.lte_machine.specs.Opening.{open_octets, open_by_uses}
+use Rattle.lte_machine.specs.{Ciphers.under_keys, Machines.written_in_values, Opening.open_octets, Opening.open_by_uses}
 use Rattle.lte_machine.proofs.LadderRun.{all_reported}
 use Rattle.lte_machine.proofs.ladder_rows.every_key_was_reported.Goals as goal
 

@@ -1,6 +1,5 @@
 use Rattle.lte_machine.specs.Ciphers.{annex_b}
-use Rattle.lte_machine.proofs.AnnexB.{annex_b_ciphers}
-use Rattle.lte_machine.proofs.WholeRun.{run_is_value}
+use Rattle.lte_machine.proofs.{AnnexB.annex_b_ciphers, WholeRun.run_is_value}
 use Rattle.lte_machine.proofs.runs.run_in_octets_is_the_value.Goals as goal
 
 pub returns : goal.returns

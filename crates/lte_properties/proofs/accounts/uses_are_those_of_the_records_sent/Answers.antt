@@ -1,9 +1,6 @@
 use Rattle.std.proofs.Common.{refl}
 use Rattle.key_model.specs.Term.{Root}
-use Rattle.lte_machine.specs.Ciphers.{octets_of}
-use Rattle.lte_machine.specs.Machines.{sender_of}
-use Rattle.lte_machine.specs.Opening.{open_octets, open_by_uses}
-use Rattle.lte_machine.specs.Run.{first_world}
+use Rattle.lte_machine.specs.{Ciphers.octets_of, Machines.sender_of, Opening.open_octets, Opening.open_by_uses, Run.first_world}
 use Rattle.lte_properties.proofs.AccountsHold.{uses_are_sent}
 use Rattle.lte_properties.proofs.accounts.uses_are_those_of_the_records_sent.Goals as goal
 

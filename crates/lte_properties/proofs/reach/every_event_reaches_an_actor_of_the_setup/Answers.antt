@@ -1,7 +1,6 @@
 use Rattle.lte_machine.specs.Ciphers.{annex_b}
 use Rattle.lte_machine.proofs.AnnexB.{annex_b_ciphers}
-use Rattle.lte_properties.proofs.EveryRun.{reach}
-use Rattle.lte_properties.proofs.Reaching.{step_reaches}
+use Rattle.lte_properties.proofs.{EveryRun.reach, Reaching.step_reaches}
 use Rattle.lte_properties.proofs.reach.every_event_reaches_an_actor_of_the_setup.Goals as goal
 
 pub returns-clause-records : goal.returns-clause-records

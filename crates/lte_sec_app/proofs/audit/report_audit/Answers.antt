@@ -1,11 +1,8 @@
 use Rattle.std.proofs.Common.{refl, subst, sym}
 use Rattle.std.proofs.lemmas.Result.{IfOk-at_ok}
 use Rattle.scenario_file.specs.Reading.{reading_of}
-use Rattle.lte_sec_app.specs.Audit.{output_of, HasAudit}
-use Rattle.lte_sec_app.specs.Run.{WhereRun}
-use Rattle.lte_sec_app.proofs.Audited.{audited}
-use Rattle.lte_sec_app.proofs.Refusing.{refusal_writes}
-use Rattle.lte_sec_app.proofs.Reports.{headline_of}
+use Rattle.lte_sec_app.specs.{Audit.output_of, Audit.HasAudit, Run.WhereRun}
+use Rattle.lte_sec_app.proofs.{Audited.audited, Refusing.refusal_writes, Reports.headline_of}
 use Rattle.lte_sec_app.proofs.audit.report_audit.Goals as goal
 
 pub returns-in-Ok-clause-holds : goal.returns-in-Ok-clause-holds

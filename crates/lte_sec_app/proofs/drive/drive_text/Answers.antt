@@ -1,12 +1,8 @@
-use Rattle.std.proofs.lemmas.Result.{IfOk-at_ok}
-use Rattle.std.proofs.Common.{refl}
+use Rattle.std.proofs.{lemmas.Result.IfOk-at_ok, Common.refl}
 use Rattle.run_report.specs.Report.{report_of}
 use Rattle.scenario_file.specs.Reading.{reading_of}
 use Rattle.lte_sec_app.specs.Scenario.{output_of, HasHeadline}
-use Rattle.lte_sec_app.proofs.Driving.{refused_at, refused_goes}
-use Rattle.lte_sec_app.proofs.Refusing.{read_never_refused}
-use Rattle.lte_sec_app.proofs.Reports.{has_headline}
-use Rattle.lte_sec_app.proofs.Running.{where_run}
+use Rattle.lte_sec_app.proofs.{Driving.refused_at, Driving.refused_goes, Refusing.read_never_refused, Reports.has_headline, Running.where_run}
 use Rattle.lte_sec_app.proofs.drive.drive_text.Goals as goal
 
 pub returns-in-Ok-clause-headline : goal.returns-in-Ok-clause-headline

@@ -1,11 +1,8 @@
-use Rattle.std.proofs.Common.{refl}
-use Rattle.std.proofs.lemmas.Result.{IfOk-at_ok}
-use Rattle.fleet_report.proofs.Holding.{holds}
-use Rattle.fleet_report.proofs.Looping.{all_in_range}
+use Rattle.std.proofs.{Common.refl, lemmas.Result.IfOk-at_ok}
+use Rattle.fleet_report.proofs.{Holding.holds, Looping.all_in_range}
 use Rattle.scenario_file.specs.Reading.{fleet_reading_of}
 use Rattle.lte_sec_app.specs.Fleet.{output_of, HasFleet}
-use Rattle.lte_sec_app.proofs.Refusing.{refusal_writes}
-use Rattle.lte_sec_app.proofs.Running.{where_run}
+use Rattle.lte_sec_app.proofs.{Refusing.refusal_writes, Running.where_run}
 use Rattle.lte_sec_app.proofs.fleet.report_fleet.Goals as goal
 
 pub returns-in-Ok-clause-holds : goal.returns-in-Ok-clause-holds

@@ -1,10 +1,7 @@
-use Rattle.std.proofs.Common.{refl}
-use Rattle.std.proofs.lemmas.Result.{IfOk-at_ok}
+use Rattle.std.proofs.{Common.refl, lemmas.Result.IfOk-at_ok}
 use Rattle.scenario_file.specs.Reading.{reading_of}
 use Rattle.lte_sec_app.specs.Scenario.{output_of, HasHeadline}
-use Rattle.lte_sec_app.proofs.Refusing.{refusal_writes}
-use Rattle.lte_sec_app.proofs.Reports.{has_headline}
-use Rattle.lte_sec_app.proofs.Running.{where_run}
+use Rattle.lte_sec_app.proofs.{Refusing.refusal_writes, Reports.has_headline, Running.where_run}
 use Rattle.lte_sec_app.proofs.scenario.report_run.Goals as goal
 
 pub returns-in-Ok-clause-headline : goal.returns-in-Ok-clause-headline

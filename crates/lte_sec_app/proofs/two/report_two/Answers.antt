@@ -1,11 +1,9 @@
-use Rattle.std.proofs.Common.{refl}
-use Rattle.std.proofs.lemmas.Result.{IfOk-at_ok}
+use Rattle.std.proofs.{Common.refl, lemmas.Result.IfOk-at_ok}
 use Rattle.core_relocation.proofs.Promised.{two_headline}
 use Rattle.lte_events.proofs.InRange.{in_range}
 use Rattle.scenario_file.specs.Reading.{two_reading_of}
 use Rattle.lte_sec_app.specs.Two.{output_of, HasTwo}
-use Rattle.lte_sec_app.proofs.Refusing.{refusal_writes}
-use Rattle.lte_sec_app.proofs.Running.{where_run}
+use Rattle.lte_sec_app.proofs.{Refusing.refusal_writes, Running.where_run}
 use Rattle.lte_sec_app.proofs.two.report_two.Goals as goal
 
 pub returns-in-Ok-clause-holds : goal.returns-in-Ok-clause-holds

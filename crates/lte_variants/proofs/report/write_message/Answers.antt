@@ -2,8 +2,7 @@ use Rattle.std.proofs.Common.{◌∙◌, sym, subst, Ok, Some, None}
 use Rattle.std.specs.String.{string_bytes}
 use Rattle.edge_io.proofs.Ending.{text_is}
 use Rattle.run_report.specs.Written.{WritesText}
-use Rattle.lte_variants.proofs.Ends.{message_is}
-use Rattle.lte_variants.proofs.Telling.{line_is, none_of_it}
+use Rattle.lte_variants.proofs.{Ends.message_is, Telling.line_is, Telling.none_of_it}
 use Rattle.lte_variants.proofs.report.write_message.Goals as goal
 
 pub write_string-requires-clause-lines : goal.write_string-requires-clause-lines

@@ -1,7 +1,6 @@
 use Rattle.std.proofs.Common.{◌≡◌, subst, length, IfOk}
 use Rattle.std.proofs.lemmas.Result.{err_from_is_err_and}
-use Rattle.std.specs.List.{flat_map}
-use Rattle.std.specs.String.{string_bytes}
+use Rattle.std.specs.{List.flat_map, String.string_bytes}
 use Rattle.edge_io.proofs.Ending.{text_is}
 use Rattle.run_report.specs.Written.{WritesText}
 use Rattle.run_report.proofs.Partly.{both_written, first_cut}

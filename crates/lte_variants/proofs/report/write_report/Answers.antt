@@ -1,9 +1,7 @@
 use Rattle.std.proofs.Common.{◌≡◌, ◌∙◌, ◌≤◌, sym, ap, subst, length}
-use Rattle.item_faults.specs.Entries.{most_steps}
-use Rattle.item_faults.specs.Steps.{messages_of}
+use Rattle.item_faults.specs.{Entries.most_steps, Steps.messages_of}
 use Rattle.run_report.specs.Written.{WritesText}
-use Rattle.lte_variants.proofs.Few.{messages-few}
-use Rattle.lte_variants.proofs.Telling.{report_is}
+use Rattle.lte_variants.proofs.{Few.messages-few, Telling.report_is}
 use Rattle.lte_variants.proofs.report.write_report.Goals as goal
 
 pub write_parts-requires-clause-fewer : goal.write_parts-requires-clause-fewer

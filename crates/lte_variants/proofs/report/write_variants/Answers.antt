@@ -1,8 +1,6 @@
 use Rattle.std.proofs.Common.{◌≡◌, ◌∙◌, ◌<◌, ◌^◌, sym, ap, subst, length}
 use Rattle.item_faults.specs.Faults.{faults_of}
-use Rattle.lte_variants.specs.Choices.{choices_of, in_share}
-use Rattle.lte_variants.specs.Kinds.{happening}
-use Rattle.lte_variants.specs.Report.{asked}
+use Rattle.lte_variants.specs.{Choices.choices_of, Choices.in_share, Kinds.happening, Report.asked}
 use Rattle.lte_variants.proofs.Few.{asked-few}
 use Rattle.lte_variants.proofs.report.write_variants.Goals as goal
 

@@ -1,5 +1,4 @@
-use Rattle.std.proofs.Common.{arith}
-use Rattle.std.proofs.lemmas.Result.{err_from_is_err_and}
+use Rattle.std.proofs.{Common.arith, lemmas.Result.err_from_is_err_and}
 use Rattle.lte_world.proofs.Deriving.{awaits_at, goes_at, stops_at, all_added}
 use Rattle.lte_world.proofs.noting.add_all.Goals as goal
 

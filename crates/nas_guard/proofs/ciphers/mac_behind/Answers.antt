@@ -1,6 +1,5 @@
 use Rattle.std.proofs.Common.{◌≡◌, [], ◌∷◌, ◌++◌, drop, refl, ap, ◌∙◌, append_assoc}
-use Rattle.cmac_eia2.specs.Cmac.{cmac_of}
-use Rattle.cmac_eia2.specs.State.{fed}
+use Rattle.cmac_eia2.specs.{Cmac.cmac_of, State.fed}
 use Rattle.cmac_eia2.proofs.StateLemmas.{eia2_of-is}
 use Rattle.nas_guard.specs.Cipher.{mac_of}
 use Rattle.nas_guard.proofs.ciphers.mac_behind.Goals as goal

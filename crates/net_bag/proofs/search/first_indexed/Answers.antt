@@ -1,7 +1,6 @@
 use Rattle.std.proofs.Common.{◌<◌, length, Some, sym, ap, subst, ◌∙◌, arith}
 use Rattle.std.proofs.lemmas.Option.{slice_get_within}
-use Rattle.net_bag.specs.Class.{digest}
-use Rattle.net_bag.specs.Chains.{IsFirstFrom}
+use Rattle.net_bag.specs.{Class.digest, Chains.IsFirstFrom}
 use Rattle.net_bag.proofs.Searching.{begins, goes_on, is_first, mark_within, left, nearer, IsCandidate}
 use Rattle.net_bag.proofs.search.first_indexed.Goals as goal
 

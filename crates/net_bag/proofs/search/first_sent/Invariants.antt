@@ -1,6 +1,5 @@
 use Rattle.std.proofs.Common.{◌≡◌, ℕ, ◌<◌, false, Some, slice_get}
-use Rattle.net_bag.specs.declared.view.BagView.{BagView}
-use Rattle.net_bag.specs.Bag.{is_sent}
+use Rattle.net_bag.specs.{declared.view.BagView.BagView, Bag.is_sent}
 use Rattle.net_bag.proofs.search.first_sent.Given as goal
 
 abbrev pub invariant-loop-number : goal.invariant-loop-number

@@ -1,6 +1,5 @@
 use Rattle.std.proofs.Common.{◌≡◌}
-use Rattle.key_model.specs.Reading.{octet_reading}
-use Rattle.key_model.specs.HandoverLines.{nh_after}
+use Rattle.key_model.specs.{Reading.octet_reading, HandoverLines.nh_after}
 use Rattle.pdu_guard.proofs.phone.climb.Given as goal
 
 abbrev pub invariant-loop : goal.invariant-loop

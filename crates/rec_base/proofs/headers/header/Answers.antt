@@ -1,7 +1,5 @@
-use Rattle.std.proofs.Common.{refl}
-use Rattle.std.proofs.Math.Nat.{div-one}
-use Rattle.rec_base.specs.BigEndian.{octets_of}
-use Rattle.rec_base.specs.Header.{header_of}
+use Rattle.std.proofs.{Common.refl, Math.Nat.div-one}
+use Rattle.rec_base.specs.{BigEndian.octets_of, Header.header_of}
 use Rattle.rec_base.proofs.headers.header.Goals as goal
 
 pub returns : goal.returns

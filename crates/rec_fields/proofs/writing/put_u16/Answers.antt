@@ -1,5 +1,4 @@
-use Rattle.std.proofs.Common.{refl}
-use Rattle.std.proofs.Math.Nat.{div-one}
+use Rattle.std.proofs.{Common.refl, Math.Nat.div-one}
 use Rattle.rec_base.specs.BigEndian.{octets_of}
 use Rattle.rec_fields.proofs.writing.put_u16.Goals as goal
 

@@ -1,8 +1,7 @@
 use Rattle.std.proofs.Common.{ℕ, ◌+◌, ◌-◌, ◌^◌, Bool, min, List, Ok, ap, subst, ◌∙◌, rules}
 use Rattle.edge_io.specs.Octets.{Grows, GrowsByProperPrefix}
 use Rattle.role_wire.specs.Frame.{FrameRead}
-use Rattle.role_node.proofs.Going.{going_on}
-use Rattle.role_node.proofs.Stopping.{cut}
+use Rattle.role_node.proofs.{Going.going_on, Stopping.cut}
 use Rattle.role_node.proofs.serving.session.Goals as goal
 
 pub frames-preserved : goal.frames-preserved

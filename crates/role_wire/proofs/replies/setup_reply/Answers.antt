@@ -1,7 +1,6 @@
 use Rattle.std.proofs.Common.{ap, ◌∙◌}
 use Rattle.rec_base.specs.BigEndian.{octets_of}
-use Rattle.role_wire.specs.Frame.{framed}
-use Rattle.role_wire.specs.Reply.{reply_spelling}
+use Rattle.role_wire.specs.{Frame.framed, Reply.reply_spelling}
 use Rattle.role_wire.proofs.replies.setup_reply.Goals as goal
 
 pub returns-clause-octets : goal.returns-clause-octets

@@ -2,8 +2,7 @@ use Rattle.std.proofs.Common.{◌∙◌, sym, ap}
 use Rattle.lte_world.specs.Whole.{run_of}
 use Rattle.lte_world.specs.Whole as whole
 use Rattle.run_report.specs.Events.{told_of}
-use Rattle.run_report.proofs.CoincidenceHasString.{shown_in}
-use Rattle.run_report.proofs.ReportByEvent.{tells}
+use Rattle.run_report.proofs.{CoincidenceHasString.shown_in, ReportByEvent.tells}
 use Rattle.run_report.proofs.courses.happen.Goals as goal
 
 pub returns-clause-tells : goal.returns-clause-tells

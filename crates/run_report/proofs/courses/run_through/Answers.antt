@@ -1,9 +1,7 @@
 use Rattle.std.proofs.Common.{◌≡◌, ◌∙◌, sym, ap, subst, Err, [], length, arith}
 use Rattle.lte_machine.specs.BothRuns.{octet_report}
 use Rattle.lte_world.specs.Whole.{run_of}
-use Rattle.run_report.specs.Counted.{Tells}
-use Rattle.run_report.specs.Events.{told_of, CanShow}
-use Rattle.run_report.specs.Summary.{outcome_from, Coincides}
+use Rattle.run_report.specs.{Counted.Tells, Events.told_of, Events.CanShow, Summary.outcome_from, Summary.Coincides}
 use Rattle.run_report.proofs.Counting.{none_counted, next_counted, coincides_at, all_counted}
 use Rattle.run_report.proofs.HappenedSoFar.{none_taken, can_take, one_taken, left_at}
 use Rattle.run_report.proofs.ReportByEvent.{is_plain}

@@ -1,6 +1,5 @@
 use Rattle.lte_world.specs.Whole.{run_of}
-use Rattle.run_report.proofs.Counting.{CountedTo}
-use Rattle.run_report.proofs.HappenedSoFar.{Took}
+use Rattle.run_report.proofs.{Counting.CountedTo, HappenedSoFar.Took}
 use Rattle.run_report.proofs.courses.run_through.Given as goal
 
 abbrev pub invariant-loop-number : goal.invariant-loop-number

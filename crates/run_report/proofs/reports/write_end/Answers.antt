@@ -1,13 +1,10 @@
 use Rattle.std.proofs.Common.{sym, ap, subst, Err, length, rules, arith}
 use Rattle.std.proofs.lemmas.Result.{err_from_is_err_and}
 use Rattle.lte_world.specs.Whole.{run_of}
-use Rattle.report_text.specs.End.{end_text}
-use Rattle.report_text.specs.Ladder.{ladder_text}
+use Rattle.report_text.specs.{End.end_text, Ladder.ladder_text}
 use Rattle.run_report.specs.Written.{WritesText}
-use Rattle.run_report.proofs.EndText.{end_is}
-use Rattle.run_report.proofs.Partly.{both_written, first_cut}
+use Rattle.run_report.proofs.{EndText.end_is, Partly.both_written, Partly.first_cut, Ends.end_ends, Ends.ladder_is}
 use Rattle.edge_io.proofs.Ending.{is_lines, text_is}
-use Rattle.run_report.proofs.Ends.{end_ends, ladder_is}
 use Rattle.run_report.proofs.reports.write_end.Goals as goal
 
 pub overflow_cast-events : goal.overflow_cast-events

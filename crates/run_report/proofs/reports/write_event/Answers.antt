@@ -1,10 +1,8 @@
 use Rattle.std.proofs.Common.{sym, ap, subst, ◌∙◌, Err, length}
 use Rattle.lte_world.specs.Whole.{run_of}
 use Rattle.edge_io.proofs.Ending.{is_lines, text_is}
-use Rattle.run_report.specs.Counted.{Tells}
-use Rattle.run_report.specs.Events.{told_of, told_report}
-use Rattle.run_report.proofs.Ends.{line_ends}
-use Rattle.run_report.proofs.Partly.{one_piece, never_done}
+use Rattle.run_report.specs.{Counted.Tells, Events.told_of, Events.told_report}
+use Rattle.run_report.proofs.{Ends.line_ends, Partly.one_piece, Partly.never_done}
 use Rattle.run_report.proofs.ReportByEvent.{a_line, a_coincidence, can_show}
 use Rattle.run_report.proofs.reports.write_event.Goals as goal
 

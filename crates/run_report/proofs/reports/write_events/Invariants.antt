@@ -1,9 +1,7 @@
 use Rattle.std.proofs.Common.{length, drop}
 use Rattle.lte_world.specs.Whole.{run_of}
 use Rattle.run_report.specs.Report.{report_of}
-use Rattle.run_report.proofs.Partly.{ReportPartly}
-use Rattle.run_report.proofs.HappenedSoFar.{Took}
-use Rattle.run_report.proofs.ReportByEvent.{report_from}
+use Rattle.run_report.proofs.{Partly.ReportPartly, HappenedSoFar.Took, ReportByEvent.report_from}
 use Rattle.run_report.proofs.reports.write_events.Given as goal
 
 abbrev pub invariant-loop-number : goal.invariant-loop-number

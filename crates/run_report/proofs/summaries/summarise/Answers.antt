@@ -1,8 +1,7 @@
 use Rattle.std.proofs.Common.{subst}
 use Rattle.lte_world.specs.Whole.{run_of}
 use Rattle.run_report.specs.Counted.{ComesOut}
-use Rattle.run_report.proofs.Counting.{summary_ended, summary_coincidence}
-use Rattle.run_report.proofs.Partly.{one_piece}
+use Rattle.run_report.proofs.{Counting.summary_ended, Counting.summary_coincidence, Partly.one_piece}
 use Rattle.run_report.proofs.summaries.summarise.Goals as goal
 
 pub returns-in-Ok-Ended : goal.returns-in-Ok-Ended

@@ -1,11 +1,9 @@
-use Rattle.std.proofs.Common.{ap, drop_of_length-le}
-use Rattle.std.proofs.lemmas.Result.{err_from_is_err_and}
+use Rattle.std.proofs.{Common.ap, Common.drop_of_length-le, lemmas.Result.err_from_is_err_and}
 use Rattle.std.specs.List.{flat_map}
 use Rattle.report_text.specs.Summary.{figures, figure_text, figures_text}
-use Rattle.run_report.proofs.Figures.{figure_more}
+use Rattle.run_report.proofs.{Figures.figure_more, Ends.figure_ends}
 use Rattle.run_report.proofs.Partly.{none_written, more_written, cut_written, all_written}
 use Rattle.edge_io.proofs.Ending.{is_lines, text_is}
-use Rattle.run_report.proofs.Ends.{figure_ends}
 use Rattle.run_report.proofs.summaries.write_figures.Goals as goal
 
 pub loop-figure-init : goal.loop-figure-init

@@ -1,6 +1,5 @@
 use Rattle.report_text.specs.Summary.{figures_text}
-use Rattle.run_report.proofs.Figures.{figures_from}
-use Rattle.run_report.proofs.Partly.{Partly}
+use Rattle.run_report.proofs.{Figures.figures_from, Partly.Partly}
 use Rattle.run_report.proofs.summaries.write_figures.Given as goal
 
 abbrev pub invariant-loop-figure : goal.invariant-loop-figure

@@ -1,5 +1,4 @@
-use Rattle.scenario_file.proofs.Generated.{generated_length}
-use Rattle.scenario_file.proofs.GeneratedFits.{is_scenario}
+use Rattle.scenario_file.proofs.{Generated.generated_length, GeneratedFits.is_scenario}
 use Rattle.scenario_file.proofs.generator.generate.Goals as goal
 
 pub returns-clause-steps : goal.returns-clause-steps

@@ -1,6 +1,5 @@
 use Rattle.std.proofs.Common.{◌≡◌, []}
-use Rattle.scenario_file.specs.FirstSteps.{with_steps}
-use Rattle.scenario_file.specs.Draws.{journey_at, steps_up_to}
+use Rattle.scenario_file.specs.{FirstSteps.with_steps, Draws.journey_at, Draws.steps_up_to}
 use Rattle.scenario_file.proofs.generator.generated_events.Given as goal
 
 abbrev pub invariant-loop-turn : goal.invariant-loop-turn

@@ -1,6 +1,5 @@
 use Rattle.std.proofs.Common.{ℕ, zero, suc, ◌≡◌, ◌<◌, ◌∙◌, false, ap, sym, refl, map, length, List, [], ◌∷◌, ◌++◌, arith}
-use Rattle.lte_events.specs.Site.{Site, is_site}
-use Rattle.lte_events.specs.declared.setups.StationSetup.{StationSetup}
+use Rattle.lte_events.specs.{Site.Site, Site.is_site, declared.setups.StationSetup.StationSetup}
 use Rattle.std.specs.List.{range_with_len, list_any}
 use Rattle.std.proofs.lemmas.List.FromFn.{length-map-range_with_len, map-range_with_len_more}
 use Rattle.scenario_file.specs.Draws.{cell_of, station_setup, site_of}

@@ -1,10 +1,8 @@
 use Rattle.std.proofs.Common.{rules, ◌≡◌, ◌∙◌, ◌+◌, ◌<◌, [], suc, ◌∷◌, ◌++◌, All, Ok, ap, sym, subst, drop, length, add-one, length-append}
-use Rattle.std.proofs.Math.Seq.{drop-cons}
-use Rattle.std.proofs.lemmas.List.Elements.{All-push}
+use Rattle.std.proofs.{Math.Seq.drop-cons, lemmas.List.Elements.All-push}
 use Rattle.toml.specs.View.{items_view, view}
 use Rattle.lte_events.specs.Scenario.{CanHappen}
-use Rattle.scenario_file.specs.Reading.{kept_from, step_at}
-use Rattle.scenario_file.specs.Values.{◌>>=◌}
+use Rattle.scenario_file.specs.{Reading.kept_from, Reading.step_at, Values.◌>>=◌}
 use Rattle.scenario_file.proofs.whole.kept_steps.Goals as goal
 
 pub loop-value-preserved : goal.loop-value-preserved

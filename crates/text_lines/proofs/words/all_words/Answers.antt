@@ -1,5 +1,4 @@
-use Rattle.std.proofs.Common.{rules}
-use Rattle.std.proofs.lemmas.Iterator.Splits.{YieldsList-from_slice_split}
+use Rattle.std.proofs.{Common.rules, lemmas.Iterator.Splits.YieldsList-from_slice_split}
 use Rattle.text_lines.specs.Words.{is_space}
 use Rattle.text_lines.proofs.Collected.{collected}
 use Rattle.text_lines.proofs.words.all_words.Goals as goal

@@ -1,7 +1,6 @@
 use Rattle.std.proofs.Common.{rules, ap, ◌∙◌}
 use Rattle.std.specs.Slice.Iter.{split_rest, split_done, split_callee}
-use Rattle.std.proofs.lemmas.Iterator.{YieldsList-from_take}
-use Rattle.std.proofs.lemmas.Iterator.Splits.{YieldsList-from_slice_split}
+use Rattle.std.proofs.{lemmas.Iterator.YieldsList-from_take, lemmas.Iterator.Splits.YieldsList-from_slice_split}
 use Rattle.text_lines.specs.Words.{is_space}
 use Rattle.text_lines.proofs.Collected.{collected}
 use Rattle.text_lines.proofs.words.first_words.Goals as goal

@@ -1,7 +1,6 @@
 use Rattle.std.proofs.Common.{◌≡◌, map, refl, ◌∙◌, ap}
 use Rattle.aes_core.specs.Aes.{aes, after_rounds, cipher}
-use Rattle.aes_core.specs.KeyExpansion.{key_expansion}
-use Rattle.aes_core.specs.Word.{word_octets}
+use Rattle.aes_core.specs.{KeyExpansion.key_expansion, Word.word_octets}
 use Rattle.aes_core.proofs.aes128.Aes128.encrypt.Goals as goal
 
 pub returns : goal.returns

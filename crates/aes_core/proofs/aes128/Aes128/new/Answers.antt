@@ -2,8 +2,7 @@ use Rattle.std.proofs.Common.{◌≡◌, ◌<◌, ◌^◌, ◌∙◌, length, ma
 use Rattle.std.specs.Prelude.{All}
 use Rattle.std.proofs.lemmas.List.Elements.{All-from_get_or}
 use Rattle.aes_core.specs.Word.{word_number}
-use Rattle.aes_core.proofs.KeyExpansionLemmas.{concat-key_expansion}
-use Rattle.aes_core.proofs.WordLemmas.{words_of_octets}
+use Rattle.aes_core.proofs.{KeyExpansionLemmas.concat-key_expansion, WordLemmas.words_of_octets}
 use Rattle.aes_core.proofs.aes128.Aes128.new.Goals as goal
 
 pub invariant_of-result : goal.invariant_of-result

@@ -1,7 +1,5 @@
 use Rattle.std.proofs.Common.{◌≡◌, ◌+◌, ◌*◌, length, refl, ap, ◌∙◌, rules, arith}
-use Rattle.aes_core.specs.Aes.{add_round_key}
-use Rattle.aes_core.specs.KeyExpansion.{add_words}
-use Rattle.aes_core.specs.Word.{word_octets}
+use Rattle.aes_core.specs.{Aes.add_round_key, KeyExpansion.add_words, Word.word_octets}
 use Rattle.aes_core.proofs.WordLemmas.{four_words, key_column, word_octets-xor}
 use Rattle.aes_core.proofs.state.State.add_round_key.Goals as goal
 

@@ -1,5 +1,4 @@
-use Rattle.aes_core.specs.Aes.{shift_rows, sub_bytes}
-use Rattle.aes_core.specs.Word.{word_octets}
+use Rattle.aes_core.specs.{Aes.shift_rows, Aes.sub_bytes, Word.word_octets}
 use Rattle.aes_core.proofs.WordLemmas.{four_words}
 use Rattle.aes_core.proofs.state.State.substituted.Goals as goal
 

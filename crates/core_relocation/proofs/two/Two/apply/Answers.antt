@@ -1,10 +1,6 @@
 use Rattle.std.proofs.Common.{◌≡◌, ap, ◌∙◌, ◌∷◌, [], ◌++◌, Result, Ok, rules}
-use Rattle.lte_world.specs.declared.faults.WorldFault.{WorldFault}
-use Rattle.core_relocation.specs.declared.lines.TwoLine.{TwoLine}
-use Rattle.lte_world.specs.Whole.{run_of, told_of}
-use Rattle.core_relocation.specs.Holder.{fields_given}
-use Rattle.core_relocation.specs.Run.{answer_in}
-use Rattle.core_relocation.specs.Whole.{state_of}
+use Rattle.lte_world.specs.{declared.faults.WorldFault.WorldFault, Whole.run_of, Whole.told_of}
+use Rattle.core_relocation.specs.{declared.lines.TwoLine.TwoLine, Holder.fields_given, Run.answer_in, Whole.state_of}
 use Rattle.core_relocation.proofs.Applied.{away_keeps, in_written, line_in, line_keeps, line_runs}
 use Rattle.core_relocation.proofs.two.Two.apply.Goals as goal
 

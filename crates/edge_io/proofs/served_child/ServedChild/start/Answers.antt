@@ -1,5 +1,4 @@
-use Rattle.std.proofs.Common.{rules}
-use Rattle.std.proofs.lemmas.Result.{err_from_is_err_and}
+use Rattle.std.proofs.{Common.rules, lemmas.Result.err_from_is_err_and}
 use Rattle.edge_io.proofs.Served.{not_served}
 use Rattle.edge_io.proofs.served_child.ServedChild.start.Goals as goal
 

@@ -1,6 +1,5 @@
 use Rattle.std.proofs.Common.{ap, sym, subst, length}
-use Rattle.fleet_world.specs.Fleets.{Fleeted}
-use Rattle.fleet_world.specs.Isolation.{LinesAreOwn}
+use Rattle.fleet_world.specs.{Fleets.Fleeted, Isolation.LinesAreOwn}
 use Rattle.fleet_world.proofs.Reading.{isolation, freshness, separation}
 use Rattle.fleet_world.proofs.fleet.Fleet.journal.Goals as goal
 

@@ -1,8 +1,6 @@
 use Rattle.std.proofs.Common.{◌≡◌, sym, ap, subst, ◌∙◌, arith, ◌+◌, ◌-◌, ◌≤◌, suc, length}
-use Rattle.lte_events.specs.Scenario.{CanHappen}
-use Rattle.lte_events.specs.declared.events.Event.{Event}
-use Rattle.item_runs.specs.Coming.{happening}
-use Rattle.item_runs.specs.Course.{told_written}
+use Rattle.lte_events.specs.{Scenario.CanHappen, declared.events.Event.Event}
+use Rattle.item_runs.specs.{Coming.happening, Course.told_written}
 use Rattle.item_runs.proofs.AtOnce.{on_ok, number_goes, longer_by, stops, keeps, goes_on}
 use Rattle.item_runs.proofs.courses.Course.+happening.Goals as goal
 

@@ -1,6 +1,5 @@
 use Rattle.std.proofs.Common.{ap, ◌∙◌}
-use Rattle.std.specs.List.{position}
-use Rattle.std.specs.Str.{bytes_eq}
+use Rattle.std.specs.{List.position, Str.bytes_eq}
 use Rattle.key_terms.proofs.WordLemmas.{found_by_words}
 use Rattle.key_terms.proofs.index.Index.number_of.Goals as goal
 

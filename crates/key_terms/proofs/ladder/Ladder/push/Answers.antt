@@ -1,6 +1,5 @@
 use Rattle.std.proofs.Common.{ap, arith}
-use Rattle.key_terms.proofs.LadderLemmas.{ladder_put}
-use Rattle.key_terms.proofs.Lookups.{index_push}
+use Rattle.key_terms.proofs.{LadderLemmas.ladder_put, Lookups.index_push}
 use Rattle.key_terms.proofs.ladder.Ladder.push.Goals as goal
 
 pub invariant_of-self : goal.invariant_of-self

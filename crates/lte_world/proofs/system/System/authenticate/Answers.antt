@@ -1,8 +1,5 @@
 use Rattle.std.proofs.Common.{refl, ap, ◌∙◌}
-use Rattle.lte_events.specs.declared.events.Event.{Event}
-use Rattle.lte_events.specs.declared.inputs.PhoneIn.{PhoneIn}
-use Rattle.lte_events.specs.declared.inputs.CoreIn.{CoreIn}
-use Rattle.lte_events.specs.declared.lines.Who.{Who}
+use Rattle.lte_events.specs.{declared.events.Event.Event, declared.inputs.PhoneIn.PhoneIn, declared.inputs.CoreIn.CoreIn, declared.lines.Who.Who}
 use Rattle.std.specs.Prelude.{None}
 use Rattle.lte_machine.specs.Calls.{line_of_reply, phone_call, core_call}
 use Rattle.lte_world.proofs.Authenticating.{auth_repeated, auth_coincidence, auth_new, happens_from}

@@ -1,7 +1,6 @@
 use Rattle.std.proofs.Common.{refl}
 use Rattle.lte_world.specs.Settling.{told_in}
-use Rattle.lte_world.proofs.Replying.{on_ok, core_tells}
-use Rattle.lte_world.proofs.Routing.{core_happens}
+use Rattle.lte_world.proofs.{Replying.on_ok, Replying.core_tells, Routing.core_happens}
 use Rattle.lte_world.proofs.system.System.core_act.Goals as goal
 
 pub returns-clause-happens : goal.returns-clause-happens

@@ -1,6 +1,5 @@
 use Rattle.lte_world.specs.Settling.{told_in}
-use Rattle.lte_world.proofs.Replying.{first_is}
-use Rattle.lte_world.proofs.Turning.{core_settles_from, core_turns_from}
+use Rattle.lte_world.proofs.{Replying.first_is, Turning.core_settles_from, Turning.core_turns_from}
 use Rattle.lte_world.proofs.system.System.core_turn.Goals as goal
 
 pub settle-requires-clause-awaits : goal.settle-requires-clause-awaits

@@ -1,8 +1,6 @@
 use Rattle.std.proofs.Common.{refl, sym, ap, ◌∙◌, subst, None}
 use Rattle.net_bag.specs.Bag.{first_sent}
-use Rattle.lte_world.specs.Replies.{replies_by, input_at}
-use Rattle.lte_world.specs.Systems.{ArrivalCan, Arrives}
-use Rattle.lte_world.specs.Settling.{told_in}
+use Rattle.lte_world.specs.{Replies.replies_by, Replies.input_at, Systems.ArrivalCan, Systems.Arrives, Settling.told_in}
 use Rattle.lte_world.proofs.Replying.{on_ok, sent_tells, injected_tells}
 use Rattle.lte_world.proofs.Refusing.{sent_before, octets_injected, injection_can}
 use Rattle.lte_world.proofs.system.System.inject.Goals as goal

@@ -1,7 +1,6 @@
 use Rattle.std.proofs.Common.{refl}
 use Rattle.lte_world.specs.Settling.{told_in}
-use Rattle.lte_world.proofs.Replying.{on_ok, phone_tells}
-use Rattle.lte_world.proofs.Routing.{phone_happens}
+use Rattle.lte_world.proofs.{Replying.on_ok, Replying.phone_tells, Routing.phone_happens}
 use Rattle.lte_world.proofs.system.System.phone_act.Goals as goal
 
 pub returns-clause-happens : goal.returns-clause-happens

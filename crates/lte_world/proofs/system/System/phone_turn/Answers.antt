@@ -1,6 +1,5 @@
 use Rattle.lte_world.specs.Settling.{told_in}
-use Rattle.lte_world.proofs.Replying.{first_is}
-use Rattle.lte_world.proofs.Turning.{phone_settles_from, phone_turns_from}
+use Rattle.lte_world.proofs.{Replying.first_is, Turning.phone_settles_from, Turning.phone_turns_from}
 use Rattle.lte_world.proofs.system.System.phone_turn.Goals as goal
 
 pub settle-requires-clause-awaits : goal.settle-requires-clause-awaits

@@ -1,11 +1,7 @@
 use Rattle.std.proofs.Common.{sym, subst, Ok, Err, rules, false}
-use Rattle.lte_world.specs.Systems.{Happens}
-use Rattle.lte_world.specs.Settling.{told_in}
-use Rattle.lte_world.proofs.Applying.{may_happen}
-use Rattle.lte_world.proofs.Counting.{coincidence_within, line_within}
+use Rattle.lte_world.specs.{Systems.Happens, Settling.told_in, Replies.RepliedLast, Replies.UnlessOver}
+use Rattle.lte_world.proofs.{Applying.may_happen, Counting.coincidence_within, Counting.line_within, LastReplies.next_replied, LastReplies.told_ok}
 use Rattle.lte_world.proofs.Standing.{AtEvent, Gave, event_fits, says_line, run_line, written_line, line_keeps, says_coincidence, run_coincidence}
-use Rattle.lte_world.specs.Replies.{RepliedLast, UnlessOver}
-use Rattle.lte_world.proofs.LastReplies.{next_replied, told_ok}
 use Rattle.lte_world.proofs.OneLineMore.{line_step, line_answers, line_commands, line_never, line_packets}
 use Rattle.lte_world.proofs.world.World.apply.Goals.{After-keep_one, After-put, In-Err}
 use Rattle.lte_world.proofs.world.World.apply.Goals as goal

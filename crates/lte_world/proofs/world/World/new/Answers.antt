@@ -1,6 +1,4 @@
-use Rattle.lte_world.proofs.Counting.{none_within}
-use Rattle.lte_world.proofs.LastReplies.{first_replied}
-use Rattle.lte_world.proofs.Starting.{begins}
+use Rattle.lte_world.proofs.{Counting.none_within, LastReplies.first_replied, Starting.begins}
 use Rattle.lte_world.proofs.world.World.new.Goals as goal
 
 pub invariant_of-result : goal.invariant_of-result

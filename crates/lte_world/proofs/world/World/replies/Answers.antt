@@ -1,8 +1,7 @@
 use Rattle.std.proofs.Common.{ap, sym, ◌∙◌, subst}
 use Rattle.std.specs.List.{AllByRecursion as AllOf}
 use Rattle.lte_world.specs.Replies.{UnlessOver, RepliedLast, IsOfSetup}
-use Rattle.lte_world.proofs.LastReplies.{replies_there}
-use Rattle.lte_world.proofs.Reading.{there_is}
+use Rattle.lte_world.proofs.{LastReplies.replies_there, Reading.there_is}
 use Rattle.lte_world.proofs.world.World.replies.Goals as goal
 
 pub returns-clause-there : goal.returns-clause-there

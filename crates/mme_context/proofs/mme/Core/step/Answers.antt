@@ -1,5 +1,4 @@
-use Rattle.mme_context.proofs.Refused.{refused_stays}
-use Rattle.mme_context.proofs.RefusalsTellNumbers.{call_tells}
+use Rattle.mme_context.proofs.{Refused.refused_stays, RefusalsTellNumbers.call_tells}
 use Rattle.mme_context.proofs.mme.Core.step.Goals as goal
 
 pub returns-clause-refused : goal.returns-clause-refused

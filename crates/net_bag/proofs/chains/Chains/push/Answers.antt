@@ -1,8 +1,6 @@
 use Rattle.std.proofs.Common.{sym, ap, subst, length, ◌<◌, ◌∙◌, ◌++◌, ◌∷◌, [], arith, rules, ◌≡◌}
 use Rattle.std.proofs.lemmas.List.{length-map}
-use Rattle.std.specs.HashMap.{get}
-use Rattle.std.specs.Option.{IfSome}
-use Rattle.std.specs.Str.{bytes_eq}
+use Rattle.std.specs.{HashMap.get, Option.IfSome, Str.bytes_eq}
 use Rattle.net_bag.proofs.Chained.{chained_same, last_stands, chained_put}
 use Rattle.net_bag.proofs.chains.Chains.push.Goals as goal
 

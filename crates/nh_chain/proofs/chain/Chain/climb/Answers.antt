@@ -1,10 +1,8 @@
 use Rattle.std.proofs.Common.{Some, ◌∷◌, [], ◌++◌, map, ◌∙◌, sym, ap, arith, add-one}
 use Rattle.std.proofs.lemmas.List.Elements.{All-push}
 use Rattle.hmac_kdf.specs.Kdf.{IsKdfInput}
-use Rattle.key_model.specs.Reading.{octet_reading}
-use Rattle.key_model.specs.Derivation.{nh_made}
+use Rattle.key_model.specs.{Reading.octet_reading, Derivation.nh_made, Derivation.derived_of}
 use Rattle.nh_chain.specs.Chain.{nhs_made, stepped}
-use Rattle.key_model.specs.Derivation.{derived_of}
 use Rattle.nh_chain.proofs.ClimbFacts.{climbed_step, made_step}
 use Rattle.nh_chain.proofs.chain.Chain.climb.Goals as goal
 

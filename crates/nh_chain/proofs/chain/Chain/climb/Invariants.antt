@@ -1,10 +1,8 @@
 use Rattle.std.proofs.Common.{◌≡◌, All, map}
 use Rattle.arrayvec.specs.ArrayVec.{array_vec_len}
 use Rattle.hmac_kdf.specs.Kdf.{IsKdfInput}
-use Rattle.key_model.specs.Reading.{octet_reading}
-use Rattle.nh_chain.specs.Chain.{climbed, nhs_made}
-use Rattle.nh_chain.specs.Climb.{nh_reached}
-use Rattle.key_model.specs.Derivation.{derived_of}
+use Rattle.key_model.specs.{Reading.octet_reading, Derivation.derived_of}
+use Rattle.nh_chain.specs.{Chain.climbed, Chain.nhs_made, Climb.nh_reached}
 use Rattle.nh_chain.proofs.chain.Chain.climb.Given as goal
 
 abbrev pub invariant-loop : goal.invariant-loop

@@ -1,6 +1,5 @@
 use Rattle.std.proofs.Common.{◌+◌, ◌-◌, ◌%◌, ◌∙◌, ap, sym}
-use Rattle.key_model.specs.HandoverLines.{steps_to}
-use Rattle.key_model.specs.Reading.{octet_reading}
+use Rattle.key_model.specs.{HandoverLines.steps_to, Reading.octet_reading}
 use Rattle.nh_chain.specs.Chain.{number_after}
 use Rattle.nh_chain.proofs.ClimbFacts.{steps_between, climbed_number}
 use Rattle.nh_chain.proofs.chain.Chain.steps_to.Goals as goal

@@ -1,5 +1,4 @@
-use Rattle.std.proofs.Common.{◌∙◌, ap}
-use Rattle.std.proofs.lemmas.List.Elements.{All-push}
+use Rattle.std.proofs.{Common.◌∙◌, Common.ap, lemmas.List.Elements.All-push}
 use Rattle.hmac_kdf.specs.Kdf.{IsKdfInput}
 use Rattle.nh_chain.proofs.ReachFacts.{steps_reached, terms_reached}
 use Rattle.nh_chain.proofs.phone_chain.PhoneChain.reach.Goals as goal

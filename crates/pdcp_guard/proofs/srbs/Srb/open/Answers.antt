@@ -1,6 +1,5 @@
 use Rattle.std.proofs.Common.{◌≡◌, ◌<◌, arith, rules}
-use Rattle.pdcp_guard.specs.Counts.{count_limit}
-use Rattle.pdcp_guard.specs.Srb.{srb_opened_at}
+use Rattle.pdcp_guard.specs.{Counts.count_limit, Srb.srb_opened_at}
 use Rattle.pdcp_guard.proofs.SrbFacts.{Answered, srb_answered, srb_intact}
 use Rattle.pdcp_guard.proofs.srbs.Srb.open.Goals as goal
 

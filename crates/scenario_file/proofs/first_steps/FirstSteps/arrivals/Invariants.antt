@@ -1,6 +1,5 @@
 use Rattle.std.proofs.Common.{◌≡◌}
-use Rattle.scenario_file.specs.Draws.{arrivals}
-use Rattle.scenario_file.specs.FirstSteps.{with_steps}
+use Rattle.scenario_file.specs.{Draws.arrivals, FirstSteps.with_steps}
 use Rattle.scenario_file.proofs.first_steps.FirstSteps.arrivals.Given as goal
 
 abbrev pub invariant-loop-n : goal.invariant-loop-n

@@ -2,10 +2,8 @@ use Rattle.std.proofs.Common.{◌≡◌, true, rules}
 use Rattle.key_model.specs.Reading.{octet_reading}
 use Rattle.pdcp_guard.specs.AsKeys.{as_keys_of}
 use Rattle.rec_base.specs.declared.bearers.Bearer.TheVariants.{Srb1}
-use Rattle.lte_machine.specs.Calls.{use_out}
-use Rattle.lte_machine.specs.PhoneRows.{LinkSecured}
-use Rattle.ue_context.specs.Parts.{linked, waiting}
-use Rattle.ue_context.specs.Step.{to_phone}
+use Rattle.lte_machine.specs.{Calls.use_out, PhoneRows.LinkSecured}
+use Rattle.ue_context.specs.{Parts.linked, Parts.waiting, Step.to_phone}
 use Rattle.ue_context.proofs.AirSteps.{accepted_so}
 use Rattle.ue_context.proofs.waiting.Waiting.take_start.Goals as goal
 

@@ -1,7 +1,6 @@
 use Rattle.std.proofs.Common.{sym, ap, subst, ◌∙◌, arith, ◌≤◌, length, All}
 use Rattle.lte_events.specs.Ranges.{IsStation}
-use Rattle.item_faults.specs.Laws.{IsStep}
-use Rattle.item_faults.specs.Steps.{entries_of, senders_of}
+use Rattle.item_faults.specs.{Laws.IsStep, Steps.entries_of, Steps.senders_of}
 use Rattle.variant_runs.proofs.OwnItems.{first_low}
 use Rattle.variant_runs.proofs.studies.Study.of.Goals as goal
 

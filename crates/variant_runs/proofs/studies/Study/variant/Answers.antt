@@ -1,6 +1,5 @@
 use Rattle.std.proofs.Common.{sym, subst, ◌≤◌, length, IfSome}
-use Rattle.item_faults.specs.Entries.{most_steps}
-use Rattle.item_faults.specs.Laws.{AreEntries, CanRun}
+use Rattle.item_faults.specs.{Entries.most_steps, Laws.AreEntries, Laws.CanRun}
 use Rattle.variant_runs.proofs.studies.Study.variant.Goals as goal
 
 pub returns-in-Ok-clause-can_run : goal.returns-in-Ok-clause-can_run
