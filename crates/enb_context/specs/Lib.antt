@@ -4,3 +4,4 @@ pub mod Orders
 pub mod Preps
 pub mod Renewal
 pub mod Step
+pub mod Drawn

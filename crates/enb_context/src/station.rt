@@ -3,6 +3,7 @@ ghost use Rattle.lte_events.specs.declared.answers.Answer.TheVariants.{Done};
 ghost use Rattle.lte_machine.specs.Calls.{station_call};
 ghost use Rattle.lte_events.specs.Ranges.{StationTakes};
 ghost use Rattle.lte_machine.specs.StationState.{first_station};
+ghost use Rattle.enb_context.specs.Drawn.{last_drawn};
 
 use crate::context::Context;
 use alg_choice::Priority;
@@ -101,6 +102,16 @@ impl Station {
         match &self.context {
             Some(context) => Some(context.key.kenb().octets()),
             None => None,
+        }
+    }
+
+    /// Its number, and the number that it drew last, which is the air address of a key that it made in its last step. `None` where it drew none.
+    pub fn drawn(&self) -> Option<(u8, u32)>
+        ensures { result ≡ last_drawn self.now.id self.now.next }
+    {
+        match self.next {
+            0 => None,
+            next => Some((self.id, (next - 1) as u32)),
         }
     }
 }

@@ -1,1 +1,4 @@
+pub mod Addresses
+pub mod Differ
 pub mod Far
+pub mod Runs

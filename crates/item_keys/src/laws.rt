@@ -1,16 +1,13 @@
-// Where the phone came by a key that no station told before.
-ghost use Rattle.item_keys.specs.Far.{DifferIsFar, UntoldIsFar};
-ghost use Rattle.item_runs.specs.Course.{Promises};
+// Where keys part, of the lines of a run.
+ghost use Rattle.item_keys.specs.Differ.{DifferIsFar};
+ghost use Rattle.item_keys.specs.Far.{ExactlyFar, IsRun};
 
-use item_runs::Course;
+use item_lines::Told;
+use lte_events::{Events, Setup};
 
-/// Where a line of a run of items tells a key of the phone that no station told before, the phone takes that key at this step of the written
-/// machine's run, and what was made for that air address was eight or more steps ahead (`steps`). So a run has more such lines than another
-/// one, which is the outcome `keys differ`, only where it has such a step (`differ`). TS 33.401 7.2.8.4.
-///
-/// What it requires is the clause `promises` of the calls that let items happen.
-pub fn untold_keys_are_far(course: &Course)
-    requires promises { Promises course.now }
-    ensures steps { UntoldIsFar course.now }
-    ensures differ { DifferIsFar course.now }
+/// TRIAL: Keys part exactly where the phone takes a key eight or more steps ahead.
+pub fn keys_part_exactly_far(setup: &Setup, events: &Events, told: &[Told])
+    requires is_run { IsRun setup.now events.now.items told.now }
+    ensures exact { ExactlyFar setup.now events.now.items told.now }
+    ensures differ { DifferIsFar setup.now events.now.items told.now }
 {}

@@ -1,6 +1,6 @@
-//! Where the keys of a run of items differ: only where the phone takes a key eight or more steps ahead.
+//! Where the keys of a run of items part: exactly where the phone takes a key eight or more steps ahead.
 #![tactic(auto)]
 
 mod laws;
 
-pub use laws::untold_keys_are_far;
+pub use laws::keys_part_exactly_far;

@@ -1,5 +1,5 @@
 -- What is read from lines by the names of their items.
-use Rattle.std.specs.Prelude.{ℕ, ◌==◌, Bool, true, false, List, find, Option, Some, None}
+use Rattle.std.specs.Prelude.{ℕ, ◌==◌, ◌&&◌, Bool, true, false, not, List, find, Option, Some, None, is_some}
 use Rattle.std.specs.{Option.option_map, Str.bytes_eq}
 use Rattle.rec_base.specs.declared.ways.Way.{Way}
 use Rattle.rec_base.specs.declared.ways.Way.TheVariants.{Horizontal, Vertical}
@@ -63,6 +63,29 @@ note_in (Some t) = t.line.note
 abbrev pub is_key : List ℕ → Option KeyNote → Bool
 is_key key None = false
 is_key key (Some note) = bytes_eq note.key key
+
+-- KEYS PART: the phone takes, at an air address, another key than the station there told for it
+
+abbrev pub same_air : Option (ℕ × ℕ) → Option (ℕ × ℕ) → Bool
+same_air (Some (station, air)) (Some (id, number)) = (station == id) && (air == number)
+same_air one other = false
+
+-- a line of a station tells a key for the air address of this line
+abbrev pub is_made_for : Told → Told → Bool
+is_made_for t u = is_some (station_note u) && same_air u.at t.at
+
+-- the first that does
+abbrev pub made_for : List Told → Told → Option KeyNote
+made_for before t = note_in (find (is_made_for t) before)
+
+abbrev pub differs : Option KeyNote → Option KeyNote → Bool
+differs (Some taken) (Some made) = not (bytes_eq made.key taken.key)
+differs taken made = false
+
+abbrev pub parts : List Told → Told → Bool
+parts before t = differs (phone_note t) (made_for before t)
+
+-- WAYS
 
 abbrev pub is_way_vertical : Way → Bool
 is_way_vertical Vertical = true

@@ -5,6 +5,7 @@ mod lines;
 mod same;
 
 pub use lines::{
-    Told, is_done, is_key, is_no_ue, line_of, note_in, opens, opens_to, phone_note, station_note,
+    Told, is_done, is_key, is_no_ue, line_of, note_in, opens, opens_to, parts, phone_note,
+    same_air, station_note,
 };
 pub use same::same_told;

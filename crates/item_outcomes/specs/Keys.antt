@@ -3,7 +3,7 @@ use Rattle.std.specs.Prelude.{ℕ, ◌&&◌, ◌||◌, nat_lt, Bool, true, false
 use Rattle.std.specs.List.{list_any}
 use Rattle.lte_events.specs.declared.replies.KeyNote.{KeyNote}
 use Rattle.item_lines.specs.declared.lines.Told.{Told}
-use Rattle.item_lines.specs.Lines.{is_key, line_of, phone_note, station_note, note_in, is_vertical, is_horizontal}
+use Rattle.item_lines.specs.Lines.{line_of, parts, phone_note, note_in, is_vertical, is_horizontal}
 use Rattle.item_outcomes.specs.{Probe.probe, Standing.Standing}
 
 abbrev pub is_told : Option KeyNote → Bool
@@ -32,17 +32,13 @@ is_weaker here t = is_vertical (phone_note t) && is_horizontal (note_in (line_of
 abbrev pub weaker_key : Standing → Standing → Bool
 weaker_key usual here = list_any (is_weaker here.told) usual.told || nat_lt (length usual.reach) (length here.reach)
 
--- KEYS DIFFER: the items by which the phone came by a key that no station told before are more than in the scenario
-abbrev pub is_untold_key : List Told → Option KeyNote → Bool
-is_untold_key before None = false
-is_untold_key before (Some note) = not (list_any (λ t. is_key note.key (station_note t)) before)
+-- KEYS DIFFER: the items by which the phone took, at an air address, another key than the station there told are more than in the scenario
+unfoldable pub parted_from : List Told → List Told → List ℕ → List ℕ
+parted_from before [] found = found
+parted_from before (t ∷ ts) found = parted_from (before ++ t ∷ []) ts (with_if (parts before t) t.name found)
 
-unfoldable pub untold_from : List Told → List Told → List ℕ → List ℕ
-untold_from before [] found = found
-untold_from before (t ∷ ts) found = untold_from (before ++ t ∷ []) ts (with_if (is_untold_key before (phone_note t)) t.name found)
-
-abbrev pub untold : List Told → List ℕ
-untold told = untold_from [] told []
+abbrev pub parted : List Told → List ℕ
+parted told = parted_from [] told []
 
 abbrev pub keys_differ : List Told → List Told → Bool
-keys_differ usual here = nat_lt (length (untold usual)) (length (untold here))
+keys_differ usual here = nat_lt (length (parted usual)) (length (parted here))

@@ -38,7 +38,7 @@ pub enum Outcome {
     CutOff,
     /// Packets fail, and a Service Request does not mend it.
     Stuck,
-    /// The phone came by a key that no station told before.
+    /// The phone took, at an air address, another key than the station there made.
     KeysDiffer,
     /// The run ends at a coincidence.
     Coincidence,

@@ -3,12 +3,12 @@ ghost use Rattle.growth.specs.Growth.{WasRefused};
 ghost use Rattle.std.specs.Prelude.{◌≡◌, IfOk, OnErr};
 ghost use Rattle.std.specs.List.{list_any};
 ghost use Rattle.std.specs.Option.{option_map};
-ghost use Rattle.item_outcomes.specs.Keys.{is_made, is_missed, is_untold_key, is_weaker, keys_differ, not_made, untold, weaker_key};
-ghost use Rattle.item_lines.specs.Lines.{is_horizontal, is_key, is_vertical, phone_note, station_note};
+ghost use Rattle.item_outcomes.specs.Keys.{is_made, is_missed, is_weaker, keys_differ, not_made, parted, weaker_key};
+ghost use Rattle.item_lines.specs.Lines.{is_horizontal, is_vertical};
 
 use crate::Standing;
 use crate::names::PROBE;
-use item_lines::{Told, is_key, note_in, phone_note, station_note};
+use item_lines::{Told, note_in, parts, phone_note};
 use lte_events::KeyNote;
 use rec_base::Way;
 use std::alloc::{AllocError, Global};
@@ -74,44 +74,22 @@ fn is_horizontal(note: Option<KeyNote>) -> bool
 pub(crate) fn keys_differ(usual: &Standing, here: &Standing) -> bool
     ensures { result ≡ keys_differ usual.now.told here.now.told }
 {
-    usual.untold().len() < here.untold().len()
+    usual.parted().len() < here.parted().len()
 }
 
-// The items by which the phone came by a key that no station told before.
-#[tactic(auto, unfolding(crate::specs::Keys::untold_from))]
-pub(crate) fn untold(alloc: Global, told: &[Told]) -> Result<Vec<u32>, AllocError>
-    ensures names { IfOk result (λ names. names.items ≡ untold told.now) }
+// The items by which the phone took another key than the station told for that air address.
+#[tactic(auto, unfolding(crate::specs::Keys::parted_from))]
+pub(crate) fn parted(alloc: Global, told: &[Told]) -> Result<Vec<u32>, AllocError>
+    ensures names { IfOk result (λ names. names.items ≡ parted told.now) }
     ensures refused { OnErr result WasRefused }
 {
     let mut found = Vec::new(alloc);
     for i in 0..told.len() {
         let (before, this) = (&told[..i], &told[i]);
-        if is_untold(this, before) {
+        if parts(this, before) {
             growth::reserve(&mut found, 1)?;
             found.push_reserved(this.name);
         }
     }
     Ok(found)
-}
-
-fn is_untold(this: &Told, before: &[Told]) -> bool
-    ensures { result ≡ is_untold_key before.now (phone_note this.now) }
-{
-    match phone_note(this) {
-        Some(note) => !is_told(&note.key, before),
-        None => false,
-    }
-}
-
-// Whether a station told this key.
-fn is_told(key: &[u8; 32], before: &[Told]) -> bool
-    ensures { result ≡ list_any (λ t. is_key key.now (station_note t)) before.now }
-{
-    before.iter().any(|t| tells(t, key))
-}
-
-fn tells(t: &Told, key: &[u8; 32]) -> bool
-    ensures { result ≡ is_key key.now (station_note t.now) }
-{
-    is_key(key, &station_note(t))
 }

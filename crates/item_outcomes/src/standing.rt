@@ -2,10 +2,10 @@ ghost use Rattle.growth.specs.Growth.{WasRefused};
 ghost use Rattle.std.specs.Prelude.{◌≡◌, IfOk, OnErr};
 ghost use Rattle.std.specs.Option.{option_map};
 ghost use Rattle.item_lines.specs.Lines.{line_of};
-ghost use Rattle.item_outcomes.specs.Keys.{untold};
+ghost use Rattle.item_outcomes.specs.Keys.{parted};
 ghost use Rattle.item_outcomes.specs.Packets.{fates};
 
-use crate::keys::untold;
+use crate::keys::parted;
 use crate::packets::{Fates, fates_of};
 use item_lines::{Told, line_of};
 use std::alloc::{AllocError, Global};
@@ -21,13 +21,13 @@ pub struct Standing {
     over: bool,
     // what the lines say of the packets of the probe
     packets: Fates,
-    // the items by which the phone came by a key that no station told before
+    // the items by which the phone took another key than the station told for that air address
     new_keys: Vec<u32>,
 }
 
 impl Model for Standing {
     ghost use Rattle.std.specs.Prelude.{◌≡◌};
-    ghost use Rattle.item_outcomes.specs.Keys.{untold};
+    ghost use Rattle.item_outcomes.specs.Keys.{parted};
     ghost use Rattle.item_outcomes.specs.Packets.{fates_of};
     ghost use Rattle.item_outcomes.specs.Standing.{Standing as State};
 
@@ -41,7 +41,7 @@ impl Model for Standing {
       over = s.over;
     } };
 
-    ghost invariant = { λ s. (s.packets ≡ fates_of s.told.items s.serving) × (s.new_keys.items ≡ untold s.told.items) };
+    ghost invariant = { λ s. (s.packets ≡ fates_of s.told.items s.serving) × (s.new_keys.items ≡ parted s.told.items) };
 }
 
 impl Standing {
@@ -59,7 +59,7 @@ impl Standing {
         ensures refused { OnErr result WasRefused }
     {
         let packets = fates_of(told.as_slice(), serving);
-        let new_keys = untold(alloc, told.as_slice())?;
+        let new_keys = parted(alloc, told.as_slice())?;
         Ok(Standing {
             told,
             serving,
@@ -120,9 +120,9 @@ impl Standing {
         &self.packets
     }
 
-    /// The items by which the phone came by a key that no station told before.
-    pub fn untold(&self) -> &[u32]
-        ensures { result.now ≡ untold self.now.told }
+    /// The items by which the phone took another key than the station told for that air address.
+    pub fn parted(&self) -> &[u32]
+        ensures { result.now ≡ parted self.now.told }
     {
         self.new_keys.as_slice()
     }

@@ -2,7 +2,7 @@
 use Rattle.std.specs.Prelude.{ℕ, zero, suc, ◌==◌, pos, List, [], ◌∷◌, ◌++◌, find, slice_get, Option, Some, None, Result, Ok, Err}
 use Rattle.std.specs.Option.{option_map}
 use Rattle.key_terms.specs.declared.proof.Proof.{Proof}
-use Rattle.lte_events.specs.{declared.events.Event.Event, declared.lines.Line.Line}
+use Rattle.lte_events.specs.{declared.events.Event.Event, declared.lines.Line.Line, declared.lines.Who.Who}
 use Rattle.lte_world.specs.declared.faults.WorldFault.{WorldFault}
 use Rattle.lte_world.specs.declared.faults.WorldFault.TheVariants as fault
 use Rattle.item_lines.specs.declared.lines.Told.{Told}
@@ -26,14 +26,15 @@ nothing = record { events = []; told = []; sent = []; over = None }
 
 -- ONE EVENT
 
-abbrev pub told_line : ℕ → Line → Told
-told_line name line = record { name = name; line = line }
+abbrev pub told_line : ℕ → Line → Option (ℕ × ℕ) → Told
+told_line name line at = record { name = name; line = line; at = at }
 
--- what an event of the item of this name comes to, by what is told of it
-abbrev pub after_told : ℕ → Event → Coming → Result Line WorldFault → Coming
-after_told name e c (Ok line) = record c { events = c.events ++ e ∷ []; told = c.told ++ told_line name line ∷ [] }
-after_told name e c (Err (fault.Chance proof)) = record c { over = Some proof }
-after_told name e c (Err fault.Memory) = c
+-- what an event of the item of this name comes to, by what is told of it and by the address of who acted behind it
+abbrev pub after_told : (List Event → Who → Option (ℕ × ℕ)) → ℕ → Event → Coming → Result Line WorldFault → Coming
+after_told at name e c (Ok line) =
+    record c { events = c.events ++ e ∷ []; told = c.told ++ told_line name line (at (c.events ++ e ∷ []) line.who) ∷ [] }
+after_told at name e c (Err (fault.Chance proof)) = record c { over = Some proof }
+after_told at name e c (Err fault.Memory) = c
 
 -- and the number of the record that was sent
 abbrev pub number_told : Result Line WorldFault → Option ℕ
@@ -60,13 +61,13 @@ event_in acts sent (deed.Act place) = slice_get acts place
 event_in acts sent (deed.Delivery of) = option_map (λ number. Event.Deliver (pos number)) (record_of of sent)
 
 -- A LIST OF ITEMS, by what is told of one event more
-module _ (told : List Event → Event → Result Line WorldFault) where
+module _ (told : List Event → Event → Result Line WorldFault) (at : List Event → Who → Option (ℕ × ℕ)) where
   -- an event of the item of this name; so often what is sent is delivered at once
   unfoldable pub happening : ℕ → ℕ → Event → Coming → Coming
-  happening zero name e c = kept name (number_told (told c.events e)) (after_told name e c (told c.events e))
+  happening zero name e c = kept name (number_told (told c.events e)) (after_told at name e c (told c.events e))
   happening (suc times) name e c =
       and_then (λ number d. happening times name (Event.Deliver (pos number)) d)
-      (number_told (told c.events e)) (after_told name e c (told c.events e))
+      (number_told (told c.events e)) (after_told at name e c (told c.events e))
 
   -- an item: nothing where its delivery falls away, or after a coincidence
   abbrev pub by_event : Option Proof → Option Event → Item → Coming → Coming

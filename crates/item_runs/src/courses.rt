@@ -5,12 +5,12 @@ ghost use Rattle.lte_events.specs.Scenario.{most_events, CanHappen};
 ghost use Rattle.lte_events.specs.declared.events.Event.{Event as AnEvent};
 ghost use Rattle.items.specs.Items.{most_at_once, IsItemOf};
 ghost use Rattle.item_runs.specs.Coming.{after_told, happening, kept, nothing, number_told, record_of, with_item};
-ghost use Rattle.item_runs.specs.Course.{coming_of, going_on, told_written, Promises};
+ghost use Rattle.item_runs.specs.Course.{coming_of, going_on, place_of, told_written, Promises};
 ghost use Rattle.item_runs.specs.Reach.{reach_of};
 ghost use Rattle.item_runs.specs.CoreStation.{core_station_of};
 
 use crate::Sent;
-use crate::events::happen;
+use crate::events::{happen, place};
 use crate::reach::reach;
 use item_lines::Told;
 use items::{Deed, Item};
@@ -131,7 +131,7 @@ impl Course {
         ensures memory { IsOkUnless result WorldFault.Memory }
         ensures refused { OnErr result WasRefused }
         ensures setup { OnOk result (self.new.setup ≡ self.old.setup) }
-        ensures coming { OnOk result (self.new.coming ≡ with_item (told_written self.old.setup) acts.now.items item.now self.old.coming) }
+        ensures coming { OnOk result (self.new.coming ≡ with_item (told_written self.old.setup) (place_of self.old.setup) acts.now.items item.now self.old.coming) }
         ensures longer { OnOk result (length self.new.coming.events ≤ length self.old.coming.events + item.now.at_once + 1) }
     {
         if self.over.is_some() {
@@ -160,7 +160,7 @@ impl Course {
         ensures memory { IsOkUnless result WorldFault.Memory }
         ensures refused { OnErr result WasRefused }
         ensures setup { OnOk result (self.new.setup ≡ self.old.setup) }
-        ensures coming { OnOk result (self.new.coming ≡ happening (told_written self.old.setup) times name event.now self.old.coming) }
+        ensures coming { OnOk result (self.new.coming ≡ happening (told_written self.old.setup) (place_of self.old.setup) times name event.now self.old.coming) }
         ensures longer { OnOk result (length self.new.coming.events ≤ length self.old.coming.events + times + 1) }
     {
         match self.one(name, event)? {
@@ -184,7 +184,7 @@ impl Course {
         ensures memory { IsOkUnless result WorldFault.Memory }
         ensures refused { OnErr result WasRefused }
         ensures setup { OnOk result (self.new.setup ≡ self.old.setup) }
-        ensures coming { OnOk result (self.new.coming ≡ after_told name event.now self.old.coming (told_written self.old.setup self.old.coming.events event.now)) }
+        ensures coming { OnOk result (self.new.coming ≡ after_told (place_of self.old.setup) name event.now self.old.coming (told_written self.old.setup self.old.coming.events event.now)) }
         ensures number { IfOk result (λ number. number ≡ number_told (told_written self.old.setup self.old.coming.events event.now)) }
     {
         match growth::reserve(&mut self.told, 1) {
@@ -194,7 +194,8 @@ impl Course {
         match happen(&mut self.world, event) {
             Ok(line) => {
                 let number = number_in(&line.sent);
-                self.told.push_reserved(Told { name, line });
+                let at = place(&self.world, &line.who);
+                self.told.push_reserved(Told { name, line, at });
                 Ok(number)
             }
             Err(WorldFault::Chance(proof)) => {

@@ -4,9 +4,9 @@ ghost use Rattle.std.specs.Prelude.{◌≡◌, ◌≢◌, ◌<◌, length, Err, 
 ghost use Rattle.lte_events.specs.Scenario.{most_events, CanHappen};
 ghost use Rattle.lte_machine.specs.Run.{GoesOn};
 ghost use Rattle.lte_world.specs.Whole.{journal_after, run_of};
-ghost use Rattle.item_runs.specs.Course.{told_written};
+ghost use Rattle.item_runs.specs.Course.{place_of, told_written};
 
-use lte_events::{Event, Line};
+use lte_events::{Event, Line, Who};
 use lte_world::{World, WorldFault};
 
 // Lets it happen. The answer is what the written machine's run tells of it, or `Memory`, where std refuses memory and nothing happens.
@@ -25,4 +25,12 @@ pub(crate) fn happen(world: &mut World, event: &Event) -> Result<Line, WorldFaul
         Ok(()) => world.apply(event),
         Err(fault) => Err(fault),
     }
+}
+
+// For which air address a key of who acted in the last event is.
+pub(crate) fn place(world: &World, who: &Who) -> Option<(u8, u32)>
+    requires goes_on { GoesOn (run_of world.now) }
+    ensures { result ≡ place_of world.now.setup world.now.journal who.now }
+{
+    world.address(who)
 }

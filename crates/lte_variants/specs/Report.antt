@@ -3,9 +3,9 @@ use Rattle.std.specs.Prelude.{ℕ, Bool, List, [], ◌++◌, length, Option, Som
 use Rattle.std.specs.{List.filter, List.flat_map, Option.is_some, Option.option_and_then}
 use Rattle.item_faults.specs.{Faults.faults_of, declared.changes.Fault.Fault, declared.messages.Message.Message, declared.steps.Step.Step}
 use Rattle.item_faults.specs.Steps.{delivered, messages_of, step_of}
-use Rattle.item_outcomes.specs.declared.judging.Outcome.{Outcome}
+use Rattle.item_outcomes.specs.{declared.judging.Outcome.Outcome, Keys.parted}
 use Rattle.variant_runs.specs.{Judged.entries, Judged.judged, Original.Original}
-use Rattle.variant_text.specs.Lines.{end_line, message_line, scenario_line, variant_line}
+use Rattle.variant_text.specs.Lines.{end_line, keys_line, message_line, scenario_line, variant_line}
 use Rattle.lte_variants.specs.{Choices.choices_of, Choices.in_share, Kinds.happening, declared.request.Request.Request}
 
 -- ITS MESSAGES: a line for each, by the step that delivers it
@@ -35,7 +35,8 @@ abbrev pub message_lines : Original → List ℕ → List ℕ
 message_lines o messages = flat_map (line_at o.steps) messages
 
 abbrev pub messages_told : Original → List ℕ → List ℕ
-messages_told o messages = scenario_line (length o.steps) (length messages) o.usual.serving ++ message_lines o messages
+messages_told o messages =
+    scenario_line (length o.steps) (length messages) o.usual.serving ++ (flat_map (keys_line (length o.steps)) (parted o.usual.told) ++ message_lines o messages)
 
 -- the variants of these choices, and how many there are
 abbrev pub variant_lines : Original → List (List Fault) → List ℕ

@@ -6,6 +6,7 @@ ghost use Rattle.std.specs.String.{string_bytes};
 ghost use Rattle.edge_io.specs.Lines.{are_lines};
 ghost use Rattle.item_faults.specs.Entries.{most_steps};
 ghost use Rattle.run_report.specs.Written.{WritesText};
+ghost use Rattle.variant_text.specs.Lines.{keys_line};
 ghost use Rattle.lte_variants.specs.Report.{asked, is_variant, line_at, line_of, message_at, messages_told, report_of, report_with, told_of, variant_lines, variants};
 ghost use Rattle.lte_variants.specs.Request.{IsShare};
 
@@ -17,7 +18,7 @@ use item_faults::{Fault, Message, Step, delivered, messages_of};
 use run_report::{Unwritten, write_lines, write_text};
 use std::alloc::{AllocError, Global};
 use variant_runs::Study;
-use variant_text::{end_line, message_line, scenario_line, variant_line};
+use variant_text::{end_line, keys_line, message_line, scenario_line, variant_line};
 
 /// Writes what is asked of a scenario.
 pub(crate) fn write_report<W: Sink>(
@@ -70,7 +71,24 @@ fn write_messages<W: Sink>(
     let steps = study.steps().len() as u32;
     let line = scenario_line(alloc, steps, messages.len() as u32, study.serving());
     write_string(line, out)?;
+    write_parted(alloc, steps, study.parted(), out)?;
     write_each(alloc, study.steps(), messages, out)
+}
+
+// Writes a line for each of these steps of the scenario itself.
+fn write_parted<W: Sink>(
+    alloc: Global,
+    steps: u32,
+    names: &[u32],
+    out: &mut W,
+) -> Result<(), Unwritten>
+    requires { IsTrue (W.told out.old).ready }
+    ensures { WritesText (flat_map (keys_line steps) names.now) result (W.told out.old) (W.told out.new) }
+{
+    for name in names {
+        write_string(keys_line(alloc, steps, *name), out)?;
+    }
+    Ok(())
 }
 
 // Writes a line for each of these messages.

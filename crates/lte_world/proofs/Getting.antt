@@ -3,7 +3,8 @@ use Rattle.std.proofs.Common.{◌≡◌, refl, sym, ap, ◌∙◌, subst, ℕ, s
 use Rattle.std.specs.{Option.option_map, Prelude.slice_get, Prelude.position, List.position_or_len}
 use Rattle.std.proofs.{lemmas.Bool.Decides.nat_tests, lemmas.List.Folds.find_at, lemmas.Option.slice_get_past, lemmas.Option.slice_get_read}
 use Rattle.lte_machine.specs.{StationState.Station, World.station_of_id}
-use Rattle.lte_world.specs.Whole.{context_kenb}
+use Rattle.enb_context.specs.Drawn.{last_drawn}
+use Rattle.lte_world.specs.Whole.{context_kenb, station_air}
 
 -- THE STATION OF A NUMBER
 
@@ -55,3 +56,17 @@ module _ (ids : List ℕ) (stations : List (Station (List ℕ) ℕ)) (are : map 
 
   pub kenb_nowhere : position (λ x. x == id) ids ≡ None → None ≡ context_kenb (station_of_id id stations)
   kenb_nowhere e = ap context_kenb (sym (station_nowhere e))
+
+  pub drawn_at : (k : ℕ)
+      → position (λ x. x == id) ids ≡ Some k
+      → k < length ids
+      → (s : Station (List ℕ) ℕ)
+      → s ≡ get_or stations k s
+      → (r : Option (ℕ × ℕ))
+      → r ≡ last_drawn s.id s.next
+      → r ≡ station_air (station_of_id id stations)
+  drawn_at k e within s there r is =
+      is ∙ ap station_air (sym (station_at k e ∙ slice_get_read stations (length ids) k s (sym (ap length are) ∙ same_length stations) within there))
+
+  pub drawn_nowhere : position (λ x. x == id) ids ≡ None → None ≡ station_air (station_of_id id stations)
+  drawn_nowhere e = ap station_air (sym (station_nowhere e))

@@ -4,7 +4,7 @@ use Rattle.std.proofs.lemmas.List.{length-map}
 use Rattle.std.specs.{Prelude.slice_get, Prelude.is_some, List.AllByRecursion as AllOf}
 use Rattle.rec_base.specs.declared.uses.Use.{Use}
 use Rattle.lte_events.specs.Ranges.{has_station, IsEvent, IsSetup}
-use Rattle.lte_events.specs.{declared.events.Event.Event, declared.setups.Setup.Setup}
+use Rattle.lte_events.specs.{declared.events.Event.Event, declared.lines.Who.Who, declared.setups.Setup.Setup}
 use Rattle.key_terms.specs.declared.proof.Proof.{Proof}
 use Rattle.ue_context.specs.Step.{kenb_of}
 use Rattle.lte_machine.specs.{BothRuns.octet_run, Calls.use_out, Calls.use_in, Machines.Kept, StationState.Station, StationState.Context, Wire.KeyUse, World.World, World.station_of_id}
@@ -15,7 +15,7 @@ use Rattle.lte_properties.specs.Freshness.{NoUseTwice}
 use Rattle.lte_properties.proofs.OctetLaws.{uses_octets, joined_octets}
 use Rattle.store_laws.specs.{Records.view_of, Records.world_uses, Rows.world_rows}
 use Rattle.lte_world.specs.{InOctets.NoTwoEqual, InOctets.IsJoined, Systems.Actors, Systems.Are}
-use Rattle.lte_world.specs.Whole.{Whole, unless_over, run_of, InRun, Goes, Stands, context_kenb, phone_kenb_in, station_kenb_in, core_station_in}
+use Rattle.lte_world.specs.Whole.{Whole, unless_over, run_of, InRun, Goes, Stands, context_kenb, phone_kenb_in, station_kenb_in, core_station_in, actor_air, address_of}
 use Rattle.lte_world.proofs.StationsStand.{stations_stand}
 
 -- LISTS OF USES
@@ -103,6 +103,9 @@ module _ (setup : Setup) (journal : List Event) (over : Option Proof) (ready : B
 
   pub core_read : (r : Option ℕ) → r ≡ option_map (λ l. l.station) a.core.link → InRun (λ w. r ≡ core_station_in w) (run_of v)
   core_read r is = reads (λ w. r ≡ core_station_in w) (λ w runs are. is ∙ ap (λ c. option_map (λ l. l.station) c.link) are.core)
+
+  pub air_read : (who : Who) (r : Option (ℕ × ℕ)) → r ≡ actor_air a.phone.radio a.stations who → InRun (λ w. r ≡ address_of w who) (run_of v)
+  air_read who r is = reads (λ w. r ≡ address_of w who) (λ w runs are. is ∙ (λ j. actor_air (are.phone j).radio (are.stations j) who))
 
   module _ (id : ℕ) (r : Option (List ℕ)) (is : r ≡ context_kenb (station_of_id id a.stations)) where
     station_is : (w : World (List ℕ) ℕ Kept) → Are w a → r ≡ station_kenb_in id w

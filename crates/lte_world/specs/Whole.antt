@@ -2,11 +2,12 @@
 -- there is room for one event more. The run in octets says all else.
 use Rattle.std.specs.Prelude.{◌≡◌, ℕ, ◌+◌, ◌*◌, ◌<◌, ◌≤◌, Bool, false, IsTrue, List, [], ◌∷◌, ◌++◌, length, Option, Some, None, Result, Ok, Err}
 use Rattle.std.specs.Option.{option_map}
-use Rattle.lte_events.specs.{Scenario.most_events, Scenario.CanHappen, declared.events.Event.Event, declared.lines.Line.Line, declared.setups.Setup.Setup}
+use Rattle.lte_events.specs.{Scenario.most_events, Scenario.CanHappen, declared.events.Event.Event, declared.lines.Line.Line, declared.lines.Who.Who, declared.setups.Setup.Setup}
 use Rattle.key_terms.specs.declared.proof.Proof.{Proof}
-use Rattle.lte_machine.specs.{BothRuns.octet_run, Calls.line_out, Ciphers.annex_b, Machines.Kept, Opening.open_octets, StationState.Station, World.World, World.station_of_id}
+use Rattle.lte_machine.specs.{BothRuns.octet_run, Calls.line_out, Ciphers.annex_b, Machines.Kept, Opening.open_octets, PhoneState.Radio, StationState.Station, World.World, World.station_of_id}
 use Rattle.lte_machine.specs.Run.{RunState, Running, Stopped, turn, EventReport, Reported, Coincided, event_report}
-use Rattle.ue_context.specs.Step.{kenb_of}
+use Rattle.ue_context.specs.Step.{air_of, kenb_of}
+use Rattle.enb_context.specs.Drawn.{last_drawn}
 use Rattle.store_laws.specs.{Proofs.proof_of, Proofs.coincidence_of, Rows.world_rows}
 use Rattle.lte_world.specs.declared.faults.WorldFault.{WorldFault}
 use Rattle.lte_world.specs.Systems.{octets, Actors, Are}
@@ -98,3 +99,17 @@ station_kenb_in id w = context_kenb (station_of_id id w.stations)
 -- the station at which the core has the phone
 abbrev pub core_station_in : World (List ℕ) ℕ Kept → Option ℕ
 core_station_in w = option_map (λ l. l.station) w.core.link
+
+-- For which air address a key of who acted is: where the phone is connected, and what a station drew last. A station that makes a key draws
+-- the air address for it in that very step
+abbrev pub station_air : {K C : Type 0} → Option (Station K C) → Option (ℕ × ℕ)
+station_air None = None
+station_air (Some s) = last_drawn s.id s.next
+
+abbrev pub actor_air : {K C : Type 0} → Radio K C → List (Station K C) → Who → Option (ℕ × ℕ)
+actor_air radio stations Who.Phone = air_of radio
+actor_air radio stations (Who.Station id) = station_air (station_of_id id stations)
+actor_air radio stations other = None
+
+abbrev pub address_of : {K C S : Type 0} → World K C S → Who → Option (ℕ × ℕ)
+address_of w who = actor_air w.phone.radio w.stations who

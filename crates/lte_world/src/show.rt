@@ -2,10 +2,11 @@
 ghost use Rattle.std.specs.Prelude.{◌≡◌, length, option_map};
 ghost use Rattle.lte_machine.specs.World.{station_of_id};
 ghost use Rattle.ue_context.specs.Step.{kenb_of};
-ghost use Rattle.lte_world.specs.Whole.{context_kenb};
+ghost use Rattle.lte_world.specs.Whole.{actor_air, context_kenb, station_air};
 
 use crate::system::{System, place_of};
 use key_terms::Ladder;
+use lte_events::Who;
 use rec_base::Use;
 
 impl System {
@@ -52,5 +53,26 @@ impl System {
         ensures { result ≡ option_map (λ l. l.station) self.now.core.link }
     {
         self.core.station()
+    }
+
+    // For which air address a key of who acted is.
+    pub fn address(&self, who: &Who) -> Option<(u8, u32)>
+        ensures { result ≡ actor_air self.now.phone.radio self.now.stations who.now }
+    {
+        match who {
+            Who::Phone => self.phone.place(),
+            Who::Station(id) => self.station_drawn(*id),
+            _ => None,
+        }
+    }
+
+    // A station's number, and the number that it drew last.
+    fn station_drawn(&self, id: u8) -> Option<(u8, u32)>
+        ensures { result ≡ station_air (station_of_id id self.now.stations) }
+    {
+        let Some(place) = place_of(&self.ids, id) else {
+            return None;
+        };
+        self.stations[place].drawn()
     }
 }

@@ -13,7 +13,7 @@ ghost use Rattle.store_laws.specs.Rows.{world_rows};
 ghost use Rattle.lte_properties.specs.InOctets.{FarNeverThere};
 ghost use Rattle.lte_world.specs.InOctets.{answers_of, NoTwoEqual, IsJoined, CommandsShare, PacketsOpen};
 ghost use Rattle.lte_world.specs.Replies.{RepliedLast, IsOfSetup};
-ghost use Rattle.lte_world.specs.Whole.{begun, run_of, told_of, turned, journal_after, AreFew, CanApply, InRun, phone_kenb_in, station_kenb_in, core_station_in};
+ghost use Rattle.lte_world.specs.Whole.{begun, run_of, told_of, turned, journal_after, AreFew, CanApply, InRun, phone_kenb_in, station_kenb_in, core_station_in, address_of};
 
 use crate::WorldFault;
 use crate::replies::Replies;
@@ -218,6 +218,13 @@ impl World {
         ensures { InRun (λ w. result ≡ core_station_in w) (run_of self.now) }
     {
         self.system.core_station()
+    }
+
+    /// For which air address a key of who acted in the last event is: where the phone is connected, and the number that a station drew last.
+    pub fn address(&self, who: &Who) -> Option<(u8, u32)>
+        ensures { InRun (λ w. result ≡ address_of w who.now) (run_of self.now) }
+    {
+        self.system.address(who)
     }
 
     /// The inputs of the last event with their replies: none, that of one actor, or at an authentication the phone's

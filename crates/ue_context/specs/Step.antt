@@ -32,3 +32,8 @@ start_front station air (Err answer) = AirSettled (AirRefused answer)
 abbrev pub kenb_of : Radio (List ℕ) ℕ → Option (List ℕ)
 kenb_of (Connected l) = Some l.kenb
 kenb_of other = None
+
+-- the station and air address of the connection
+abbrev pub air_of : {K C : Type 0} → Radio K C → Option (ℕ × ℕ)
+air_of (Connected l) = Some (l.station, l.air)
+air_of other = None

@@ -4,7 +4,7 @@ ghost use Rattle.lte_machine.specs.Calls.{phone_call};
 ghost use Rattle.lte_machine.specs.PhoneState.{first_phone};
 ghost use Rattle.lte_events.specs.Ranges.{PhoneTakes};
 ghost use Rattle.ue_context.specs.Refusing.{after_refusal, refusal_of, sends_reject, accepted_in};
-ghost use Rattle.ue_context.specs.Step.{kenb_of};
+ghost use Rattle.ue_context.specs.Step.{air_of, kenb_of};
 
 use crate::radio::Radio;
 use alg_choice::Caps;
@@ -79,6 +79,16 @@ impl Phone {
     {
         match &self.radio {
             Radio::Connected(link) => Some(link.kenb.octets()),
+            Radio::Idle | Radio::Connecting(_) => None,
+        }
+    }
+
+    /// Where it is connected: the station, and the air address there. `None` where there is no connection.
+    pub fn place(&self) -> Option<(u8, u32)>
+        ensures { result ≡ air_of self.now.radio }
+    {
+        match &self.radio {
+            Radio::Connected(link) => Some((link.station, link.air)),
             Radio::Idle | Radio::Connecting(_) => None,
         }
     }

@@ -1,3 +1,4 @@
+ghost use Rattle.item_outcomes.specs.Keys.{parted};
 ghost use Rattle.growth.specs.Growth.{WasRefused};
 ghost use Rattle.std.specs.Prelude.{◌≡◌, ◌≢◌, ◌≤◌, None, length, IfOk, IfSome, IsOkUnless, OnErr};
 ghost use Rattle.std.specs.Option.{option_map};
@@ -116,6 +117,13 @@ impl Study {
         ensures { result ≡ self.now.usual.serving }
     {
         self.usual.serving()
+    }
+
+    /// The steps of the scenario itself, and of the probe behind it, at which its phone takes another key than the station there made.
+    pub fn parted(&self) -> &[u32]
+        ensures { result.now ≡ parted self.now.usual.told }
+    {
+        self.usual.parted()
     }
 
     // The items with these faults.

@@ -1,5 +1,5 @@
 -- The lines of the answer for a scenario.
-use Rattle.std.specs.Prelude.{ℕ, List, ◌++◌, codes}
+use Rattle.std.specs.Prelude.{ℕ, nat_lt, if◌then◌else◌, List, ◌++◌, codes}
 use Rattle.std.specs.Fmt.{decimal}
 use Rattle.item_faults.specs.{declared.changes.Fault.Fault, declared.messages.Message.Message}
 use Rattle.item_outcomes.specs.declared.judging.Outcome.{Outcome}
@@ -9,6 +9,11 @@ use Rattle.variant_text.specs.{Faults.faults_text, Messages.message_name, Outcom
 unfoldable pub scenario_line : ℕ → ℕ → ℕ → List ℕ
 scenario_line steps messages serving =
     codes "scenario " ++ (decimal steps ++ (codes " " ++ (decimal messages ++ (codes " serving " ++ (decimal serving ++ codes "\n")))))
+
+-- `keys differ 33`: a step of the scenario itself at which its phone takes another key than the station there made; `keys differ probe` is
+-- one of the probe behind it
+unfoldable pub keys_line : ℕ → ℕ → List ℕ
+keys_line steps name = if nat_lt name steps then codes "keys differ " ++ (decimal name ++ codes "\n") else codes "keys differ probe\n"
 
 -- `message 9 X2 Handover Request`: the step that delivers a message
 unfoldable pub message_line : ℕ → Message → List ℕ

@@ -1,7 +1,7 @@
 ghost use Rattle.growth.specs.Growth.{WasRefused};
 ghost use Rattle.std.specs.Prelude.{◌≡◌, IfOk, OnErr};
 ghost use Rattle.std.specs.String.{string_bytes};
-ghost use Rattle.variant_text.specs.Lines.{end_line, message_line, scenario_line, variant_line};
+ghost use Rattle.variant_text.specs.Lines.{end_line, keys_line, message_line, scenario_line, variant_line};
 
 use crate::faults::faults_text;
 use crate::messages::message_name;
@@ -25,6 +25,19 @@ pub fn scenario_line(
         alloc,
         format_args!("scenario {steps} {messages} serving {serving}\n"),
     )
+}
+
+/// A line of the scenario itself: a step at which its phone takes another key than the station there made. Those of the probe behind it have no step.
+#[tactic(auto, unfolding(crate::specs::Lines::keys_line))]
+pub fn keys_line(alloc: Global, steps: u32, name: u32) -> Result<String, AllocError>
+    ensures text { IfOk result (λ text. string_bytes text ≡ keys_line steps name) }
+    ensures refused { OnErr result WasRefused }
+{
+    if name < steps {
+        growth::format(alloc, format_args!("keys differ {name}\n"))
+    } else {
+        growth::format(alloc, format_args!("keys differ probe\n"))
+    }
 }
 
 /// The line of a message, by the step that delivers it.
