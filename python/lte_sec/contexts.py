@@ -24,15 +24,22 @@ FOREIGN = -1  # the place of a KASME that was not given
 
 
 @dataclass
+class Life:
+    """What a KASME has from its authentication on, under whatever algorithms: the next COUNT of each direction, and what was sent at each."""
+
+    next: dict[int, int] = field(default_factory=lambda: {UP: 0, DOWN: 0})
+    seen: dict[tuple[int, int], tuple[bytes, NasSide]] = field(default_factory=dict)
+
+
+@dataclass
 class EpsSecurityContext:
-    """An EPS security context: KASME, algorithms, KSI, and the next COUNT of each direction."""
+    """An EPS security context: a KASME and its life, under the algorithms and the KSI of one Security Mode Command."""
 
     kasme: int
     eea: int = 2
     eia: int = 2
     ksi: int | None = None
-    next: dict[int, int] = field(default_factory=lambda: {UP: 0, DOWN: 0})
-    seen: dict[tuple[int, int], tuple[bytes, NasSide]] = field(default_factory=dict)
+    life: Life = field(default_factory=Life)
     capabilities: tuple[int, int] | None = None  # of the phone, as S1 has them
     resumed: bool = False  # it was in use before, under other algorithms
     guessed: bool = False  # no Command told its algorithms: the ciphering shows at the first ciphered message
@@ -40,6 +47,14 @@ class EpsSecurityContext:
     @property
     def given(self) -> bool:
         return self.kasme != FOREIGN
+
+    @property
+    def next(self) -> dict[int, int]:
+        return self.life.next
+
+    @property
+    def seen(self) -> dict[tuple[int, int], tuple[bytes, NasSide]]:
+        return self.life.seen
 
 
 @dataclass
@@ -74,7 +89,7 @@ class NasSide:
     offered: int | None = None  # the KSI of an Authentication Request that no Command has used yet
     fresh: bool = False  # the trace shows that the phone has no key yet, or an authentication: the next KASME begins
     commands: int = 0  # Security Mode Commands of the connection
-    rejected: set[int] = field(default_factory=set)  # KASMEs whose Command the phone refused
+    rejected: set[int] = field(default_factory=set)  # KASMEs whose last Command the phone refused
     told: bytes | None = None  # EEA, EIA, UEA and UIA of the phone's own Attach or Tracking Area Update Request
     capabilities: tuple[int, int] | None = None  # of the phone, as S1 has them: ciphering, integrity
     emergency: bool = False

@@ -2,7 +2,7 @@
 from __future__ import annotations
 
 from . import reasons
-from .contexts import EpsSecurityContext, Trigger
+from .contexts import Trigger
 from .coverage import UP as FROM_STATION
 from .decoding import Message, title
 from .histories import Chain, Held, History, PhoneKeys, merged
@@ -108,7 +108,7 @@ class KenbJudge(KeyLines):
             return None
         found = self.moves.of_kenb(connection, value)
         if found is not None:
-            context = self.book.contexts.setdefault(found.kasme, EpsSecurityContext(found.kasme, guessed=True))
+            context = self.book.contexts.setdefault(found.kasme, self.book.context(found.kasme, guessed=True))
             self.book.follows(connection.side.current, context)
             connection.side.current, connection.side.pending, connection.side.away = context, None, False
         return found
@@ -134,7 +134,7 @@ class KenbJudge(KeyLines):
         for kasme in self.book.unused():
             for count in range(FEW):
                 if self.derivations.calls.kenb(self.derivations.kasmes[kasme].value, count) == value:
-                    context = EpsSecurityContext(kasme, guessed=True)
+                    context = self.book.context(kasme, guessed=True)
                     self.book.follows(side.current, context)
                     self.book.contexts[kasme] = side.current = context
                     side.pending, side.authenticated, side.established = None, False, True

@@ -24,16 +24,18 @@ class ModeBook(NasBook):
             side.pending = EpsSecurityContext(FOREIGN, eea, 0, ksi)
             right = pdu[1:5] == bytes(4)
             return self.found(side, side.pending, DOWN, pdu, seq) if right else self.refused(side.pending, DOWN, pdu, seq)
-        fresh = [EpsSecurityContext(kasme, eea, eia, ksi) for kasme in self.kasmes()]
+        fresh = [self.context(kasme, eea, eia, ksi) for kasme in self.kasmes()]
         context = next((one for one in fresh if self.judged(one) and self.has_mac(one, DOWN, seq, pdu)), None)
-        old = self.contexts.get(context.kasme) if context else side.current
-        if old is not None and old.given and eia in COMPUTED:  # a context in use may go on under other algorithms: its COUNTs do too
+        old = self.contexts.get(context.kasme) or (context if context.seen else None) if context else side.current
+        if old is not None and old.given and eia in COMPUTED:  # a KASME lives once: its COUNTs go on under other algorithms too
             count = self.opens(replace(old, eia=eia), DOWN, pdu)
             if count is not None:
-                side.pending = replace(old, eea=eea, eia=eia, ksi=ksi, guessed=False, resumed=True)
+                side.pending = replace(old, eea=eea, eia=eia, ksi=ksi, guessed=False, resumed=old.kasme in self.contexts)
+                side.rejected.discard(old.kasme)  # the phone refused the Command before, not the KASME
                 return self.found(side, side.pending, DOWN, pdu, count)
         if context is not None:
             side.pending, self.turn = context, context.kasme + 1
+            side.rejected.discard(context.kasme)
             return self.begun(side, self.found(side, context, DOWN, pdu, seq))
         return self.wrong_command(side, pdu, fresh, ksi, later)
 
@@ -103,6 +105,8 @@ class ModeBook(NasBook):
         side.commands, side.fresh = 0, False
         if brought is not None and brought.given and context.kasme != brought.kasme:
             return ["Security mode complete under the KASME before, where the Command brought another"]
+        if brought is not None and brought.given and context.eia != brought.eia and not side.away:
+            return [f"Security mode complete under EIA{context.eia}, where the Command brought EIA{brought.eia}"]
         begins |= side.current is not None and side.current.given and side.current.kasme != context.kasme
         if brought is context and begins and 0 < commands <= count and not context.resumed:
             return [f"COUNT differs: is {count}, where a KASME begins at 0"]

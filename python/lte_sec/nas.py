@@ -7,21 +7,19 @@ from __future__ import annotations
 
 import re
 from collections.abc import Callable, Iterable
-from dataclasses import replace
 
-from . import reasons
+from .context_book import ContextBook
 from .contexts import CIPHERED, COMMAND, COMPLETE, FOREIGN, PARTLY, PLAIN, SERVICE_REQUEST, EpsSecurityContext, NasSeen, NasSide, Trigger
-from .counts import WRAP, Effort, estimate, near
+from .counts import WRAP, estimate
 from .plain import EMM, ESM, MODE_COMMAND, learn, plain_verdict
 from .report import DIFFERS, RIGHT, UNKNOWN
-from .terms import COMPUTED, DOWN, NAS_ENCRYPTION, NAS_INTEGRITY, UP, Derivations
-from .texts import NEVER_CIPHERED, OTHER_CIPHER, is_emm, is_nas, text_fault
+from .terms import COMPUTED, DOWN, UP
+from .texts import NEVER_CIPHERED, OTHER_CIPHER, is_nas, text_fault
 
 GUTI = re.compile(rb"\x0b\xf6.{6}(.{4})", re.DOTALL)  # TS 24.301 9.9.3.12, with its length
 WITH_GUTI = (b"\x07\x42", b"\x07\x49", b"\x07\x50")
 HEADERS = {0x5D: COMMAND, 0x5E: COMPLETE}  # the header types that these messages have (TS 24.301 5.4.3)
 CONTROL_SERVICE = 0x4D  # Control Plane Service Request, whose text is ciphered in part
-RARE = 64  # the part of the work that goes to other algorithms than the usual one
 PATIENCE = 3  # messages of a connection for which a beginning before the trace is sought
 AHEAD = 16  # messages of a connection that are looked at for a KASME
 NEW = 16  # COUNTs of a context whose Security Mode exchange a trace lacks
@@ -37,89 +35,8 @@ def is_protected(pdu: bytes) -> bool:
     return len(pdu) >= 7 and pdu[0] & 15 == EMM and PLAIN < pdu[0] >> 4 < SERVICE_REQUEST
 
 
-class NasBook:
-    """All NAS contexts of a trace, one for each KASME, and the temporary identities that were given out under them."""
-
-    def __init__(self, derivations: Derivations, effort: int | None = None):
-        self.derivations = derivations
-        effort = 10 * derivations.calls.budget if effort is None else effort
-        self.effort, self.cold = Effort(effort), Effort(effort, 4)  # for contexts that are known, and for those that began before the trace
-        self.rare = Effort(effort // RARE, 4)  # for these under another algorithm than the usual one
-        self.contexts: dict[int, EpsSecurityContext] = {}
-        self.phones: dict[int, int] = {}  # KASME by M-TMSI
-        self.tmsis: dict[int, set[int]] = {}
-        self.turn = 0  # KASMEs are mostly given in the order of their authentications, so the search goes on from the last
-
-    def kasmes(self) -> list[int]:
-        """The places of all KASMEs, from the one after that which was taken last."""
-        every = range(len(self.derivations.kasmes))
-        return [*every[self.turn:], *every[:self.turn]]
-
-    def unused(self) -> list[int]:
-        """The places of the KASMEs that no message stood under so far."""
-        return [kasme for kasme in self.kasmes() if kasme not in self.contexts]
-
-    # -- MACs and texts
-
-    def mac(self, context: EpsSecurityContext, direction: int, count: int, body: bytes) -> bytes:
-        """The MAC of a message; EIA0 has zeros (TS 33.401 B.1)."""
-        if context.eia == 0:
-            return bytes(4)
-        key = self.derivations.nas_key(context.kasme, NAS_INTEGRITY, context.eia)
-        return self.derivations.macs[context.eia](key, count, 0, direction, body)
-
-    def has_mac(self, context: EpsSecurityContext, direction: int, count: int, pdu: bytes) -> bool:
-        return self.mac(context, direction, count, pdu[5:]) == pdu[1:5]
-
-    def text(self, context: EpsSecurityContext, direction: int, count: int, pdu: bytes) -> bytes | None:
-        """The text of a message, deciphered; None where that is not computed here."""
-        header = pdu[0] >> 4
-        if header in CIPHERED and context.guessed and context.given:
-            self.guess(context, direction, count, pdu)
-        if header not in (*CIPHERED, PARTLY) or context.eea == 0:
-            return pdu[6:]
-        return self.deciphered(context, direction, count, pdu) if header != PARTLY and context.eea in COMPUTED and context.given else None
-
-    def deciphered(self, context: EpsSecurityContext, direction: int, count: int, pdu: bytes) -> bytes:
-        key = self.derivations.nas_key(context.kasme, NAS_ENCRYPTION, context.eea)
-        return self.derivations.enciphers[context.eea](key, count, 0, direction, pdu[6:])
-
-    def guess(self, context: EpsSecurityContext, direction: int, count: int, pdu: bytes) -> None:
-        """The ciphering of a context whose Command the trace lacks: that under which the text reads as a NAS message (9.2)."""
-        for reads in (is_emm, is_nas):
-            for eea in (*COMPUTED, 0):
-                if reads(self.deciphered(replace(context, eea=eea), direction, count, pdu) if eea else pdu[6:]):
-                    context.eea, context.guessed = eea, False
-                    return
-        context.eea = COMPUTED[0]
-
-    def judged(self, context: EpsSecurityContext) -> bool:
-        """Whether the MACs of a context are computed here."""
-        return context.eia in COMPUTED and context.given or context.eia == 0
-
-    def opens(self, context: EpsSecurityContext, direction: int, pdu: bytes) -> int | None:
-        """The COUNT near the next one under which the MAC is right, or None."""
-        if not self.judged(context):
-            return None
-        return next((count for count in near(context, direction, pdu[5]) if self.has_mac(context, direction, count, pdu)), None)
-
-    def accept(self, side: NasSide, context: EpsSecurityContext, direction: int, count: int, pdu: bytes, first: bool = False) -> str:
-        """Takes a message whose MAC is right; answers a remark, which begins with `COUNT` where a COUNT was used twice.
-
-        The same octets come again only at the newest COUNT, in their connection; a first message up also in another (TS 24.301 4.4.3.2).
-        """
-        before, least = context.seen.get((direction, count)), context.next[direction]
-        context.seen[direction, count] = pdu, side
-        if count >= least:
-            context.next[direction] = count + 1
-            return "after messages that the trace lacks" if count >= least + WRAP else ""
-        if before is None:
-            return "late"
-        if before[0] != pdu:
-            return "COUNT used twice"
-        if first or count == least - 1 and before[1] is side:
-            return "sent again"
-        return f"COUNT used again: a replay, {f'{least - 1 - count} COUNTs behind' if before[1] is side else 'of another connection'}"
+class NasBook(ContextBook):
+    """Judges NAS messages."""
 
     # -- one message
 
@@ -226,11 +143,6 @@ class NasBook:
     def nothing(self, direction: int, pdu: bytes, why: str = NOT_GIVEN) -> NasSeen:
         return NasSeen(direction, pdu[0] >> 4, UNKNOWN, pdu[1:5].hex(), note=why)
 
-    def under(self, context: EpsSecurityContext, direction: int, count: int, pdu: bytes) -> EpsSecurityContext | None:
-        """The context with the integrity algorithm under which the MAC of a message is right: its own first, then the others."""
-        order = sorted(COMPUTED, key=lambda eia: eia != context.eia)
-        return next((one for one in (replace(context, eia=eia) for eia in order) if self.has_mac(one, direction, count, pdu)), None)
-
     # -- all others
 
     def protected(self, side: NasSide, direction: int, pdu: bytes, later: Later) -> NasSeen:
@@ -308,7 +220,7 @@ class NasBook:
         """The new context of a message whose Security Mode exchange the trace lacks, and its COUNT: those of an authentication begin at 0."""
         if pdu[5] >= NEW:
             return None
-        found = (self.under(EpsSecurityContext(kasme, guessed=True), direction, pdu[5], pdu) for kasme in self.unused())
+        found = (self.under(self.context(kasme, guessed=True), direction, pdu[5], pdu) for kasme in self.unused())
         return next(((one, pdu[5]) for one in found if one is not None), None)
 
     def renewed(self, side: NasSide, context: EpsSecurityContext, count: int, direction: int, pdu: bytes) -> NasSeen:
@@ -348,7 +260,7 @@ class NasBook:
     def came_back(self, side: NasSide, context: EpsSecurityContext, direction: int, pdu: bytes) -> NasSeen:
         """A message of a phone that was where the trace shows nothing: it may stand under another KASME by now."""
         for kasme in self.kasmes():
-            other = self.contexts.get(kasme) or EpsSecurityContext(kasme, guessed=True)
+            other = self.contexts.get(kasme) or self.context(kasme, guessed=True)
             count = self.opens(other, direction, pdu) if kasme != context.kasme else None
             if count is not None:
                 return self.renewed(side, other, count, direction, pdu)
@@ -422,7 +334,7 @@ class NasBook:
         def fits(context: EpsSecurityContext, count: int) -> bool:
             return self.has_mac(context, direction, count, pdu)
 
-        usual, others = ([EpsSecurityContext(kasme, eia=eia, guessed=True) for eia in eias for kasme in self.unused()] for eias in (COMPUTED[:1], COMPUTED[1:]))
+        usual, others = ([self.context(kasme, eia=eia, guessed=True) for eia in eias for kasme in self.unused()] for eias in (COMPUTED[:1], COMPUTED[1:]))
         found = (self.cold.find(usual, pdu[5], WRAP, fits) or self.rare.find(others, pdu[5], WRAP, fits)) if usual else None
         if found is None:
             return []
@@ -436,24 +348,3 @@ class NasBook:
             self.follows(side.current, side.pending)
             side.current, side.pending = side.pending, None
             self.contexts[side.current.kasme] = side.current
-
-    def whose(self, context: EpsSecurityContext, direction: int, pdu: bytes, count: int) -> str:
-        """The mistake behind a wrong MAC, or nothing."""
-        kasmes = self.derivations.kasmes
-        others = ((one.name, one.value) for place, one in enumerate(kasmes) if place != context.kasme)
-        return reasons.mac(self.derivations.calls, reasons.ProtectedNas(kasmes[context.kasme].value, context.eea, context.eia, direction, count, pdu), others)
-
-    # -- identities
-
-    def knows(self, tmsi: int, kasme: int) -> None:
-        before = self.phones.get(tmsi)
-        if before is not None and before != kasme:
-            self.tmsis.get(before, set()).discard(tmsi)
-        self.phones[tmsi] = kasme
-        self.tmsis.setdefault(kasme, set()).add(tmsi)
-
-    def follows(self, old: EpsSecurityContext | None, new: EpsSecurityContext) -> None:
-        """The phone of the old context has a new one: its identities go with it."""
-        if old is not None and old.kasme != new.kasme and old.given:
-            for tmsi in self.tmsis.pop(old.kasme, set()):
-                self.knows(tmsi, new.kasme)

@@ -8,7 +8,7 @@ from __future__ import annotations
 from collections.abc import Callable
 from dataclasses import dataclass
 
-from .contexts import FOREIGN, EpsSecurityContext, NasSeen, NasSide, Trigger
+from .contexts import FOREIGN, EpsSecurityContext, Life, NasSeen, NasSide, Trigger
 from .counts import SHORT_WRAP, near
 from .modes import ModeBook
 from .nas import NEW, NOT_GIVEN, Later
@@ -51,7 +51,7 @@ class ServiceBook(ModeBook):
         context, ksi = owner.context, pdu[1] >> 5
         wanted, side.current = self.short_mac(context, owner.count, pdu) if self.judged(context) else b"", context
         right = wanted == pdu[2:4]
-        self.contexts[context.kasme] = context
+        self.contexts[context.kasme], self.lives[context.kasme] = context, context.life
         if side.tmsi is not None:
             self.knows(side.tmsi, context.kasme)
         side.trigger = Trigger(context, (owner.count,), right)
@@ -142,7 +142,7 @@ class ServiceBook(ModeBook):
         return None if found is None else self.explained(Owner(self.begun_at(found[0], found[1]), found[1], True), pdu, low, [])
 
     def begun_at(self, kasme: int, count: int) -> EpsSecurityContext:
-        return EpsSecurityContext(kasme, next={UP: count, DOWN: 0}, guessed=True)
+        return EpsSecurityContext(kasme, life=Life({UP: count, DOWN: 0}), guessed=True)
 
     def explained(self, owner: Owner, pdu: bytes, low: int, allowed: list[EpsSecurityContext]) -> Owner:
         """KeNB proves a COUNT, and the short MAC is wrong there: where it is right at a COUNT near that, under another KASME at that COUNT, or

@@ -151,6 +151,28 @@ def renewed(fault: str) -> Made:
     return made
 
 
+def resealed(message: Message, phone: Phone, direction: int, count: int, eia: int) -> Message:
+    """The message with its MAC under another algorithm."""
+    macs: dict[int, Callable[[bytes, int, int, int, bytes], bytes]] = {1: CALLS.eia1, 2: CALLS.eia2, 3: CALLS.eia3}
+    body = message.nas[0][5:]
+    message.nas = [message.nas[0][:1] + macs[eia](CALLS.algorithm_key(phone.kasme, 2, eia)[16:], count, 0, direction, body) + body]
+    return message
+
+
+def other_algorithm(told: bool) -> Made:
+    """A Command for the KASME in use brings EIA1; the Complete stands under it, or under EIA2 as before."""
+    def made() -> World:
+        world, phone = attached()
+        resealed(command(world, phone, 2, 1), phone, 1, phone.down - 1, 1)
+        complete = world.nas_up(phone, b"\x07\x5e", 4)
+        if told:
+            resealed(complete, phone, 0, phone.up - 1, 1)
+        else:
+            world.fault(complete)
+        return world
+    return made
+
+
 def lacking(eea: int, eia: int) -> Made:
     """The phone has EEA0 to EEA2 and EIA1, EIA2 only; the Command takes others."""
     def made() -> World:
@@ -159,9 +181,7 @@ def lacking(eea: int, eia: int) -> Made:
         world.up(phone, "InitialUEMessage", nas=[bytes.fromhex("07417108091010000000001002e0600004")])
         told = command(world, phone, eea, eia, caps=b"\xe0\x60")
         if (eea, eia) != (2, 2):
-            if eia == 3:  # its MAC is under that algorithm
-                body = told.nas[0][5:]
-                told.nas = [told.nas[0][:1] + CALLS.eia3(CALLS.algorithm_key(phone.kasme, 2, 3)[16:], 0, 0, 1, body) + body]
+            resealed(told, phone, 1, 0, eia)
             world.fault(told)
         return world
     return made
@@ -197,6 +217,28 @@ def behind_a_reject(goes_on: bool) -> Made:
             world.fault(world.nas_down(phone))
         else:
             world.nas_down(phone)
+        return world
+    return made
+
+
+def commanded_again(used: bool) -> Made:
+    """The phone refuses a Command for EEA1, and the core sends another for EEA2: at the next COUNT, or at the one that is used."""
+    def made() -> World:
+        world, phone = attached()
+        authenticated(world, phone, 1)
+        old = phone.kasme, phone.up, phone.down
+        phone.kasme, phone.up, phone.down = KASMES[1], 0, 0
+        command(world, phone, 1, ksi=1)
+        phone.kasme, phone.up, phone.down = old
+        world.nas_up(phone, bytes.fromhex("075f17"))
+        phone.kasme, phone.up, phone.down, phone.ksi = KASMES[1], 0, 0 if used else 1, 1
+        again = command(world, phone)
+        if used:
+            world.fault(again)
+        phone.trigger, phone.down = phone.up, 2
+        world.nas_up(phone, b"\x07\x5e", 4)
+        world.change_key(phone)
+        world.nas_down(phone)
         return world
     return made
 

@@ -10,8 +10,8 @@ from lte_sec.report import DIFFERS, Line
 from lte_sec.terms import Derivations, Kasme
 
 from .faulty import (
-    Made, LONG, accepted_again, begins_there, behind_a_reject, eea2, header_1_up, kdf, key_by, keys, lacking, mac_by, mac_without_overflow, null_integrity, renewed, replayed, service_at, setup_again, text_by,
-    tracked, tracking_ciphered,
+    Made, LONG, accepted_again, begins_there, behind_a_reject, commanded_again, eea2, header_1_up, kdf, key_by, keys, lacking, mac_by, mac_without_overflow, null_integrity, other_algorithm, renewed, replayed,
+    service_at, setup_again, text_by, tracked, tracking_ciphered,
 )
 from .simulated import CALLS, CELLS, World
 from .situations import ENB1, ENB2, KASMES, attached
@@ -19,7 +19,8 @@ from .situations import ENB1, ENB2, KASMES, attached
 SOUND: dict[str, Made] = {
     "a first message at COUNT 258": tracked(258, 258),
     "a text as it must be": text_by(eea2), "an authentication in a secured connection": renewed(""), "algorithms that the phone has": lacking(2, 2), "EIA0 in an emergency call": null_integrity(True),
-    "a Command that the phone refuses": behind_a_reject(False), "a message again, at once": replayed("at once"), "a setup again after it failed": setup_again(True),
+    "a Command that the phone refuses": behind_a_reject(False), "a Command again behind a Reject": commanded_again(False), "a Complete under the algorithms of its Command": other_algorithm(True),
+    "a message again, at once": replayed("at once"), "a setup again after it failed": setup_again(True),
 }
 BROKEN: dict[str, tuple[Made, str]] = {
     "a text in clear": (text_by(lambda phone: LONG), "MAC right; text differs: it is not ciphered"),
@@ -38,6 +39,8 @@ BROKEN: dict[str, tuple[Made, str]] = {
     "KSI 7": (renewed("KSI 7"), "KSI differs: is 7"), "another KSI than authenticated": (renewed("another KSI"), "KSI differs: is 3, wanted 1, that of the Authentication Request"),
     "COUNT down not reset": (renewed("down not reset"), "COUNT differs: is 8, where a KASME begins at 0"), "COUNT up not reset": (renewed("up not reset"), "COUNT differs: is 6, where a KASME begins at 0"),
     "a Complete under the KASME before": (renewed("Complete under the old KASME"), "Security mode complete under the KASME before"),
+    "a Complete under the algorithms before": (other_algorithm(False), "MAC right, text right; Security mode complete under EIA2, where the Command brought EIA1"),
+    "a second Command at a used COUNT": (commanded_again(True), "COUNT used twice"),
     "going on behind a Reject": (behind_a_reject(True), "under a context that the phone refused"),
     "octets again, later": (replayed("late"), "COUNT used again: a replay, 20 COUNTs behind"), "octets again, in another connection": (replayed("in another connection"), "COUNT used again: a replay, of another connection"),
     "KeNB of a COUNT without its overflow": (service_at(258, 2), "KeNB differs: is kenb(2), wanted kenb(258) of k0 (COUNT is 2, the low 5 bits of 258)"),
