@@ -9,38 +9,41 @@ ACTORS = HERE.parent / "actors"
 
 
 class Mutant(NamedTuple):
-    """A wrong actor: whose it is, what is wrong, the scenario and the row by which it is told, and the edit."""
+    """A wrong actor: whose it is, what is wrong, the scenario and the row by which it is told, and the edits, each with what is taken out and what is put in."""
 
     actor: str
     wrong: str
     scenario: str
     row: str
-    out: str
-    put: str
+    edits: list[tuple[str, str]]
 
 
-def mutants() -> list[Mutant]:
+def mutants(file: pathlib.Path = HERE / "edits") -> list[Mutant]:
     """The wrong actors of the file, in order."""
-    lines = [line for line in (HERE / "edits").read_text().splitlines() if line and not line.startswith("#")]
+    lines = [line for line in file.read_text().splitlines() if line and not line.startswith("#")]
     found, place = [], 0
     while place < len(lines):
         actor, wrong, scenario, row = (part.strip() for part in lines[place].split(" | ", 3))
-        edit: dict[str, list[str]] = {"-": [], "+": []}
+        edits: list[tuple[list[str], list[str]]] = []
         place += 1
-        while place < len(lines) and lines[place][:1] in edit:
-            edit[lines[place][0]].append(lines[place][2:])
+        while place < len(lines) and lines[place][0] in "-+":
+            if lines[place][0] == "-" and (not edits or edits[-1][1]):
+                edits.append(([], []))
+            edits[-1][lines[place][0] == "+"].append(lines[place][2:])
             place += 1
-        found.append(Mutant(actor, wrong, scenario, row, "\n".join(edit["-"]), "\n".join(edit["+"])))
+        found.append(Mutant(actor, wrong, scenario, row, [("\n".join(out), "\n".join(put)) for out, put in edits]))
     return found
 
 
-def edited(mutant: Mutant) -> tuple[str, str]:
-    """The module with the edit, and its text: that of the actor, or one that actors have in common."""
-    for name in (mutant.actor, "radio", "texts"):
-        text = (ACTORS / f"{name}.py").read_text()
-        if text.count(mutant.out) == 1:
-            return name, text.replace(mutant.out, mutant.put)
-    raise SystemExit(f"{mutant.wrong}: the words that are taken out do not stand once in a module")
+def edited(mutant: Mutant) -> dict[str, str]:
+    """The texts of the modules with the edits: that of the actor, and those that actors have in common."""
+    texts = {name: (ACTORS / f"{name}.py").read_text() for name in ("texts", "radio", mutant.actor)}
+    for out, put in mutant.edits:
+        name = next((name for name in reversed(texts) if texts[name].count(out) == 1), None)
+        if name is None:
+            raise SystemExit(f"{mutant.wrong}: the words that are taken out do not stand once in a module: {out}")
+        texts[name] = texts[name].replace(out, put)
+    return texts
 
 
 def main() -> None:
@@ -48,14 +51,13 @@ def main() -> None:
     sys.path.insert(0, str(ACTORS))
     sys.dont_write_bytecode = True
     sys.argv[1:2] = []
-    name, text = edited(mutant)
-    actor = text if name == mutant.actor else (ACTORS / f"{mutant.actor}.py").read_text()
-    if name != mutant.actor:
+    *others, (actor, whole) = edited(mutant).items()
+    for name, text in others:
         module = sys.modules[name] = types.ModuleType(name)
         module.__file__ = str(ACTORS / f"{name}.py")
         exec(compile(text, f"{name}.py", "exec"), module.__dict__)
-    sys.modules["__main__"].__file__ = str(ACTORS / f"{mutant.actor}.py")
-    exec(compile(actor, f"{mutant.actor}.py", "exec"), sys.modules["__main__"].__dict__)
+    sys.modules["__main__"].__file__ = str(ACTORS / f"{actor}.py")
+    exec(compile(whole, f"{actor}.py", "exec"), sys.modules["__main__"].__dict__)
 
 
 if __name__ == "__main__":
