@@ -1,7 +1,6 @@
 """NH and NCC against TS 33.401: the core's chain, when it sends of it."""
 from __future__ import annotations
 
-from bisect import bisect_right
 from collections.abc import Iterator
 
 from . import reasons
@@ -60,9 +59,7 @@ class ChainJudge(KenbJudge):
 
     def nh_of_lost(self, connection: Connection, message: Message) -> list[Numbered] | None:
         """An NH some steps on, where the capture lost frames since the last one: an exchange with the core may be among them."""
-        behind = self.gaps[bisect_right(self.gaps, connection.certain, key=lambda gap: gap[1]):]
-        lost = any(begin < self.cells.now for begin, _ in behind)
-        for begun in connection.cores() if lost else []:
+        for begun in connection.cores() if self.lost_frames(connection.certain) else []:
             chain = begun
             for _ in range(CHAIN):
                 chain = chain.step(self.derivations)

@@ -94,6 +94,7 @@ class NasSide:
     capabilities: tuple[int, int] | None = None  # of the phone, as S1 has them: ciphering, integrity
     emergency: bool = False
     away: bool = False  # the phone was where the trace shows nothing: it may have come by another KASME
+    hidden: bool = False  # a Security Mode exchange may have passed that the trace does not show
 
 
 @dataclass

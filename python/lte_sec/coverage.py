@@ -8,6 +8,7 @@ from __future__ import annotations
 from collections import Counter
 from collections.abc import Iterable, Iterator
 from dataclasses import dataclass, field
+from functools import cached_property
 
 from .decoding import Message
 from .terms import TraceError
@@ -89,13 +90,14 @@ class Coverage:
         both = any(self.x2_counts[other, one] for one, other in list(self.x2_counts))
         return self.x2_counts[source, target] > 0 or 0 < back < ENOUGH and both
 
+    @cached_property
     def whole(self) -> bool:
-        """Whether S1 of all stations that the trace names is covered."""
+        """Whether S1 of all stations that the trace names is covered; kept, as it is asked for each message of a phone that is not known."""
         return all(self.s1(station) for station in self.stations)
 
     def closed(self, station: str) -> bool:
         """Whether a phone cannot come to a station unseen: S1 of all that the trace names is covered, and X2 to this one from another."""
-        return self.whole() and any(target == station for _, target in self.x2_counts)
+        return self.whole and any(target == station for _, target in self.x2_counts)
 
     # -- the note at the head of a report
 

@@ -124,14 +124,15 @@ class KenbJudge(KeyLines):
             return NOT_GIVEN
         if not wanted:
             return "the trace does not show the message that brought the connection"
-        if side.authenticated or side.trigger is not None and side.trigger.used and side.pending is None:
+        unseen = side.authenticated or side.trigger is not None and side.trigger.used and side.pending is None
+        if unseen and self.licensed(connection):
             return "the trace lacks the Security Mode exchange before it"
         return ""
 
     def kenb_of_unseen(self, connection: Connection, value: bytes) -> Key | None:
         """The KeNB of a new KASME whose Security Mode exchange the trace lacks: it is made at one of the first COUNTs."""
         side = connection.side
-        for kasme in self.book.unused():
+        for kasme in self.book.unused() if self.licensed(connection) else []:
             for count in range(FEW):
                 if self.derivations.calls.kenb(self.derivations.kasmes[kasme].value, count) == value:
                     context = self.book.context(kasme, guessed=True)

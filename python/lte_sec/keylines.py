@@ -1,10 +1,11 @@
 """Lines on keys: what a key is and what it was to be, with the search for a derivation and the reason of a mistake."""
 from __future__ import annotations
 
+from bisect import bisect_right
 from collections.abc import Callable, Iterator
 
 from .cells import Cell, Cells
-from .coverage import Coverage
+from .coverage import DOWN, Coverage
 from .decoding import Command, Message, title
 from .moves import Moves
 from .report import Line, key_line, note_line, unknown_line
@@ -31,6 +32,27 @@ class KeyLines:
         self.derivations = book.derivations
         self.lines: list[Line] = []
         self.seen_firsts: dict[str, list[int]] = {}
+
+    # -- what may have passed unseen
+
+    def licensed(self, connection: Connection) -> bool:
+        """Whether a whole exchange between core and station may have passed that the trace does not show: no rule takes one without this.
+
+        S1 down of the station is not covered; the phone is or was where S1 is not; the trace shows nothing of the connection before, which may have
+        begun before it or at any station; or the capture lost frames since the last line that is right.
+        """
+        if connection.away or connection.side.away or not self.coverage.s1(connection.station, DOWN):
+            return True
+        if connection.proved is None and (not connection.side.initial or not self.coverage.whole):
+            return True
+        return self.lost_frames(-1 if connection.proved is None else connection.proved)
+
+    def lost_frames(self, since: int) -> bool:
+        """Whether the capture lost frames behind a place, as SCTP's numbers tell."""
+        behind = self.gaps[bisect_right(self.gaps, since, key=lambda gap: gap[1]):]
+        return any(begin < self.cells.now for begin, _ in behind)
+
+    # -- keys
 
     def at_hand(self, connection: Connection) -> list[Key]:
         """The keys of a connection, the most likely first."""

@@ -92,9 +92,9 @@ class ModeBook(NasBook):
                 seen.blame(fault)
         if back is not None and (side.capabilities is None or capability_fault(side, plain)):  # the core goes on from what it took
             side.capabilities = of_octets(back)
-        side.authenticated, side.offered = False, None
+        secured, side.authenticated, side.offered = side.established or side.authenticated, False, None
         if context.eia == 0 and not side.emergency:
-            if side.established and side.initial:  # else its first message may have asked for an emergency
+            if secured and side.initial:  # else its first message may have asked for an emergency
                 seen.blame("EIA0 in a secured connection without emergency, which TS 33.401 5.1.4.2 does not allow")
             else:
                 seen.warning = "EIA0 outside an emergency call, which TS 33.401 5.1.4.2 does not allow"
@@ -105,7 +105,7 @@ class ModeBook(NasBook):
         side.commands, side.fresh = 0, False
         if brought is not None and brought.given and context.kasme != brought.kasme:
             return ["Security mode complete under the KASME before, where the Command brought another"]
-        if brought is not None and brought.given and context.eia != brought.eia and not side.away:
+        if brought is not None and brought.given and context.eia != brought.eia and not side.hidden:
             return [f"Security mode complete under EIA{context.eia}, where the Command brought EIA{brought.eia}"]
         begins |= side.current is not None and side.current.given and side.current.kasme != context.kasme
         if brought is context and begins and 0 < commands <= count and not context.resumed:

@@ -7,6 +7,7 @@ from __future__ import annotations
 
 import re
 from collections.abc import Callable, Iterable
+from dataclasses import replace
 
 from .context_book import ContextBook
 from .contexts import CIPHERED, COMMAND, COMPLETE, FOREIGN, PARTLY, PLAIN, SERVICE_REQUEST, EpsSecurityContext, NasSeen, NasSide, Trigger
@@ -90,7 +91,7 @@ class NasBook(ContextBook):
         header, is_first = pdu[0] >> 4, direction == UP and side.initial and side.messages == 1
         note = self.accept(side, context, direction, count, pdu, is_first) or note
         fault, plain = text_fault(self.derivations, context, direction, count, pdu, self.text(context, direction, count, pdu))
-        if side.away and OTHER_CIPHER in fault:  # an exchange where the trace shows nothing may have changed it
+        if side.hidden and OTHER_CIPHER in fault:  # an unseen exchange may have changed it
             context.eea, fault = int(fault[-1]), ""
         seen = NasSeen(direction, header, RIGHT, pdu[1:5].hex(), count, "", context.kasme if context.given else None, plain or None, note)
         seen.text_right = not fault and header in CIPHERED and context.eea in COMPUTED and not context.guessed and bool(plain)
@@ -99,7 +100,7 @@ class NasBook(ContextBook):
         wanted = self.header_wanted(side, context, direction, pdu, plain, is_first)
         seen.faults += [f"header type differs: is {header}, wanted {wanted}"] if wanted != header else []
         seen.faults += [fault] if fault else []
-        if context.kasme in side.rejected:
+        if context.kasme in side.rejected and not side.hidden:
             seen.faults.append("under a context that the phone refused")
         if plain:
             self.learn(side, context, direction, plain)
@@ -173,7 +174,7 @@ class NasBook(ContextBook):
             count = estimate(context.next[direction], pdu[5])
             self.takes(side, context, complete, direction, (count,), False)
             return self.refused(context, direction, pdu, count)
-        return self.unopened(side, context, direction, pdu, complete, later)
+        return self.unopened(side, held, direction, pdu, complete, later)
 
     def fewer(self, side: NasSide, context: EpsSecurityContext, direction: int, pdu: bytes, count: int, later: Later) -> int | None:
         """The COUNT that is due, where a message with a wrong MAC there has no more faults than one at the COUNT that its MAC has.
@@ -209,18 +210,22 @@ class NasBook(ContextBook):
 
     def without(self, side: NasSide, direction: int, pdu: bytes, complete: bool, later: Later) -> NasSeen:
         """A message of a connection that has no context so far and fits none."""
-        fresh = self.lost_mode(direction, pdu) if complete else None
+        fresh = self.lost_mode(side, direction, pdu, complete) if complete else None
         if fresh is not None:
             return self.renewed(side, *fresh, direction, pdu)
         side.completed |= complete
         side.missed += 1
         return self.nothing(direction, pdu)
 
-    def lost_mode(self, direction: int, pdu: bytes) -> tuple[EpsSecurityContext, int] | None:
-        """The new context of a message whose Security Mode exchange the trace lacks, and its COUNT: those of an authentication begin at 0."""
+    def lost_mode(self, side: NasSide, direction: int, pdu: bytes, complete: bool) -> tuple[EpsSecurityContext, int] | None:
+        """The new context of a message whose Security Mode exchange the trace lacks, and its COUNT: those of an authentication begin at 0.
+
+        A Complete shows that its Command was sent. A KASME that the phone refused is known without another exchange.
+        """
         if pdu[5] >= NEW:
             return None
-        found = (self.under(self.context(kasme, guessed=True), direction, pdu[5], pdu) for kasme in self.unused())
+        free = [kasme for kasme in self.unused() if side.hidden or complete or kasme in side.rejected]
+        found = (self.under(self.context(kasme, guessed=True), direction, pdu[5], pdu) for kasme in free)
         return next(((one, pdu[5]) for one in found if one is not None), None)
 
     def renewed(self, side: NasSide, context: EpsSecurityContext, count: int, direction: int, pdu: bytes) -> NasSeen:
@@ -233,12 +238,20 @@ class NasBook(ContextBook):
         side.established = True
         return self.settled(side, context, direction, pdu, count, "" if complete else LOST_MODE)
 
-    def unopened(self, side: NasSide, context: EpsSecurityContext, direction: int, pdu: bytes, complete: bool, later: Later) -> NasSeen:
+    def other_algorithms(self, held: list[EpsSecurityContext], direction: int, pdu: bytes) -> tuple[EpsSecurityContext, int] | None:
+        """A context in use under other algorithms, which an exchange brought that the trace does not show, and the COUNT of a message under it."""
+        others = (replace(one, eia=eia, guessed=True, resumed=True) for one in held if one.given for eia in COMPUTED if eia != one.eia)
+        found = ((one, self.opens(one, direction, pdu)) for one in others)
+        return next(((one, count) for one, count in found if count is not None), None)
+
+    def unopened(self, side: NasSide, held: list[EpsSecurityContext], direction: int, pdu: bytes, complete: bool, later: Later) -> NasSeen:
         """A message that does not open near the COUNTs of the context in use: a fault, a gap in the trace, or another context."""
+        context = next(one for one in held if one.given)
         count = estimate(context.next[direction], pdu[5])
         same, other, failing = self.ahead(context, direction, pdu, later)
         if not same:
-            fresh = self.lost_mode(direction, pdu) if not other or complete else None
+            fresh = self.other_algorithms(held, direction, pdu) if side.hidden else None
+            fresh = fresh or (self.lost_mode(side, direction, pdu, complete) if not other or complete else None)
             if fresh is not None:
                 return self.renewed(side, *fresh, direction, pdu)
             if side.pending is not None and not side.pending.given:
@@ -321,7 +334,7 @@ class NasBook(ContextBook):
             return [right]
         if known is not None and self.told_ksi(pdu) == known.ksi is not None:
             return [known]
-        if place == FOREIGN or side.missed >= PATIENCE or pdu[0] >> 4 == COMPLETE and self.lost_mode(direction, pdu):
+        if place == FOREIGN or side.missed >= PATIENCE or pdu[0] >> 4 == COMPLETE and self.lost_mode(side, direction, pdu, True):
             return []
         return self.began_before(direction, pdu)
 

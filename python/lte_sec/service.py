@@ -6,14 +6,14 @@ the KeNB that follows does not speak against it; a KeNB that fits is proof.
 from __future__ import annotations
 
 from collections.abc import Callable
-from dataclasses import dataclass
+from dataclasses import dataclass, replace
 
 from .contexts import FOREIGN, EpsSecurityContext, Life, NasSeen, NasSide, Trigger
 from .counts import SHORT_WRAP, near
 from .modes import ModeBook
-from .nas import NEW, NOT_GIVEN, Later
+from .nas import LOST_MODE, NEW, NOT_GIVEN, Later
 from .report import DIFFERS, RIGHT, UNKNOWN
-from .terms import DOWN, UP
+from .terms import COMPUTED, DOWN, UP
 
 SIZE = 4  # octets of a Service Request
 REJECT = b"\x07\x4e"  # a plain Service Reject
@@ -48,14 +48,15 @@ class ServiceBook(ModeBook):
 
     def served(self, side: NasSide, pdu: bytes, owner: Owner) -> NasSeen:
         """The finding for a request whose context is known."""
-        context, ksi = owner.context, pdu[1] >> 5
+        changed = self.changed(owner, pdu) if side.hidden else None
+        context, ksi, note = changed or owner.context, pdu[1] >> 5, LOST_MODE if changed else ""
         wanted, side.current = self.short_mac(context, owner.count, pdu) if self.judged(context) else b"", context
         right = wanted == pdu[2:4]
         self.contexts[context.kasme], self.lives[context.kasme] = context, context.life
         if side.tmsi is not None:
             self.knows(side.tmsi, context.kasme)
         side.trigger = Trigger(context, (owner.count,), right)
-        note = self.accept(side, context, UP, owner.count, pdu, True) if right else ""
+        note = (self.accept(side, context, UP, owner.count, pdu, True) or note) if right else ""
         seen = NasSeen(UP, pdu[0] >> 4, RIGHT if right else DIFFERS, pdu[2:4].hex(), owner.count, wanted.hex(), context.kasme, pdu, note)
         if not self.judged(context):
             seen.verdict, seen.note = UNKNOWN, f"128-EIA{context.eia} is not computed here"
@@ -67,6 +68,14 @@ class ServiceBook(ModeBook):
             seen.faults.append(note)
         context.ksi = ksi if context.ksi is None else context.ksi
         return seen
+
+    def changed(self, owner: Owner, pdu: bytes) -> EpsSecurityContext | None:
+        """The context under other algorithms, where the short MAC is right only there: an exchange brought them that the trace does not show."""
+        context = owner.context
+        if not self.judged(context) or self.short_mac(context, owner.count, pdu) == pdu[2:4]:
+            return None
+        others = (replace(context, eia=eia, guessed=True, resumed=True) for eia in COMPUTED if eia != context.eia)
+        return next((one for one in others if self.short_mac(one, owner.count, pdu) == pdu[2:4]), None)
 
     def owner(self, side: NasSide, pdu: bytes, later: Later) -> Owner | None:
         """Whose a Service Request is: by the KeNB that follows, else by S-TMSI, KSI and short MAC."""

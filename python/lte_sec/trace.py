@@ -13,7 +13,7 @@ from .escaped import shown
 from .handovers import ANY_CORE, WAITING, Handovers, Leg
 from .progress import told
 from .judge import KeyJudge
-from .report import DIFFERS, UNKNOWN, Line, NasPart, note_line, unknown_line
+from .report import DIFFERS, RIGHT, UNKNOWN, Line, NasPart, note_line, unknown_line
 from .search import DerivationSearch
 from .seen import Account, Membership, Use, account
 from .service import ServiceBook
@@ -65,6 +65,8 @@ class Trace(Handovers):
             self.left_over(message, before)
             for line in self.lines[before:]:
                 line.place = place if line.frame == message.frame else None
+            if place in self.owners and any(line.verdict == RIGHT for line in self.lines[before:]):
+                self.owners[place].proved = place
         first = {message.frame: (place, message.time) for place, message in reversed(list(enumerate(messages)))}
         self.lines.sort(key=lambda line: first.get(line.frame, (0, 0.0))[0])
         for line in self.lines:
@@ -179,6 +181,7 @@ class Trace(Handovers):
     def nas(self, connection: Connection, message: Message, place: int) -> None:
         direction = UP if message.name in FROM_PHONE else DOWN
         connection.side.away |= bool(connection.away)
+        connection.side.hidden = self.judge.licensed(connection)
         for pdu in message.nas:
             seen = self.book.judge(connection.side, direction, pdu, lambda: self.later(message, place))
             if seen is not None:

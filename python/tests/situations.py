@@ -150,13 +150,22 @@ def unknown_kasme(broken: bool, change: bool) -> Made:
     return made
 
 
+def numbered(messages: list[Message], first: int = 1) -> None:
+    """Gives the messages of S1 the numbers that SCTP gives them, so that those which are lost later show."""
+    following: dict[tuple[str, str], int] = {}
+    for one in messages:
+        if one.link == "S1":
+            number = following.get((one.source, one.target), first)
+            one.tsns, following[one.source, one.target] = (number % (1 << 32),), number + 1
+
+
 def without_commands(kasme: int, broken: bool = False) -> Made:
-    """Both Security Mode messages of an authentication are not in the trace."""
+    """The capture lost both Security Mode messages of an authentication."""
     def made() -> World:
         world, phone = attached()
         world.x2(phone, ENB2)
         world.reauthenticate(phone, KASMES[kasme])
-        del world.messages[-2:]
+        lost = len(world.messages) - 2
         world.nas_down(phone)
         world.nas_up(phone)
         world.change_key(phone)
@@ -166,16 +175,19 @@ def without_commands(kasme: int, broken: bool = False) -> Made:
         world.nas_up(phone)
         world.release(phone)
         world.service(phone, ENB2)
+        numbered(world.messages)
+        del world.messages[lost:lost + 2]
         return world
     return made
 
 
 def attach_without_commands() -> World:
     world, phone = attached()
-    del world.messages[1:3]
     world.release(phone)
     world.service(phone, ENB2)
     world.x2(phone, ENB1)
+    numbered(world.messages)
+    del world.messages[1:3]
     return world
 
 

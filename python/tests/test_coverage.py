@@ -9,12 +9,13 @@ from lte_sec.cells import Cells, Site
 from lte_sec.coverage import Coverage, word
 from lte_sec.decoding import Message
 from lte_sec.reading import Said, check
-from lte_sec.report import DIFFERS
+from lte_sec.report import DIFFERS, NOTE, RIGHT
 from lte_sec.seen import Account
 from lte_sec.taps import without_second_taps
 from lte_sec.terms import Derivations, Kasme, TraceError
 
 from .simulated import CALLS, CELLS, ENDS, World
+from .situations import numbered, without_commands
 from .test_simulated import ENB1, ENB2, ENB3, KASMES, attached
 
 
@@ -101,16 +102,23 @@ class Gaps(unittest.TestCase):
             gone = made.messages[before:]
             made.x2(phone, ENB1)
             made.x2(phone, ENB2)
-            numbers: dict[tuple[str, str], int] = {}
-            for one in made.messages:
-                stream = one.source, one.target
-                if one.link == "S1" and (lost or one not in gone):
-                    numbers[stream] = numbers.get(stream, (1 << 32) - 3) + 1
-                    one.tsns = (numbers[stream] % (1 << 32),)
-            told = seen([one for one in made.messages if one not in gone])
+            kept = [one for one in made.messages if one not in gone]
+            numbered(made.messages if lost else kept, (1 << 32) - 2)
+            told = seen(kept)
             texts = [value.text for _, value in told.values() if value.what == "NH"]
             self.assertEqual([text for text in differing(told) if "NH" in text] == [], lost, texts)
             self.assertEqual(any("after frames that the capture lost" in text for text in texts), lost, texts)
+
+    def test_a_lost_security_mode_exchange(self) -> None:
+        """A Security Mode exchange is taken as unseen only where a link is not covered or the capture lost frames; else what stands behind it is not judged."""
+        for lost in (True, False):
+            messages = without_commands(1)().messages
+            for one in messages if not lost else ():
+                one.tsns = ()
+            told = seen(messages)
+            self.assertEqual(differing(told), [])
+            self.assertEqual(any("after a Security Mode exchange that the trace lacks" in value.text for _, value in told.values()), lost)
+            self.assertEqual(all(value.verdict in (RIGHT, NOTE) for _, value in told.values()), lost)
 
 
 class Places(unittest.TestCase):
