@@ -11,7 +11,7 @@ from batches.edits import Edit
 from batches.said import Kind, Verdict
 
 # Raise it where the reading of the prover's output changes.
-FORMAT = 1
+FORMAT = 2
 
 
 class Kept:
@@ -25,7 +25,7 @@ class Kept:
         """What an earlier run came to with this edit of the same crate over the same crates below."""
         try:
             said = json.loads((self.folder / sum_of(crate, edit)).read_text("utf-8"))
-            return Verdict(Kind.REFUSED, said["function"], said["goal"])
+            return Verdict(Kind.REFUSED, said["function"], tuple(said["goals"]))
         except (OSError, ValueError, KeyError, TypeError):
             return None
 
@@ -33,7 +33,7 @@ class Kept:
         """Keeps an edit that was refused. Where the folder cannot be written, it is tried again next time."""
         if verdict.kind != Kind.REFUSED:
             return
-        entry = {"crate": crate.name, "edit": edit.name, "function": verdict.function, "goal": verdict.goal}
+        entry = {"crate": crate.name, "edit": edit.name, "function": verdict.function, "goals": verdict.goals}
         try:
             self.folder.mkdir(parents=True, exist_ok=True)
             with tempfile.NamedTemporaryFile("w", dir=self.folder, prefix="new-", delete=False, encoding="utf-8") as made:

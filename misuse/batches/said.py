@@ -29,11 +29,12 @@ class Kind(enum.Enum):
 
 @dataclasses.dataclass(frozen=True)
 class Verdict:
-    """What an edit came to, with the function and the goal that refused it, or why it did not."""
+    """What an edit came to, with the function and its goals that refused it, or why it was not refused."""
 
     kind: Kind
     function: str = ""
-    goal: str = ""
+    goals: tuple[str, ...] = ()
+    why: str = ""
 
 
 @dataclasses.dataclass(frozen=True)
@@ -49,9 +50,9 @@ class Line:
     is_told: bool = True  # the prover came to a verdict
 
     @property
-    def refusing(self) -> str:
-        """The first goal that is open for what the code does, or nothing."""
-        return next((it for it in self.goals if it not in self.nameless), "")
+    def refusing(self) -> tuple[str, ...]:
+        """The goals that are open for what the code does."""
+        return tuple(it for it in self.goals if it not in self.nameless)
 
 
 @dataclasses.dataclass(frozen=True)
@@ -126,14 +127,14 @@ def judge(said: Said, functions: tuple[Function, ...], is_by_itself: bool) -> Ve
                 return Verdict(Kind.REFUSED, line.path, line.refusing)
     seen = own or (said.lines if is_by_itself else ())
     if not seen:
-        return Verdict(Kind.BAD, named, "the prover says nothing of this function")
+        return Verdict(Kind.BAD, named, why="the prover says nothing of this function")
     for line in seen:
         if line.goals:
-            return Verdict(Kind.WEAK, line.path, line.goals[0])
+            return Verdict(Kind.WEAK, line.path, line.goals)
         if line.lemmas and is_by_itself:
-            return Verdict(Kind.REFUSED, line.path, line.lemmas[0])
+            return Verdict(Kind.REFUSED, line.path, line.lemmas)
     if not all(it.is_told for it in seen):
-        return Verdict(Kind.UNTRIED, named, "the prover came to a limit of its own")
+        return Verdict(Kind.UNTRIED, named, why="the prover came to a limit of its own")
     if all(it.holds for it in (said.lines if is_by_itself else own)):
         return Verdict(Kind.PROVED, named)
     return Verdict(Kind.UNCLEAR, named)

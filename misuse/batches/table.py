@@ -1,17 +1,17 @@
-"""The table of the edits and of the goal that refused each."""
+"""The table of the edits and of the goals that refused each."""
 import pathlib
 
 from batches.edits import Edit
 from batches.said import Verdict
 
-HEAD = "# Each edit of this folder, by crate, with the function and the goal at which the prover refuses it. misuse/edits/try --renew writes it."
+HEAD = "# Each edit of this folder, by crate, with the function that the prover refuses and its goals that stay open. misuse/edits/try --renew writes it."
 
 Rows = dict[tuple[str, str], str]
 
 
 def row(edit: Edit, verdict: Verdict) -> tuple[tuple[str, str], str]:
     """The row of an edit that was refused."""
-    return (edit.crate, edit.name), f"{edit.crate} {edit.name} {verdict.function} {verdict.goal}"
+    return (edit.crate, edit.name), " ".join((edit.crate, edit.name, verdict.function, *verdict.goals))
 
 
 def read_table(file: pathlib.Path) -> Rows:

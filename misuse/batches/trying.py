@@ -47,7 +47,7 @@ class Trying:
             try:
                 placed.append(place(edit, self.texts))
             except Stale as why:
-                self.done.found[edit] = Verdict(Kind.BAD, "", str(why))
+                self.done.found[edit] = Verdict(Kind.BAD, why=str(why))
         self.done.tried = len(placed)
         for batch in plan.batches(placed, self.texts):
             self.batch(batch)
@@ -90,8 +90,8 @@ class Trying:
         self.done.seconds += ran.seconds
         said = read_said(ran.text)
         if ran.status < 0:
-            return Verdict(Kind.UNTRIED, "", f"its check was ended by signal {-ran.status}, as for want of memory: run this again")
-        return said if said.reached else Verdict(Kind.BAD, "", said.first_error)
+            return Verdict(Kind.UNTRIED, why=f"its check was ended by signal {-ran.status}, as for want of memory: run this again")
+        return said if said.reached else Verdict(Kind.BAD, why=said.first_error)
 
 
 def try_all(edits: dict[Crate, list[Edit]], kept: Kept, tell: "Tell") -> list[Tried]:
@@ -106,7 +106,7 @@ def try_all(edits: dict[Crate, list[Edit]], kept: Kept, tell: "Tell") -> list[Tr
                     with libraries:
                         build_libraries(crate)
             except Unfit as why:
-                return Tried(crate, {it: Verdict(Kind.UNTRIED, "", str(why)) for it in of_it})
+                return Tried(crate, {it: Verdict(Kind.UNTRIED, why=str(why)) for it in of_it})
             tried = Trying(crate, kept).all(of_it)
             tell(tried)
             return tried

@@ -1,22 +1,12 @@
-//! Tests of the actors: a phone, a station and the core alone, and each behind a port. What they answer comes from an
-//! independent implementation. Runs of them all stand in examples/run and examples/worked.
+//! Tests of the actors: each behind a port over memory, where frames are cut, are none, or a read or a write fails, and the
+//! KeNB that a phone and a station hold. What they answer, input by input, stands in examples/serve.
 #![tactic(auto)]
 
 #[cfg(test)]
-mod core_nas;
-#[cfg(test)]
-mod cores;
-#[cfg(test)]
-mod phone_nas;
-#[cfg(test)]
-mod phones;
-#[cfg(test)]
-mod sent;
+mod kenbs;
 #[cfg(test)]
 mod sessions;
 #[cfg(test)]
 mod spelled;
-#[cfg(test)]
-mod stations;
 #[cfg(test)]
 mod values;

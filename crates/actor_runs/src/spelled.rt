@@ -1,8 +1,4 @@
-// The octets that texts in hex spell, and keys.
-ghost use Rattle.std.specs.Prelude.{◌≤◌};
-
-use annex_a_keys::Kasme;
-use hex::FromHex;
+// The octets that texts in hex spell.
 use rec_base::Octets;
 use std::process::Abort;
 
@@ -15,20 +11,4 @@ pub(crate) fn octets(rt: &impl Abort, text: &str) -> Octets {
     let mut octets = Octets::new();
     octets.append(&room[..count]);
     octets
-}
-
-// The key that a text in hex spells.
-pub(crate) fn key(rt: &impl Abort, text: &str) -> [u8; 32] {
-    <[u8; 32] as FromHex>::from_hex(text).expect(rt, text)
-}
-
-// The KASME of 32 octets that rise from this one.
-pub(crate) fn kasme(first: u8) -> Kasme
-    requires { first ≤ 32 }
-{
-    let mut octets = [0; 32];
-    for i in 0..32u8 {
-        octets[i as usize] = first + i;
-    }
-    Kasme::of_octets(octets)
 }

@@ -172,13 +172,13 @@ fn an_empty_text_is_printed(rt: HostRuntime) -> Result<(), Fail> {
 }
 
 // A root of octets 00 to 1f.
-const KASME: [u8; 32] = [
+pub(crate) const KASME: [u8; 32] = [
     0x00, 0x01, 0x02, 0x03, 0x04, 0x05, 0x06, 0x07, 0x08, 0x09, 0x0a, 0x0b, 0x0c, 0x0d, 0x0e, 0x0f,
     0x10, 0x11, 0x12, 0x13, 0x14, 0x15, 0x16, 0x17, 0x18, 0x19, 0x1a, 0x1b, 0x1c, 0x1d, 0x1e, 0x1f,
 ];
 
 // An empty ladder with room for 8 rows.
-fn ladder_with_room(rt: &impl Abort, alloc: Global) -> Ladder
+pub(crate) fn ladder_with_room(rt: &impl Abort, alloc: Global) -> Ladder
     ensures { 8 ≤ result.spare }
 {
     let mut ladder = Ladder::new(alloc);
@@ -187,7 +187,7 @@ fn ladder_with_room(rt: &impl Abort, alloc: Global) -> Ladder
 }
 
 // Adds a row of each other kind to a ladder that has the root alone.
-fn add_one_of_each(rt: &impl Abort, ladder: &mut Ladder)
+pub(crate) fn add_one_of_each(rt: &impl Abort, ladder: &mut Ladder)
     requires { 4 ≤ ladder.old.spare }
 {
     let (kenb, made) = Kasme::of_octets(KASME).kenb(0);

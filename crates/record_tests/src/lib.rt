@@ -2,8 +2,6 @@
 #![tactic(auto)]
 
 #[cfg(test)]
-mod core_records;
-#[cfg(test)]
 mod events;
 #[cfg(test)]
 mod fields;

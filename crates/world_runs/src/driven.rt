@@ -15,19 +15,14 @@ enum End {
     Done,
     Memory,
     PeerFault,
-    WriteFault,
     Other,
 }
 
-// Drives it, where one call of the peers may fail, and one write: how it ended, and the output; none where there was no memory to begin.
-fn driven<R: Abort + AllocGlobal>(
-    rt: &R,
-    bad_call: Option<u64>,
-    bad_write: Option<u64>,
-) -> Option<(End, MemSink)> {
+// Drives it, where one call of the peers may fail: how it ended, and the output; none where there was no memory to begin.
+fn driven<R: Abort + AllocGlobal>(rt: &R, bad_call: Option<u64>) -> Option<(End, MemSink)> {
     let replies = replies_of(rt)?;
     let mut peers = MemPeers::new(rt.alloc(), replies, 2_048, listed(rt, bad_call)?).ok()?;
-    let mut out = MemSink::new(rt.alloc(), 8_192, listed(rt, bad_write)?).ok()?;
+    let mut out = MemSink::new(rt.alloc(), 8_192, Vec::new(rt.alloc())).ok()?;
     let scenario = read(rt.alloc(), SCENARIO).ok()?;
     assert!(rt; scenario.setup.cells.len() > 0 && scenario.events.len() <= 200_000);
     let end = match drive(
@@ -40,7 +35,6 @@ fn driven<R: Abort + AllocGlobal>(
         Ok(Ending::Done) => End::Done,
         Err(DriveFault::Memory) => End::Memory,
         Err(DriveFault::PeerFault) => End::PeerFault,
-        Err(DriveFault::WriteFault) => End::WriteFault,
         Ok(Ending::Chance) | Err(_) => End::Other,
     };
     Some((end, out))
@@ -69,7 +63,7 @@ fn octets_of<R: AllocGlobal>(rt: &R, texts: &[&str]) -> Option<Vec<u8>> {
 }
 
 // The number of the one call that fails, if there is one.
-pub(crate) fn listed<R: AllocGlobal>(rt: &R, number: Option<u64>) -> Option<Vec<u64>> {
+fn listed<R: AllocGlobal>(rt: &R, number: Option<u64>) -> Option<Vec<u64>> {
     let mut numbers = Vec::new(rt.alloc());
     if let Some(number) = number {
         numbers.push(number).ok()?;
@@ -78,7 +72,7 @@ pub(crate) fn listed<R: AllocGlobal>(rt: &R, number: Option<u64>) -> Option<Vec<
 }
 
 // So many lines of the report.
-pub(crate) fn lines<R: AllocGlobal>(rt: &R, count: usize) -> Option<Vec<u8>> {
+fn lines<R: AllocGlobal>(rt: &R, count: usize) -> Option<Vec<u8>> {
     let mut text = Vec::new(rt.alloc());
     for line in REPORT.iter().take(count) {
         text.extend_from_slice(line.as_bytes()).ok()?;
@@ -90,9 +84,6 @@ pub(crate) fn lines<R: AllocGlobal>(rt: &R, count: usize) -> Option<Vec<u8>> {
 // Four starts, and three calls for each reply: four Setups, two inputs at step 0, and one at each later step.
 const CALLS: u64 = 100;
 
-// A write for each line but those of the rows, which are one piece.
-pub(crate) const WRITES: u64 = 29;
-
 #[test]
 fn each_call_of_the_peers_fails_in_turn(rt: HostRuntime) {
     for number in 0..=CALLS {
@@ -103,18 +94,8 @@ fn each_call_of_the_peers_fails_in_turn(rt: HostRuntime) {
             _ => (End::Done, REPORT.len()),
         };
         let wanted = lines(&rt, count).expect(&rt, "memory");
-        let (ended, out) = driven(&rt, Some(number), None).expect(&rt, "memory");
+        let (ended, out) = driven(&rt, Some(number)).expect(&rt, "memory");
         same_at(&rt, number, ended, end);
-        same_at(&rt, number, out.octets(), wanted.as_slice());
-    }
-}
-
-#[test]
-fn each_write_of_a_driven_report_fails_in_turn(rt: HostRuntime) {
-    for number in 0..WRITES {
-        let wanted = lines(&rt, number as usize).expect(&rt, "memory");
-        let (ended, out) = driven(&rt, None, Some(number)).expect(&rt, "memory");
-        same_at(&rt, number, ended, End::WriteFault);
         same_at(&rt, number, out.octets(), wanted.as_slice());
     }
 }
@@ -125,15 +106,12 @@ fn refused_memory_leaves_a_prefix(rt: HostRuntime) {
     let Some(report) = lines(&rt, REPORT.len()) else {
         return;
     };
-    let Some((ended, out)) = driven(&rt, None, None) else {
+    let Some((ended, out)) = driven(&rt, None) else {
         return;
     };
     match ended {
         End::Done => same(&rt, out.octets(), report.as_slice()),
         End::Memory => assert!(rt; report.as_slice().starts_with(out.octets())),
-        End::PeerFault | End::WriteFault | End::Other => assert!(rt;
-            false,
-            "it ends so where memory is refused"
-        ),
+        End::PeerFault | End::Other => assert!(rt; false, "it ends so where memory is refused"),
     }
 }

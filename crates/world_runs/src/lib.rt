@@ -5,8 +5,6 @@
 #[cfg(test)]
 mod driven;
 #[cfg(test)]
-mod faults;
-#[cfg(test)]
 mod kept;
 #[cfg(test)]
 mod relocations;

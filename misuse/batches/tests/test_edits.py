@@ -159,7 +159,7 @@ class Keeping(unittest.TestCase):
     def test_found_until_something_changes(self) -> None:
         with tempfile.TemporaryDirectory() as room:
             crate, kept, of_it = self.crates(pathlib.Path(room), "1"), Kept(pathlib.Path(room, "kept")), edit(("a", "b"))
-            refused = Verdict(Kind.REFUSED, "f", "returns")
+            refused = Verdict(Kind.REFUSED, "f", ("returns",))
             kept.keep(crate, of_it, refused)
             self.assertEqual(kept.find(crate, of_it), refused)
             self.assertIsNone(kept.find(crate, edit(("a", "b"), name="other")))
@@ -169,7 +169,7 @@ class Keeping(unittest.TestCase):
     def test_what_was_not_refused_is_not_kept(self) -> None:
         with tempfile.TemporaryDirectory() as room:
             crate, kept = self.crates(pathlib.Path(room), "1"), Kept(pathlib.Path(room, "kept"))
-            kept.keep(crate, edit(("a", "b")), Verdict(Kind.WEAK, "f", "returns"))
+            kept.keep(crate, edit(("a", "b")), Verdict(Kind.WEAK, "f", ("returns",)))
             self.assertIsNone(kept.find(crate, edit(("a", "b"))))
 
     def crates(self, top: pathlib.Path, text: str) -> Crate:
@@ -189,7 +189,7 @@ class Table(unittest.TestCase):
 
     def test_renewed_and_compared_by_crate(self) -> None:
         old = {("a", "x"): "a x f one", ("b", "y"): "b y g two"}
-        new = dict([table.row(Edit("a", "z", b"", ()), Verdict(Kind.REFUSED, "f", "one"))])
+        new = dict([table.row(Edit("a", "z", b"", ()), Verdict(Kind.REFUSED, "f", ("one",)))])
         self.assertEqual(table.differences(old, new, {"a"}), ["- a x f one", "+ a z f one"])
         self.assertEqual(table.renewed(old, new, {"a"}), {("a", "z"): "a z f one", ("b", "y"): "b y g two"})
         with tempfile.TemporaryDirectory() as room:
