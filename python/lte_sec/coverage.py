@@ -1,7 +1,7 @@
 """Which links a trace covers, counted before it is judged: what happens on the others leaves no message, and may all the same be lawful.
 
-A link without any message is not covered. Where the trace has both directions of some link, one direction of another counts as not
-covered only if its other direction has four messages or more: a station that sent one request and was never answered is no half a tap.
+A link without any message is not covered. Where the trace has both directions of some link, one direction of another counts as not covered
+only if the other presupposes it or has four messages or more: a station that sent one request and was never answered is no half a tap.
 """
 from __future__ import annotations
 
@@ -16,6 +16,10 @@ from .terms import TraceError
 UP, DOWN = "up", "down"
 WAYS = (UP, DOWN)
 ENOUGH = 4  # messages of the other direction
+ANSWERS = (  # messages of a station that something from the core brought about
+    "InitialContextSetupResponse", "InitialContextSetupFailure", "HandoverRequestAcknowledge", "HandoverFailure", "HandoverNotify", "UEContextReleaseComplete",
+    "UEContextModificationResponse", "UEContextModificationFailure", "UEContextSuspendRequest",
+)
 SHOWN = 6  # links that the note names of a kind
 LINK = "a link is S1/STATION, S1/STATION/up, S1/STATION/down or X2/STATION/STATION"
 
@@ -55,6 +59,7 @@ class Coverage:
     covers: tuple[Word, ...] = ()
     lacks: tuple[Word, ...] = ()
     stations: dict[str, None] = field(default_factory=dict)  # all that the trace names, in order
+    presupposed: set[tuple[str, str]] = field(default_factory=set)  # directions of S1 in which something was sent, as a message of the other shows
 
     def s1_seen(self, station: str, way: str) -> None:
         self.s1_counts[station, way] += 1
@@ -75,7 +80,7 @@ class Coverage:
         if any(one.of_s1(station, way) for one in self.covers):
             return True
         back = self.s1_counts[station, DOWN if way == UP else UP]
-        return self.s1_counts[station, way] > 0 or 0 < back < ENOUGH and self.has_both_of_s1()
+        return self.s1_counts[station, way] > 0 or 0 < back < ENOUGH and (station, way) not in self.presupposed and self.has_both_of_s1()
 
     def has_both_of_s1(self) -> bool:
         return any(self.s1_counts[station, UP] and self.s1_counts[station, DOWN] for station in self.stations)
@@ -136,12 +141,27 @@ def listed(texts: list[str]) -> str:
     return ", ".join(texts[:SHOWN]) + more
 
 
+def presupposes(message: Message, way: str, is_switched: bool) -> bool:
+    """Whether a message of S1 shows that something was sent in the other direction: it names the identity that the other end gave, or answers.
+
+    A path switch names the core's identity too, which the source told over X2, and its answer may fail.
+    """
+    if message.enb_id is None or way == DOWN:
+        return message.enb_id is not None
+    return message.name in ANSWERS or message.name == "UplinkNASTransport" and not is_switched
+
+
 def taken(messages: Iterable[tuple[Message, str, str, str]], covers: Iterable[str], lacks: Iterable[str]) -> Coverage:
     """The coverage of a trace, from each message with its station (of X2 source and target) and its direction."""
     found = Coverage(covers=tuple(map(word, covers)), lacks=tuple(map(word, lacks)))
+    switched: set[tuple[str, int | None]] = set()  # identities that a path switch brought
     for message, one, other, way in messages:
         if message.link == "S1" and one:
             found.s1_seen(one, way)
+            if message.name == "PathSwitchRequest":
+                switched.add((message.source, message.enb_id))
+            elif presupposes(message, way, (message.source, message.enb_id) in switched):
+                found.presupposed.add((one, UP if way == DOWN else DOWN))
         elif message.link == "X2" and one and other:
             found.x2_seen(one, other)
     return found

@@ -46,7 +46,8 @@ class Handovers:
         self.commands: list[PreparedAttempt] = []  # RRC may still show their command
 
     def new(self, station: str, eci: int | None = None) -> Connection:
-        connection = Connection(station=station, eci=eci)
+        connection = Connection(eci=eci)
+        self.judge.moves.came(connection, station)
         self.connections.append(connection)
         return connection
 
@@ -67,7 +68,6 @@ class Handovers:
         elif connection.station:
             self.judge.came_unseen(connection, frame, station)
         else:
-            connection.station = station
             self.judge.moves.came(connection, station)
 
     def unasked(self, connection: Connection, attempt: Attempt) -> None:

@@ -153,13 +153,14 @@ class KeyJudge(PreparedJudge):
         return replace(made, lost=False) if made.lost and made.key.value == held.key.value else made
 
     def agreement(self, connection: Connection, attempt: Attempt, taken: PhoneKeys | None = None) -> None:
-        """The line that says whether phone and target have one key: what was sent to the target, and what the phone takes of the likeliest
-        history; `taken` is what it takes at a key change."""
+        """The line that says whether phone and target have one key: what was sent to the target, and what the phone takes, of any history; `taken` is
+        what it takes at a key change."""
         if attempt.told or not attempt.given:
             return
         attempt.told = True
         sent = attempt.given[0].held
-        phone = taken if attempt.kind == "change" else self.phone_behind(connection, connection.histories[0], attempt, sent)
+        phones = [taken] if attempt.kind == "change" else [self.phone_behind(connection, one, attempt, sent) for one in connection.histories]
+        phone = next((one for one in phones if one is not None and one.key.value == sent.key.value), phones[0])
         where = f"frame {attempt.frame} {'key change' if attempt.kind == 'change' else 'handover'} {'within' if attempt.kind in ('change', 'within') else 'to'} {attempt.station}"
         agree = phone is not None and phone.key.value == sent.key.value
         if phone is None or attempt.doubt or phone.lost and not agree:
@@ -194,7 +195,7 @@ class KeyJudge(PreparedJudge):
         attempt.before = connection.histories
         connection.leaves(attempt.station)
         connection.keeps(self.crossed(connection, attempt))
-        connection.station, connection.eci, connection.told_eci, connection.resumed = attempt.station, attempt.eci, None, False
+        connection.eci, connection.told_eci, connection.resumed = attempt.eci, None, False
         self.moves.came(connection, attempt.station)
         if attempt.given:
             connection.keys.append((attempt.frame, attempt.station, attempt.given[0].held.key))
@@ -250,7 +251,8 @@ class KeyJudge(PreparedJudge):
         """The phone is at another station, and the trace shows nothing of how it came there: its key there is not known."""
         connection.attempts.append(Attempt("unseen", frame, station, None, [], [], told=True, over="done"))
         connection.leaves(station)
-        connection.station, connection.eci, connection.told_eci, connection.resumed = station, None, None, False
+        self.moves.came(connection, station)
+        connection.eci, connection.told_eci, connection.resumed = None, None, False
         connection.away.append(ANYWHERE)
         connection.keeps([one.away() for one in connection.histories])
         self.note(frame, f"the phone is at {station} now: a handover that the trace does not show")

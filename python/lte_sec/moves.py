@@ -32,7 +32,8 @@ class Moves:
     # -- where the phone was
 
     def came(self, connection: Connection, station: str) -> None:
-        """The phone is at a station: where S1 of that is not covered, what happens there is not seen."""
+        """The phone is at a station: where S1 of that is not covered, what happens there is not seen. Nothing else sets where a phone is."""
+        connection.station = station
         if station and not self.coverage.s1(station) and station not in connection.away:
             connection.away.append(station)
 

@@ -213,7 +213,8 @@ class Trace(Handovers):
     def context_setup(self, connection: Connection, message: Message, station: str, at_core: Leg) -> None:
         self.told_capabilities(connection, message)
         if message.key is not None:
-            connection.station = connection.station or station
+            if not connection.station:
+                self.judge.moves.came(connection, station)
             self.judge.setup(connection, message)
 
     def told_capabilities(self, connection: Connection, message: Message) -> None:

@@ -6,11 +6,12 @@ import unittest
 from dataclasses import replace
 
 from lte_sec.cells import Cells, Site
-from lte_sec.coverage import Coverage, word
+from lte_sec.coverage import Coverage, taken, word
 from lte_sec.decoding import Message
 from lte_sec.reading import Said, check
 from lte_sec.report import DIFFERS, NOTE, RIGHT
 from lte_sec.seen import Account
+from lte_sec.stations import Stations
 from lte_sec.taps import without_second_taps
 from lte_sec.terms import Derivations, Kasme, TraceError
 
@@ -57,6 +58,19 @@ class Covered(unittest.TestCase):
             for way in ways.split():
                 coverage.s1_seen(station, way)
         self.assertEqual([coverage.s1(station) for station in "abcd"], [True, True, False, False])
+
+    def test_a_message_that_presupposes_the_other_direction_shows_that_this_is_missed(self) -> None:
+        """Messages down name the identity that the station gave, so that it sent something; a path switch may just be the first message up."""
+        enb, core = ENDS["enb2"], "10.0.0.1:36412"
+        thick = [Message("1", 1.0, "S1", "UplinkNASTransport", ENDS["enb1"], core, enb_id=1), Message("2", 2.0, "S1", "DownlinkNASTransport", core, ENDS["enb1"], enb_id=1)]
+        for names, covered in (
+            (("DownlinkNASTransport",), (False, True)), (("UEContextReleaseComplete",), (True, False)), (("UplinkNASTransport",), (True, False)),
+            (("InitialUEMessage",), (True, True)), (("PathSwitchRequest", "UplinkNASTransport"), (True, True)),
+        ):
+            thin = [Message(name, 3.0, "S1", name, *((core, enb) if name.startswith("Down") else (enb, core)), enb_id=7) for name in names]
+            messages = [*thick, *thin]
+            found = taken(Stations(Cells(CELLS), messages).links(), (), ())
+            self.assertEqual((found.s1(enb, "up"), found.s1(enb, "down")), covered, names)
 
 
 class Taps(unittest.TestCase):
