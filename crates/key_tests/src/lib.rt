@@ -1,15 +1,11 @@
-//! Tests of keys: their derivations, the terms and chains that they are values of, the ladder, the bag of records, and
-//! the texts and audits that are written of them.
+//! Tests of keys: the KDF, the terms that keys are values of, the ladder, the bag of records, and the texts and audits that
+//! are written of them.
 #![tactic(auto)]
 
-#[cfg(test)]
-mod annex_a;
 #[cfg(test)]
 mod audits;
 #[cfg(test)]
 mod bags;
-#[cfg(test)]
-mod chains;
 #[cfg(test)]
 mod derivations;
 #[cfg(test)]

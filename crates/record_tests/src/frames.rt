@@ -3,31 +3,14 @@
 ghost use Rattle.role_wire.specs.Ranges.{IsRole};
 
 mod bad;
-mod good;
 mod replies;
 mod sources;
 
 use crate::values::same_at;
-use annex_a_keys::Cell;
 use edge_io::{Role, SliceSource};
 use rec_base::Bounded;
-use role_wire::{FrameFault, FrameIn, input_frame, read_frame};
+use role_wire::{FrameFault, read_frame};
 use std::process::Abort;
-
-// A frame is read as this, and written again with the same octets.
-fn expect_frame<R: Abort + AllocGlobal>(rt: &R, role: Role, first: bool, text: &str, want: &FrameIn)
-    requires { IsRole role }
-{
-    let octets = hex::decode(rt.alloc(), text).expect(rt, text);
-    let mut src = SliceSource::new(octets.as_slice());
-    match read_frame(&mut src, role, first) {
-        Ok(frame) => {
-            same_at(rt, text, &frame, want);
-            same_at(rt, text, input_frame(&frame).as_slice(), octets.as_slice());
-        }
-        Err(fault) => panic!(rt; "{text} is refused: {fault:?}"),
-    }
-}
 
 // A frame is refused by this fault.
 fn expect_fault<R: Abort + AllocGlobal>(
@@ -55,9 +38,4 @@ fn octets_of<R: Abort + AllocGlobal, const N: usize>(rt: &R, text: &str) -> Boun
         assert!(rt; out.try_push(*octet).is_ok(), "{text}");
     }
     out
-}
-
-// The cell with this PCI and EARFCN-DL.
-fn cell(rt: &impl Abort, pci: u16, earfcn: u32) -> Cell {
-    Cell::new(pci, earfcn).expect(rt, "a cell in range")
 }

@@ -1,4 +1,4 @@
-//! Tests of the reader of scenarios: what they say. The first fault of each text that is none stands in examples/ends.
+//! Tests of the reader of scenarios: fleets, two cores, and those of a seed. The first fault of each text that is none stands in examples/ends.
 #![tactic(auto)]
 
 #[cfg(test)]

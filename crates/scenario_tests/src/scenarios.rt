@@ -1,5 +1,4 @@
 mod generated;
-mod good;
 mod systems;
 
 use lte_events::{Event, Events};
