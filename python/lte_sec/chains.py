@@ -76,18 +76,20 @@ class ChainJudge(KenbJudge):
             return None
         assert message.nh is not None and message.ncc is not None
         found = self.moves.of_nh(connection, message.nh, message.ncc)
-        if found is None or found.core is None:
+        chain = next((one.core for one in found if one.core is not None), None)
+        if chain is None:
             return self.nh_of_nobody(connection, message)
-        self.judged(message, "NH", found.core.sync, found.core.sync, (message.ncc, message.ncc), self.moves.remark(connection))
+        self.judged(message, "NH", chain.sync, chain.sync, (message.ncc, message.ncc), self.moves.remark(connection))
         self.moves.takes(connection, found)
-        return [Numbered(found.core.sync, message.ncc)]
+        return [Numbered(chain.sync, message.ncc)]
 
     def nh_of_nobody(self, connection: Connection, message: Message) -> list[Numbered] | None:
-        """An NH that no lawful course of a phone without S1 gives: one under a KASME that was not given would."""
+        """An NH that no course gives which was tried of a phone without S1: one under a KASME that was not given may, or one with more steps."""
         value, ncc = message.nh or b"", message.ncc or 0
-        if self.named(value, connection, [chain.sync for chain in connection.cores()]).known:
+        found = self.named(value, connection, [chain.sync for chain in connection.cores()])
+        if found.known and not self.moves.reachable(connection, found, ncc):
             return None
-        self.unjudged(message, "NH", self.moves.why(connection))
+        self.unjudged(message, "NH", self.moves.why(connection), found)
         self.moves.lost(connection)
         return [Numbered(Key(value, NONE), ncc)]
 
@@ -146,12 +148,14 @@ class ChainJudge(KenbJudge):
         return any(context is not None and not context.given for context in (connection.side.current, connection.side.pending))
 
     def begins_at(self, connection: Connection, found: Key) -> None:
-        """A key that is not judged and whose derivation is found tells where the chain begins."""
+        """A key that is not judged and whose derivation is found tells where the chain begins: from here on only the core's number is in doubt."""
         count, number = counted(found.term.base()), numbered(found.term)
         if connection.cores() or count < 0:
             return
         chain = Chain(found.kasme, self.derivations.kenb(found.kasme, count))
         connection.goes_on([chain.step(self.derivations, number)])
+        self.moves.sent.add(chain.sync.value)
+        connection.based = True
 
     # -- what was sent
 
@@ -234,6 +238,6 @@ class ChainJudge(KenbJudge):
     def decided(self, connection: Connection, chain: Chain) -> None:
         """The next answer stands: which of two numbers it goes on from decides what the fault before it was."""
         undecided, connection.undecided = connection.undecided, None
-        if undecided is not None and chain.number == undecided.number + 1:
+        if undecided is not None and chain.number == undecided.number + 1 and not connection.cut:
             undecided.other.place = undecided.line.place
             self.lines[next(place for place, line in enumerate(self.lines) if line is undecided.line)] = undecided.other

@@ -333,7 +333,7 @@ class Handovers:
             if cell and any(self.derivations.star(one.base().key, *cell).value == message.key for one in connection.states()):
                 return connection
         for connection in connections if cell else []:
-            if cell and connection.away and self.judge.moves.of_star(connection, message.key or b"", message.ncc or 0, cell) is not None:
+            if cell and connection.away and self.judge.moves.of_star(connection, message.key or b"", message.ncc or 0, cell):
                 return connection
         return connections[-1]
 

@@ -26,7 +26,7 @@ class KeyJudge(PreparedJudge):
         phone, keys = self.kenb(connection, message)
         self.moves.sent.add(message.key or b"")
         self.sends(connection, message, keys[0])
-        connection.away, connection.certain = [], self.cells.now
+        connection.away, connection.certain, connection.cut = [], self.cells.now, False
         self.moves.came(connection, connection.station)
         connection.keeps(self.begun(connection, keys, [Held(key) for key in keys], renewed(self.derivations, phone) if phone.known else None))
         connection.asked, connection.missed, connection.left, connection.saved = 0, set(), {}, None
@@ -228,8 +228,8 @@ class KeyJudge(PreparedJudge):
         """A handover within a station, which only RRC shows (7.2.8.4.1)."""
         cell = (site.pci, site.earfcn)
         if connection.away and told.ncc not in [one.base().ncc for one in connection.states()]:
-            found = next((one for one in self.moves.unseen(connection) if one.held.base().ncc == told.ncc), None)
-            if found is not None:
+            found = self.moves.with_ncc(connection, told.ncc)
+            if found:
                 self.moves.takes(connection, found)
         given = self.handed_on(connection, cell)
         attempt = Attempt("within", message.frame, connection.station, site.eci, given, [one.held.ncc for one in given], cell)
@@ -252,14 +252,14 @@ class KeyJudge(PreparedJudge):
         connection.attempts.append(Attempt("unseen", frame, station, None, [], [], told=True, over="done"))
         connection.leaves(station)
         self.moves.came(connection, station)
+        self.moves.was_anywhere(connection)
         connection.eci, connection.told_eci, connection.resumed = None, None, False
-        connection.away.append(ANYWHERE)
         connection.keeps([one.away() for one in connection.histories])
         self.note(frame, f"the phone is at {station} now: a handover that the trace does not show")
 
     def came_back(self, connection: Connection, frame: str, eci: int | None) -> None:
         """A path switch where the phone is already: it was at another station, and the trace shows neither going nor coming."""
-        connection.away.append(ANYWHERE)
+        self.moves.was_anywhere(connection)
         connection.eci, connection.told_eci = eci, None
         connection.keeps([one.away() for one in connection.histories])
         self.note(frame, f"the phone comes to {connection.station} anew: it was at {ANYWHERE}")

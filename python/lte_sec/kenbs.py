@@ -107,6 +107,9 @@ class KenbJudge(KeyLines):
         if self.coverage.s1(connection.station, FROM_STATION) and not connection.away:
             return None
         found = self.moves.of_kenb(connection, value)
+        if found is None and not connection.based:
+            other = self.named(value, connection, [])
+            found = other if other.term.kind == "kenb" and self.moves.may_be_made(other.kasme, counted(other.term)) else None
         if found is not None:
             context = self.book.contexts.setdefault(found.kasme, self.book.context(found.kasme, guessed=True))
             self.book.follows(connection.side.current, context)

@@ -5,16 +5,16 @@ is handed on for a cell, a KeNB is made anew.
 """
 from __future__ import annotations
 
-from collections.abc import Iterator
+from collections.abc import Callable, Iterator
 from dataclasses import replace
 
 from .cells import Cell, Cells
 from .contexts import EpsSecurityContext
 from .coverage import Coverage
-from .histories import UNKNOWN_KEY, Chain, Held, History, Numbered, PhoneKeys, renewed
+from .histories import CHAIN, UNKNOWN_KEY, Chain, Held, History, Numbered, PhoneKeys, renewed
 from .service import ServiceBook
 from .state import Connection
-from .terms import Key
+from .terms import Key, counted, numbered
 from .terms import UP as UPLINK
 
 STEPS, COUNTS, FIRSTS, CELLS, KASMES, AROUND = 8, 40, 4, 6, 16, 4
@@ -34,8 +34,16 @@ class Moves:
     def came(self, connection: Connection, station: str) -> None:
         """The phone is at a station: where S1 of that is not covered, what happens there is not seen. Nothing else sets where a phone is."""
         connection.station = station
-        if station and not self.coverage.s1(station) and station not in connection.away:
-            connection.away.append(station)
+        if station and not self.coverage.s1(station):
+            self.was_at(connection, station)
+
+    def was_anywhere(self, connection: Connection) -> None:
+        """The phone was at a station of which the trace shows nothing."""
+        self.was_at(connection, ANYWHERE)
+
+    def was_at(self, connection: Connection, station: str) -> None:
+        connection.based = False
+        connection.away += [station] if station not in connection.away else []
 
     def why(self, connection: Connection) -> str:
         """The condition under which a value that no history gives may be right."""
@@ -54,6 +62,8 @@ class Moves:
 
     def renewals(self, connection: Connection) -> Iterator[Key]:
         """The KeNBs that a connection or key change may have brought that the trace does not show: none that was sent before."""
+        if connection.based:
+            return
         side, book = connection.side, self.book
         at_hand = side.pending, side.current, side.trigger.context if side.trigger else None
         contexts: list[EpsSecurityContext] = [one for one in at_hand if one is not None and one.given]
@@ -83,22 +93,28 @@ class Moves:
                 key = self.derivations.star(chain.sync, *cell)
                 yield History(chain, Held(key, chain.ncc), PhoneKeys(key, chain.ncc, chain))
 
-    def unseen(self, connection: Connection) -> Iterator[History]:
-        """The histories of a phone that was where S1 is not covered."""
+    def unseen(self, connection: Connection) -> Iterator[Iterator[History]]:
+        """The histories of a phone that was where S1 is not covered: those that go on from what is known, then those of each new KeNB."""
         cells = self.cells_of(connection)
+        yield self.going_on(connection, cells)
+        for kenb in self.renewals(connection):
+            yield self.renewing(kenb, cells)
+
+    def going_on(self, connection: Connection, cells: list[Cell]) -> Iterator[History]:
         for chain in connection.cores():
             yield from self.stepped(chain, cells)
         for one in connection.histories:
             if one.held.known and one.core is not None:
                 yield from (one.refreshed(self.derivations, cell) for cell in cells)
         yield from self.prepared_elsewhere(connection, cells)
-        for kenb in self.renewals(connection):
-            begun = Chain(kenb.kasme, kenb)
-            yield History(begun, Held(kenb), renewed(self.derivations, kenb))
-            for cell in cells:
-                phone = renewed(self.derivations, kenb, cell)
-                yield History(begun, Held(phone.key), phone)
-            yield from self.stepped(begun, cells)
+
+    def renewing(self, kenb: Key, cells: list[Cell]) -> Iterator[History]:
+        begun = Chain(kenb.kasme, kenb)
+        yield History(begun, Held(kenb), renewed(self.derivations, kenb))
+        for cell in cells:
+            phone = renewed(self.derivations, kenb, cell)
+            yield History(begun, Held(phone.key), phone)
+        yield from self.stepped(begun, cells)
 
     def prepared_elsewhere(self, connection: Connection, cells: list[Cell]) -> Iterator[History]:
         """The phone came to another cell of the target than was prepared (TS 33.401 7.4.3)."""
@@ -110,29 +126,57 @@ class Moves:
                 for cell in cells if pair.key.value and one.core is not None else []:
                     yield one.stores(pair).refreshed(self.derivations, cell)
 
-    def of_nh(self, connection: Connection, nh: bytes, ncc: int) -> History | None:
-        """A history in which this is the NH that the core sends now."""
-        chains = [*connection.cores(), *(Chain(kenb.kasme, kenb) for kenb in self.renewals(connection))]
-        for chain in chains:
-            for _ in range(STEPS + 1):
-                before, chain = chain, chain.step(self.derivations)
-                if chain.sync.value == nh and chain.ncc == ncc:
-                    return History(chain, Held(UNKNOWN_KEY, before.ncc), PhoneKeys(UNKNOWN_KEY, before.ncc, before, True))
-        return None
+    def of_nh(self, connection: Connection, nh: bytes, ncc: int) -> list[History]:
+        """The histories in which this is the NH that the core sends now."""
+        for chains in (connection.cores(), (Chain(kenb.kasme, kenb) for kenb in self.renewals(connection))):
+            found = []
+            for chain in chains:
+                for _ in range(STEPS + 1):
+                    before, chain = chain, chain.step(self.derivations)
+                    if chain.sync.value == nh and chain.ncc == ncc:
+                        found.append(History(chain, Held(UNKNOWN_KEY, before.ncc), PhoneKeys(UNKNOWN_KEY, before.ncc, before, True)))
+            if found:
+                return found
+        return []
 
-    def of_star(self, connection: Connection, key: bytes, ncc: int, cell: Cell) -> History | None:
-        """A history in which the station makes this KeNB* for a cell."""
-        star = self.derivations.calls.kenb_star
-        return next((one for one in self.unseen(connection) if one.held.base().ncc == ncc and star(one.held.base().key.value, *cell) == key), None)
+    def of_star(self, connection: Connection, key: bytes, ncc: int, cell: Cell) -> list[History]:
+        """The histories in which the station makes this KeNB* for a cell."""
+        def makes(base: Numbered) -> bool:
+            return base.ncc == ncc and self.derivations.calls.kenb_star(base.key.value, *cell) == key
+
+        return self.first_of(connection, lambda one: makes(one.held.base()))
+
+    def with_ncc(self, connection: Connection, ncc: int | None) -> list[History]:
+        """The histories in which the next command has this NCC."""
+        return self.first_of(connection, lambda one: one.held.base().ncc == ncc)
+
+    def first_of(self, connection: Connection, fits: Callable[[History], bool]) -> list[History]:
+        """All histories that fit of those that go on from what is known, else of the first new KeNB with any."""
+        return next(filter(None, (list(filter(fits, histories)) for histories in self.unseen(connection))), [])
 
     def of_kenb(self, connection: Connection, key: bytes) -> Key | None:
         """A KeNB of an uplink message that the trace does not show: of any COUNT near, never one that was sent before."""
         return next((one for one in self.renewals(connection) if one.value == key), None)
 
-    def takes(self, connection: Connection, history: History) -> None:
-        """The connection goes on from this history."""
+    def reachable(self, connection: Connection, key: Key, ncc: int) -> bool:
+        """Whether links that the trace does not cover may have brought this derivation, however many steps that takes: it goes on from a chain of the
+        connection, or from a KeNB that was not sent before. What is tried has bounds, and this has none."""
+        count, number, pairs = counted(key.term.base()), numbered(key.term), self.cells.pairs()
+        if count < 0 or key.kasme < 0 or ncc != number % CHAIN or any(cell not in pairs for cell in key.term.cells()):
+            return False
+        if any(chain.kasme == key.kasme and chain.sync.term.base() == key.term.base() and number > chain.number for chain in connection.cores()):
+            return True
+        return not connection.based and self.may_be_made(key.kasme, count)
+
+    def may_be_made(self, kasme: int, count: int) -> bool:
+        """Whether a KeNB may be made at this COUNT: it is not behind those that were used, and was not sent before."""
+        context = self.book.contexts.get(kasme)
+        return (context is None or count >= context.next[UPLINK] - AROUND) and self.derivations.kenb(kasme, count).value not in self.sent
+
+    def takes(self, connection: Connection, histories: list[History]) -> None:
+        """The connection goes on from these histories."""
         connection.asked, connection.missed, connection.undecided = 0, set(), None
-        connection.keeps([replace(history, phone=history.phone or connection.phone)])
+        connection.keeps([replace(one, phone=one.phone or connection.phone) for one in histories])
         connection.away = [station for station in connection.away if station == connection.station and not self.coverage.s1(station)]
         connection.parted = False
 

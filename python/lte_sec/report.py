@@ -1,6 +1,7 @@
 """The lines of a report, each with its frame and verdict."""
 from __future__ import annotations
 
+import re
 from collections import Counter
 from collections.abc import Iterable
 from dataclasses import dataclass
@@ -8,6 +9,9 @@ from enum import Enum
 from typing import Protocol
 
 from .terms import Key
+
+
+BLAMES = re.compile(r" (?:differs?|wrong|come apart here|are still apart)([:;])")
 
 
 class Verdict(str, Enum):
@@ -114,6 +118,11 @@ def key_line(frame: str, message: str, what: str, found: str, wanted: str, diffe
 def unknown_line(frame: str, message: str, what: str, why: str, found: str = "") -> Line:
     text = f"frame {frame} {message} {what} not judged: " + (f"is {found}; " if found else "") + why
     return Line(frame, message, what, UNKNOWN, text, found, reason=why)
+
+
+def withdrawn(line: Line, why: str) -> None:
+    """What differs is not judged after all."""
+    line.verdict, line.reason, line.text = UNKNOWN, why, BLAMES.sub(r" not judged\1", line.text) + f" ({why})"
 
 
 def note_line(frame: str, text: str) -> Line:

@@ -14,7 +14,7 @@ from .chains import LOST_CHANGE, ChainJudge
 from .decoding import Message
 from .histories import CHAIN, Chain, Held, History, Numbered, PhoneKeys, renewed
 from .state import Attempt, Connection, Given
-from .terms import NONE, Key, unknown
+from .terms import Key, unknown
 
 BASES = 4  # keys for which a mistake is sought
 MANY, MIXED, WIDE = 16, 6, 1024  # refreshes that are tried: so many in turn, in so many cells, through so many ways of them
@@ -100,13 +100,16 @@ class StarJudge(ChainJudge):
         return Made([Given(Held(made, ncc))], [connection.histories[0].held.base()])
 
     def star_of_nobody(self, connection: Connection, message: Message, bases: list[Numbered]) -> Made | None:
-        """A KeNB* that no lawful course of a phone without S1 gives: one under a KASME that was not given would."""
-        if not connection.away or self.named(message.key or b"", connection, [base.key for base in bases]).known:
+        """A KeNB* that no course gives which was tried of a phone without S1: one under a KASME that was not given may, or one with more steps."""
+        if not connection.away:
+            return None
+        found = self.named(message.key or b"", connection, [base.key for base in bases])
+        if found.known and not self.moves.reachable(connection, found, message.ncc or 0):
             return None
         why = self.moves.why(connection)
-        self.unjudged(message, "KeNB*", why)
+        self.unjudged(message, "KeNB*", why, found)
         self.moves.lost(connection)
-        return Made([Given(Held(Key(message.key or b"", NONE), message.ncc or 0))], doubt=why)
+        return Made([Given(Held(found, message.ncc or 0))], doubt=why)
 
     def star_of_changed_cell(self, connection: Connection, message: Message, bases: list[Numbered]) -> Made | None:
         """A KeNB* for another PCI of the target cell than is known, which the target's own answer has too: the cell has changed."""
@@ -138,9 +141,9 @@ class StarJudge(ChainJudge):
             return None
         ncc = message.ncc or 0
         found = self.moves.of_star(connection, message.key or b"", ncc, cell)
-        if found is None:
+        if not found:
             return None
-        made = self.derivations.star(found.held.base().key, *cell)
+        made = self.derivations.star(found[0].held.base().key, *cell)
         self.judged(message, "KeNB*", made, made, (ncc, ncc), self.moves.remark(connection), cell)
         self.moves.takes(connection, found)
         return self.made_by(connection, connection.histories, made, ncc)

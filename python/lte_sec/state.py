@@ -7,7 +7,7 @@ from dataclasses import dataclass, field, replace
 from .cells import Cell
 from .contexts import NasSide
 from .decoding import Command
-from .histories import Chain, Held, History, Numbered, PhoneKeys, merged
+from .histories import MOST, Chain, Held, History, Numbered, PhoneKeys, merged
 from .report import Line
 from .terms import Key
 
@@ -72,6 +72,8 @@ class Connection:
     attempts: list[Attempt] = field(default_factory=list)
     saved: list[History] | None = None  # before a key change that may fail
     algorithms: tuple[int, int] | None = None
+    based: bool = False  # a key tells at which KeNB the chain begins, and the phone was at no station without S1 since: only the core's number is in doubt
+    cut: bool = False  # there were more histories than are kept, since the last KeNB of a connection
     parted: bool = False  # phone and station have come apart
     undecided: Undecided | None = None
     certain: int = 0  # the place in the trace of the last KeNB or NH that was right
@@ -97,8 +99,10 @@ class Connection:
         return self.histories[0].phone
 
     def keeps(self, found: Iterable[History]) -> None:
-        """These histories are left."""
-        self.histories = merged(found)
+        """These histories are left, as many as are kept."""
+        distinct = list(dict.fromkeys(found))
+        self.cut |= len(distinct) > MOST
+        self.histories = merged(distinct)
 
     def steps(self, steps: list[tuple[Chain, Chain]]) -> None:
         """The core went on from one chain to another, by any of these steps: histories with other chains are gone."""

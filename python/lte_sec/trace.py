@@ -11,9 +11,10 @@ from .coverage import Coverage
 from .decoding import Command, Message, title
 from .escaped import shown
 from .handovers import ANY_CORE, WAITING, Handovers, Leg
+from .histories import MOST
 from .progress import told
 from .judge import KeyJudge
-from .report import DIFFERS, RIGHT, UNKNOWN, Line, NasPart, note_line, unknown_line
+from .report import DIFFERS, RIGHT, UNKNOWN, Line, NasPart, note_line, unknown_line, withdrawn
 from .search import DerivationSearch
 from .seen import Account, Membership, Use, account
 from .service import ServiceBook
@@ -28,6 +29,8 @@ SERVED = (  # only the station that serves the phone has these
     "UEContextResumeRequest", "UEContextResumeResponse",
 )
 KEYS = ("KeNB", "KeNB*", "NH")
+JUDGED = (*KEYS, "command", "agreement")  # by histories
+MANY = f"there were more than {MOST} lawful histories, and not all were kept"
 EMERGENCY = 0  # an RRC Establishment Cause
 
 Handler = Callable[["Trace", Connection, Message, str, Leg], None]
@@ -63,6 +66,7 @@ class Trace(Handovers):
             before, self.at, self.cells.now = len(self.lines), place, place
             self.one(message, place)
             self.left_over(message, before)
+            self.weigh(place, before)
             for line in self.lines[before:]:
                 line.place = place if line.frame == message.frame else None
             if place in self.owners and any(line.verdict == RIGHT for line in self.lines[before:]):
@@ -87,6 +91,18 @@ class Trace(Handovers):
             eea, eia = connection.algorithms or (None, None)
             for frame, station, key in connection.keys:
                 yield Use(number, shown(frame), shown(station), shown(self.derivations.shown(key)), key.value, eea, eia)
+
+    def weigh(self, place: int, before: int) -> None:
+        """Decides of the lines of a message whether what no history gives is blamed: the only place that does, for keys, commands and agreement."""
+        for line in self.lines[before:]:
+            if line.verdict == DIFFERS and line.what in JUDGED and place in self.owners:
+                doubt = self.doubt(self.owners[place])
+                if doubt:
+                    withdrawn(line, doubt)
+
+    def doubt(self, connection: Connection) -> str:
+        """Why a history that was not tried may give what none of the others gives, or nothing."""
+        return MANY if connection.cut else ""
 
     def one(self, message: Message, place: int) -> None:
         if message.link == "S1":
