@@ -2,6 +2,7 @@
 from __future__ import annotations
 
 import threading
+import time
 from typing import Any, NamedTuple
 
 from lte_sec import frames, records, scenarios, visits
@@ -21,20 +22,23 @@ class Case(NamedTuple):
 
 
 class Result(NamedTuple):
-    """What became of a row at an actor: the scenario and the first step, None for the Setup; `passed`, `differs`, `failed` or `not compared`, and what differs."""
+    """What became of a row at an actor: the scenario and the first step, None for the Setup; `passed`, `differs`, `failed`, `timed out` or `not compared`, what differs, and the rows
+    of this actor that came before."""
 
     visit: Visit
     name: str
     step: int | None
     outcome: str
     told: list[str]
+    behind: tuple[Visit, ...] = ()
 
 
 class Played(NamedTuple):
-    """A scenario that was played: what became of the rows, and the steps that changed something or sent something."""
+    """A scenario that was played: what became of the rows, the steps that changed something or sent something, and the seconds that it took."""
 
     results: list[Result]
     busy: set[int]
+    seconds: float = 0.0
 
 
 class Stopped(Exception):
@@ -143,13 +147,14 @@ class Pair:
     def note(self, visit: Visit, step: int | None, outcome: str, told: list[str]) -> None:
         """Keeps what became of a row, the first time."""
         if self.has_product and (visit, outcome) not in self.results:
-            self.results[visit, outcome] = Result(visit, self.case.name, step, outcome, told)
+            before = tuple(dict.fromkeys(each for each, _ in self.results)) if outcome == "differs" else ()
+            self.results[visit, outcome] = Result(visit, self.case.name, step, outcome, told, before)
 
     def failed(self, visit: Visit, step: int | None, why: PeerFault) -> None:
         if why.is_silent:
             self.commands.was_silent(self.actor)
         said = self.product.words(why.is_silent) if self.product else ""
-        self.note(visit, step, "failed", [f"{self.actor}: {why}", *said.splitlines()[-3:]])
+        self.note(visit, step, "timed out" if why.is_silent else "failed", [f"{self.actor}: {why}", *said.splitlines()[-3:]])
         self.leave()
 
     def leave(self) -> None:
@@ -165,7 +170,7 @@ class Pair:
 
 def play(case: Case, commands: Commands, by_answer: bool) -> Played:
     """Plays a scenario: what each row comes to, for the actors that the product has."""
-    network = Network(case.scenario)
+    network, began = Network(case.scenario), time.monotonic()
     pairs: dict[str, Pair] = {}
 
     def tell(place: int, told: Told, step: Any) -> frames.Reply:
@@ -179,4 +184,5 @@ def play(case: Case, commands: Commands, by_answer: bool) -> Played:
     finally:
         for pair in pairs.values():
             pair.end()
-    return Played([result for pair in pairs.values() for result in pair.results.values()], set().union(*(pair.busy for pair in pairs.values())))
+    results = [result for pair in pairs.values() for result in pair.results.values()]
+    return Played(results, set().union(*(pair.busy for pair in pairs.values())), time.monotonic() - began)

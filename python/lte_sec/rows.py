@@ -22,7 +22,7 @@ class Visit(NamedTuple):
 
 
 class Row(NamedTuple):
-    """A row: the clause that it is from, the definitions that lead to its input, where it stands there, how a suite reaches it, and why not."""
+    """A row: its clauses, the definitions that lead to its input, where it stands there, how a suite reaches it, and why not."""
 
     visit: Visit
     clause: str
@@ -71,7 +71,9 @@ def row_of(head: list[str], parts: list[str], number: int) -> Row:
     if reached not in REACHED:
         raise Unread(f"line {number}: a row is reached by {', '.join(REACHED[1:])}, or by steps where nothing is said")
     visit = Visit(head[0], head[1], head[2], parts[0], parts[1])
-    return Row(visit, parts[2] or head[3], tuple(head[4].split()), tuple(parts[3].split()), reached, why)
+    own = parts[2].removeprefix("+ ")
+    clause = f"{head[3]}, {own}" if parts[2] != own else own or head[3]
+    return Row(visit, clause, tuple(head[4].split()), tuple(parts[3].split()), reached, why)
 
 
 def load(folder: pathlib.Path) -> Table:

@@ -6,9 +6,11 @@ import pathlib
 import re
 import sys
 import tempfile
+import time
 import unittest
+import xml.etree.ElementTree
 
-from lte_sec import frames, network, peers, played, rows, scenarios, suite, visits
+from lte_sec import allowed, frames, junit, network, peers, played, rows, scenarios, suite, suite_page, suite_report, visits
 from lte_sec.options import WrongWords
 
 from .schemas import is_of, schema_of
@@ -22,8 +24,16 @@ def result(outcome: str, visit: rows.Visit = SEND, step: int | None = 3, name: s
     return played.Result(visit, name, step, outcome, ["text: wanted 01, got 02"] if outcome == "differs" else [])
 
 
-def outcome_of(*outcomes: str, allowed: tuple[str, ...] = ()) -> str:
-    return suite.told_by([result(outcome) for outcome in outcomes], list(allowed))[SEND].outcome
+def outcome_of(*outcomes: str, may_differ: str = "") -> str:
+    return suite_report.told_by([result(outcome) for outcome in outcomes], allowed.read(may_differ))[SEND].outcome
+
+
+def entries_of(*results: played.Result, actor: str = "phone") -> list[suite_report.Json]:
+    return suite_report.entries_of(TABLE, list(results), [], [actor])
+
+
+def document(*results: played.Result) -> suite_report.Json:
+    return suite_report.document(entries_of(*results), [played.Played([], set(), 0.5)], ["a"], suite_report.Ran(False, ["lte_sec", "drive", "--suite"], "2026-12-01T03:00:00", 2))
 
 
 class Rows(unittest.TestCase):
@@ -33,8 +43,14 @@ class Rows(unittest.TestCase):
         self.assertEqual([], [row.visit for row in TABLE.rows if row.reached == "never" and not row.why])
 
     def test_each_row_that_may_differ_is_one(self) -> None:
-        known = {str(row.visit) for row in TABLE.rows}
-        self.assertEqual([], [line for line in suite.allowed_of(str(suite.SUITE / "may-differ")) if line not in known])
+        lines = allowed.read((suite.SUITE / "may-differ").read_text())
+        names = [name for line in lines for name in (line.row, line.behind) if name]
+        self.assertEqual([], [name for name in names if not any(allowed.is_named(row.visit, name) for row in TABLE.rows)])
+        self.assertEqual([], [line.row for line in lines if not line.group])
+
+    def test_a_row_has_the_clauses_of_its_input_and_more(self) -> None:
+        text = "phone | Auth | any | TS 1 2 | a\n    done |  | + TS 1 3 | a.A\n    Short |  | TS 1 4 | a.B\n    Long |  |  | a.C\n"
+        self.assertEqual(["TS 1 2, TS 1 3", "TS 1 4", "TS 1 2"], [row.clause for row in rows.read(text).rows])
 
     def test_a_line_that_is_no_row_is_named(self) -> None:
         for text in ("phone | Auth | any", "phone | Auth | any | 6.1 | a\n    done | | | a.A | sometimes\n", "    done | | | a.A\n"):
@@ -99,34 +115,80 @@ class Networks(unittest.TestCase):
 class Outcomes(unittest.TestCase):
     def test_a_difference_counts_most_and_a_pass_more_than_none(self) -> None:
         self.assertEqual("differs", outcome_of("passed", "not compared", "differs", "failed"))
-        self.assertEqual("failed", outcome_of("passed", "failed"))
+        self.assertEqual("failed", outcome_of("passed", "failed", "timed out"))
+        self.assertEqual("timed out", outcome_of("passed", "timed out"))
         self.assertEqual("passed", outcome_of("not compared", "passed"))
-        self.assertEqual("allowed", outcome_of("differs", "passed", allowed=("phone | SendUser*",)))
-        self.assertEqual("differs", outcome_of("differs", allowed=("phone | SendUser",)))
+        self.assertEqual("allowed", outcome_of("differs", "passed", may_differ="phone | SendUser*"))
+        self.assertEqual("differs", outcome_of("differs", may_differ="phone | SendUser"))
+
+    def test_a_row_may_differ_behind_another_alone(self) -> None:
+        lines = allowed.read(f"# a choice\n[a-choice]  # why\n{SEND} behind phone | Service*\n")
+        self.assertEqual([allowed.Allowed(str(SEND), "phone | Service*", "a-choice")], lines)
+        behind = result("differs")._replace(behind=(SERVICE,))
+        self.assertEqual(["a-choice", None], [allowed.group_of(each, lines) for each in (behind, result("differs"))])
+        self.assertEqual("a-choice: text: wanted 01, got 02", suite_report.told_by([behind], lines)[SEND].told[0])
+
+    def test_a_group_is_allowed_by_its_name(self) -> None:
+        self.assertEqual({"reserved-bits"}, {line.group for line in allowed.of_word("reserved-bits")})
+        self.assertLess(20, len(allowed.of_word(str(allowed.FILE))))
+        with self.assertRaisesRegex(WrongWords, "no-such is no group of examples/suite/may-differ .*reserved-bits.*cannot be read"):
+            allowed.of_word("no-such")
 
     def test_the_status_tells_a_failure_before_a_difference(self) -> None:
-        for outcomes, status in ((("passed",), 0), (("passed", "differs"), 8), (("failed", "differs"), 6)):
+        for outcomes, status in ((("passed",), 0), (("passed", "differs"), 8), (("failed", "differs"), 6), (("timed out", "differs"), 6)):
             results = [result(outcome, row.visit) for row, outcome in zip(TABLE.rows, outcomes)]
-            entries = suite.report_of(TABLE, results, suite.SuiteOptions({"phone": ["a"]}))
-            self.assertEqual(status, suite.status_of(suite.counts_of(entries)))
+            self.assertEqual(status, suite_report.status_of(suite_report.counts_of(entries_of(*results))))
 
     def test_only_the_actors_that_are_named_are_told(self) -> None:
-        entries = suite.report_of(TABLE, [], suite.SuiteOptions({"station 3": ["a"]}))
-        self.assertEqual({"station"}, {entry["actor"] for entry in entries})
+        self.assertEqual(["station"], suite.SuiteOptions({"station 3": ["a"]}).actors)
+        self.assertEqual({"station"}, {entry["actor"] for entry in entries_of(actor="station")})
 
     def test_the_lines_name_the_place_and_the_clause(self) -> None:
         row = next(row for row in TABLE.rows if row.visit == SEND)
-        self.assertEqual(f"differs      {SEND} | a, step 3: text: wanted 01, got 02 ({row.clause})", suite.line_of(suite.entry_of(row, SEND, result("differs"))))
-        self.assertTrue(suite.line_of(suite.entry_of(row, SEND, result("not compared"))).endswith("| a, step 3: behind a reply that differs"))
+        def line(outcome: str) -> str:
+            return suite_report.line_of(suite_report.entry_of(row, SEND, result(outcome)))
+
+        self.assertEqual(f"differs      {SEND} | a, step 3: text: wanted 01, got 02 ({row.clause})", line("differs"))
+        self.assertTrue(line("not compared").endswith("| a, step 3: behind a reply that differs or did not come"))
+        self.assertEqual(f"passed       {SEND}", line("passed"))
 
     def test_the_document_is_of_its_schema(self) -> None:
         schema = schema_of("drive-suite")
-        entries = suite.report_of(TABLE, [result("differs"), result("failed", rows.Visit("phone", "Setup", "any", "done", ""), None)], suite.SuiteOptions({"phone": ["a"]}))
-        document = json.loads(suite.printed(entries, True))
-        self.assertTrue(is_of(schema, schema, document))
-        self.assertFalse(is_of(schema, schema, {**document, "status": 7}))
-        del document["rows"][0]["told"]
-        self.assertFalse(is_of(schema, schema, document))
+        told = json.loads(suite_report.printed(document(result("differs"), result("failed", rows.Visit("phone", "Setup", "any", "done", ""), None)), True, False))
+        self.assertTrue(is_of(schema, schema, told))
+        self.assertFalse(is_of(schema, schema, {**told, "status": 7}))
+        del told["rows"][0]["told"]
+        self.assertFalse(is_of(schema, schema, told))
+
+    def test_rows_are_counted_by_clause(self) -> None:
+        self.assertEqual(["TS 36.323 5.1.1", "TS 36.323 5.6", "TS 33.401 B"], list(suite_report.clauses_of("TS 36.323 5.1.1, 5.6, TS 33.401 B")))
+        self.assertEqual(["a rule"], list(suite_report.clauses_of("a rule")))
+        found = {each["clause"]: (each["rows"], each["differs"]) for each in suite_report.by_clause(entries_of(result("differs")))}
+        self.assertEqual(1, found["TS 36.323 5.1.1"][1])
+        self.assertEqual(0, found["TS 33.401 7.2.4.4"][1])
+        self.assertEqual(list(found), sorted(found, key=suite_report.order_of))
+        text = suite_report.printed(document(result("differs")), False, True)
+        self.assertRegex(text, r"(?m)^TS 36\.323 5\.1\.1 +\d+ +0 +1 +\d+$")
+
+    def test_a_build_reads_the_rows(self) -> None:
+        [made] = suite_page.suites_of(document(result("differs"), result("passed", SERVICE), result("timed out", TABLE.rows[0].visit)))
+        self.assertEqual((1, 1), (made.count("failure"), made.count("error")))
+        read = xml.etree.ElementTree.fromstring(junit.xml([made]))
+        self.assertEqual(len(made.cases), len(read.findall("./testsuite/testcase")))
+        case = next(case for case in read.iter("testcase") if case.get("name") == str(SEND))
+        self.assertEqual(("suite.phone.SendUser", "text: wanted 01, got 02"), (case.get("classname"), case[0].get("message")))
+        self.assertEqual("built without proof", {each.get("name"): each.get("value") for each in read.iter("property")}["program"])
+
+    def test_what_xml_cannot_have_is_a_question_mark(self) -> None:
+        made = junit.xml([junit.Suite("a\0<", "b", 1, {}, [junit.Case("c", "d", "failure", "\x1b\n&", "\ud800]]>", "\ufffe")])])
+        case = xml.etree.ElementTree.fromstring(made)[0][1]
+        self.assertEqual(("?\n&", "?]]>", "?"), (case[0].get("message"), case[0].text, case[1].text))
+
+    def test_the_page_has_rows_and_clauses(self) -> None:
+        page = suite_page.html(document(result("differs")))
+        self.assertIn('<td class="differs">differs</td><td>phone | SendUser | done</td>', page)
+        self.assertIn("<td>TS 33.401 7.2.4.4</td>", page)
+        self.assertNotIn("<script", page)
 
     def test_a_refusal_by_another_cause_is_right_where_only_answers_count(self) -> None:
         wanted, other, done = frames.Reply(1), frames.Reply(7).spelled(), frames.Reply().spelled()
@@ -147,10 +209,12 @@ class Words(unittest.TestCase):
         self.assertEqual({"phone", "station 2"}, set(found.product))
         self.assertEqual(([sys.executable, "a.py"], ["phone", "station"], True, True, 0.5), (found.product["phone"], found.actors, found.by_answer, found.is_each, found.seconds))
         self.assertEqual(list(rows.ACTORS), suite.read_words("own", ["--suite"]).actors)
+        found = suite.read_words("own", ["--suite", "--jobs", "3", "--junit", "a.xml", "--clauses"])
+        self.assertEqual((3, "a.xml", True), (found.jobs, found.junit, found.by_clauses))
 
     def test_wrong_words_are_told(self) -> None:
         for words, told in ((["--phone"], "needs a word"), (["x.toml"], "takes no FILE"), (["--bad"], "takes no option --bad"), (["--answers", "all"], "takes done"), (["--timeout", "0"], "above 0"),
-                            (["--allow", "/nowhere"], "cannot be read"), (["--core", "no-such-program"], "no program")):
+                            (["--allow", "/nowhere"], "cannot be read"), (["--jobs", "0"], "--jobs is 1 to 256"), (["--core", "no-such-program"], "no program")):
             with self.subTest(words), self.assertRaisesRegex(WrongWords, re.escape(told)):
                 suite.read_words("own", words)
 
@@ -192,6 +256,37 @@ class Peers(unittest.TestCase):
                 self.assertIn(told, str(fault))
                 self.assertEqual(is_silent, fault.is_silent)
 
+    def test_an_actor_that_works_has_longer(self) -> None:
+        works = "import time\nends = time.process_time() + 0.5\nwhile time.process_time() < ends: pass\nprint('port', flush=True)"
+        peer = peers.Peer([sys.executable, "-S", "-c", works], "phone", 0.2)
+        try:
+            peer.seconds = 60
+            with self.assertRaisesRegex(peers.PeerFault, "not the number of a port"):
+                peer.port()
+        finally:
+            peer.end()
+
+    def test_work_is_that_of_a_process_and_of_those_that_it_starts(self) -> None:
+        for program, is_at_work in (("while True: pass", True), ("import subprocess, sys; subprocess.run([sys.executable, '-c', 'while True: pass'])", True), ("import time; time.sleep(60)", False)):
+            with self.subTest(program):
+                peer = peers.Peer([sys.executable, "-S", "-c", program], "phone", 1)
+                try:
+                    time.sleep(1)
+                    work = peers.Work(peer.process.pid)
+                    looks = [work.look() for _ in range(4) if not time.sleep(0.1)]  # type: ignore[func-returns-value]
+                    self.assertEqual(is_at_work, any(looks[1:]))
+                finally:
+                    peer.end()
+
+    def test_an_actor_that_works_for_ever_has_its_time_of_a_processor(self) -> None:
+        peer = peers.Peer([sys.executable, "-S", "-c", "while True: pass"], "phone", 0.8)
+        try:
+            with self.assertRaisesRegex(peers.PeerFault, "no port within 0.8 seconds") as found:
+                peer.port()
+            self.assertTrue(found.exception.is_silent)
+        finally:
+            peer.end()
+
     def test_an_actor_that_fails_leaves_the_other_rows_not_compared(self) -> None:
         file = pathlib.Path(__file__).resolve().parents[2] / "examples" / "suite" / "actors" / "core.py"
         with tempfile.TemporaryDirectory() as room:
@@ -204,7 +299,7 @@ class Peers(unittest.TestCase):
         self.assertIn("it fell", run.results[0].told)
 
     def test_what_is_wrong_is_one_line(self) -> None:
-        sys.argv[1:], kept = ["own", "--suite", "--bad"], sys.argv[1:]
+        sys.argv[1:], kept = ["own", "proved", "--suite", "--bad"], sys.argv[1:]
         with contextlib.redirect_stderr(io.StringIO()) as said:
             self.assertEqual(2, suite.main())
         sys.argv[1:] = kept
