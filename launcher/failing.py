@@ -64,6 +64,10 @@ LEFT = {
 }
 
 
+# The statuses with which a text may end that none takes, where they are others than 3.
+ENDS = {"ladder": (0, 3), "calc": (0, 3), "repeats": (0, 2), "explain": (1, 3)}
+
+
 def calls() -> Iterator[tuple[str, list[str | pathlib.Path], pathlib.Path | None]]:
     for word, (more, text) in READERS.items():
         yield word, [*word.split(), *more], text
@@ -77,6 +81,16 @@ def ends(words: list[str | pathlib.Path], more: str, text: pathlib.Path | None, 
     with open(text or os.devnull, "rb") as given:
         ran = subprocess.run(shell, stdin=given, stdout=subprocess.PIPE if out is None else out, stderr=subprocess.PIPE, text=True, timeout=SECONDS)
     return ran.returncode, ran.stderr
+
+
+def texts(room: pathlib.Path) -> dict[str, pathlib.Path]:
+    """A file for each kind of text that no word takes, by the name of the kind."""
+    made = {
+        "empty": b"", "cut": SCENARIO.read_bytes()[:200], "deep TOML": b"a = " + b"[" * 30_000, "deep JSON": b'{"a":' * 10_000, "not UTF-8": b"phone = \xff\xfe\n",
+    }
+    for name, octets in made.items():
+        (room / name).write_bytes(octets)
+    return {name: room / name for name in made} | {"endless": pathlib.Path("/dev/zero")}
 
 
 def unread() -> int:
@@ -98,6 +112,35 @@ class Failing(unittest.TestCase):
                     told = [line for line in said.splitlines() if "built without proof" not in line and " runs, " not in line]
                     self.assertNotIn("Traceback", said)
                     self.assertEqual((wanted, lines), (status, sum(f"status {wanted}" in line for line in told)), said)
+
+    def test_an_error_that_cannot_be_written_leaves_the_status(self) -> None:
+        words = list(calls())
+        with concurrent.futures.ThreadPoolExecutor() as pool:
+            wanted = list(pool.map(lambda it: ends(it[1], "", it[2])[0], words))
+            for more in ("2>/dev/full", "2>&-"):
+                for (word, *_), status, (got, _) in zip(words, wanted, pool.map(lambda it: ends(it[1], more, it[2]), words)):
+                    with self.subTest(word=word, more=more):
+                        self.assertEqual(status, got)
+
+    def test_what_is_no_text_ends_as_the_readme_says(self) -> None:
+        """Each word that reads a text, with each text that none takes: one that is empty, cut, deep, not UTF-8, or without an end."""
+        with tempfile.TemporaryDirectory() as room, concurrent.futures.ThreadPoolExecutor() as pool:
+            made = texts(pathlib.Path(room))
+            cases = [(word, words, name, file) for word, words, text in calls() if text for name, file in made.items()]
+            for (word, _, name, _), (status, said) in zip(cases, pool.map(lambda it: ends(it[1], "", it[3]), cases)):
+                with self.subTest(word=word, text=name):
+                    self.assertNotIn("Traceback", said)
+                    self.assertIn(status, (9,) if name == "endless" else ENDS.get(word.split()[0], (3,)), said)
+
+    def test_a_file_that_is_none_ends_as_the_readme_says(self) -> None:
+        """Each word that reads a file which it is told, with each of these in its place."""
+        with tempfile.TemporaryDirectory() as room, concurrent.futures.ThreadPoolExecutor() as pool:
+            made = texts(pathlib.Path(room)) | {"folder": pathlib.Path(room), "nowhere": pathlib.Path(room) / "nowhere"}
+            cases = [(word, [str(file) if given in (SCENARIO, TRACE) else given for given in words], name) for word, words in OTHERS.items() if {SCENARIO, TRACE} & set(words) for name, file in made.items()]
+            for (word, _, name), (status, said) in zip(cases, pool.map(lambda it: ends(it[1], "", None), cases)):
+                with self.subTest(word=word, file=name):
+                    self.assertNotIn("Traceback", said)
+                    self.assertIn(status, (2, 3, 9), said)
 
     def test_a_full_disk_is_status_5_and_one_line(self) -> None:
         self.each(">/dev/full", WRITE_FAILS, 1, list(calls()))

@@ -12,6 +12,7 @@ from .listed import Listed
 from .outcomes import GOES_ON, RANK, USUAL_BAD, limit
 from .remarks import named, with_frames
 from .study import Variant
+from .terms import TraceError
 from .variants import KINDS, Fault
 
 MANY = {1: "variant", 2: "pair", 3: "triple"}
@@ -19,7 +20,7 @@ VERSION = 1  # of the document that --json prints
 LINK = "docs/SCENARIOS.md#where-a-product-does-more"
 
 
-class NoParts(Exception):
+class NoParts(TraceError):
     """Why files are not the parts of one answer."""
 
 
@@ -88,8 +89,8 @@ def from_json(it: dict[str, Any]) -> Answer:
     answer.part = (int(numbers[0]), int(numbers[1])) if numbers else None
     answer.chart = Chart(it["name"], it["lanes"], it["base"]) if "base" in it else None
     for each in it["variants"]:
-        faults = tuple(Fault(one["kind"], str(one["step"]), str(one["after"]) if "after" in one else None) for one in each["faults"])
-        variant = Variant(faults, {one["is"]: one["what"] for one in each["outcomes"]}, each["answers"], gone=each.get("gone", []))
+        faults = tuple(Fault(KINDS[KINDS.index(one["kind"])], str(one["step"]), str(one["after"]) if "after" in one else None) for one in each["faults"])
+        variant = Variant(faults, {one["is"]: one["what"] for one in each["outcomes"] if RANK[one["is"]] >= 0}, each["answers"], gone=each.get("gone", []))
         variant.run = [it["steps"][entry] if isinstance(entry, int) else entry for entry in each.get("run", [])]
         (answer.singles if len(faults) == 1 else answer.together).append(variant)
     answer.counts = {int(faults): Counter(counts) for faults, counts in it["counts"].items()}

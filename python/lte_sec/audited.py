@@ -10,8 +10,10 @@ import subprocess
 import sys
 from pathlib import Path
 
+from .inputs import of_input
 from .messages import StepLine
 from .remarks import frames_of
+from .terms import TraceError
 
 REASONS = Path(__file__).resolve().parents[2] / "launcher" / "reasons"
 REFUSED = 3
@@ -34,7 +36,11 @@ def frames_of_rows(report: str, frames: dict[int, str]) -> dict[str, str]:
 
 
 def main(words: list[str]) -> int:
-    octets = sys.stdin.buffer.read()
+    try:
+        octets = of_input()
+    except TraceError as fault:
+        print(f"lte_sec: status {fault.status}: {fault}", file=sys.stderr)
+        return fault.status
     audit, report = (subprocess.run([words[0], word], input=octets, stdout=subprocess.PIPE) for word in ("audit", "run"))
     rows = frames_of_rows(report.stdout.decode(), frames_of(octets.decode(errors="replace")))
     for line in audit.stdout.decode().splitlines():

@@ -5,6 +5,7 @@ from collections.abc import Iterable, Iterator
 from dataclasses import dataclass
 from pathlib import Path
 
+from .inputs import of_file
 from .terms import TraceError
 
 GREATEST_PCI, GREATEST_EARFCN = 503, 262143
@@ -89,9 +90,9 @@ class Cells:
 def read_cells(file: Path) -> list[Site]:
     """The cells of a file: in each line the station, ECI in hex, PCI, EARFCN-DL and, if wanted, EARFCN-UL; `#` begins a remark."""
     try:
-        lines = file.read_text(encoding="utf-8").splitlines()
-    except (OSError, UnicodeDecodeError) as fault:
-        raise TraceError(f"the cells {file} cannot be read: {fault}") from None
+        lines = of_file(file, "the cells").decode().splitlines()
+    except UnicodeDecodeError as fault:
+        raise TraceError(f"the cells {file} cannot be read: octet {fault.object[fault.start]:02x} is not UTF-8 text") from None
     found = []
     for place, line in enumerate(lines, 1):
         words = line.partition("#")[0].split()

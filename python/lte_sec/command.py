@@ -14,7 +14,6 @@ USAGE = {name: usage for name, usage in words.USAGE.items() if name != "vectors"
     "verdict": "verdict [--json] [FILE]   tells from a report of run what became of each handover and key change",
     "--version": "--version   prints the version, and whether the library is proved",
 }
-BAD_WORDS = 2
 
 
 def version() -> str:
@@ -58,5 +57,5 @@ def main() -> int:
     try:
         return answer(sys.argv[1:])
     except TraceError as fault:
-        print(f"lte_sec: status 2: {fault}", file=sys.stderr)
-        return BAD_WORDS
+        print(f"lte_sec: status {fault.status}: {fault}", file=sys.stderr)
+        return fault.status

@@ -90,5 +90,13 @@ def proved_calls() -> Calls:
         pass
     launcher = TOP / "lte_sec"
     if (TOP / "crates" / "lte_calc").is_dir() and launcher.exists():
-        return Calc([str(launcher), "calc"])
+        return Calc([program_of(launcher)])
     raise TraceError("the proved calls are not built here: run ./lte_sec library")
+
+
+def program_of(launcher: Path) -> str:
+    """The program `calc`, which the launcher builds where it is not there, and says so."""
+    ran = subprocess.run([str(launcher), "--program", "lte_calc"], stdin=subprocess.DEVNULL, stdout=subprocess.PIPE, text=True)
+    if ran.returncode:
+        raise TraceError("the proved calls cannot be built: ./lte_sec --program lte_calc says why")
+    return ran.stdout.rstrip("\n").partition(" ")[2]

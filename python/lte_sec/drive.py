@@ -411,6 +411,8 @@ def main() -> int:
     parts = sys.argv.index("--")
     try:
         options = DriveOptions.read(sys.argv[1:parts])
+        if not sys.argv[parts + 1:]:  # without a program only the words are read
+            return 0
         scenario = sys.stdin.buffer.read(MOST + 1)
         has_stations(options.more, scenario)
         run = Run(sys.argv[parts + 1:], options, scenario)

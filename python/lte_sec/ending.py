@@ -64,6 +64,25 @@ class StandardOutput(io.RawIOBase):
             raise OutputFails(fault.strerror) from None
 
 
+class StandardErrorOctets(io.RawIOBase):
+    """Standard error, of which what cannot be written is lost: the status still tells how the word ended."""
+
+    def writable(self) -> bool:
+        return True
+
+    def fileno(self) -> int:
+        return 2
+
+    def isatty(self) -> bool:
+        return os.isatty(2)
+
+    def write(self, octets: bytes | bytearray | memoryview) -> int:  # type: ignore[override]
+        try:
+            return os.write(2, octets)
+        except OSError:
+            return len(octets)
+
+
 class StandardError(io.TextIOBase):
     """Standard error, and the last line of it that says something."""
 
@@ -108,6 +127,7 @@ def guard() -> None:
             os.dup2(os.open(os.devnull, os.O_RDONLY if descriptor == 1 else os.O_WRONLY), descriptor)
     sys.stdin = io.TextIOWrapper(io.BufferedReader(StandardInput()), encoding="utf-8", errors="surrogateescape")
     sys.stdout = io.TextIOWrapper(io.BufferedWriter(StandardOutput()), encoding="utf-8", errors="surrogateescape", line_buffering=os.isatty(1))
+    sys.stderr = io.TextIOWrapper(io.BufferedWriter(StandardErrorOctets()), encoding="utf-8", errors="backslashreplace", line_buffering=True)
 
 
 def ends(word: str, run: Callable[[], object]) -> NoReturn:

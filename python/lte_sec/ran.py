@@ -15,6 +15,7 @@ from pathlib import Path
 from . import pages
 from .charted import lanes_of, name_of, stage, steps_of
 from .escaped import shown
+from .inputs import MOST_MADE, of_file, of_input
 from .ladders import CLAUSES, names_of, rows_of, title_of
 from .options import Words
 from .remarks import frames_of
@@ -25,7 +26,7 @@ from .verdict import NOT_MADE, NoReport, Outcome, judged
 
 VERSION = 1  # of the document
 REASONS = Path(__file__).resolve().parents[2] / "launcher" / "reasons"
-BAD_WORDS, REFUSED, ENDED = 2, 3, 7
+REFUSED, ENDED = 3, 7
 END = re.compile(r"end \d+ \d+ \d+")
 MARKS = {
     "bad": ("step with different keys", "steps with different keys", "different keys"), "unk": ("step refused", "steps refused", "refused"),
@@ -125,7 +126,7 @@ def of_note(told: Json) -> Iterator[str]:
 def answered(words: list[str]) -> int:
     """`run --json` for the scenario on standard input."""
     program = words[0]
-    octets = sys.stdin.buffer.read()
+    octets = of_input()
     ran = subprocess.run([program, "run"], input=octets, stdout=subprocess.PIPE)
     if ran.returncode in (0, ENDED):
         print(json.dumps(document(ran.stdout.decode(), octets, "a scenario"), indent=1))
@@ -143,11 +144,8 @@ def drawn(words: list[str]) -> int:
     given = Words.read("draw", words)
     has_keys, scenario, file = pages.chosen(given.last("--html-keys", "yes")), given.files[0], Path(given.last("--html"))
     pages.writable(file)
-    try:
-        octets = scenario.read_bytes()
-    except OSError as fault:
-        raise TraceError(f"{scenario} cannot be read: {fault.strerror}") from None
-    told = document(sys.stdin.buffer.read().decode(), octets, scenario.stem)
+    octets = of_file(scenario)
+    told = document(of_input(MOST_MADE).decode(), octets, scenario.stem)
     pages.write(file, pages.html(page(told), summary(told), of_note(told), has_keys))
     return 0
 
@@ -156,8 +154,8 @@ def main(words: list[str]) -> int:
     try:
         return drawn(words) if words[0].startswith("--") else answered(words)
     except TraceError as fault:
-        print(f"lte_sec: status 2: {fault}", file=sys.stderr)
-        return BAD_WORDS
+        print(f"lte_sec: status {fault.status}: {fault}", file=sys.stderr)
+        return fault.status
     except NoScenario as fault:
         print(f"lte_sec: status 3: {fault}", file=sys.stderr)
         return REFUSED

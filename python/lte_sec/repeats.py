@@ -10,6 +10,7 @@ from collections.abc import Iterable, Iterator
 from dataclasses import dataclass, field
 from typing import IO
 
+from .inputs import TooMuch
 from .terms import TraceError
 
 FIELDS = ("pdcp-lte.ueid", "pdcp-lte.security-config.bearer", "pdcp-lte.security-config.direction", "pdcp-lte.security-config.count")
@@ -19,12 +20,6 @@ COUNTS = 1 << 32
 LONGEST, MOST = 65_536, 4_000_000  # characters of a line, and uses, that are read
 
 UsedCount = tuple[str, str, str, int]
-
-
-class TooMuch(TraceError):
-    """The text is longer than what is read."""
-
-    status = 9
 
 
 @dataclass

@@ -17,7 +17,7 @@ from .terms import TraceError
 from .told import NO_TEXTS, SECRETS, Part, ReplayedCapture, scenario_of
 from .words import TraceWords, traced
 
-WORDS, FAILS, STOPPED = 2, 6, 130
+FAILS, STOPPED = 6, 130
 USUAL_CAPS = "a020"  # EEA0, 128-EEA2 and 128-EIA2, which the profile has
 NO_CONNECTION = "it belongs to no connection of a phone that is known"
 
@@ -118,10 +118,12 @@ def tell(answer: ReplayedCapture, words: TraceWords) -> int:
 def main(words: list[str]) -> int:
     try:
         given = TraceWords.read("replay", words[1:])
+        if not words[0]:  # without a program only the words are read
+            return 0
         return tell(replayed(words[0], record(traced(given)), [file.name for file in given.files], not given.has("--no-texts")), given)
     except TraceError as fault:
-        print(f"lte_sec: status 2: replay: {fault}", file=sys.stderr)
-        return WORDS
+        print(f"lte_sec: status {fault.status}: replay: {fault}", file=sys.stderr)
+        return fault.status
     except ProgramFails as fault:
         print(f"lte_sec: status 6: {fault}", file=sys.stderr)
         return FAILS

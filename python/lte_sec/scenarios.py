@@ -39,7 +39,7 @@ def read(octets: bytes) -> Scenario:
     """A scenario that the program takes, which reads TOML 1.1. Python reads 1.0, and the launcher's own reader the rest."""
     try:
         document = tomllib.loads(octets.decode())
-    except ValueError as fault:
+    except (ValueError, RecursionError) as fault:
         document = by_launcher(octets, str(fault))
     return Scenario({name: value for name, value in document.items() if name != "step"}, document.get("step", []))
 

@@ -8,13 +8,14 @@ from __future__ import annotations
 import dataclasses
 import enum
 import json
-import pathlib
 import re
 import sys
 from collections.abc import Iterator
 
+from .inputs import MOST_MADE, of_file, of_input
 from .options import Words
 from .remarks import frames_of, with_frames
+from .terms import TraceError
 
 STEP = re.compile(r"(\d+) (both|phone|core(?: [01])?|world|station ([0-7])) (\w+)(.*)")
 SENT = re.compile(r" sent=\d+:(\w+)")
@@ -350,12 +351,11 @@ def main(words: list[str]) -> int:
     given = Words.read("verdict", words)
     scenario = given.last("--scenario")
     try:
-        frames = frames_of(pathlib.Path(scenario).read_text(encoding="utf-8")) if scenario else {}
-    except (OSError, UnicodeDecodeError) as fault:
-        print(f"lte_sec: status 2: the scenario {scenario} cannot be read: {fault}", file=sys.stderr)
-        return 2
-    try:
-        verdict = dataclasses.replace(judged(text_of(sys.stdin.buffer.read())), frames=frames)
+        frames = frames_of(of_file(scenario, "the scenario").decode(errors="replace")) if scenario else {}
+        verdict = dataclasses.replace(judged(text_of(of_input(MOST_MADE))), frames=frames)
+    except TraceError as fault:
+        print(f"lte_sec: status {fault.status}: {fault}", file=sys.stderr)
+        return fault.status
     except NoReport as wrong:
         print(f"lte_sec: this is not a report of run: {wrong}", file=sys.stderr)
         return 3

@@ -10,9 +10,10 @@ from pathlib import Path
 from typing import Any, NamedTuple
 
 from . import matrix_page, pages
-from .answers import Answer, NoParts, from_json, merged, table, to_json
+from .answers import Answer, from_json, merged, table, to_json
 from .charted import name_of
 from .courses import ProgramFails
+from .inputs import MOST_MADE, of_file, of_input
 from .listed import TOO_MANY, Lists, TooManySteps
 from .matrix import draw
 from .options import Words, WrongWords
@@ -24,7 +25,7 @@ from .study import Study
 from .terms import TraceError
 from .variants import KINDS
 
-MOST_FAULTS, MOST_JOBS, BAD, WORDS, REFUSED, ENDED, STOPPED = 3, 256, 1, 2, 3, 7, 130
+MOST_FAULTS, MOST_JOBS, BAD, REFUSED, ENDED, STOPPED = 3, 256, 1, 3, 7, 130
 REASONS = Path(__file__).resolve().parents[2] / "launcher" / "reasons"
 
 
@@ -72,20 +73,13 @@ class WhatIfWords(Words):
         return folder
 
 
-def opened(file: Path) -> bytes:
-    try:
-        return file.read_bytes()
-    except OSError as fault:
-        raise WrongWords(f"{file} cannot be read: {fault.strerror}") from None
-
-
 def scenario_of(program: str, words: WhatIfWords) -> tuple[bytes, int]:
     """The text of the scenario, and the status with which the program runs it; what it refuses is told."""
     if len(words.files) > 1:
         raise WrongWords("what-if takes one SCENARIO")
     if not words.files and sys.stdin.isatty():
         print("lte_sec: what-if reads a scenario from here, up to Ctrl-D; or name a file", file=sys.stderr)
-    octets = opened(words.files[0]) if words.files else sys.stdin.buffer.read()
+    octets = of_file(words.files[0]) if words.files else of_input()
     ran = subprocess.run([program, "run"], input=octets, stdout=subprocess.PIPE, stderr=subprocess.DEVNULL)
     out = sys.stderr if words.has("--json") else sys.stdout  # with --json nothing but JSON is printed
     if ran.returncode == REFUSED:
@@ -101,11 +95,15 @@ def scenario_of(program: str, words: WhatIfWords) -> tuple[bytes, int]:
     return octets, ran.returncode
 
 
-def tried(programs: Programs, words: WhatIfWords) -> tuple[Answer | None, int]:
+def share_of(words: WhatIfWords) -> Share:
+    """What of the variants is tried, and how."""
+    jobs = words.number("--jobs", len(os.sched_getaffinity(0)), MOST_JOBS)
+    return Share(jobs, words.part(), words.number("--faults", 1, MOST_FAULTS), words.folder(), words.has("--lines") and not words.has("--json"))
+
+
+def tried(programs: Programs, words: WhatIfWords, share: Share) -> tuple[Answer | None, int]:
     """The answer for a scenario, and a status where there is none."""
     kinds, packets, follows = words.kinds(), words.has("--packets"), words.has("--follow")
-    jobs = words.number("--jobs", len(os.sched_getaffinity(0)), MOST_JOBS)
-    share = Share(jobs, words.part(), words.number("--faults", 1, MOST_FAULTS), words.folder(), words.has("--lines") and not words.has("--json"))
     octets, status = scenario_of(programs.run, words)
     if status:
         return None, status
@@ -130,8 +128,8 @@ def merged_of(words: WhatIfWords) -> Answer:
     parts = []
     for file in words.files:
         try:
-            parts.append(from_json(json.loads(opened(file))))
-        except (ValueError, KeyError, TypeError, AttributeError):
+            parts.append(from_json(json.loads(of_file(file, most=MOST_MADE))))
+        except (ValueError, LookupError, TypeError, AttributeError, RecursionError):
             raise WrongWords(f"{file} is not what --json writes") from None
     return merged(parts)
 
@@ -164,6 +162,7 @@ def tell(answer: Answer, words: WhatIfWords) -> int:
 
 
 def answered(programs: Programs, given: list[str]) -> int:
+    """The status; without programs only the words are read."""
     words = WhatIfWords.read("what-if", given)
     words.bad()
     picture = Path(words.last("--picture")) if words.has("--picture") else None
@@ -172,17 +171,20 @@ def answered(programs: Programs, given: list[str]) -> int:
     if words.has("--html"):
         pages.writable(Path(words.last("--html")))
     if words.has("--merge"):
-        return tell(merged_of(words), words)
-    answer, status = tried(programs, words)
+        return tell(merged_of(words), words) if programs.run else 0
+    share, _ = share_of(words), words.kinds()
+    if not programs.run:
+        return 0
+    answer, status = tried(programs, words, share)
     return tell(answer, words) if answer else status
 
 
 def main(words: list[str]) -> int:
     try:
         return answered(Programs(*words[:2]), words[2:])
-    except (NoParts, TraceError) as fault:
-        print(f"lte_sec: status 2: what-if: {fault}", file=sys.stderr)
-        return WORDS
+    except TraceError as fault:
+        print(f"lte_sec: status {fault.status}: what-if: {fault}", file=sys.stderr)
+        return fault.status
     except NoScenario as fault:
         print(f"lte_sec: status 3: {fault}", file=sys.stderr)
         return REFUSED

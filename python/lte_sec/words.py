@@ -15,6 +15,7 @@ from .cells import Cells, Site, is_cell, read_cells
 from .derive import proved_calls
 from .dumps import HALF, KEY, blocks, has_hex
 from .explain import Explanation, told
+from .inputs import lines_of, of_file, of_input
 from .logged import cells_of
 from .options import Words, WrongWords
 from .repeats import bounded, first_repeat
@@ -112,7 +113,7 @@ def explain(words: list[str]) -> int:
         raise TraceError(f"a KASME is 64 hex digits: {given.files[0] if given.files else 'there is none'}")
     cells, counts, depth = given.cells(), given.number("--counts", 300, (1 << 24) - 1), given.number("--depth", 16, 4096)
     files = given.options["--keys"]
-    text = [line for file in files for line in opened(Path(file))] if files else sys.stdin.readlines()
+    text = [line for octets in (map(of_file, files) if files else [of_input()]) for line in lines_of(octets)]
     keys = blocks(text)
     if not keys:
         why = f"hex and no key in it: a key has {2 * KEY} hex digits, or {2 * HALF}" if has_hex(text) else "no key" if any(map(str.strip, text)) else "nothing in it"
@@ -163,13 +164,6 @@ def vectors(words: list[str]) -> int:
         raise TraceError(f"--seed is 0 to {SEEDS - 1}: {seed}")
     print(json.dumps(document(int(seed), count), indent=1))
     return 0
-
-
-def opened(file: Path) -> list[str]:
-    try:
-        return file.read_text(encoding="utf-8", errors="replace").splitlines()
-    except OSError as fault:
-        raise TraceError(f"{file} cannot be read: {fault.strerror}") from None
 
 
 COMMANDS: dict[str, Callable[[list[str]], int]] = {"check-trace": check_trace, "explain": explain, "wireshark": wireshark, "repeats": repeats, "vectors": vectors}

@@ -16,7 +16,7 @@ from functools import lru_cache
 from pathlib import Path
 
 from lte_sec import scenarios, what_if
-from lte_sec.answers import from_json, merged, ranges, to_json
+from lte_sec.answers import Answer, from_json, merged, ranges, to_json
 from lte_sec.courses import Course, Item, ProgramFails, act, delivery
 from lte_sec.listed import Listed, Lists, order, variant_of
 from lte_sec.messages import StepLine
@@ -384,6 +384,21 @@ class Answers(unittest.TestCase):
             status, out, err = called(*words)
             self.assertEqual((status, out, err.count("\n")), (2, "", 1), f"{words} {err}")
             self.assertIn(line, err)
+
+    def test_a_part_that_is_none_is_told_in_one_line(self) -> None:
+        part = to_json(Answer({}, {"0": "x"}, [Variant((Fault("lost", "0", None),), {"same": ""})]))
+        variant = part["variants"][0]
+        wrong = (
+            part | {"variants": [variant | {"outcomes": [{"is": "no outcome", "what": ""}]}]}, part | {"variants": [variant | {"faults": [{"kind": "never", "step": 0}]}]}, [], {},
+        )
+        with tempfile.NamedTemporaryFile("w") as file:
+            for text in (*map(json.dumps, wrong), '{"a":' * 10_000, "\0"):
+                file.seek(0)
+                file.truncate()
+                file.write(text)
+                file.flush()
+                status, out, err = called("--merge", file.name)
+                self.assertEqual((status, out, err), (2, "", f"lte_sec: status 2: what-if: {file.name} is not what --json writes\n"))
 
     def test_no_folder_is_written_unless_one_is_named(self) -> None:
         with unittest.mock.patch("os.access", return_value=False):

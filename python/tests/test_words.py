@@ -31,7 +31,7 @@ KASME = json.loads((TRACES / "A.truth.json").read_text())["kasme"][0]["hex"]
 def run(*given: str, text: str = "") -> tuple[int, str, str]:
     """The status of a call of the launcher, and what it writes."""
     out, err = io.StringIO(), io.StringIO()
-    with mock.patch.object(words, "proved_calls", StandIn), mock.patch.object(sys, "stdin", io.StringIO(text)):
+    with mock.patch.object(words, "proved_calls", StandIn), mock.patch.object(sys, "stdin", io.TextIOWrapper(io.BytesIO(text.encode()), encoding="utf-8")):
         with contextlib.redirect_stdout(out), contextlib.redirect_stderr(err):
             status = words.main(list(given))
     return status, out.getvalue(), err.getvalue()
