@@ -111,8 +111,8 @@ class Reader:
             self.items(place, "]", lambda: values.append(self.value()))
             return Value(place, values, key, True)
         if self.text.startswith("{", place):
-            if self.deep < DEEPEST and (table := self.plain_table(place, key)):
-                return table
+            if self.deep < DEEPEST and (plain := self.plain_table(place, key)):
+                return plain
             self.at = place + 1
             table = Value(place, {}, key)
             self.items(place, "}", lambda: self.pair(table, SPACE))

@@ -388,7 +388,7 @@ class Answers(unittest.TestCase):
     def test_a_part_that_is_none_is_told_in_one_line(self) -> None:
         part = to_json(Answer({}, {"0": "x"}, [Variant((Fault("lost", "0", None),), {"same": ""})]))
         variant = part["variants"][0]
-        wrong = (
+        wrong: tuple[object, ...] = (
             part | {"variants": [variant | {"outcomes": [{"is": "no outcome", "what": ""}]}]}, part | {"variants": [variant | {"faults": [{"kind": "never", "step": 0}]}]}, [], {},
         )
         with tempfile.NamedTemporaryFile("w") as file:
