@@ -20,7 +20,7 @@ from .terms import TraceError
 STEP = re.compile(r"(\d+) (both|phone|core(?: [01])?|world|station ([0-7])) (\w+)(.*)")
 SENT = re.compile(r" sent=\d+:(\w+)")
 NOTE = re.compile(r" ncc=\d way=(\w+) key=([0-9a-f]{64})")
-ROW = re.compile(r"row (\d+) (\w+)(?:\((\d+),?([\d,]*)\))? ([0-9a-f]{64}) \S+")
+ROW = re.compile(r"row (\d+) (\w+)(?:\((\d+),?([\d,]*)\))? ([0-9a-f]{64}) (\S+)")
 VERSION = 1  # of the document that --json prints
 
 
@@ -56,6 +56,7 @@ class ChainedKey:
     chain: int
     cell: str
     first: int
+    is_nas_of_phone: bool = False  # a NAS key that the phone made, as it does when it takes a NAS context
 
 
 @dataclasses.dataclass(frozen=True)
@@ -92,12 +93,13 @@ def rows_of(lines: list[str]) -> dict[str, ChainedKey]:
         found = ROW.fullmatch(line)
         if not found or int(found[1]) != len(rows):
             raise NoReport(f"'{line[:40]}' is not a row of its ladder of keys")
-        _, form, parent, more, key = found.groups()
+        _, form, parent, more, key, holders = found.groups()
         above = rows[int(parent)] if parent else None
         root = above.root if above else len(rows)
         chain = rows[int(more)].chain + 1 if form == "nh" else above.chain if above and form == "star" else 0
         first = rows[int(more)].first if form == "nh" else above.first if above and form == "star" else len(rows)
-        rows.append(ChainedKey(len(rows), form, root, int(parent or len(rows)), chain, more if form == "star" else "", first))
+        is_nas = form == "alg" and more[0] in "12" and "P" in holders.split(",")
+        rows.append(ChainedKey(len(rows), form, root, int(parent or len(rows)), chain, more if form == "star" else "", first, is_nas))
         keys[key] = rows[-1]
     return keys
 
@@ -299,18 +301,47 @@ def connected(report: Report) -> bool | None:
     return stations.issuperset(phone) if phone else None
 
 
+class Healing(enum.Enum):
+    """What leads back to one key where keys differ; the value is the steps of a scenario that do it."""
+
+    RECONNECTION = ("idle", "service", "deliver", "connect", "deliver", "deliver", "deliver")
+    AUTHENTICATION = ("auth", "smc", "deliver", "deliver", *RECONNECTION)
+
+    def __str__(self) -> str:
+        more = ", with a new KASME" if self == Healing.AUTHENTICATION else ", if the core's window has the phone's next NAS COUNT"
+        return f"{len(self.value)} steps give one key again{more}: {', '.join(self.value)}"
+
+
+def healing(report: Report, found: list[KenbChange]) -> Healing | int | None:
+    """What gives one key again behind the last of the changes whose keys differ, or the step at which a later connection did. A reconnection is
+    enough where the core last made a key from the KASME that the phone uses: the phone takes a NAS context before the core does."""
+    parted = [item.last for item in found if item.outcome == Outcome.DIFFER]
+    if not parted:
+        return None
+    kenbs = [note for note in report.notes() if report.row(note).form == "kenb"]
+    given = {note.key for note in kenbs if note.station is not None}
+    later = [note.number for note in kenbs if note.who == "phone" and note.number > parted[-1] and note.key in given]
+    if later:
+        return later[0]
+    made = [report.row(note).root for note in kenbs if note.who.startswith("core")]
+    used = [row.root for row in report.rows.values() if row.is_nas_of_phone]
+    return Healing.RECONNECTION if made and used and made[-1] == used[-1] else Healing.AUTHENTICATION
+
+
 @dataclasses.dataclass(frozen=True)
 class JudgedReport:
-    """All that is told of a report: each handover and key change, the last line, and the status."""
+    """All that is told of a report: each handover and key change, what heals it where keys differ, the last line, and the status."""
 
     items: list[KenbChange]
     last: str
     status: int
+    heals: Healing | int | None = None
     frames: dict[int, str] = dataclasses.field(default_factory=dict)  # of the steps, where the scenario has them
 
     def lines(self) -> list[str]:
         told = [with_frames(str(item), self.frames) for item in self.items]
-        return [*told, *([] if told else ["no handover and no key change"]), self.last]
+        healed = f"step {self.heals}: a connection gives one key again" if isinstance(self.heals, int) else str(self.heals)
+        return [*told, *([] if told else ["no handover and no key change"]), *([healed] if self.heals else []), self.last]
 
     def document(self) -> dict[str, object]:
         """The document that --json prints."""
@@ -319,7 +350,8 @@ class JudgedReport:
                 "outcome": item.outcome.value, "cell": [int(part) for part in item.cell.split(",") if part],
             } | ({"first_frame": self.frames.get(item.first), "last_frame": self.frames.get(item.last)} if self.frames else {}) for item in self.items
         ]
-        return {"version": VERSION, "items": told, "verdict": self.last, "status": self.status}
+        heals, healed = (None, self.heals) if isinstance(self.heals, int) else (self.heals and list(self.heals.value), None)
+        return {"version": VERSION, "items": told, "heals": heals, "healed": healed, "verdict": self.last, "status": self.status}
 
 
 def judged(text: str) -> JudgedReport:
@@ -328,7 +360,7 @@ def judged(text: str) -> JudgedReport:
     found, is_set_up = items(report), connected(report)
     outcomes = [item.outcome for item in found]
     if Outcome.DIFFER in outcomes or is_set_up is False:
-        return JudgedReport(found, "keys differ", 1)
+        return JudgedReport(found, "keys differ", 1, healing(report, found))
     if Outcome.NOT_TOLD in outcomes:
         return JudgedReport(found, "not all is told", 3)
     if is_set_up is None:

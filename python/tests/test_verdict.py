@@ -7,10 +7,20 @@ from lte_sec import verdict
 
 EXAMPLES = pathlib.Path(__file__).resolve().parent.parent.parent / "examples"
 NOTHING = ["no handover and no key change", "nothing to judge"]
+RECONNECTION = "7 steps give one key again, if the core's window has the phone's next NAS COUNT: idle, service, deliver, connect, deliver, deliver, deliver"
+AUTHENTICATION = "11 steps give one key again, with a new KASME: auth, smc, deliver, deliver, idle, service, deliver, connect, deliver, deliver, deliver"
 
 
 def report(name: str) -> str:
     return (EXAMPLES / f"{name}.out").read_text()
+
+
+def cut(text: str, count: int, roots: int) -> str:
+    """A report of the first steps, and of the rows of the first KASMEs."""
+    lines = text.splitlines()
+    end = next(place for place, line in enumerate(lines) if line.startswith("end "))
+    later = [place for place, line in enumerate(lines) if " root " in line][roots]
+    return "\n".join([*lines[:count], f"end {count} 0 0", *lines[end + 1:later]]) + "\n"
 
 
 class Verdicts(unittest.TestCase):
@@ -21,7 +31,7 @@ class Verdicts(unittest.TestCase):
                 self.assertRaises(verdict.NoReport, verdict.judged, file.read_text())
             else:
                 told[verdict.judged(file.read_text()).status].add(file.stem)
-        self.assertLessEqual({"eight-ahead", "eight-preparations", "key-change-overtaken"}, told[1])
+        self.assertLessEqual({"complete-lost", "eight-ahead", "eight-preparations", "key-change-overtaken"}, told[1])
         self.assertLessEqual({"bidding-down", "rejects", "repeated-root", "wrong-ksi"}, told[3])
         self.assertLessEqual({"ordinary", "key-change", "seven-ahead", "relocation"}, told[0])
 
@@ -33,6 +43,7 @@ class Verdicts(unittest.TestCase):
             ("worked/key-change-overtaken", [
                 "steps 12 to 16: phone and station 0 have different keys; of different KASMEs",
                 "step 20: connection or key change: no station took its key",
+                RECONNECTION,
                 "keys differ",
             ]),
         ):
@@ -74,8 +85,16 @@ class Verdicts(unittest.TestCase):
         self.assertEqual(["step 12: key change in station 0, cell 10,100: not obeyed", "all agree; 1 of 1 not made"], verdict.judged(text).lines())
 
     def test_keys_that_a_handover_does_not_share_are_told_with_their_distance(self) -> None:
-        last = verdict.judged(report("run/eight-preparations")).lines()[-2:]
-        self.assertEqual(["steps 52 to 56: phone and station 1 have different keys; 8 steps ahead", "keys differ"], last)
+        last = verdict.judged(report("run/eight-preparations")).lines()[-3:]
+        self.assertEqual(["steps 52 to 56: phone and station 1 have different keys; 8 steps ahead", RECONNECTION, "keys differ"], last)
+
+    def test_what_gives_one_key_again_is_told(self) -> None:
+        for name, healed in (("eight-ahead", "step 80: a connection gives one key again"), ("complete-lost", "step 30: a connection gives one key again")):
+            self.assertEqual([healed, "keys differ"], verdict.judged(report(f"run/{name}")).lines()[-2:], name)
+        parted = cut(report("run/complete-lost"), 21, 3)
+        self.assertEqual([AUTHENTICATION, "keys differ"], verdict.judged(parted).lines()[-2:])
+        document = verdict.judged(parted).document()
+        self.assertEqual((AUTHENTICATION.split(": ")[1].split(", "), None), (document["heals"], document["healed"]))
 
     def test_the_document_says_what_the_lines_say(self) -> None:
         told = verdict.judged(report("run/ordinary"))

@@ -1,0 +1,2 @@
+pub mod HopsHold
+pub mod KasmesHold

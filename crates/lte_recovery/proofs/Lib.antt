@@ -1,0 +1,13 @@
+pub mod CoreSteps
+pub mod ElevenEvents
+pub mod Examples
+pub mod InOctets
+pub mod Newer
+pub mod OverRuns
+pub mod PhoneSteps
+pub mod Premises
+pub mod Reached
+pub mod RecoveryHolds
+pub mod SecurityMode
+pub mod SevenEvents
+pub mod StationSteps

@@ -1,0 +1,5 @@
+pub mod InRuns
+pub mod Octets
+pub mod Reconnection
+pub mod Recovery
+pub mod Renewal
