@@ -9,7 +9,7 @@ use Rattle.lte_machine.specs.{ByEvent.in_octets, Carried.map_stations, PhoneStat
 use Rattle.lte_machine.specs.StationState as state
 use Rattle.lte_recovery.specs.Octets.{ReconnectedInOctets, ReconnectsInOctets, RestartsInOctets}
 use Rattle.lte_recovery.specs.Reconnection.{TheWorld, Reconnected}
-use Rattle.lte_recovery.proofs.Reached.{recovers_in, recovers_anew_in}
+use Rattle.lte_recovery.proofs.Laws.{recovers_in, recovers_anew_in}
 
 found_value : (id : ℕ) (ss : List (Station Term ℕ)) → option_map (map_station value_of ncc_of) (station_of_id id ss) ≡ station_of_id id (map_stations value_of ncc_of ss)
 found_value id [] = refl

@@ -1,7 +1,10 @@
 pub mod CoreSteps
 pub mod ElevenEvents
 pub mod Examples
+pub mod Heard
 pub mod InOctets
+pub mod Laws
+pub mod Least
 pub mod Newer
 pub mod OverRuns
 pub mod PhoneSteps

@@ -1,24 +1,22 @@
 -- What every run has of the premises: cells, numbers, and one choice of NAS keys for a KASME.
-use Rattle.std.proofs.Common.{◌≡◌, refl, sym, ap, ◌∙◌, subst, ℕ, ◌<◌, ◌≤◌, Bool, true, false, cond, List, [], ◌∷◌, ◌++◌, Option, Some, None}
-use Rattle.std.specs.Prelude.{◌==◌}
-use Rattle.std.specs.List.{AllByRecursion as AllOf}
-use Rattle.annex_a_keys.specs.Cell.{Place}
-use Rattle.key_model.specs.{Term.Term, Term.Root, Value.value_of, Value.same_value}
-use Rattle.lte_events.specs.{Ranges.IsEvent, Ranges.IsSetup, Site.station_of, declared.events.Event.Event, declared.setups.Setup.Setup}
+use Rattle.std.proofs.Common.{◌≡◌, refl, sym, ap, ◌∙◌, subst, ℕ, ◌<◌, ◌≤◌, Bool, true, false, cond, List, [], ◌∷◌, Option, Some, None}
+use Rattle.std.specs.{Prelude.◌==◌, List.AllByRecursion as AllOf}
+use Rattle.alg_choice.specs.Algs.{eia2_identity}
+use Rattle.nas_guard.specs.Keys.{Keys}
+use Rattle.key_model.specs.{Term.Term, Term.Root, Term.Alg, Value.value_of, Value.same_value}
+use Rattle.lte_events.specs.{Ranges.IsEvent, Ranges.IsSetup, declared.events.Event.Event, declared.setups.Setup.Setup}
 use Rattle.lte_machine.specs.{BothRuns.annex_b_terms, CoreState.CoreContext, Opening.open_octets, PhoneState.NasContext, Run.first_world, Run.stations_of, Standing.RunsTo, StationState.Station}
-use Rattle.lte_machine.specs.Ciphers.{annex_b, octets_of}
-use Rattle.lte_machine.specs.Machines.{sender_of, written_machine, written_in_values}
-use Rattle.lte_machine.specs.World.{next_root, station_of_id}
+use Rattle.lte_machine.specs.{Ciphers.annex_b, Ciphers.octets_of, World.next_root, World.station_of_id}
+use Rattle.lte_machine.specs.Machines.{sender_of, written_in_values}
 use Rattle.lte_machine.proofs.{AnnexB.annex_b_ciphers, AnnexB.under_keys_ciphers, CipherLaws.AreCiphers, KnownWorld.first_grounds, Mixed.by_terms, MixedRun.run_by_terms}
 use Rattle.lte_properties.proofs.{Agreement.Ghost.StationOk, Agreement.World.ghost, Agreement.Openings.OpensByTerms, ChainNumbers.World.first_holds, Opening.Sender.roots_along, SameKeys.reflexive}
 use Rattle.lte_properties.proofs.Agreement.Holds.{cells_of, no_conns, first_ok}
 use Rattle.lte_properties.proofs.Agreement.Whole.{honest_along, settled_from_first, calm_over}
 use Rattle.lte_properties.proofs.Opening.Nas.{Choices, RootHas, ContextOk, PhoneContextOk, CoreContextOk, one_choice, nas_keys}
 use Rattle.lte_properties.proofs.Opening.Whole.{Stands, run_stands, first_stands}
-use Rattle.lte_recovery.specs.Reconnection.{TheWorld, reconnect, CanReconnect}
-use Rattle.lte_recovery.specs.Renewal.{restart, CanRestart}
-use Rattle.lte_recovery.specs.InRuns.{InTouch, RecoversIn, CanStartAnew, RecoversAnewIn}
-use Rattle.lte_recovery.proofs.{OverRuns.recovers_in_runs, OverRuns.recovers_anew_in_runs, Newer.run_below, Newer.first_below}
+use Rattle.lte_recovery.specs.Reconnection.{TheWorld}
+use Rattle.lte_recovery.proofs.{Newer.run_below, Newer.first_below}
+use Rattle.lte_recovery.proofs.Least.{least}
 
 -- what is so of each station is so of the one of this number
 found_is : (P : Station Term ℕ → Type 0) (id : ℕ) (ss : List (Station Term ℕ)) (s : Station Term ℕ) → AllOf P ss → station_of_id id ss ≡ Some s → P s
@@ -77,37 +75,16 @@ module _ (setup : Setup) (events : List Event) (set : IsSetup setup) (are : AllO
       one_choice g (next_root w) p.root k.nas.keys.algs p.keys.algs (subst (λ t. RootHas g (next_root w) t k.nas.keys.algs) root b.0) a.0 in
       b.1 ∙ (λ j. nas_keys (root j) (algs j)) ∙ sym a.1
 
+  -- the COUNT that the core expects is not above the phone's next one
+  pub in_order : (p : NasContext Term) (k : CoreContext Term) → w.phone.context ≡ Some p → w.core.context ≡ Some k → k.nas.root ≡ p.root → k.nas.receive ≤ p.send
+  in_order p k at_phone at_core root =
+      let b = core_context w.core.context stands.2.0 (next_root w) k stands.2.1.core.2 at_core in
+      least setup events w is p k at_phone at_core root (ap (λ (x : Keys Term). x.int) b.1 ∙ ap (λ t. Alg t 2 eia2_identity) root)
+
   -- the station of a cell knows it as its own, and has its numbers in range
   pub station_ok : (id : ℕ) (s : Station Term ℕ) → station_of_id id w.stations ≡ Some s → (s.cells ≡ setup.cells) × (s.id ≤ 7) × (1 ≤ s.next)
   station_ok id s there =
       let ok = found_is (StationOk setup.cells (ghost stands.0 w)) id w.stations s stands.1.stations there in (ok.cells, ok.id, ok.next)
-
-  -- all premises, where the core's next number is above all that the station saw
-  pub can_reconnect : (cell : Place) (h : InTouch setup w cell) → h.station.last < w.core.next → CanReconnect w cell
-  can_reconnect cell h newer =
-      let ok = station_ok h.station.id h.station h.there in
-      record {
-        phone = h.phone;
-        core = h.core;
-        at_phone = h.at_phone;
-        at_core = h.at_core;
-        root = h.root;
-        keys = same_keys h.phone h.core h.at_phone h.at_core h.root;
-        window = h.window;
-        left = h.left;
-        station = h.station;
-        there = h.there;
-        serves = ap (station_of cell) core_cells ∙ h.serves;
-        own = ap (station_of cell) ok.0 ∙ h.serves;
-        few = ok.1;
-        numbers = h.numbers;
-        newer = newer;
-        draws = h.draws;
-        from_one = ok.2;
-        algs = h.algs;
-        chosen = h.chosen;
-        supported = h.supported;
-      }
 
   -- THE CORE'S NEXT NUMBER is above all that a station saw
   pub all_below : AllOf (λ s. s.last < w.core.next) w.stations
@@ -124,41 +101,3 @@ module _ (setup : Setup) (events : List Event) (set : IsSetup setup) (are : AllO
 
   pub newer_than : (id : ℕ) (s : Station Term ℕ) → station_of_id id w.stations ≡ Some s → s.last < w.core.next
   newer_than id s there = found_is (λ t. t.last < w.core.next) id w.stations s all_below there
-
-  pub in_touch : (cell : Place) → InTouch setup w cell → CanReconnect w cell
-  in_touch cell h = can_reconnect cell h (newer_than h.station.id h.station h.there)
-
-  -- and where a new authentication comes first
-  pub can_restart : (cell : Place) (ksi : ℕ) (octets : List ℕ) → CanStartAnew setup w cell ksi octets → CanRestart (written_machine annex_b) w cell ksi octets
-  can_restart cell ksi octets h =
-      let ok = station_ok h.station.id h.station h.there in
-      record {
-        fresh = h.fresh;
-        key_set = h.key_set;
-        nas_algs = h.nas_algs;
-        nas_chosen = h.nas_chosen;
-        nas_supported = h.nas_supported;
-        station = h.station;
-        there = h.there;
-        serves = ap (station_of cell) core_cells ∙ h.serves;
-        own = ap (station_of cell) ok.0 ∙ h.serves;
-        few = ok.1;
-        numbers = h.numbers;
-        newer = newer_than h.station.id h.station h.there;
-        draws = h.draws;
-        from_one = ok.2;
-        algs = h.algs;
-        chosen = h.chosen;
-        supported = h.supported;
-      }
-
-  -- THE LAWS
-  pub recovers_in : (u : TheWorld) (cell : Place) → RunsTo annex_b setup (events ++ reconnect cell) u → (h : InTouch setup w cell) → RecoversIn setup w cell h u
-  unfolding in_touch can_reconnect
-  recovers_in u cell heals h = recovers_in_runs setup events w u cell is heals (in_touch cell h)
-
-  pub recovers_anew_in : (u : TheWorld) (cell : Place) (ksi : ℕ) (octets : List ℕ)
-      → RunsTo annex_b setup (events ++ restart w cell ksi octets) u
-      → (h : CanStartAnew setup w cell ksi octets) → RecoversAnewIn setup w cell ksi octets h u
-  unfolding can_restart
-  recovers_anew_in u cell ksi octets heals h = recovers_anew_in_runs setup events w u cell ksi octets is heals (can_restart cell ksi octets h)

@@ -4,7 +4,7 @@ use Rattle.std.specs.List.{AllByRecursion as AllOf}
 use Rattle.lte_events.specs.{Ranges.IsEvent, Ranges.IsSetup, declared.events.Event.Event, declared.setups.Setup.Setup}
 use Rattle.lte_machine.proofs.EventByEvent.{each_of_first}
 use Rattle.lte_recovery.specs.Recovery.{Recovery}
-use Rattle.lte_recovery.proofs.{InOctets.recovers_in_octets, InOctets.recovers_anew_in_octets, Reached.recovers_in, Reached.recovers_anew_in}
+use Rattle.lte_recovery.proofs.{InOctets.recovers_in_octets, InOctets.recovers_anew_in_octets, Laws.recovers_in, Laws.recovers_anew_in}
 
 pub recovery : (setup : Setup) (events : List Event) → IsSetup setup → AllOf IsEvent events → Recovery setup events
 recovery setup events set are =

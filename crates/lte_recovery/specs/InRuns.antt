@@ -7,7 +7,7 @@ use Rattle.lte_events.specs.{Site.station_of, declared.events.Event.Event, decla
 use Rattle.nas_count.specs.Estimate.{nas_count_limit}
 use Rattle.lte_machine.specs.{Ciphers.annex_b, CoreState.CoreContext, Machines.written_machine, PhoneState.NasContext, Standing.RunsTo, StationState.Station}
 use Rattle.lte_machine.specs.World.{station_of_id, known_root, next_root}
-use Rattle.lte_properties.specs.Packets.{InWindow, on_nas}
+use Rattle.lte_properties.specs.Packets.{on_nas}
 use Rattle.lte_recovery.specs.Reconnection.{TheWorld, reconnect, Reconnected}
 use Rattle.lte_recovery.specs.Renewal.{restart}
 
@@ -19,8 +19,8 @@ pub record InTouch (setup : Setup) (w : TheWorld) (cell : Place) : Type 0 where
   pub at_phone : w.phone.context ≡ Some phone
   pub at_core : w.core.context ≡ Some core
   pub root : core.nas.root ≡ phone.root
-  -- the phone's next uplink COUNT is left, and in the core's window
-  pub window : InWindow core.nas.receive phone.send on_nas
+  -- the phone's next uplink COUNT is left, and not past the core's window; it is never below that
+  pub window : phone.send < core.nas.receive + on_nas
   pub left : phone.send < nas_count_limit
   -- the cell is one of the setup; this is its station now
   pub station : Station Term ℕ

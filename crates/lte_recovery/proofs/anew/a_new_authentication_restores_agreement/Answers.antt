@@ -1,4 +1,4 @@
-use Rattle.lte_recovery.proofs.{Reached.recovers_anew_in, InOctets.recovers_anew_in_octets}
+use Rattle.lte_recovery.proofs.{Laws.recovers_anew_in, InOctets.recovers_anew_in_octets}
 use Rattle.lte_recovery.proofs.anew.a_new_authentication_restores_agreement.Goals as goal
 
 pub returns-clause-terms : goal.returns-clause-terms

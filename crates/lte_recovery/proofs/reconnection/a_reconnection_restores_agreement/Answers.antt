@@ -1,4 +1,4 @@
-use Rattle.lte_recovery.proofs.{Reached.recovers_in, InOctets.recovers_in_octets}
+use Rattle.lte_recovery.proofs.{Laws.recovers_in, InOctets.recovers_in_octets}
 use Rattle.lte_recovery.proofs.reconnection.a_reconnection_restores_agreement.Goals as goal
 
 pub returns-clause-terms : goal.returns-clause-terms
