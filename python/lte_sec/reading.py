@@ -1,14 +1,17 @@
 """A whole trace: what it tells of cells, and what is judged of its messages."""
 from __future__ import annotations
 
+import time
 from collections.abc import Iterable
-from dataclasses import dataclass
+from dataclasses import dataclass, replace
 
 from .cells import RANGES, Cells, Site, is_cell
 from .coverage import taken
 from .decoding import Message, title
+from .grounds import Grounds
 from .handed import kasmes_in
 from .report import Line, note_line
+from .rereading import read_again
 from .stations import Stations
 from .taps import on_one_clock, without_second_taps
 from .terms import Derivations
@@ -61,7 +64,8 @@ class Said:
 
 
 def check(derivations: Derivations, cells: Cells, messages: list[Message], budget: int | None = None, said: Said = Said()) -> Trace:
-    """Reads a trace. Which NH a core sends first is seen in the whole trace: where both are, the more frequent one is wanted."""
+    """Reads a trace. Which NH a core sends first is seen in the whole trace: where both are, the more frequent one is wanted. Then what other choices may
+    explain is read again."""
     messages, taps = without_second_taps(messages)
     messages, clock = on_one_clock(messages)
     faults = learn(cells, messages)
@@ -71,11 +75,13 @@ def check(derivations: Derivations, cells: Cells, messages: list[Message], budge
     stations = Stations(cells, messages)
     coverage = taken(stations.links(), said.covers, said.lacks)
     head = [note for note in (taps, clock) if note]
-    trace = Trace(derivations, cells, {}, budget, stations, coverage)
-    trace.read(messages, [*faults, *notes], head)
-    seen = trace.judge.seen_firsts
+    grounds, begun = Grounds(messages, derivations, cells, {}, budget, stations, coverage), time.process_time()
+    trace = Trace(grounds)
+    trace.read([*faults, *notes])
+    took, seen = time.process_time() - begun, trace.judge.seen_firsts
     if any(len(set(numbers)) > 1 for numbers in seen.values()):
         firsts = {mme: 1 if numbers.count(1) > numbers.count(2) else 2 for mme, numbers in seen.items()}
-        trace = Trace(derivations, cells, firsts, budget, stations, coverage)
-        trace.read(messages, [*faults, *notes], head)
+        trace = Trace(replace(grounds, firsts=firsts))
+        trace.read([*faults, *notes])
+    trace.tell([*head, *read_again(trace, took)])
     return trace

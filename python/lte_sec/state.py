@@ -77,6 +77,7 @@ class Connection:
     parted: bool = False  # phone and station have come apart
     undecided: Undecided | None = None
     certain: int = 0  # the place in the trace of the last KeNB or NH that was right
+    last: int = -1  # that of its last message of S1
     proved: int | None = None  # that of its last line that is right
     given: tuple[bytes, str] | None = None  # the last KeNB that its station was sent, and the frame
     away: list[str] = field(default_factory=list)  # stations without S1 in the trace where the phone was since its keys were last certain

@@ -2,26 +2,26 @@
 from __future__ import annotations
 
 from bisect import bisect_right
-from collections.abc import Callable, Iterator
+from collections.abc import Callable, Iterable, Iterator
 
 from .captures import CUT, UNREADABLE
-from .cells import Cells
+from .choices import Choices, Offer, Tape
 from .contexts import PLAIN, NasSeen
-from .coverage import Coverage
-from .decoding import Command, Message, title
+from .coverage import DOWN as FROM_CORE
+from .coverage import UP as FROM_STATIONS
+from .decoding import Message, title
 from .escaped import shown
+from .grounds import Grounds, within, without
 from .handovers import ANY_CORE, WAITING, Handovers, Leg
 from .histories import MOST
 from .progress import told
 from .judge import KeyJudge
 from .report import DIFFERS, RIGHT, UNKNOWN, Line, NasPart, note_line, unknown_line, withdrawn
-from .search import DerivationSearch
 from .seen import Account, Membership, Use, account
 from .service import ServiceBook
-from .stations import FROM_STATION, TELLS_CELL, Stations, station_end
+from .stations import FROM_STATION, TELLS_CELL, station_end
 from .state import Connection
-from .taps import gaps
-from .terms import DOWN, UP, Derivations
+from .terms import DOWN, UP
 
 FROM_PHONE = ("InitialUEMessage", "UplinkNASTransport")
 SERVED = (  # only the station that serves the phone has these
@@ -29,6 +29,7 @@ SERVED = (  # only the station that serves the phone has these
     "UEContextResumeRequest", "UEContextResumeResponse",
 )
 KEYS = ("KeNB", "KeNB*", "NH")
+RESTARTS = ("S1SetupRequest", "S1SetupResponse", "Reset", "ResetAcknowledge")
 JUDGED = (*KEYS, "command", "agreement")  # by histories
 MANY = f"there were more than {MOST} lawful histories, and not all were kept"
 EMERGENCY = 0  # an RRC Establishment Cause
@@ -37,45 +38,68 @@ Handler = Callable[["Trace", Connection, Message, str, Leg], None]
 
 
 class Trace(Handovers):
-    """The messages of a trace in their order, and what became of each connection."""
+    """A reading: the messages of a trace in their order, and what became of each connection, by some choices."""
 
-    def __init__(self, derivations: Derivations, cells: Cells, firsts: dict[str, int], budget: int, stations: Stations, coverage: Coverage):
+    def __init__(self, grounds: Grounds, taken: Tape = frozenset()):
         super().__init__()
-        self.stations, self.gummeis, self.coverage = stations, stations.gummeis, coverage
-        self.cells, self.derivations = cells, derivations
-        self.book = ServiceBook(derivations, 10 * budget)
-        self.judge = KeyJudge(self.book, cells, DerivationSearch(derivations, cells, budget=budget), firsts, coverage)
+        self.grounds, self.choices = grounds, Choices(taken)
+        self.messages, self.stations, self.gummeis, self.coverage = grounds.messages, grounds.stations, grounds.stations.gummeis, grounds.coverage
+        self.cells, self.derivations = grounds.cells, grounds.derivations
+        self.book = ServiceBook(self.derivations, 10 * grounds.budget)
+        self.judge = KeyJudge(self.book, self.cells, grounds.search, grounds.firsts, self.coverage)
+        self.judge.replies, self.judge.gaps = grounds.replies, grounds.gaps
         self.lines = self.judge.lines
         self.legs = {}
         self.mmes = {}
         self.connections = []
-        self.by_leg: dict[Leg, list[int]] = {}
-        self.messages: list[Message] = []
+        self.restarts: dict[str, int] = {}  # by station's end, the place where its S1 last began anew
         self.seen = Account(())
 
     # -- reading
 
-    def read(self, messages: list[Message], notes: list[Line], head: list[str]) -> None:
-        self.messages = messages
+    def read(self, notes: list[Line]) -> None:
+        """Reads all messages."""
         self.lines += notes
-        for place, message in enumerate(messages):
-            if message.link == "S1" and message.enb_id is not None:
-                self.by_leg.setdefault((station_end(message), message.enb_id), []).append(place)
-        self.judge.replies, self.judge.gaps = replies(messages), gaps(messages)
-        for place, message in enumerate(told(messages, "judged", len(messages))):
+        self.read_at(told(range(len(self.messages)), "judged", len(self.messages)))
+
+    def read_at(self, places: Iterable[int], most: int | None = None) -> None:
+        """Reads the messages at these places, until more lines differ than this."""
+        differing = 0
+        for place in places:
+            message = self.messages[place]
             before, self.at, self.cells.now = len(self.lines), place, place
             self.one(message, place)
             self.left_over(message, before)
             self.weigh(place, before)
             for line in self.lines[before:]:
-                line.place = place if line.frame == message.frame else None
+                line.place = place if line.frame == message.frame else self.grounds.first.get(line.frame)
             if place in self.owners and any(line.verdict == RIGHT for line in self.lines[before:]):
                 self.owners[place].proved = place
-        first = {message.frame: (place, message.time) for place, message in reversed(list(enumerate(messages)))}
-        self.lines.sort(key=lambda line: first.get(line.frame, (0, 0.0))[0])
+            differing += sum(line.verdict == DIFFERS for line in self.lines[before:])
+            if most is not None and differing > most:
+                return
+
+    def other(self, places: set[int], taken: Tape, most: int) -> Trace:
+        """The messages at these places read with other choices, until more lines differ than this."""
+        other = Trace(self.grounds, taken)
+        other.read_at(sorted(places), most)
+        return other
+
+    def goes_on_from(self, other: Trace, places: set[int]) -> None:
+        """What another reading found of these messages takes the place of what this one found."""
+        gone = {id(one) for place, one in self.owners.items() if place in places}
+        self.lines[:] = [*(line for line in self.lines if line.place not in places), *(line for line in other.lines if line.place in places)]
+        self.connections = [*(one for one in self.connections if id(one) not in gone), *other.connections]
+        self.owners = {**without(self.owners, places), **within(other.owners, places)}
+        self.handovers = {**without(self.handovers, places), **within(other.handovers, places)}
+
+    def tell(self, head: list[str]) -> None:
+        """Makes the list of what was seen."""
+        self.lines.sort(key=lambda line: self.grounds.first.get(line.frame, 0))
         for line in self.lines:
-            line.time = first[line.frame][1] if line.frame in first else None
-        self.seen = account(messages, self.lines, self.membership(), self.cells.addresses, FROM_STATION, [*self.coverage.head(), *head], self.derivations, self.uses())
+            line.time = self.messages[self.grounds.first[line.frame]].time if line.frame in self.grounds.first else None
+        head = [*self.coverage.head(), *head]
+        self.seen = account(self.messages, self.lines, self.membership(), self.cells.addresses, FROM_STATION, head, self.derivations, self.uses())
 
     def membership(self) -> Membership:
         """The numbers of the connection and the handover of each message."""
@@ -127,7 +151,7 @@ class Trace(Handovers):
 
     def later(self, message: Message, place: int) -> Iterator[tuple[int, bytes] | bytes]:
         """What comes after a message in the same connection at the same station: NAS messages and KeNBs."""
-        places = self.by_leg.get((station_end(message), message.enb_id), [])
+        places = self.grounds.by_leg.get((station_end(message), message.enb_id), [])
         for after in places[bisect_right(places, place):]:
             one = self.messages[after]
             if one.name == "InitialUEMessage":
@@ -143,6 +167,8 @@ class Trace(Handovers):
         end = station_end(message)
         core = message.target if end == message.source else message.source
         station = self.stations.at(place)
+        if message.name in RESTARTS:
+            self.restarts[end] = place
         if message.name == "Reset":
             return self.reset(end, core)
         if message.name == "HandoverRequest":
@@ -151,7 +177,7 @@ class Trace(Handovers):
         connection = self.connection(message, station, leg, at_core)
         if connection is None:
             return
-        self.owners[place] = connection
+        self.owners[place], connection.last = connection, place
         self.binds(connection, leg, at_core)
         if message.name in SERVED and not self.is_late(connection, message, station):
             self.arrived(connection, station, message.frame)
@@ -179,9 +205,20 @@ class Trace(Handovers):
         found = self.legs.get(leg) if message.enb_id is not None and not new_leg else None
         known = self.mmes.get(-1 if message.mme_id is None else message.mme_id, {})
         found = found or known.get(at_core[0]) or known.get(ANY_CORE)
+        if found is not None and self.may_be_new(found, message, station, leg, at_core) and self.choices.takes(self.at, Offer.NEW):
+            found = self.new(station)
         if found is None and (message.enb_id is not None or message.mme_id is not None):
             found = self.new(station, message.eci if message.name in TELLS_CELL else None)
         return found
+
+    def may_be_new(self, connection: Connection, message: Message, station: str, leg: Leg, at_core: Leg) -> bool:
+        """Whether a message down may be of a new connection whose first message the trace cannot show. Its identities must be free: the core gives a new
+        one to this eNB-UE-S1AP-ID, or S1 began anew, or the release may have passed unseen too."""
+        if message.name in FROM_STATION or self.coverage.s1(station, FROM_STATIONS):
+            return False
+        bound = connection.legs.get(leg)
+        is_other = bound is not None and at_core[1] is not None and bound != at_core[1]
+        return is_other or self.restarts.get(leg[0], -1) > connection.last or not self.coverage.s1(station, FROM_CORE)
 
     def binds(self, connection: Connection, leg: Leg, at_core: Leg) -> None:
         if leg[1] is not None:
@@ -269,24 +306,15 @@ class Trace(Handovers):
             self.mmes.get(at_core[1], {}).pop(at_core[0], None)
             self.targets.pop(at_core, None)
 
+    def releasing(self, connection: Connection, message: Message, station: str, at_core: Leg) -> None:
+        """A release whose answer the trace cannot show: the connection ends here."""
+        if not self.coverage.s1(station, FROM_STATIONS) and not self.choices.takes(self.at, Offer.STAYS):
+            self.released(connection, message, station, at_core)
+
     def reset(self, end: str, core: str) -> None:
         """The S1 interface begins anew: all connections at this station's end are gone."""
         for leg in [leg for leg in self.legs if leg[0] in (end, core)]:
             del self.legs[leg]
-
-
-def replies(messages: list[Message]) -> dict[int, Command]:
-    """The command that answers each handover over X2, by its request."""
-    asked: dict[tuple[str, str, int | None], Message] = {}
-    found: dict[int, Command] = {}
-    for message in messages:
-        if message.link == "X2" and message.name == "HandoverRequest":
-            asked[message.source, message.target, message.old_x2] = message
-        elif message.link == "X2" and message.name == "HandoverRequestAcknowledge" and message.command is not None:
-            request = asked.pop((message.target, message.source, message.old_x2), None)
-            if request is not None:
-                found[id(request)] = message.command
-    return found
 
 
 HANDLERS: dict[str, Handler] = {
@@ -296,6 +324,7 @@ HANDLERS: dict[str, Handler] = {
     "UEContextModificationRequest": Trace.context_changed,
     "UEContextModificationResponse": Trace.change_done,
     "UEContextModificationFailure": Trace.change_failed,
+    "UEContextReleaseCommand": Trace.releasing,
     "UEContextReleaseComplete": Trace.released,
     "HandoverRequired": Trace.handover_required,
     "HandoverRequestAcknowledge": Trace.handover_answered,
