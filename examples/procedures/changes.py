@@ -2,7 +2,7 @@
 from derivations import CELLS, KASMES, kenb, next_hop, star
 from procedure import Procedure, Wanted
 
-KASME, OTHER = KASMES
+KASME, OTHER = KASMES[:2]
 FIRST = kenb(KASME, 0)
 
 
@@ -152,4 +152,105 @@ def new_kasme_within_s1() -> Procedure:
     acknowledgement = it.deliver(wanted=Wanted(ncc=2, way="vertical", key=star(chain(2), 1)), sends=True)
     it.complete_nas()
     it.deliver(acknowledgement, Wanted(departs=True), sends=True)
+    return it
+
+
+def pair_used_within_then_s1() -> Procedure:
+    it = Procedure("the pair of a path switch is used within the station, vertical with NCC 2; again within, horizontal with NCC 2; then S1 with NCC 3, and X2 horizontal with NCC 3")
+    it.attach()
+    it.over_x2(0, 1, 0, star(FIRST, 1), "horizontal")
+    it.switch_path(2, chain(2))
+    key = star(chain(2), 1)
+    it.within(1, 2, key, "vertical")
+    it.within(1, 2, star(key, 1), "horizontal")
+    key = it.over_s1(1, 2, 3, chain(3))
+    it.over_x2(2, 0, 3, star(key, 0), "horizontal")
+    it.switch_path(4, chain(4))
+    it.packet()
+    return it
+
+
+def bearer_count_at_its_end() -> Procedure:
+    it = Procedure("the COUNT of a DRB is at its end: the last is used, and no other (7.2.9.3); a handover within gives a new key, and COUNT 0")
+    it.attach()
+    it.step('"skip", who = "phone", bearer = "drb1", n = 4294967295')
+    it.step('"user", from = "phone", bearer = "drb1", text = "61"', sends=True)
+    it.step('"user", from = "phone", bearer = "drb1", text = "62"', Wanted(answer="CountSpent"))
+    it.within(0, 0, star(FIRST, 0), "horizontal")
+    it.packet()
+    return it
+
+
+def new_kasme_at_a_wide_earfcn() -> Procedure:
+    it = Procedure("a new KASME at a cell of EARFCN-DL 70000: KeNB* of the new KeNB with three octets (A.5), then X2")
+    it.secure_nas()
+    it.connect(3, FIRST)
+    it.complete_nas()
+    key = it.change_key(3)
+    it.packet()
+    it.over_x2(3, 1, 0, star(key, 1), "horizontal")
+    it.switch_path(2, chain(2, OTHER))
+    return it
+
+
+def relocation_then_service_request() -> Procedure:
+    it = Procedure("S1 to another core; idle, and a Service Request there: NAS COUNTs went along, KeNB of COUNT 3; a new KASME there, and back over S1 with NCC 2 of its chain", cores=2)
+    it.attach()
+    it.message(2)
+    it.over_s1(0, 1, 2, chain(2))
+    it.release()
+    it.request_service()
+    it.connect(1, kenb(KASME, 3))
+    it.packet()
+    it.complete_nas()
+    it.change_key(1)
+    it.packet()
+    it.over_s1(1, 0, 2, chain(2, OTHER))
+    it.packet()
+    return it
+
+
+def two_new_kasmes() -> Procedure:
+    it = Procedure("two new KASMEs one after the other: each time KeNB of COUNT 0, KeNB* for the own cell and a new chain")
+    it.attach()
+    key = b""
+    for ksi in (1, 2):
+        it.complete_nas(ksi)
+        key = it.change_key(0, ksi)
+    it.packet()
+    it.over_x2(0, 1, 0, star(key, 1), "horizontal")
+    it.switch_path(2, chain(2, KASMES[2]))
+    return it
+
+
+def new_kasme_then_within() -> Procedure:
+    it = Procedure("a handover within behind a new KASME: horizontal of the new KeNB*, NCC 0; then S1 with NCC 2 of the new chain")
+    it.attach()
+    it.complete_nas()
+    it.within(0, 0, star(it.change_key(0), 0), "horizontal")
+    it.over_s1(0, 2, 2, chain(2, OTHER))
+    it.packet()
+    return it
+
+
+def within_eleven_times() -> Procedure:
+    it = Procedure("eleven handovers within the cell without a pair: NCC stays 0; then X2 horizontal with NCC 0, and its answer has NCC 2")
+    it.attach()
+    key = FIRST
+    for _ in range(11):
+        key = star(key, 0)
+        it.within(0, 0, key, "horizontal")
+    it.over_x2(0, 1, 0, star(key, 1), "horizontal")
+    it.switch_path(2, chain(2))
+    it.packet()
+    return it
+
+
+def relocation_while_a_command_is_open() -> Procedure:
+    it = Procedure("a handover over S1 to another core while a NAS Security Mode Command is open: the source core awaits the Complete (7.2.10); here it goes on", cores=2)
+    it.attach()
+    it.authenticate(1)
+    it.command_nas()
+    it.step(f'"s1", station = 0, cell = {list(CELLS[1])}', sends=True)
+    it.deliver(wanted=Wanted(answer="waits", departs=True), sends=True)
     return it

@@ -9,6 +9,7 @@ import types
 
 import changes
 import connections
+import crossings
 import handovers
 from judging import faults_of
 from procedure import Procedure
@@ -22,7 +23,7 @@ def procedures_of(module: types.ModuleType) -> dict[str, Procedure]:
 
 def main(words: list[str]) -> int:
     here = pathlib.Path(__file__).resolve().parent
-    procedures = {name: it for module in (connections, handovers, changes) for name, it in procedures_of(module).items()}
+    procedures = {name: it for module in (connections, crossings, handovers, changes) for name, it in procedures_of(module).items()}
     if words[1:] == ["--write"]:
         for name, procedure in procedures.items():
             (here / f"{name}.toml").write_text(procedure.text(), encoding="utf-8")

@@ -2,7 +2,7 @@
 from derivations import KASMES, algorithm_key, kenb, next_hop, star
 from procedure import Procedure, Wanted
 
-KASME, OTHER = KASMES
+KASME, OTHER = KASMES[:2]
 FIRST = kenb(KASME, 0)
 
 

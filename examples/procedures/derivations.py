@@ -2,7 +2,7 @@
 import hmac
 import typing
 
-KASMES: typing.Final = tuple(bytes(range(first, first + 32)) for first in (0, 32))
+KASMES: typing.Final = tuple(bytes(range(first, first + 32)) for first in (0, 32, 64))
 
 
 class Cell(typing.NamedTuple):

@@ -1,5 +1,5 @@
 """Handovers over X2 and S1, with their path switches and cancels."""
-from derivations import KASMES, kenb, next_hop, star
+from derivations import CELLS, KASMES, algorithm_key, kenb, next_hop, star
 from procedure import Procedure, Wanted
 
 KASME = KASMES[0]
@@ -178,5 +178,71 @@ def s1_beside_a_pair() -> Procedure:
     key = it.over_s1(1, 2, 3, chain(3))
     it.over_x2(2, 0, 3, star(key, 0), "horizontal")
     it.switch_path(4, chain(4))
+    it.packet()
+    return it
+
+
+def x2_to_other_algorithms() -> Procedure:
+    it = Procedure("X2 from EEA2 to a station whose list has EEA0 first, and back: the target chooses (7.2.4.2.2); keys of the new identities", priorities={1: [0, 2]})
+    it.attach()
+    near, back = star(FIRST, 1), star(chain(2), 0)
+    it.over_x2(0, 1, 0, near, "horizontal")
+    it.switch_path(2, chain(2))
+    it.packet()
+    it.over_x2(1, 0, 2, back, "vertical")
+    it.switch_path(3, chain(3))
+    it.packet()
+    it.rows = [algorithm_key(near, 3, 0), algorithm_key(near, 4, 2), algorithm_key(near, 5, 0), *(algorithm_key(back, kind, 2) for kind in (3, 4, 5))]
+    return it
+
+
+def s1_to_a_station_without_algorithm() -> Procedure:
+    it = Procedure("S1 to a station that has no algorithm in common fails, and is cancelled: the core has stepped, X2 is horizontal with NCC 0 and its answer has NCC 3", caps="8020", priorities={1: [2]})
+    it.attach()
+    it.begin_s1(0, 1, ncc=2, next_hop_key=chain(2))
+    it.deliver(wanted=Wanted(answer="NoAlgorithm"))
+    it.step('"cancel", station = 0', sends=True)
+    it.deliver(sends=True)
+    it.over_x2(0, 2, 0, star(FIRST, 2), "horizontal")
+    it.switch_path(3, chain(3))
+    it.packet()
+    it.over_x2(2, 0, 3, star(chain(3), 0), "vertical")
+    it.switch_path(4, chain(4))
+    return it
+
+
+def source_never_released() -> Procedure:
+    it = Procedure("the release at the source is lost each time: back at a station that has an old context, vertical with NCC 2, and on with NCC 3")
+    it.attach()
+    key, way = FIRST, "horizontal"
+    for turn, (source, target) in enumerate(((0, 1), (1, 0), (0, 1))):
+        it.over_x2(source, target, turn + 1 if turn else 0, star(key, target), way)
+        it.switch_path(turn + 2, chain(turn + 2), answered=False)
+        it.deliver(sends=True)
+        key, way = chain(turn + 2), "vertical"
+    it.packet()
+    return it
+
+
+def path_switch_lost_then_s1() -> Procedure:
+    it = Procedure("the Path Switch Request is lost, and a handover over S1 follows: by the rules of keys NCC 2 (a core of a product does not know the new station, and the handover fails)")
+    it.attach()
+    it.over_x2(0, 1, 0, star(FIRST, 1), "horizontal")
+    it.over_s1(1, 2, 2, chain(2))
+    it.packet()
+    return it
+
+
+def x2_cancelled_then_within() -> Procedure:
+    it = Procedure("X2 with the unused pair is cancelled: the pair is back, and a handover within is vertical with NCC 2")
+    it.attach()
+    it.over_x2(0, 1, 0, star(FIRST, 1), "horizontal")
+    it.switch_path(2, chain(2))
+    it.step(f'"x2", station = 1, cell = {list(CELLS[2])}', Wanted(ncc=2, way="vertical", key=star(chain(2), 2)), sends=True)
+    it.deliver(wanted=Wanted(ncc=2, way="given", key=star(chain(2), 2)), sends=True)
+    it.deliver()
+    it.step('"cancel", station = 1', sends=True)
+    it.deliver()
+    it.within(1, 2, star(chain(2), 1), "vertical")
     it.packet()
     return it

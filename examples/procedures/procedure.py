@@ -21,9 +21,10 @@ class Wanted:
 class Procedure:
     """Builds the steps. Each method adds what one message, act or whole exchange of the standard is here."""
 
-    def __init__(self, shows: str, *, first_ncc: int = 2, caps: str = "a020", cores: int = 1) -> None:
+    def __init__(self, shows: str, *, first_ncc: int = 2, caps: str = "a020", cores: int = 1, priorities: dict[int, list[int]] | None = None) -> None:
         self.shows = shows
         self.cores = cores
+        self.priorities = priorities or {}
         self.steps: list[str] = []
         self.wanted: list[Wanted] = []
         self.rows: list[bytes] = []
@@ -46,9 +47,10 @@ class Procedure:
         for turn in range(times):
             self.deliver(sends=turn + 1 < times)
 
-    def authenticate(self, ksi: int = 0) -> None:
-        """AKA leaves a KASME at both ends."""
-        self.step(f'"auth", ksi = {ksi}, kasme = "{KASMES[ksi].hex()}"')
+    def authenticate(self, ksi: int = 0, caps: str = "") -> None:
+        """AKA leaves a KASME at both ends; the core hears other capabilities where some are named."""
+        heard = f', caps = "{caps}"' if caps else ""
+        self.step(f'"auth", ksi = {ksi}, kasme = "{KASMES[ksi].hex()}"{heard}')
 
     def command_nas(self, *, wanted: Wanted = Wanted()) -> int:
         """The core sends its NAS Security Mode Command."""
@@ -73,6 +75,19 @@ class Procedure:
         self.secure_nas()
         self.connect(0, key)
         return key
+
+    def mismatch(self, ksi: int, caps: str) -> None:
+        """A NAS Security Mode Command with capabilities that are not the phone's, and its Reject."""
+        self.authenticate(ksi, caps)
+        self.command_nas()
+        self.deliver(wanted=Wanted(answer="CapsMismatch"), sends=True)
+        self.deliver()
+
+    def message(self, times: int = 1) -> None:
+        """NAS messages of the phone, which arrive."""
+        for _ in range(times):
+            self.step('"nas", from = "phone", text = "01"', sends=True)
+            self.deliver()
 
     def release(self) -> None:
         """The core releases the connection, and the phone goes idle."""
@@ -137,9 +152,9 @@ class Procedure:
         self.deliver(sends=True)
         self.deliver(wanted=Wanted(ncc=0, way="initial", key=kenb(KASMES[ksi], 0)), sends=True)
 
-    def change_key(self, station: int) -> bytes:
+    def change_key(self, station: int, ksi: int = 1) -> bytes:
         """The UE Context Modification that follows `complete_nas`, and the change over the air; answers the key."""
-        key = star(kenb(KASMES[1], 0), station)
+        key = star(kenb(KASMES[ksi], 0), station)
         self.deliver(wanted=Wanted(ncc=0, key=key), sends=True)
         self.deliver(wanted=Wanted(ncc=0, key=key), sends=True)
         self.deliver(wanted=Wanted(ncc=0, key=key))
@@ -154,7 +169,8 @@ class Procedure:
         """The scenario in TOML."""
         first_ncc, caps = self._head
         of_core = [f", core = {int(i == 1)}" if self.cores == 2 else "" for i in range(len(CELLS))]
-        stations = "".join(f"  {{ id = {i}, cells = [{list(cell)}]{of_core[i]} }},\n" for i, cell in enumerate(CELLS))
+        lists = [f", priority = {self.priorities[i]}" if i in self.priorities else "" for i in range(len(CELLS))]
+        stations = "".join(f"  {{ id = {i}, cells = [{list(cell)}]{lists[i]}{of_core[i]} }},\n" for i, cell in enumerate(CELLS))
         steps = "".join(f"  {step},\n" for step in self.steps)
         return (
             f'# {self.shows}\nphone = {{ caps = "{caps}" }}\ncore = {{ first_ncc = {first_ncc} }}\n'
