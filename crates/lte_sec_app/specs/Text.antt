@@ -1,7 +1,7 @@
 -- What a command writes for the text that it reads, and what holds of that text.
-use Rattle.std.specs.Prelude.{ℕ, List, IfSome}
+use Rattle.std.specs.Prelude.{ℕ, List}
 use Rattle.edge_io.specs.Told.{Told}
-use Rattle.lte_sec_app.specs.{declared.command.TextCommand.TextCommand, declared.status.Status.Status, Run.Output, Run.WhereRun, Ladder.ladder_output, Scenario.run_output, Scenario.HasHeadline, Fleet.fleet_output, Fleet.HasFleet, Two.two_output, Two.HasTwo, Audit.audit_output, Audit.HasAudit}
+use Rattle.lte_sec_app.specs.{declared.command.TextCommand.TextCommand, declared.status.Status.Status, Run.Output, Ladder.ladder_output, Scenario.run_output, Scenario.HasHeadline, Scenario.HoldsWhereRun, Fleet.fleet_output, Fleet.HasFleet, Two.two_output, Two.HasTwo, Audit.audit_output, Audit.HasAudit}
 use Rattle.lte_sec_app.specs.declared.command.TextCommand.TheVariants.{Ladder, Run, Fleet, Two, Audit}
 
 abbrev pub text_output : TextCommand → List ℕ → Output
@@ -21,4 +21,4 @@ Holds Audit octets = HasAudit octets
 
 -- of the text that an input held
 abbrev pub HoldsOf : TextCommand → Status → Told → Type 0
-HoldsOf command status input = IfSome input.left (λ octets. WhereRun (Holds command octets) status)
+HoldsOf command status input = HoldsWhereRun (Holds command) status input

@@ -10,6 +10,7 @@ ghost use Rattle.lte_sec_app.specs.Drive.{DriveAt, DriveIsComplete};
 ghost use Rattle.lte_sec_app.specs.Generated.{gen_output, WritingIsComplete};
 ghost use Rattle.lte_sec_app.specs.Text.{text_output, HoldsOf};
 ghost use Rattle.lte_sec_app.specs.Run.{CommandAt, CommandIsComplete, WritesAt};
+ghost use Rattle.lte_sec_app.specs.Scenario.{HasHops, HasRecovery, HoldsWhereRun};
 ghost use Rattle.lte_sec_app.specs.Serve.{ServeAt, ServeIsComplete};
 ghost use Rattle.edge_io.specs.declared.peers.Role.{Role};
 ghost use Rattle.lte_sec_app.specs.declared.command.TextCommand.{TextCommand};
@@ -42,6 +43,7 @@ pub const LIMIT: usize = 16_777_216;
 /// - `gen` with a number of steps and a seed reads nothing, runs the scenario of the seed and writes its summary.
 ///
 /// For other words the answer is `BadWords`, and every object stays as it was.
+#[tactic(auto, using(crate::proofs::Reports::has_hops, crate::proofs::Reports::has_recovery))]
 pub fn run<R: Source, W: Sink, P: Peers, L: Port>(
     alloc: Global,
     words: &[String],
@@ -81,6 +83,11 @@ pub fn run<R: Source, W: Sink, P: Peers, L: Port>(
         → (text_output command octets).ends ≡ Status.Refused
         → out.new ≡ out.old }
     ensures headline { (command : TextCommand) → named words.now ≡ Some (Command.Text command) → HoldsOf command result (R.told input.old) }
+
+    // For `run`: what leads back to one key behind any number of the scenario's steps, and which of its keys no other
+    // station can compute.
+    ensures recovers { named words.now ≡ Some (Command.Text TextCommand.Run) → HoldsWhereRun HasRecovery result (R.told input.old) }
+    ensures hops { named words.now ≡ Some (Command.Text TextCommand.Run) → HoldsWhereRun HasHops result (R.told input.old) }
 
     // What `drive` writes and what it asks of the peers, at each of its statuses: the report of `run`, and the calls of the
     // plan of the scenario; all peers that were started are stopped; and the headline of the scenario.
