@@ -189,9 +189,10 @@ class Layer:
         self.others = {one: textwrap.wrap(", ".join(other for other in stands[one] if other not in crates), LETTERS) for one in crates}
         self.crates = {(one, at) for at, row in enumerate(self.rows) for one in row}
         self.x_of = self.set_out()
-        first = min(self.x_of[one] for one in self.crates)
+        edges = {one: (x, x + CRATE) if one in self.crates else (x + (CRATE - LANE) / 2, x + (CRATE + LANE) / 2) for one, x in self.x_of.items()}
+        first = min(left for left, _ in edges.values())
         self.x_of = {one: x - first for one, x in self.x_of.items()}
-        self.inner = max(self.x_of[one] for one in self.crates) + CRATE
+        self.inner = max(right for _, right in edges.values()) - first
         self.heights = [NAME + 4 + WORDS * max(len(self.others[one]) for one in row) for row in self.rows]
         self.width, self.height = self.inner + 2 * EDGE, TITLE + EDGE + sum(self.heights) + ROWS_APART * (len(self.rows) - 1)
 

@@ -22,6 +22,7 @@ KEY_FILLS = ["#cfe3ff", "#ffe8c7", "#cdeed6", "#f6d5e6", "#e3d9f7", "#f3f0b5", "
 
 
 LANE, LETTER, MARGIN = 262, 0.62, 880  # the distance between lanes; a letter's width by its size; the width of what stands above them
+INJECTED = 104  # the length of an arrow that no actor sends; it stands right of the numbers of steps
 SCREEN, HEIGHT = 900, 44  # the actors' names stand again after so much, and take so much
 HEAD = (
     "Each arrow is a delivery, at its step, with the number of the record. A key that an actor comes by or tells stands on its line,",
@@ -109,7 +110,7 @@ class Steps(Picture):
         if step.came:
             self.arrow(self.x_of[step.came.sender], at[0], y, f"{step.came.record} {step.came.name}")
         elif step.event["do"] == "inject":
-            self.arrow(at[0] - 0.7 * LANE, at[0], y, "injected octets")
+            self.arrow(at[0] - INJECTED, at[0], y, "injected octets")
         else:
             for x in at:
                 self.parts.append(f'<circle cx="{x}" cy="{y}" r="4" fill="{INK}"/>')

@@ -40,8 +40,8 @@ def draw(answer: Answer) -> str:
         most = max([len(variants) for (_, each), variants in cells.items() if each == kind] + [3])
         picture.text(column, TOP - 20, kind, 12, weight="bold")
         for row, step in enumerate(answer.messages):
-            for place, variant in enumerate(cells.get((step, kind), [])):
-                box(picture, column + BOX * place, TOP + ROW * row - 12, variant.worst)
+            for at, variant in enumerate(cells.get((step, kind), [])):
+                box(picture, column + BOX * at, TOP + ROW * row - 12, variant.worst)
         column += BOX * most + GAP
     for row, (step, message) in enumerate(answer.messages.items()):
         picture.text(LEFT, TOP + ROW * row, named(step, answer.frames), 11, MONO, "#52606d")
