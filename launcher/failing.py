@@ -48,6 +48,8 @@ OTHERS: dict[str, list[str | pathlib.Path]] = {
     "wireshark": [TRACE, KASME],
     "replay": [TRACE, KASME],
     "vectors": ["--count", "10"],
+    "demands": ["7.2.10"],
+    "demands --json": [],
     "--help": [],
     "--version": [],
     "run --help": [],

@@ -272,7 +272,7 @@ class Installed(unittest.TestCase):
     def test_each_option_of_the_table_is_asked_for(self) -> None:
         for name, files in (
             ("check-trace", ["words"]), ("explain", ["words"]), ("wireshark", ["words"]), ("vectors", ["words"]), ("replay", ["words", "replay"]), ("what-if", ["what_if"]),
-            ("verdict", ["verdict"]), ("draw", ["ran"]), ("drive", ["drive", "suite", "generate"]),
+            ("verdict", ["verdict"]), ("draw", ["ran"]), ("drive", ["drive", "suite", "generate"]), ("demands", ["demands"]),
         ):
             texts = "".join((TOP / "python" / "lte_sec" / f"{file}.py").read_text() for file in files)
             asked = set(re.findall(r'"(--[a-z-]+)"', texts)) | {"--suite"}

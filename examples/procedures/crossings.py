@@ -170,6 +170,17 @@ def command_while_security_starts() -> Procedure:
     return it
 
 
+def command_while_the_key_changes() -> Procedure:
+    it = Procedure("a NAS Security Mode Command of a third KASME while UE Context Modification takes the second into use: the core waits (7.2.10); here it goes out, and the station refuses the change that follows")
+    it.attach()
+    it.complete_nas()
+    key = star(kenb(OTHER, 0), 0)
+    it.deliver(wanted=Wanted(ncc=0, key=key), sends=True)
+    it.authenticate(2)
+    it.command_nas(wanted=Wanted(answer="waits", departs=True))
+    return it
+
+
 def command_altered_on_the_air() -> Procedure:
     it = Procedure("an RRC Security Mode Command is altered on the air, and refused; the right one is taken behind it (TS 36.331 5.3.4.3, which has the phone send a failure, too)")
     it.secure_nas()

@@ -23,6 +23,7 @@ WORDS = (
 RANK = {word: rank for rank, word in enumerate(WORDS)}
 GOES_ON, USUAL_BAD = "goes on", "keys differ"
 HERE = " (here)"  # behind what an outcome is about, where the standard has it otherwise
+WAITS = " (7.2.10)"  # and where it is not there if each security procedure of the core waits for the one before
 ROW = re.compile(r"row \d+ (\w+)(?:\((\d+),([\d,]+)\))? ([0-9a-f]{64}) (\S+)")
 
 
@@ -276,6 +277,8 @@ class HasOutcomes(Protocol):
 def limit(variant: HasOutcomes, word: str, messages: dict[str, str]) -> str | None:
     """What a product does where an outcome is a limit of this profile and not of LTE."""
     what = variant.outcomes[word]
+    if what.endswith(WAITS):
+        return "a core waits"
     if word == "cut off":
         if "NotConnected" in what:
             return "a phone asks again at its timer"

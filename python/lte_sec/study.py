@@ -8,13 +8,15 @@ from typing import Any, NamedTuple
 from .charted import Charts
 from .courses import Course, Item, ProgramFails, Runs, act, delivery
 from .messages import NAS_TEXT
-from .outcomes import Comparison, Standing
+from .outcomes import GOES_ON, RANK, WAITS, Comparison, Standing
 from .probe import PROBE, Prober
 from .scenarios import Scenario, setup_text
 from .variants import Fault, Faults, Original, moved, own_guess
+from .waiting import crossings, of_course, waits
 
 HANDOVERS = ("x2", "s1", "intra")
 MOST_ANSWERS = 3
+MOST_WAITS = 4  # so many steps of a variant wait, one after the other
 
 
 @dataclass(slots=True)
@@ -81,7 +83,23 @@ class Study:
         standing = Standing(self.scenario, course, serving)
         own = own_items(items, self.faults.of) | {fault.item for fault in faults if fault.kind == "lost"}
         outcomes = Comparison(self.standing, standing, own).outcomes()
-        return Tried(self.told(faults, outcomes, course), course, serving)
+        return Tried(self.told(faults, self.marked(outcomes, items, course, own), course), course, serving)
+
+    def marked(self, outcomes: dict[str, str], items: list[Item], course: Course, own: set[str]) -> dict[str, str]:
+        """The outcomes, with a mark on those that are not there where each security procedure of the core waits for the one that it crosses."""
+        if RANK[next(iter(outcomes))] <= RANK[GOES_ON] or course.ended:
+            return outcomes
+        waited, serving, now = items, self.serving, course
+        for _ in range(MOST_WAITS):
+            put = next((put for crossing in crossings(of_course(now, PROBE)) if (put := waits(waited, crossing)) is not None), None)
+            if put is None:
+                break
+            waited = put
+            now, serving = self.followed(waited, own_guess(waited, self.usual), serving)
+        if now is course:
+            return outcomes
+        standard = Comparison(self.standing, Standing(self.scenario, now, serving), own).outcomes()
+        return {word: what + WAITS * (word not in standard) for word, what in outcomes.items()}
 
     def told(self, faults: tuple[Fault, ...], outcomes: dict[str, str], course: Course) -> Variant:
         run, gone = self.charts.run(course) if self.charts and len(faults) == 1 else ([], [])

@@ -15,7 +15,10 @@ from collections.abc import Iterator
 from .inputs import MOST_MADE, of_file, of_input
 from .options import Words
 from .remarks import frames_of, with_frames
+from .scenarios import NoScenario
+from .scenarios import read as read_scenario
 from .terms import TraceError
+from .waiting import remarks_of
 
 STEP = re.compile(r"(\d+) (both|phone|core(?: [01])?|world|station ([0-7])) (\w+)(.*)")
 SENT = re.compile(r" sent=\d+:(\w+)")
@@ -337,11 +340,13 @@ class JudgedReport:
     status: int
     heals: Healing | int | None = None
     frames: dict[int, str] = dataclasses.field(default_factory=dict)  # of the steps, where the scenario has them
+    remarks: list[str] = dataclasses.field(default_factory=list)  # where the scenario does what the standard has otherwise
 
     def lines(self) -> list[str]:
         told = [with_frames(str(item), self.frames) for item in self.items]
         healed = f"step {self.heals}: a connection gives one key again" if isinstance(self.heals, int) else str(self.heals)
-        return [*told, *([] if told else ["no handover and no key change"]), *([healed] if self.heals else []), self.last]
+        remarks = [f"remark: {with_frames(remark, self.frames)}" for remark in self.remarks]
+        return [*remarks, *told, *([] if told else ["no handover and no key change"]), *([healed] if self.heals else []), self.last]
 
     def document(self) -> dict[str, object]:
         """The document that --json prints."""
@@ -351,7 +356,7 @@ class JudgedReport:
             } | ({"first_frame": self.frames.get(item.first), "last_frame": self.frames.get(item.last)} if self.frames else {}) for item in self.items
         ]
         heals, healed = (None, self.heals) if isinstance(self.heals, int) else (self.heals and list(self.heals.value), None)
-        return {"version": VERSION, "items": told, "heals": heals, "healed": healed, "verdict": self.last, "status": self.status}
+        return {"version": VERSION, "items": told, "remarks": self.remarks, "heals": heals, "healed": healed, "verdict": self.last, "status": self.status}
 
 
 def judged(text: str) -> JudgedReport:
@@ -379,12 +384,18 @@ def text_of(octets: bytes) -> str:
 
 
 def main(words: list[str]) -> int:
-    """Options: --json, and --scenario FILE, whose remarks name the frames of its steps."""
+    """Options: --json, and --scenario FILE, whose remarks name the frames of its steps, and which tells where the report is of what the standard has otherwise."""
     given = Words.read("verdict", words)
-    scenario = given.last("--scenario")
+    file = given.last("--scenario")
     try:
-        frames = frames_of(of_file(scenario, "the scenario").decode(errors="replace")) if scenario else {}
-        verdict = dataclasses.replace(judged(text_of(of_input(MOST_MADE))), frames=frames)
+        text = of_file(file, "the scenario").decode(errors="replace") if file else ""
+        scenario = read_scenario(text.encode()) if file else None
+        report = text_of(of_input(MOST_MADE))
+        remarks = remarks_of(scenario, report) if scenario else []
+        verdict = dataclasses.replace(judged(report), frames=frames_of(text), remarks=remarks)
+    except NoScenario as fault:
+        print(f"lte_sec: status 2: the scenario {file} cannot be read: {fault}", file=sys.stderr)
+        return 2
     except TraceError as fault:
         print(f"lte_sec: status {fault.status}: {fault}", file=sys.stderr)
         return fault.status

@@ -14,7 +14,7 @@ from pathlib import Path
 from typing import Any
 from unittest import mock
 
-from lte_sec import drive, verdict, words
+from lte_sec import demands, drive, verdict, words
 
 from .schemas import SCHEMAS, faults, is_of, schema_of, validator
 from .standin import StandIn
@@ -52,6 +52,7 @@ def documents() -> Iterator[tuple[str, Any]]:
                 yield "verdict", json.loads(json.dumps(verdict.judged(file.read_text()).document()))
     yield "drive", drive.document(8, ["0 both done"], drive.Difference(None, "core", ["answer: wanted 0 (done), got 1 (NoContext)"]), None)
     yield "drive", drive.document(6, [], None, {"step": 3, "actor": "phone", "how": "it was silent"})
+    yield "demands", json.loads(json.dumps(demands.document(demands.load())))
     for name in ("A", "B1-star-earfcn"):
         yield "check-trace", traced(name)
     if is_built():
