@@ -11,19 +11,22 @@ import shutil
 import subprocess
 import tempfile
 import zlib
-from collections.abc import Callable, Iterable, Iterator
+from collections.abc import Callable, Iterable, Iterator, Sequence
 from dataclasses import replace
 from pathlib import Path
 
-from .decoding import Message, Pairs, diameter, fresh, gtpv2, is_tree, pdu, rrc
+from .decoding import Message, Pairs, diameter, fresh, gtpv2, is_tree, octets, pdu, rrc
+from .link_types import CUT, RAW, preferences, user_dlt
 from .progress import told
+from .stations import FROM_STATION
 from .terms import TraceError
 
-LAYERS = "frame ip ipv6 sctp s1ap x2ap lte_rrc exported_pdu diameter gtpv2 _ws.malformed"
-FILTER = "s1ap or x2ap or lte_rrc or diameter.KASME or gtpv2.mm_context_kasme or (sctp and frame.cap_len < frame.len)"
+LAYERS = "frame ip ipv6 sctp s1ap x2ap lte_rrc exported_pdu diameter gtpv2 data _ws.malformed"
+FILTER = "s1ap or x2ap or lte_rrc or diameter.KASME or gtpv2.mm_context_kasme or user_dlt or (sctp and frame.cap_len < frame.len)"
 WORDS = ["-n", "--disable-protocol", "nas-eps", "-T", "json", "-J", LAYERS, "-Y", FILTER]  # what tshark is asked for
 PACKAGE = "tshark is not here; Debian and Ubuntu have it in the package tshark (apt-get install tshark)"
-UNREADABLE, CUT = "unreadable", "cut"  # links of what is no message: unknown fields, and the end of a capture that was cut
+UNREADABLE = "unreadable"  # the link of what is no message, but has unknown fields
+STATION_END, CORE_END = "station:0", "core:0"  # the ends of S1AP that came without addresses
 
 Reader = Callable[[Message, Pairs], Iterator[Message]]
 
@@ -99,6 +102,10 @@ def messages(lines: Iterable[str], label: str = "", named: str = "the text") -> 
 
 def of_frame(base: Message, layers: Pairs) -> Iterator[Message]:
     """The messages of a frame, and what is to be said of the frame itself."""
+    dlt, data = user_dlt(last(layers, "frame", "frame.encap_type")), last(layers, "data", "data.data")
+    if dlt is not None and data:
+        yield replace(fresh(base, RAW, str(dlt)), nas=[octets(data)])
+        return
     exported = last(layers, "exported_pdu", "exported_pdu.exported_pdu")
     readers: dict[str, Reader] = {
         "s1ap": lambda message, value: pdu(message, "s1ap", value), "x2ap": lambda message, value: pdu(message, "x2ap", value),
@@ -113,18 +120,26 @@ def of_frame(base: Message, layers: Pairs) -> Iterator[Message]:
             try:
                 for message in readers[layer](base, value):  # type: ignore[arg-type]
                     fault = fault or message.fault
-                    yield message
+                    yield with_ends(message)
             except ValueError as why:
                 yield fresh(base, UNREADABLE, f"tshark tells of it what is not known here ({why})")
     if fault:
         yield fresh(base, UNREADABLE, fault)
 
 
-def read(capture: Path, label: str = "") -> Iterator[Message]:
+def with_ends(message: Message) -> Message:
+    """A message of S1 that came without addresses, as in a capture of S1AP alone, with the two ends that its name tells."""
+    if message.link == "S1" and (message.source, message.target) == (":", ":"):
+        ends = (STATION_END, CORE_END) if message.name in FROM_STATION else (CORE_END, STATION_END)
+        message.source, message.target = ends
+    return message
+
+
+def read(capture: Path, label: str = "", dlts: Sequence[str] = ()) -> Iterator[Message]:
     """The messages of a capture file, or of what tshark made of it elsewhere (`.json` or `.json.gz`, see `WORDS`)."""
     if not capture.is_file():
         raise TraceError(f"there is no capture {capture}")
-    return read_json(capture, label) if capture.name.endswith((".json", ".json.gz")) else read_capture(capture, label)
+    return read_json(capture, label) if capture.name.endswith((".json", ".json.gz")) else read_capture(capture, label, dlts)
 
 
 def read_json(capture: Path, label: str) -> Iterator[Message]:
@@ -141,10 +156,10 @@ def read_json(capture: Path, label: str) -> Iterator[Message]:
         raise TraceError(f"{capture} cannot be read: {fault.strerror}") from None
 
 
-def read_capture(capture: Path, label: str) -> Iterator[Message]:
+def read_capture(capture: Path, label: str, dlts: Sequence[str] = ()) -> Iterator[Message]:
     if shutil.which("tshark") is None:
         raise TraceError(PACKAGE)
-    words, found = ["tshark", *WORDS, "-r", str(capture)], False
+    words, found = ["tshark", *WORDS, *preferences(dlts), "-r", str(capture)], False
     last_seen = Message(f"{label}end", 0.0, CUT, "")
     with tempfile.TemporaryFile("w+", encoding="utf-8", errors="replace") as said:
         with subprocess.Popen(words, stdout=subprocess.PIPE, stderr=said, text=True, encoding="utf-8", errors="replace") as tshark:
@@ -165,9 +180,9 @@ def read_capture(capture: Path, label: str) -> Iterator[Message]:
         yield replace(last_seen, name=f"{capture.name} is judged to its frame {last_seen.frame} only: {reason}")
 
 
-def read_all(captures: list[Path]) -> list[Message]:
+def read_all(captures: list[Path], dlts: Sequence[str] = ()) -> list[Message]:
     """The messages of one capture, or of several in the order of their times; frames of all but the first have its file's name."""
-    found = [message for place, capture in enumerate(captures) for message in told(read(capture, f"{capture.name} " if place else ""), "read")]
+    found = [message for place, capture in enumerate(captures) for message in told(read(capture, f"{capture.name} " if place else "", dlts), "read")]
     if len(captures) > 1:
         found.sort(key=lambda message: message.time)
     return found

@@ -74,6 +74,7 @@ class Message:
     rnti: bytes | None = None  # the phone's C-RNTI in the source cell
     station: int | None = None  # an eNB identity
     station_name: str = ""
+    core_name: str = ""
     tmsi: int | None = None
     gummeis: list[tuple[int, int]] = field(default_factory=list)  # MME group and code
     nas: list[bytes] = field(default_factory=list)
@@ -190,7 +191,7 @@ SIMPLE: dict[str, tuple[str, Callable[[object], object]]] = {
     "lte-rrc.cellIdentity": ("source_eci", lambda text: bits(text, 28)),
     "s1ap.macroENB_ID": ("station", lambda text: bits(text, 20)), "x2ap.macro_eNB_ID": ("station", lambda text: bits(text, 20)),
     "s1ap.homeENB_ID": ("station", lambda text: bits(text, 28)), "x2ap.home_eNB_ID": ("station", lambda text: bits(text, 28)),
-    "s1ap.ENBname": ("station_name", str),
+    "s1ap.ENBname": ("station_name", str), "s1ap.MMEname": ("core_name", str),
 }
 SECRETS = {"x2ap.SgNBSecurityKey": "S-KgNB", "x2ap.sgNB_SecurityKey": "S-KgNB", "x2ap.SeNBSecurityKey": "S-KeNB", "x2ap.seNB_SecurityKey": "S-KeNB"}
 CAPABILITIES = ("encryptionAlgorithms", "integrityProtectionAlgorithms")
@@ -271,7 +272,8 @@ def rrc(base: Message, value: Pairs, exported: str) -> Iterator[Message]:
     if names:
         name = names[0].removeprefix("lte-rrc.").removesuffix("_element")
         told = command(radio, octets(exported) if exported else b"")
-        yield replace(fresh(base, "RRC", name[0].upper() + name[1:]), command=told, algorithms=algorithms(radio))
+        nas = [octets(below) for _, field, below in radio if field.startswith("lte-rrc.dedicatedInfoNAS")]
+        yield replace(fresh(base, "RRC", name[0].upper() + name[1:]), command=told, algorithms=algorithms(radio), nas=nas)
 
 
 def diameter(base: Message, value: Pairs) -> Iterator[Message]:

@@ -11,16 +11,17 @@ from dataclasses import dataclass
 from functools import partial
 
 from . import reasons
-from .cells import Cell, Cells
+from .cells import Cell, Cells, Site
 from .dumps import OctetBlock, candidates, resolved
 from .quick import ready
-from .search import DerivationSearch, MadeStar
+from .search import EARFCNS, FEW, PCIS, DerivationSearch, MadeStar, star_text, stepped
 from .terms import Derivations, Key, Term, counted
 
 NAS_TYPES, STATION_TYPES, IDENTITIES = (1, 2), (3, 4, 5, 6), range(16)
 OTHER_COUNT = re.compile(r"COUNT is \d")  # KeNB of another COUNT is found by itself
-CONSTANT = ("all octets", "it is KASME")  # mistakes that do not tell which key was to be made
+CONSTANT = ("all octets", "it is KASME", "SYNC-input is KASME")  # mistakes that do not tell which key was to be made
 MOST_COUNTS = 301  # KeNBs for which a mistake is sought
+VERSION = 1  # of the document that --json prints
 COMMON = range(4)  # identities that algorithms have today
 OF_KENB, OF_STAR = ([(type, identity, bytes([0x15, type, 0, 1, identity, 0, 1])) for type in STATION_TYPES for identity in identities] for identities in (IDENTITIES, COMMON))
 
@@ -43,8 +44,12 @@ class ExplainedKey:
     line: int
     value: bytes
     key: Key | None
-    mixed: bool = False
+    no_cell: str = ""  # why the cell that it is for is none, or not known
     why: Mistake | None = None
+
+    @property
+    def is_right(self) -> bool:
+        return self.key is not None and not self.no_cell
 
 
 class Explanation:
@@ -63,7 +68,7 @@ class Explanation:
         self.seek({row.value for block in left for row in block.rows})
         found = [one for block in text for one in resolved(block, lambda value: value in self.found)]
         whys = self.mistakes({key for _, key in found} - set(self.found))
-        return [ExplainedKey(line, key, self.found.get(key), self.is_mixed(self.found.get(key)), whys.get(key)) for line, key in found]
+        return [ExplainedKey(line, key, self.found.get(key), self.of_no_cell(self.found.get(key)), whys.get(key)) for line, key in found]
 
     def mistakes(self, keys: set[bytes]) -> dict[bytes, Mistake]:
         """Of keys that nothing gives those that a mistake of an implementation gives (`reasons`)."""
@@ -122,13 +127,25 @@ class Explanation:
             if self.open:
                 stage()
                 self.spread()
+        if self.open:
+            self.take_made(self.swept())
+
+    def swept(self) -> Iterator[MadeStar]:
+        """KeNB*s of the keys that were found first, and of the NHs behind these, for cells that nobody named: each PCI with an EARFCN-DL that is known, and each
+        EARFCN-DL with a PCI."""
+        found = [key for key in self.found.values() if key.term.kind in ("kenb", "nh", "star")][:FEW]
+        behind = [key for one in found if one.term.kind == "kenb" for key in self.search.chain(one.kasme, one)[:FEW]]
+        far = {(pci, earfcn) for earfcn in self.cells.earfcns() for pci in range(PCIS)} | {(pci, earfcn) for pci in self.cells.pcis() for earfcn in range(EARFCNS)}
+        cells = [(cell, star_text(*cell)) for cell in sorted(far - self.cells.pairs() - self.search.mixed())]
+        return stepped(as_made({key.value: key for key in [*found, *behind]}.values()), cells)
 
     def stars_of_roots(self) -> Iterable[MadeStar]:
         return self.search.made_stars(as_made(self.search.roots()), 1)
 
-    def is_mixed(self, key: Key | None) -> bool:
-        """Whether a key is for a PCI and an EARFCN of two cells."""
-        return key is not None and not self.search.mixed().isdisjoint(key.term.cells())
+    def of_no_cell(self, key: Key | None) -> str:
+        """Whether a key is for a PCI and an EARFCN of two cells, or for a cell that nobody named."""
+        cells = set(key.term.cells()) if key else set()
+        return "mixed cell" if not self.search.mixed().isdisjoint(cells) else "unknown cell" if cells - self.cells.pairs() else ""
 
     def take(self, candidates: Iterable[Key]) -> None:
         for key in candidates:
@@ -202,7 +219,24 @@ def told(derivations: Derivations, found: ExplainedKey) -> str:
         wanted = found.why.wanted.value[-len(found.value) :].hex()
         return f"{head} none ({found.why.name}; wanted {wanted}, which is {formed(derivations, found.why.wanted)})"
     assert key is not None
-    return f"{head} {formed(derivations, key)}" + (" mixed cell" if found.mixed else "")
+    return f"{head} {formed(derivations, key)} {found.no_cell}".rstrip()
+
+
+def document(derivations: Derivations, found: list[ExplainedKey], cells: list[Site]) -> dict[str, object]:
+    """What `explain --json` prints: each key with its derivation or its mistake; `cells` are those that the text named."""
+    return {
+        "version": VERSION, "keys": [entry(derivations, one) for one in found], "cells": [{"pci": site.pci, "earfcn": site.earfcn} for site in cells],
+        "status": 0 if all(one.is_right for one in found) else 1,
+    }
+
+
+def entry(derivations: Derivations, found: ExplainedKey) -> dict[str, object]:
+    key, why = found.key, found.why
+    wanted = None if why is None or why.name.startswith(CONSTANT) else {"hex": why.wanted.value[-len(found.value):].hex(), "form": formed(derivations, why.wanted)}
+    return {
+        "line": found.line, "hex": found.value.hex(), "form": formed(derivations, key) if key else None, "kasme": derivations.kasmes[key.kasme].name if key else None,
+        "mistake": found.no_cell or (why.name if why else None), "wanted": wanted,
+    }
 
 
 def formed(derivations: Derivations, key: Key) -> str:

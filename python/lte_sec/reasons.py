@@ -29,6 +29,13 @@ def first(value: bytes, named: Named) -> str:
     return next((name for name, made in named if made == value), "")
 
 
+def reordered(value: bytes) -> Named:
+    """What is written in another order: the whole, or each word of four or eight octets."""
+    yield "the octets are reversed", value[::-1]
+    for size in (4, 8):
+        yield f"the octets of each word of {size} are reversed", b"".join(value[at:at + size][::-1] for at in range(0, len(value), size))
+
+
 # -- KeNB*
 
 
@@ -57,7 +64,7 @@ def star_mistakes(key: bytes, pci: int, earfcn: int) -> Named:
     for code in (KENB, NH, 0x14, ALGORITHM):
         yield f"FC is 0x{code:02x}, not 0x{STAR:02x}", kdf(key, code, *cell)
     yield "the key is reversed", kdf(key[::-1], STAR, *cell)
-    yield "the octets are reversed", kdf(key, STAR, *cell)[::-1]
+    yield from reordered(kdf(key, STAR, *cell))
     yield "it is the key without the step to the cell", key
 
 
@@ -92,7 +99,7 @@ def kenb_mistakes(kasme: bytes, count: int) -> Named:
     yield "it is KASME itself", kasme
     yield "it is KASME, reversed", kasme[::-1]
     yield "KASME is reversed", kdf(kasme[::-1], KENB, octets)
-    yield "the octets are reversed", kdf(kasme, KENB, octets)[::-1]
+    yield from reordered(kdf(kasme, KENB, octets))
     yield "all octets are 00", bytes(32)
     yield "all octets are ff", b"\xff" * 32
 
@@ -112,7 +119,8 @@ def nh_mistakes(kasme: bytes, sync: bytes) -> Named:
     yield "KASME and SYNC-input are swapped", kdf(sync, NH, kasme)
     yield "SYNC-input is reversed", kdf(kasme, NH, sync[::-1])
     yield "KASME is reversed", kdf(kasme[::-1], NH, sync)
-    yield "the octets are reversed", kdf(kasme, NH, sync)[::-1]
+    yield "SYNC-input is KASME", kdf(kasme, NH, kasme)
+    yield from reordered(kdf(kasme, NH, sync))
     yield "it is the SYNC-input itself", sync
     yield "all octets are 00", bytes(32)
     yield "all octets are ff", b"\xff" * 32
@@ -140,7 +148,7 @@ def algorithm_mistakes(key: bytes, type: int, identity: int, size: int = 32) -> 
     for code in (KENB, NH, STAR, 0x14):
         yield f"FC is 0x{code:02x}, not 0x{ALGORITHM:02x}", kdf(key, code, bytes([type]), bytes([identity]))[-size:]
     yield "the key is reversed", kdf(key[::-1], ALGORITHM, bytes([type]), bytes([identity]))[-size:]
-    yield "the octets are reversed", whole[::-1] if size == len(whole) else whole[-size:][::-1]
+    yield from reordered(whole[-size:])
     yield "it is the key that it is made of", key[-size:]
 
 

@@ -15,7 +15,7 @@ from .script import CELLS, STATIONS, Script
 from .steps import Steps, triggers_of
 from .terms import TraceError
 from .told import NO_TEXTS, SECRETS, Part, ReplayedCapture, scenario_of
-from .words import TraceWords, traced
+from .words import TraceWords, noted, traced
 
 FAILS, STOPPED = 6, 130
 USUAL_CAPS = "a020"  # EEA0, 128-EEA2 and 128-EIA2, which the profile has
@@ -120,7 +120,9 @@ def main(words: list[str]) -> int:
         given = TraceWords.read("replay", words[1:])
         if not words[0]:  # without a program only the words are read
             return 0
-        return tell(replayed(words[0], record(traced(given)), [file.name for file in given.files], not given.has("--no-texts")), given)
+        trace = traced(given)
+        status = tell(replayed(words[0], record(trace), [file.name for file in given.files], not given.has("--no-texts")), given)
+        return status or noted(trace)
     except TraceError as fault:
         print(f"lte_sec: status {fault.status}: replay: {fault}", file=sys.stderr)
         return fault.status

@@ -51,6 +51,7 @@ class Stations:
         self.ends: dict[str, str] = {}  # by SCTP's verification tag
         self.alias: dict[str, str] = {}
         self.gummeis: dict[tuple[int, int], str] = {}  # core's ends by MME group and code
+        self.cores: dict[str, str] = {}  # names of cores by their ends
         self.told: set[str] = set()  # ends that told a name or a cell
         for message in messages:
             self.place(message)
@@ -75,6 +76,8 @@ class Stations:
             names.setdefault(message.source, self.cells.station(message.eci))
             self.told.add(message.source)
         elif message.name in ("S1SetupResponse", "MMEConfigurationUpdate"):
+            if message.core_name:
+                self.cores.setdefault(message.source, message.core_name)
             for one in message.gummeis:
                 self.gummeis[one] = message.source
 

@@ -4,7 +4,7 @@ from __future__ import annotations
 from bisect import bisect_right
 from collections.abc import Callable, Iterable, Iterator
 
-from .captures import CUT, UNREADABLE
+from .captures import UNREADABLE
 from .choices import Choices, Offer, Tape
 from .contexts import PLAIN, NasSeen
 from .coverage import DOWN as FROM_CORE
@@ -16,6 +16,7 @@ from .handovers import ANY_CORE, WAITING, Handovers, Leg
 from .histories import MOST
 from .progress import told
 from .judge import KeyJudge
+from .link_types import ALONE, CUT
 from .report import DIFFERS, RIGHT, UNKNOWN, Line, NasPart, note_line, unknown_line, withdrawn
 from .seen import Account, Membership, Use, account
 from .service import ServiceBook
@@ -99,7 +100,7 @@ class Trace(Handovers):
         for line in self.lines:
             line.time = self.messages[self.grounds.first[line.frame]].time if line.frame in self.grounds.first else None
         head = [*self.coverage.head(), *head]
-        self.seen = account(self.messages, self.lines, self.membership(), self.cells.addresses, FROM_STATION, head, self.derivations, self.uses())
+        self.seen = account(self.messages, self.lines, self.membership(), self.stations.cores | self.cells.addresses, FROM_STATION, head, self.derivations, self.uses())
 
     def membership(self) -> Membership:
         """The numbers of the connection and the handover of each message."""
@@ -135,12 +136,20 @@ class Trace(Handovers):
             self.x2ap(message)
         elif message.mm is not None:
             self.mm_context(message)
+        elif message.link == ALONE:
+            self.nas_alone(message, place)
         elif message.link == UNREADABLE:
             self.lines.append(unknown_line(message.frame, "message", "of this frame", message.name))
         elif message.link == CUT:
             self.lines.append(unknown_line(message.frame, "capture", "behind this frame", message.name))
         elif message.command is not None:
             self.rrc(message, message.command)
+
+    def nas_alone(self, message: Message, place: int) -> None:
+        """A NAS message that came without S1: all are of one phone."""
+        connection = self.connections[0] if self.connections else self.new("the core", None)
+        self.owners[place] = connection
+        self.nas(connection, message, place)
 
     def left_over(self, message: Message, before: int) -> None:
         """Lines for keys that no rule here judges."""

@@ -10,12 +10,13 @@ from pathlib import Path
 from typing import IO
 
 from . import about, pages, trace_page
-from .captures import read_all
+from .captures import UNREADABLE, read_all
 from .cells import Cells, Site, is_cell, read_cells
 from .derive import proved_calls
 from .dumps import HALF, KEY, blocks, has_hex
-from .explain import Explanation, told
+from .explain import Explanation, document as explained, told
 from .inputs import lines_of, of_file, of_input
+from .link_types import CUT, decoded, protocols
 from .logged import cells_of
 from .options import Words, WrongWords
 from .repeats import bounded, first_repeat
@@ -29,13 +30,14 @@ from .wireshark import rows
 from .written import annotate, document as trace_document, lines
 
 USAGE = {
-    "check-trace": "check-trace [--plain] [--json] [--annotate FILE] [--html FILE] [--html-keys no] [--cells FILE] [--covers LINK].. [--not-covered LINK].. CAPTURE.. KASME..   judges each KeNB, KeNB* and NH, and each NAS message, of a capture",
-    "explain": "explain [--cells FILE] [--cell PCI,EARFCN].. [--counts N] [--depth N] [--keys FILE] KASME..   says which derivation each key of a text is",
-    "wireshark": "wireshark [--cells FILE] CAPTURE.. KASME..   prints the PDCP keys of a capture as Wireshark's table",
+    "check-trace": "check-trace [--plain] [--json] [--annotate FILE] [--html FILE] [--html-keys no] [--cells FILE] [--covers LINK].. [--not-covered LINK].. [--dlt NUMBER=PROTOCOL].. CAPTURE.. KASME..   judges each KeNB, KeNB* and NH, and each NAS message, of a capture",
+    "explain": "explain [--cells FILE] [--cell PCI,EARFCN].. [--counts N] [--depth N] [--keys FILE] [--json] KASME..   says which derivation each key of a text is",
+    "wireshark": "wireshark [--cells FILE] [--dlt NUMBER=PROTOCOL].. CAPTURE.. KASME..   prints the PDCP keys of a capture as Wireshark's table",
     "vectors": "vectors [--seed N] [--count N]   prints test vectors",
     "repeats": "repeats [FILE]   tells the first key, bearer, direction and COUNT that come twice",
 }
 BAD_WORDS, NOT_JUDGED = 2, 3
+MOST_NOTED = 5  # frames that are named
 LINKS = ("--covers", "--not-covered")  # what the user says of the links of a trace
 
 
@@ -71,12 +73,27 @@ class TraceWords(Words):
 def traced(words: TraceWords) -> Trace:
     if not words.files:
         raise TraceError("a capture and the KASMEs of its phones are wanted: CAPTURE KASME.., a KASME as 64 hex digits")
-    messages = read_all(words.files)
+    dlts = words.options["--dlt"]
+    protocols(dlts)
+    messages = read_all(words.files, dlts)
     kasmes = kasmes_of(words.kasmes)
     if not kasmes and not any(message.kasmes for message in messages):
         raise TraceError("the KASMEs of its phones are wanted, 64 hex digits each: the capture has no S6a and no GTPv2-C that tells one")
     said = Said(*(tuple(words.options.get(name, [])) for name in LINKS))
-    return check(Derivations(proved_calls(), kasmes), words.cells(), messages, said=said)
+    derivations = Derivations(proved_calls(), kasmes)
+    return check(derivations, words.cells(), decoded(messages, dlts, derivations), said=said)
+
+
+def noted(trace: Trace) -> int:
+    """Says what of a capture could not be read; the status for that."""
+    unread = [message for message in trace.messages if message.link == UNREADABLE]
+    said = [message.name for message in trace.messages if message.link == CUT]
+    said += [f"frame {message.frame} cannot be read: {message.name}" for message in unread[:MOST_NOTED]]
+    said += [f"and {len(unread) - MOST_NOTED} more frames cannot be read"] if len(unread) > MOST_NOTED else []
+    said += ["the capture has no message of S1AP, X2AP, RRC or NAS"] if not trace.messages else []
+    for line in said:
+        print(f"lte_sec: {line}", file=sys.stderr)
+    return NOT_JUDGED if said else 0
 
 
 def check_trace(words: list[str]) -> int:
@@ -125,20 +142,23 @@ def explain(words: list[str]) -> int:
         cells.learn(site)
     explanation = Explanation(derivations, cells, counts, depth)
     found = explanation.find(keys)
-    for one in found:
-        print(told(derivations, one))
+    if given.has("--json"):
+        print(json.dumps(explained(derivations, found, logged), indent=1))
+    else:
+        for one in found:
+            print(told(derivations, one))
     if logged:
         print(f"lte_sec: no cell is given; those of the text are tried: {' '.join(f'{site.pci},{site.earfcn}' for site in logged)}", file=sys.stderr)
     elif not cells.sites and not all(one.key for one in found):
         print("lte_sec: no cell is given, and a KeNB* needs one: --cell PCI,EARFCN", file=sys.stderr)
-    return 0 if all(one.key for one in found) else 1
+    return 0 if all(one.is_right for one in found) else 1
 
 
 def wireshark(words: list[str]) -> int:
     trace = traced(TraceWords.read("wireshark", words))
     for row in rows(trace.seen, trace.derivations.calls):
         print(row)
-    return 0
+    return noted(trace)
 
 
 def repeats(words: list[str]) -> int:

@@ -68,6 +68,8 @@ def by_the_program() -> Iterator[tuple[str, Any]]:
     for name in ("A", "B2-nh-twice"):
         yield "replay", launched("replay", "--json", "--cells", TRACES / f"{name}.cells.txt", TRACES / f"{name}.json.gz", KASME)
     yield "check-trace", launched("check-trace", "--json", "--cells", TRACES / "A.cells.txt", TRACES / "A.json.gz", KASME)
+    yield "explain", launched("explain", "--json", "--keys", EXAMPLES / "run/ordinary.out", "--cell", "10,100", KASME)
+    yield "explain", launched("explain", "--json", "--keys", TOP / "docs/cookbook/handover.log", "6f1d9a0c55e2473bb8a4c07e12f3d96a80bc4e7719d2053fe6a1b8c4d7720e95")
     yield "vectors", launched("vectors", "--count", "100")
     yield "drive-suite", launched("drive", "--suite", "--json", "--scenario", "air-01", "--phone", "false")
     for given in (("drive", "--json", "nowhere"), ("run", "--json", EXAMPLES / "ladder/first.txt"), ("verdict", "--json", "/dev/null"), ("what-if", "--json", "--faults", "9"), ("check-trace", "--json", "nowhere"), ("replay", "--json"),

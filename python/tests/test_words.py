@@ -18,6 +18,7 @@ from unittest import mock
 from lte_sec import derive, words
 from lte_sec.captures import read
 from lte_sec.logged import cells_of
+from lte_sec.reasons import kdf
 from lte_sec.repeats import first_repeat
 from lte_sec.terms import TraceError
 from lte_sec.wireshark import rows
@@ -66,8 +67,21 @@ class Words(unittest.TestCase):
         log = (TRACES.parents[1] / "docs/cookbook/handover.log").read_text()
         kasme = "6f1d9a0c55e2473bb8a4c07e12f3d96a80bc4e7719d2053fe6a1b8c4d7720e95"
         status, out, _ = run("explain", "--cell", "301,1575", "--cell=87,3100", kasme, text=log)
-        self.assertEqual(status, 0)
+        self.assertEqual(status, 1)
         self.assertIn(" star(nh(2),301,3100) on kenb(5) mixed cell\n", out)
+
+    def test_explain_sweeps_cells_and_names_mistakes(self) -> None:
+        kasme = bytes.fromhex(KASME)
+        kenb = kdf(kasme, 0x11, bytes(4))
+        star = kdf(kenb, 0x13, (17).to_bytes(2, "big"), (1575).to_bytes(2, "big"))
+        right = kdf(kenb, 0x13, (301).to_bytes(2, "big"), (1575).to_bytes(2, "big"))
+        turned = b"".join(right[at:at + 4][::-1] for at in range(0, 32, 4))
+        status, out, _ = run("explain", "--json", "--cell", "301,1575", KASME, text="\n".join(key.hex() for key in (kenb, star, kdf(kasme, 0x12, kasme), turned)))
+        found = json.loads(out)["keys"]
+        self.assertEqual(status, 1)
+        self.assertEqual([one["form"] for one in found], ["kenb(0)", "star(kenb(0),17,1575)", None, None])
+        self.assertEqual([one["mistake"] for one in found], [None, "unknown cell", "SYNC-input is KASME", "the octets of each word of 4 are reversed"])
+        self.assertEqual(found[3]["wanted"], {"hex": right.hex(), "form": "star(kenb(0),301,1575)"})
 
     def test_repeated_uses(self) -> None:
         self.assertEqual(str(first_repeat(["# a", "7 1 0 5", "7 1 1 5", "7,2,0,5", "8 1 0 5", ""])), "none")
