@@ -5,7 +5,7 @@ the KeNB that follows does not speak against it; a KeNB that fits is proof.
 """
 from __future__ import annotations
 
-from collections.abc import Callable
+from collections.abc import Callable, Iterable
 from dataclasses import dataclass, replace
 
 from .contexts import FOREIGN, EpsSecurityContext, Life, NasSeen, NasSide, Trigger
@@ -89,7 +89,10 @@ class ServiceBook(ModeBook):
             others = [] if fits else [one for one in self.contexts.values() if one is not known]
             proved = self.proved([*([known] if known else []), *others], low, key)
             if proved is not None:
-                return self.fewest(proved, pdu, low) if fits else self.explained(proved, pdu, low, allowed)
+                right = self.right_near(proved.context, pdu, low) if fits else None
+                if right is not None:
+                    return Owner(proved.context, self.fewest(proved.context, (right, proved.count), pdu, low, key))
+                return proved if fits else self.explained(proved, pdu, low, allowed)
         again = next((Owner(one, count, True) for one in allowed for count in near(one, UP, low, SHORT_WRAP) if one.seen.get((UP, count), (b"", side))[0] == pdu), None)
         if again is not None:
             return again
@@ -97,16 +100,16 @@ class ServiceBook(ModeBook):
             return self.known_owner(known, pdu, low, key, later)
         return self.by_short_mac(allowed, pdu, low) if key is None else self.began(pdu, low, key)
 
-    def fewest(self, proved: Owner, pdu: bytes, low: int) -> Owner:
-        """Of the COUNT that the KeNB has and the one that the short MAC has, the one with fewer faults; on a tie the short MAC's.
+    def fewest(self, context: EpsSecurityContext, counts: Iterable[int], pdu: bytes, low: int, key: bytes | None) -> int:
+        """Of these COUNTs the one at which a request has the fewest faults, and of several the one that is due."""
+        due = near(context, UP, low, SHORT_WRAP)[0]
+        return min(counts, key=lambda count: (self.faults(context, count, pdu, key), count != due))
 
-        At its own COUNT the short MAC is right and KeNB is not: one fault. At that of KeNB the short MAC may be wrong, and the COUNT used.
-        """
-        context = proved.context
-        wrong = self.judged(context) and self.short_mac(context, proved.count, pdu) != pdu[2:4]
-        used = context.seen.get((UP, proved.count), (pdu, None))[0] != pdu
-        right = self.right_near(context, pdu, low)
-        return proved if right is None or not (wrong or used) else Owner(context, right)
+    def faults(self, context: EpsSecurityContext, count: int, pdu: bytes, key: bytes | None) -> int:
+        """How many faults a request has at a COUNT: its short MAC may be wrong, KeNB behind it of another COUNT, and the COUNT used with other octets."""
+        wrong = self.judged(context) and self.short_mac(context, count, pdu) != pdu[2:4]
+        used = context.seen.get((UP, count), (pdu, None))[0] != pdu
+        return wrong + used + (key is not None and self.derivations.kenb(context.kasme, count).value != key)
 
     def may_be(self, context: EpsSecurityContext, ksi: int, place: int | None) -> bool:
         """Whether S-TMSI and KSI of a request allow a context: its phone has no other S-TMSI, and this S-TMSI is of no other phone."""
@@ -127,7 +130,7 @@ class ServiceBook(ModeBook):
         """A request of a phone that S-TMSI and KSI name, whose KeNB does not follow or does not fit."""
         due, right = near(known, UP, low, SHORT_WRAP)[0], self.right_near(known, pdu, low)
         if right is not None or not self.judged(known):
-            return Owner(known, due if right is None else right)
+            return Owner(known, due if right is None else self.fewest(known, (right, due), pdu, low, key))
         if key is None:  # what follows tells whether the phone has this context, and whether the core refused the request
             same, other, _ = self.ahead(known, UP, pdu, later)
             refused = any(not isinstance(one, bytes) and one[1][:2] == REJECT for one in later())

@@ -7,7 +7,7 @@ from collections.abc import Callable
 from lte_sec.decoding import Message
 
 from .rarer import RarerWorld
-from .simulated import CALLS, Phone, World, cell_of
+from .simulated import CALLS, Phone, World, cell_of, nas_mac
 from .situations import ENB1, ENB2, KASMES, attached
 
 Made = Callable[[], World]
@@ -153,9 +153,8 @@ def renewed(fault: str) -> Made:
 
 def resealed(message: Message, phone: Phone, direction: int, count: int, eia: int) -> Message:
     """The message with its MAC under another algorithm."""
-    macs: dict[int, Callable[[bytes, int, int, int, bytes], bytes]] = {1: CALLS.eia1, 2: CALLS.eia2, 3: CALLS.eia3}
     body = message.nas[0][5:]
-    message.nas = [message.nas[0][:1] + macs[eia](CALLS.algorithm_key(phone.kasme, 2, eia)[16:], count, 0, direction, body) + body]
+    message.nas = [message.nas[0][:1] + nas_mac(phone.kasme, eia, count, direction, body) + body]
     return message
 
 
@@ -269,6 +268,27 @@ def service_at(count: int, key_count: int) -> Made:
             world.nas_up(phone)
         world.release(phone)
         world.service(phone, ENB2, CALLS.kenb(phone.kasme, key_count))
+        return world
+    return made
+
+
+def short_mac_at(count: int, key: bool = True) -> Made:
+    """A Service Request at COUNT 42 whose short MAC is that of another COUNT; KeNB is right, or the core refuses the request."""
+    def made() -> World:
+        world, phone = attached()
+        while phone.up < 42:
+            world.nas_up(phone)
+        world.release(phone)
+        world.service(phone, ENB2)
+        place = max(place for place, one in enumerate(world.messages) if one.name == "InitialUEMessage")
+        asked = world.messages[place]
+        head = asked.nas[0][:2]
+        asked.nas = [head + CALLS.eia2(keys(phone.kasme)[1][16:], count, 0, 0, head)[2:4]]
+        if count != 42:
+            world.fault(asked)
+        if not key:
+            del world.messages[place + 1:]
+            world.down(phone, "DownlinkNASTransport", nas=[b"\x07\x4e\x09"])
         return world
     return made
 

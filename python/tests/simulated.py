@@ -4,6 +4,7 @@ This is a second reading of the standard: it shares no line with the package but
 """
 from __future__ import annotations
 
+from collections.abc import Callable
 from dataclasses import dataclass, field
 
 from lte_sec.decoding import Command, Message
@@ -17,6 +18,16 @@ CELLS = [
     Site(0x0010301, 77, 66436, 131972, "enb3"), Site(0x0010302, 78, 100, 18100, "enb3"),
 ]
 ENDS = {"enb1": "10.0.0.11:36412", "enb2": "10.0.0.12:36412", "enb3": "10.0.0.13:36412"}
+
+
+Algorithm = Callable[[bytes, int, int, int, bytes], bytes]
+CIPHERS: dict[int, Algorithm] = {1: CALLS.eea1, 2: CALLS.eea2, 3: CALLS.eea3}
+MACS: dict[int, Algorithm] = {1: CALLS.eia1, 2: CALLS.eia2, 3: CALLS.eia3}
+
+
+def nas_mac(kasme: bytes, eia: int, count: int, direction: int, body: bytes) -> bytes:
+    """The MAC of a NAS message, over its octets from the sequence number on."""
+    return MACS[eia](CALLS.algorithm_key(kasme, 2, eia)[16:], count, 0, direction, body)
 
 
 def cell_of(eci: int) -> Site:
@@ -42,6 +53,7 @@ class Phone:
     up: int = 0
     down: int = 0
     eea: int = 2
+    eia: int = 2
     tmsi: int = 0
     as_kasme: bytes = b""
     mme_id: int = 0
@@ -98,11 +110,10 @@ class World:
                 phone.down += 1
             else:
                 phone.up += 1
-        keys = {type: CALLS.algorithm_key(kasme, type, 2)[16:] for type in (1, 2)}
-        if header in (2, 4) and phone.eea == 2:
-            text = CALLS.eea2(keys[1], count, 0, direction, text)
+        if header in (2, 4) and phone.eea:
+            text = CIPHERS[phone.eea](CALLS.algorithm_key(kasme, 1, phone.eea)[16:], count, 0, direction, text)
         body = bytes([count & 255]) + text
-        return bytes([header << 4 | 7]) + CALLS.eia2(keys[2], count, 0, direction, body) + body
+        return bytes([header << 4 | 7]) + nas_mac(kasme, phone.eia, count, direction, body) + body
 
     def nas_down(self, phone: Phone, text: bytes = bytes.fromhex("07610102"), header: int = 2, **how: object) -> Message:
         return self.down(phone, "DownlinkNASTransport", nas=[self.seal(phone, 1, header, text, **how)])  # type: ignore[arg-type]
@@ -112,7 +123,7 @@ class World:
 
     def security_mode(self, phone: Phone, kasme: bytes, ksi: int) -> None:
         phone.kasme, phone.ksi, phone.up, phone.down = kasme, ksi, 0, 0
-        self.nas_down(phone, bytes([7, 0x5D, phone.eea << 4 | 2, ksi, 2, 0xF0, 0x70]), 3)
+        self.nas_down(phone, bytes([7, 0x5D, phone.eea << 4 | phone.eia, ksi, 2, 0xF0, 0x70]), 3)
         phone.trigger = phone.up
         self.nas_up(phone, b"\x07\x5e", 4)
 
@@ -131,10 +142,10 @@ class World:
     def service(self, phone: Phone, eci: int, key: bytes | None = None) -> Message:
         phone.eci, phone.enb_id, phone.mme_id = eci, self.fresh(), self.fresh()
         head = bytes([0xC7, phone.ksi << 5 | phone.up & 31])
-        mac = CALLS.eia2(CALLS.algorithm_key(phone.kasme, 2, 2)[16:], phone.up, 0, 0, head)
+        short = nas_mac(phone.kasme, phone.eia, phone.up, 0, head)[2:4]
         phone.trigger = phone.up
         phone.up += 1
-        self.up(phone, "InitialUEMessage", nas=[head + mac[2:4]], tmsi=phone.tmsi)
+        self.up(phone, "InitialUEMessage", nas=[head + short], tmsi=phone.tmsi)
         return self.setup(phone, key)
 
     def setup(self, phone: Phone, key: bytes | None, nas: list[bytes] | None = None) -> Message:

@@ -11,7 +11,7 @@ from lte_sec.terms import Derivations, Kasme
 
 from .faulty import (
     Made, LONG, accepted_again, begins_there, behind_a_reject, commanded_again, eea2, header_1_up, kdf, key_by, keys, lacking, mac_by, mac_without_overflow, null_integrity, other_algorithm, renewed, replayed,
-    service_at, setup_again, text_by, tracked, tracking_ciphered,
+    service_at, setup_again, short_mac_at, text_by, tracked, tracking_ciphered,
 )
 from .simulated import CALLS, CELLS, World
 from .situations import ENB1, ENB2, KASMES, attached
@@ -21,6 +21,7 @@ SOUND: dict[str, Made] = {
     "a text as it must be": text_by(eea2), "an authentication in a secured connection": renewed(""), "algorithms that the phone has": lacking(2, 2), "EIA0 in an emergency call": null_integrity(True),
     "a Command that the phone refuses": behind_a_reject(False), "a Command again behind a Reject": commanded_again(False), "a Complete under the algorithms of its Command": other_algorithm(True),
     "a message again, at once": replayed("at once"), "a setup again after it failed": setup_again(True),
+    "a short MAC at its COUNT": short_mac_at(42), "a request that is refused": short_mac_at(42, False),
 }
 BROKEN: dict[str, tuple[Made, str]] = {
     "a text in clear": (text_by(lambda phone: LONG), "MAC right; text differs: it is not ciphered"),
@@ -45,6 +46,7 @@ BROKEN: dict[str, tuple[Made, str]] = {
     "octets again, later": (replayed("late"), "COUNT used again: a replay, 20 COUNTs behind"), "octets again, in another connection": (replayed("in another connection"), "COUNT used again: a replay, of another connection"),
     "KeNB of a COUNT without its overflow": (service_at(258, 2), "KeNB differs: is kenb(2), wanted kenb(258) of k0 (COUNT is 2, the low 5 bits of 258)"),
     "KeNB of a COUNT 32 less": (service_at(258, 226), "KeNB differs: is kenb(226), wanted kenb(258) of k0 (COUNT is 226, 32 less than 258)"),
+    "a short MAC of another COUNT": (short_mac_at(10), "NAS up COUNT 42 header 12 MAC wrong"), "the same of a request that is refused": (short_mac_at(10, False), "NAS up COUNT 42 header 12 MAC wrong"),
     "the same where the trace begins with it": (begins_there(service_at(258, 226)), "KeNB differs: is kenb(226), wanted kenb(258) of k0 (COUNT is 226, 32 less than 258)"),
     "KeNB of a COUNT 32 more": (service_at(258, 290), "KeNB differs: is kenb(290), wanted kenb(258) of k0 (COUNT is 290, 32 more than 258)"),
     "KeNB of a COUNT 256 more": (service_at(258, 514), "KeNB differs: is kenb(514), wanted kenb(258) of k0 (COUNT is 514, 256 more than 258)"),
