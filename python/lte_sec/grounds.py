@@ -12,7 +12,7 @@ from .stations import Stations, station_end
 from .taps import gaps
 from .terms import Derivations
 
-Thing = TypeVar("Thing")
+AtPlace = TypeVar("AtPlace")
 
 
 @dataclass
@@ -51,9 +51,9 @@ def replies(messages: list[Message]) -> dict[int, Command]:
     return found
 
 
-def within(by_place: dict[int, Thing], places: set[int]) -> dict[int, Thing]:
+def within(by_place: dict[int, AtPlace], places: set[int]) -> dict[int, AtPlace]:
     return {place: one for place, one in by_place.items() if place in places}
 
 
-def without(by_place: dict[int, Thing], places: set[int]) -> dict[int, Thing]:
+def without(by_place: dict[int, AtPlace], places: set[int]) -> dict[int, AtPlace]:
     return {place: one for place, one in by_place.items() if place not in places}

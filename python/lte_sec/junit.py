@@ -15,7 +15,7 @@ from .options import WrongWords
 NO_XML = re.compile("[^\t\n\r\x20-\ud7ff\ue000-\ufffd\U00010000-\U0010ffff]")
 
 
-class Case(NamedTuple):
+class TestCase(NamedTuple):
     """A case: the group and the name that a build shows, `failure`, `error`, `skipped` or nothing where it passed, why, where, and what else is said of it."""
 
     group: str
@@ -33,7 +33,7 @@ class Suite(NamedTuple):
     began: str
     seconds: float
     properties: dict[str, str]
-    cases: list[Case]
+    cases: list[TestCase]
 
     def count(self, outcome: str) -> int:
         return sum(case.outcome == outcome for case in self.cases)
@@ -43,7 +43,7 @@ def attribute(text: object) -> str:
     return quoteattr(NO_XML.sub("?", str(text)), {"\n": "&#10;"})
 
 
-def case_lines(case: Case) -> Iterable[str]:
+def case_lines(case: TestCase) -> Iterable[str]:
     yield f"  <testcase classname={attribute(case.group)} name={attribute(case.name)}>"
     if case.outcome == "skipped":
         yield f"   <skipped message={attribute(case.why)}/>"

@@ -24,7 +24,7 @@ class PeerFault(Exception):
         self.is_silent = is_silent
 
 
-class Work:
+class Activity:
     """What a process and those that it has started work: the processor time that they have used, and whether one of them is at work or waits for a processor or a disk.
 
     It is read of /proc. Where that is not there nothing is known, and nobody is at work.
@@ -64,7 +64,7 @@ class Patience:
     """How long an actor is waited for: so many seconds in which it does not work, and as many of a processor. On a busy machine it may take much longer by the clock."""
 
     def __init__(self, process: int, seconds: float):
-        self.work, self.seconds = Work(process), seconds
+        self.work, self.seconds = Activity(process), seconds
         self.work.look()
         self.began = self.work.used
         self.ends = time.monotonic() + seconds

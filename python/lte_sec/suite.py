@@ -18,6 +18,7 @@ from lte_sec.network import steps_of
 from lte_sec.options import Words, WrongWords
 from lte_sec.played import Case, Commands, Played, play
 from lte_sec.terms import TraceError
+from lte_sec.trace_page import Json
 
 SUITE = pathlib.Path(__file__).resolve().parents[2] / "examples" / "suite"
 MOST_JOBS = 256
@@ -124,7 +125,7 @@ def cut(cases: list[Case], runs: list[Played], table: rows.Table) -> list[Case]:
     return found
 
 
-def told(table: rows.Table, cases: list[Case], program: str, options: SuiteOptions, ran: suite_report.Ran) -> suite_report.Json:
+def told(table: rows.Table, cases: list[Case], program: str, options: SuiteOptions, ran: suite_report.Ran) -> Json:
     """The document of a run."""
     began = time.monotonic()
     if options.is_each:
@@ -135,7 +136,7 @@ def told(table: rows.Table, cases: list[Case], program: str, options: SuiteOptio
     return suite_report.document(entries, runs, [case.name for case in cases], ran._replace(seconds=time.monotonic() - began))
 
 
-def written(document: suite_report.Json, options: SuiteOptions) -> None:
+def written(document: Json, options: SuiteOptions) -> None:
     """Writes the files that are asked for."""
     if options.junit:
         junit.write(options.junit, suite_page.suites_of(document))

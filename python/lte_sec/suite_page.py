@@ -8,7 +8,8 @@ from html import escape
 
 from . import junit
 from .pages import HERE, policy, written
-from .suite_report import TOLD, Json, in_words, place_of, shown, why
+from .suite_report import TOLD, in_words, place_of, shown, why
+from .trace_page import Json
 
 ENDS = {"differs": "failure", "failed": "error", "timed out": "error", "not compared": "skipped", "not reached": "skipped"}
 STYLE = """
@@ -65,13 +66,13 @@ def html(document: Json) -> str:
     ])
 
 
-def case_of(entry: Json) -> junit.Case:
+def case_of(entry: Json) -> junit.TestCase:
     said = [f"clauses: {entry['clause']}"] if entry["clause"] else []
     if entry["outcome"] == "allowed":
         said.append(f"allowed: {why(entry)}")
     outcome = ENDS.get(entry["outcome"], "")
     reason = f"{entry['outcome']}: {why(entry)}" if outcome == "skipped" else "; ".join(entry["told"][:1]) if outcome else ""
-    return junit.Case(f"suite.{entry['actor']}.{entry['input'].replace('.', ' ')}", entry["row"], outcome, reason, "\n".join([place_of(entry), *entry["told"]]) if outcome else "", "\n".join(said))
+    return junit.TestCase(f"suite.{entry['actor']}.{entry['input'].replace('.', ' ')}", entry["row"], outcome, reason, "\n".join([place_of(entry), *entry["told"]]) if outcome else "", "\n".join(said))
 
 
 def suites_of(document: Json) -> list[junit.Suite]:

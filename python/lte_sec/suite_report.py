@@ -8,18 +8,18 @@ import platform
 import re
 import sys
 from collections.abc import Iterator
-from typing import Any, Iterable, NamedTuple
+from typing import Iterable, NamedTuple
 
 from . import about
 from .allowed import Allowed, group_of
 from .played import Played, Result
 from .rows import Row, Table, Visit
+from .trace_page import Json
 
 VERSION = 1  # of the document that --json prints
 OUTCOMES = ("passed", "differs", "allowed", "failed", "timed out", "not compared", "not reached")
 WORST = ("differs", "allowed", "failed", "timed out", "passed", "not compared")  # of a row that is visited more than once, what counts
 TOLD = ("differs", "allowed", "failed", "timed out")  # outcomes with a place and a reason
-Json = dict[str, Any]
 
 
 class Ran(NamedTuple):

@@ -12,6 +12,7 @@ import xml.etree.ElementTree
 
 from lte_sec import allowed, frames, junit, network, peers, played, rows, scenarios, suite, suite_page, suite_report, visits
 from lte_sec.options import WrongWords
+from lte_sec.trace_page import Json
 
 from .schemas import is_of, schema_of
 
@@ -28,11 +29,11 @@ def outcome_of(*outcomes: str, may_differ: str = "") -> str:
     return suite_report.told_by([result(outcome) for outcome in outcomes], allowed.read(may_differ))[SEND].outcome
 
 
-def entries_of(*results: played.Result, actor: str = "phone") -> list[suite_report.Json]:
+def entries_of(*results: played.Result, actor: str = "phone") -> list[Json]:
     return suite_report.entries_of(TABLE, list(results), [], [actor])
 
 
-def document(*results: played.Result) -> suite_report.Json:
+def document(*results: played.Result) -> Json:
     return suite_report.document(entries_of(*results), [played.Played([], set(), 0.5)], ["a"], suite_report.Ran(False, ["lte_sec", "drive", "--suite"], "2026-12-01T03:00:00", 2))
 
 
@@ -180,7 +181,7 @@ class Outcomes(unittest.TestCase):
         self.assertEqual("built without proof", {each.get("name"): each.get("value") for each in read.iter("property")}["program"])
 
     def test_what_xml_cannot_have_is_a_question_mark(self) -> None:
-        made = junit.xml([junit.Suite("a\0<", "b", 1, {}, [junit.Case("c", "d", "failure", "\x1b\n&", "\ud800]]>", "\ufffe")])])
+        made = junit.xml([junit.Suite("a\0<", "b", 1, {}, [junit.TestCase("c", "d", "failure", "\x1b\n&", "\ud800]]>", "\ufffe")])])
         case = xml.etree.ElementTree.fromstring(made)[0][1]
         self.assertEqual(("?\n&", "?]]>", "?"), (case[0].get("message"), case[0].text, case[1].text))
 
@@ -272,7 +273,7 @@ class Peers(unittest.TestCase):
                 peer = peers.Peer([sys.executable, "-S", "-c", program], "phone", 1)
                 try:
                     time.sleep(1)
-                    work = peers.Work(peer.process.pid)
+                    work = peers.Activity(peer.process.pid)
                     looks = [work.look() for _ in range(4) if not time.sleep(0.1)]  # type: ignore[func-returns-value]
                     self.assertEqual(is_at_work, any(looks[1:]))
                 finally:
