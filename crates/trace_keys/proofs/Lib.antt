@@ -1,0 +1,2 @@
+pub mod OneNet
+pub mod Placing

@@ -1,0 +1,4 @@
+pub mod Net
+pub mod Moved
+pub mod Places
+pub mod Same

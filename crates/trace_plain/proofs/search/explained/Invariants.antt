@@ -1,0 +1,12 @@
+use Rattle.std.proofs.Common.{◌≡◌}
+use Rattle.key_model.specs.Reading.{octet_reading}
+use Rattle.trace_keys.specs.Moved.{moved as moved_by}
+use Rattle.trace_plain.specs.Sights.{fits, is_covered}
+use Rattle.trace_plain.proofs.Steps.{Before}
+use Rattle.trace_plain.proofs.search.explained.Given as goal
+
+abbrev pub invariant-loop-sight : goal.invariant-loop-sight
+invariant-loop-sight l = record {
+  number : l.count ≡ l.sight-index;
+  before : Before (moved_by octet_reading l.kasmes) fits (is_covered l.covered) l.family l.bound l.start l.capture l.sight-index l.nets.items l.closed;
+}

@@ -1,0 +1,15 @@
+use Rattle.std.proofs.Common.{◌≡◌, ◌<◌, List, length, get_or, flat_map, drop, arith, rules}
+use Rattle.key_model.specs.Reading.{octet_reading}
+use Rattle.trace_keys.specs.{Moved.moved, Same.same_net}
+use Rattle.trace_rules.specs.Search.{hidden_from}
+use Rattle.trace_plain.specs.{Once.once_from, Sights.is_covered}
+use Rattle.trace_plain.proofs.Once.{added_on}
+use Rattle.trace_plain.proofs.widening.add_hidden.Goals as goal
+
+pub loop-net-preserved : goal.loop-net-preserved
+loop-net-preserved c =
+    let from = hidden_from (moved octet_reading c.args.kasmes.now) (is_covered c.args.covered.now) c.args.family.now in
+    let lt : c.loop-net.net-index < length c.args.nets.now = omega (arith, c.loop-net-test.true) in
+    let put : c.add_all.new.all.items ≡ once_from same_net c.loop-net.all.items c.in_ok-more.more.items = search rules in
+    added_on same_net from c.args.nets.now c.loop-net.net-index c.net-item.result c.loop-net.all.items c.add_all.new.all.items c.in_ok-more.more.items
+    (once_from same_net c.args.all.now.items (flat_map from c.args.nets.now)) lt c.net-item.is c.in_ok-more.ensures.items put c.loop-net.invariant

@@ -1,0 +1,17 @@
+use Rattle.std.proofs.Common.{◌≡◌, false, List, [], ◌++◌, append-nil, ap, sym, ◌∙◌, rules}
+use Rattle.key_model.specs.Reading.{octet_reading}
+use Rattle.trace_keys.specs.{Moved.moved, Places.place_of}
+use Rattle.trace_keys.proofs.Placing.{placed}
+use Rattle.trace_plain.specs.Sights.{is_dark}
+use Rattle.trace_plain.proofs.Dark.{none_unseen}
+use Rattle.trace_plain.proofs.widening.try_unseen.Goals as goal
+
+pub returns-else-dark-clause-items : goal.returns-else-dark-clause-items
+returns-else-dark-clause-items c =
+    let covered = c.args.covered.now in
+    let net = c.args.net.now in
+    let move = c.args.by_move.now in
+    let kasmes = c.args.kasmes.now in
+    let seen : is_dark covered (place_of net move) ≡ false = search rules in
+    let none = none_unseen covered (moved octet_reading kasmes net move) (place_of net move) (placed octet_reading kasmes net move) seen in
+    sym (append-nil c.args.out.now.items) ∙ ap (λ nets. c.args.out.now.items ++ nets) (sym none)

@@ -1,0 +1,3 @@
+pub mod Sights
+pub mod Once
+pub mod Explained

@@ -1,0 +1,4 @@
+pub mod Members
+pub mod Coverage
+pub mod Search
+pub mod Widening

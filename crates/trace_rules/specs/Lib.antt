@@ -1,0 +1,4 @@
+pub mod Rules
+pub mod History
+pub mod Search
+pub mod Closed
