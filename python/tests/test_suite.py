@@ -4,6 +4,8 @@ import io
 import json
 import pathlib
 import re
+import shutil
+import subprocess
 import sys
 import tempfile
 import time
@@ -179,6 +181,14 @@ class Outcomes(unittest.TestCase):
         case = next(case for case in read.iter("testcase") if case.get("name") == str(SEND))
         self.assertEqual(("suite.phone.SendUser", "text: wanted 01, got 02"), (case.get("classname"), case[0].get("message")))
         self.assertEqual("built without proof", {each.get("name"): each.get("value") for each in read.iter("property")}["program"])
+
+    @unittest.skipUnless(shutil.which("xmllint"), "xmllint is not here")
+    def test_what_a_build_reads_is_of_its_schema(self) -> None:
+        told = document(result("differs"), result("passed", SERVICE), result("timed out", TABLE.rows[0].visit), result("not compared", TABLE.rows[4].visit))
+        schema = suite.SUITE.parents[1] / "share" / "schema" / "junit.xsd"
+        for text, status in ((junit.xml(suite_page.suites_of(told)), 0), ("<testsuites><testsuite/></testsuites>", 3)):
+            ran = subprocess.run(["xmllint", "--noout", "--schema", str(schema), "-"], input=text.encode(), capture_output=True)
+            self.assertEqual(status, ran.returncode, ran.stderr.decode())
 
     def test_what_xml_cannot_have_is_a_question_mark(self) -> None:
         made = junit.xml([junit.Suite("a\0<", "b", 1, {}, [junit.TestCase("c", "d", "failure", "\x1b\n&", "\ud800]]>", "\ufffe")])])
