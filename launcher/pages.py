@@ -1,5 +1,5 @@
 #!/usr/bin/env python3
-"""Makes the man page and the completions for bash of the table `words`, and the schema of scenarios of the table of fields, and writes them where they belong: launcher/pages.py.
+"""Makes the man page and the completions for bash, zsh and fish of the table `words`, and the schema of scenarios of the table of fields, and writes them where they belong: launcher/pages.py.
 
 `share` is laid out as below a prefix such as /usr, for whoever packages it. The exit statuses are those of README.md. A test wants
 both as they are made here.
@@ -12,10 +12,12 @@ import pathlib
 import re
 
 import schema
+import shells
 
 HERE = pathlib.Path(__file__).resolve().parent
 TOP = HERE.parent
 MAN, COMPLETIONS = TOP / "share/man/man1/lte_sec.1", TOP / "share/bash-completion/completions/lte_sec"
+ZSH, FISH = TOP / "share/zsh/vendor-completions/_lte_sec", TOP / "share/fish/vendor_completions.d/lte_sec.fish"
 SCENARIO = TOP / "share/schema/scenario.schema.json"
 # What may stand for a name in capitals, where it can be completed.
 KINDS = ("lost", "late", "twice", "again")
@@ -64,6 +66,11 @@ def words() -> list[Word]:
 def takes(behind: str) -> str:
     """What is completed where this stands: a file, a folder, a command, or nothing."""
     return next((TAKES[name] for name in re.findall(r"[A-Z]+", behind) if name in TAKES), "")
+
+
+def values(word: str, option: str) -> list[str]:
+    """What may stand behind an option of a word, where it is one of a few."""
+    return VALUES.get(f"{word} {option}", [])
 
 
 # The man page.
@@ -163,7 +170,8 @@ def completions() -> str:
 
 def made() -> dict[pathlib.Path, str]:
     """The files, and what stands in each."""
-    return {MAN: man(), COMPLETIONS: completions(), SCENARIO: schema.text_of(schema.scenario()) + "\n"}
+    of_shells = {ZSH: shells.zsh(words(), takes, values), FISH: shells.fish(words(), takes, values)}
+    return {MAN: man(), COMPLETIONS: completions(), **of_shells, SCENARIO: schema.text_of(schema.scenario()) + "\n"}
 
 
 def main() -> None:

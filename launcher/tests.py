@@ -244,6 +244,15 @@ class Installed(unittest.TestCase):
         for file, made in pages.made().items():
             self.assertEqual(made, file.read_text(), f"{file} is out of date: launcher/pages.py makes it again")
 
+    def test_fish_and_zsh_take_theirs(self) -> None:
+        if shutil.which("zsh"):
+            self.assertEqual(b"", subprocess.run(["zsh", "-n", pages.ZSH], capture_output=True, check=True).stderr)
+        if shutil.which("fish"):
+            for given, offered in (("ru", "run"), ("what-if --bad ke", "keys-differ"), ("draw me", "messages"), ("run --js", "--json"), ("--prov", "--prove")):
+                script = f"source {pages.FISH}; complete -C 'lte_sec {given}'"
+                ran = subprocess.run(["fish", "--no-config", "-c", script], capture_output=True, text=True)
+                self.assertIn(offered, [line.split("\t")[0] for line in ran.stdout.splitlines()], given)
+
     def test_each_word_that_is_answered_is_in_the_table(self) -> None:
         answered = re.findall(r"^does_(\w+)\(\)", (HERE / "answers").read_text(), re.MULTILINE)
         own = set(re.findall(r"(?<=[ |])--[a-z]+(?= \||\))", (HERE / "answers").read_text().split("\nword=", 1)[1])) - {"--explain"}

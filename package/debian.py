@@ -86,7 +86,7 @@ def seedspan(name: str, version: str, libc: str, trees: dict[str, Tree], others:
     for place, entry in trees["share"].items():
         files |= {f"{place}.gz": Entry(gzip.compress(entry.octets, 9, mtime=0))} if place.startswith("share/man/") else {place: entry}
     fields = {
-        "Section": "comm", "Depends": f"{libc}, python3 (>= 3.11)", "Recommends": "tshark", **rivals("seedspan", name),
+        "Section": "comm", "Depends": f"{libc}, python3 (>= 3.11)", "Suggests": "tshark", **rivals("seedspan", name),
         "Description": "LTE access security computed and checked (TS 33.401)" + others,
     }
     about = "Derives the keys of LTE access security, runs scenarios of a phone, stations and a core, judges captures and logs, and drives actors of a product beside the reference."
