@@ -78,6 +78,12 @@ def moved(items: list[Item], at: int, to: int) -> set[str]:
     return names
 
 
+def put_behind(items: list[Item], at: int, to: int, names: set[str]) -> list[Item]:
+    """The items, in which those with these names, from one place on, stand behind another place."""
+    between = items[at : to + 1]
+    return [*items[:at], *(it for it in between if it.name not in names), *(it for it in between if it.name in names), *items[to + 1 :]]
+
+
 class Faults:
     """The faults of one scenario, put into lists of its items."""
 
@@ -103,8 +109,7 @@ class Faults:
         names = moved(items, at, to)
         if items[to].name in names:
             return None
-        between = items[at : to + 1]
-        return [*items[:at], *(it for it in between if it.name not in names), *(it for it in between if it.name in names), *items[to + 1 :]]
+        return put_behind(items, at, to, names)
 
     def put_all(self, faults: tuple[Fault, ...]) -> list[Item] | None:
         """The scenario's items with these faults; None where they do not go together."""

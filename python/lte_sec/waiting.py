@@ -8,7 +8,7 @@ from typing import NamedTuple
 from .courses import Course, Item
 from .messages import Names, StepLine
 from .scenarios import Scenario
-from .variants import moved
+from .variants import moved, put_behind
 
 COMMAND, SETUP, CHANGE, RELOCATION = "a NAS Security Mode Command", "Initial Context Setup", "a key change", "a handover to another core"
 WAITS_FOR = {COMMAND: (SETUP, CHANGE), SETUP: (COMMAND,), CHANGE: (COMMAND,), RELOCATION: (COMMAND, CHANGE)}
@@ -118,5 +118,4 @@ def waits(items: list[Item], crossing: Crossing) -> list[Item] | None:
         return [item for item in items if item.name not in names]
     if end < at or items[end].name in names:
         return None
-    between = items[at:end + 1]
-    return [*items[:at], *(it for it in between if it.name not in names), *(it for it in between if it.name in names), *items[end + 1:]]
+    return put_behind(items, at, end, names)
