@@ -9,7 +9,7 @@ from dataclasses import dataclass
 from pathlib import Path
 from typing import IO
 
-from . import about, pages, trace_page
+from . import about, lawful, pages, trace_page
 from .captures import UNREADABLE, read_all
 from .cells import Cells, Site, is_cell, read_cells
 from .derive import proved_calls
@@ -102,7 +102,7 @@ def check_trace(words: list[str]) -> int:
     html = [Path(file) for file in given.options["--html"]]
     for file in html:
         pages.writable(file)
-    seen = traced(given).seen
+    seen = lawful.confirmed(traced(given))
     for name in given.options["--annotate"]:
         annotate(given.files[0], Path(name), seen)
     found = trace_document(seen, about.trace(given.files, told_options(given))) if html or given.has("--json") else {}

@@ -1,0 +1,281 @@
+"""Blames of keys, asked of the proved program `lte_trace`: whether a lawful history gives what was captured.
+
+The judge says `differs` where it finds no lawful history. Before that is told, the program searches for one of its own: of the moves of the
+standard in the cells, at the COUNTs and between the taps of the trace, with so many unseen moves between two messages. A blame that it explains
+becomes `not judged`. One that it does not explain is confirmed by proof, as far as moves and bound go.
+"""
+from __future__ import annotations
+
+import os
+import subprocess
+from collections.abc import Iterator, Mapping
+from dataclasses import dataclass, field, replace
+from pathlib import Path
+
+from .coverage import DOWN, UP, Coverage
+from .report import DIFFERS, NOTE, UNKNOWN, unknown_line
+from .seen import Account, Seen, Value
+from .terms import counted
+from .trace import Trace
+
+KEYS = ("KeNB", "KeNB*", "NH")
+BOUND, FAR_BOUND = 2, 6  # unseen moves between two messages: with moves over the air, and without
+ASKS = 64  # of a phone: each leaves out one message that no history gives
+COUNTS = 40  # that are tried behind the last one where a station's messages to the core are not covered
+MOST = 256  # stations, or KASMEs
+SECONDS = 60.0  # for one question
+VARIABLE = "LTE_SEC_TRACE"  # `proved` or `unproved`, and the path of the program: the launcher says it
+NOT_BUILT = "blames of keys are not confirmed by proof: the program lte_trace is not built (./lte_sec --prove builds it)"
+NOT_FOUND = "a lawful history gives it, which lte_trace found and the judge did not"
+WITHOUT_X2 = "without messages between the stations"
+ANSWERED = {"PathSwitchRequestAcknowledge": "PathSwitchRequest", "UEContextSuspendResponse": "UEContextSuspendRequest", "UEContextResumeResponse": "UEContextResumeRequest", "HandoverRequest": "HandoverRequired"}
+TAKEN = "UEContextModificationResponse"
+REQUESTS = tuple(ANSWERED.values())
+
+
+@dataclass(frozen=True)
+class Answer:
+    """So many messages of a question have a lawful history, and whether no number of unseen moves gives one more."""
+
+    explained: int
+    closed: bool
+
+
+@dataclass(frozen=True)
+class Program:
+    """The program `lte_trace`."""
+
+    path: str
+    is_proved: bool
+
+    def ask(self, question: str) -> Answer | None:
+        """The answer to a question; None where the search was given up."""
+        try:
+            ran = subprocess.run([self.path], input=question, capture_output=True, text=True, timeout=SECONDS, check=False)
+        except (OSError, subprocess.TimeoutExpired):
+            return None
+        words = ran.stdout.split()
+        return Answer(int(words[1]), words[-1] == "closed") if ran.returncode == 0 and words[:1] == ["explained"] else None
+
+
+def program() -> Program | None:
+    """The program as the launcher names it, where it is built."""
+    kind, _, path = os.environ.get(VARIABLE, "").partition(" ")
+    return Program(path, kind == "proved") if path and Path(path).exists() else None
+
+
+@dataclass
+class Sighting:
+    """A message of a phone that tells of keys, as a question has it: the words before the key, and the key with its NCC."""
+
+    at: str
+    key: str = ""
+    seen: Seen | None = None
+    value: Value | None = None  # that is blamed
+    passed: bool = False  # its key is not looked at
+
+    @property
+    def line(self) -> str:
+        return f"{self.at} {self.key}" if self.key and not self.passed else self.at if self.at.startswith(("asked ", "took ")) else f"any {self.at}"
+
+
+@dataclass
+class Numbers:
+    """Stations by their numbers."""
+
+    found: dict[str, int] = field(default_factory=dict)
+
+    def of(self, name: str) -> int:
+        return self.found.setdefault(name, len(self.found))
+
+
+def is_blamed(value: Value) -> bool:
+    """Whether a line says that a key, or its NCC, is another than any lawful history gives. A KeNB of another COUNT is not asked for: NAS tells its
+    COUNT, which the program does not see."""
+    is_of_count = value.what == "KeNB" and value.term.startswith("kenb(")
+    return value.verdict == DIFFERS and value.what in KEYS and not is_of_count and (value.got != value.wanted or value.ncc != value.wanted_ncc)
+
+
+def key_of(one: Seen) -> str:
+    """Key and NCC of a message."""
+    message = one.decoded
+    key = message.nh or message.key or b""
+    return f"{key.hex()} {message.ncc}" if message.ncc is not None else key.hex()
+
+
+class Phone:
+    """What a trace has of the keys of one phone, as a question."""
+
+    def __init__(self, trace: Trace, messages: list[Seen]):
+        self.trace, self.messages = trace, messages
+        self.numbers = Numbers()
+        self.kasmes: dict[int, int] = {}
+        self.sightings = [*self.all()]
+
+    def all(self) -> Iterator[Sighting]:
+        answered = self.answered()
+        for place, one in enumerate(self.messages):
+            blamed = next((value for value in one.values if is_blamed(value)), None)
+            at = self.place(one)
+            if at and key_of(one):
+                yield Sighting(at, key_of(one), one, blamed)
+            elif one.kind == TAKEN and one.link.kind == "S1" and self.was_changed(place):
+                yield Sighting(f"took {self.numbers.of(one.link.one)}")
+            elif one.kind in REQUESTS and one.link.kind == "S1" and place not in answered:
+                yield Sighting(f"asked {self.numbers.of(one.link.one)}")
+
+    def was_changed(self, place: int) -> bool:
+        """Whether the modification that is answered here brought a key."""
+        before = (one for one in reversed(self.messages[:place]) if one.kind == "UEContextModificationRequest" and one.connection == self.messages[place].connection)
+        return any(one.decoded.key is not None for one in [next(before, None)] if one is not None)
+
+    def place(self, one: Seen) -> str:
+        """Where a message goes that carries a key."""
+        message, link = one.decoded, one.link
+        if link.kind == "X2" and message.key is not None and message.ncc is not None:
+            return f"over {self.numbers.of(link.one)} {self.numbers.of(link.other)}"
+        if link.kind != "S1":
+            return ""
+        station = self.numbers.of(link.one)
+        if message.name == "HandoverRequest" and message.nh is not None and message.ncc is not None:
+            return f"request {station}"
+        if message.name in ANSWERED and message.nh is not None and message.ncc is not None:
+            return f"answer {station}"
+        if message.name == "InitialContextSetupRequest" and message.key is not None:
+            return f"setup {station}"
+        return f"change {station}" if message.name == "UEContextModificationRequest" and message.key is not None else ""
+
+    def answered(self) -> set[int]:
+        """The places of requests to the core whose answer is there."""
+        waiting: dict[tuple[int | None, str], list[int]] = {}
+        found: set[int] = set()
+        for place, one in enumerate(self.messages):
+            if one.link.kind != "S1":
+                continue
+            if one.kind in REQUESTS:
+                waiting.setdefault((one.connection, one.kind), []).append(place)
+            before = waiting.get((one.connection, ANSWERED.get(one.kind, "")), [])
+            if before and one.decoded.nh is not None:
+                found.add(before.pop(0))
+        return found
+
+    # -- the question
+
+    def counts(self) -> Iterator[tuple[int, int]]:
+        """KASME and COUNT of each KeNB that is due: those of the lines, and of messages up that are not covered."""
+        last: dict[int, int] = {}
+        for one in self.messages:
+            for value in one.values:
+                key = value.wanted_key if value.wanted_key is not None and value.wanted_key.known else value.key
+                if value.what in KEYS and key is not None and key.kasme >= 0 and counted(key.term.base()) >= 0:
+                    last.setdefault(key.kasme, counted(key.term.base()))
+                    last[key.kasme] = max(last[key.kasme], counted(key.term.base()))
+                    yield key.kasme, counted(key.term.base())
+        if not all(self.trace.coverage.s1(name, UP) for name in self.numbers.found):
+            for kasme, count in last.items():
+                yield from ((kasme, more) for more in range(count, count + COUNTS))
+
+    def moves(self) -> Iterator[str]:
+        """The KASMEs, COUNTs and cells of which moves are made."""
+        due = dict.fromkeys(self.counts())
+        for kasme in dict.fromkeys(kasme for kasme, _ in due):
+            self.kasmes[kasme] = len(self.kasmes)
+            yield f"kasme {self.trace.derivations.kasmes[kasme].value.hex()}"
+        for name, number in self.numbers.found.items():
+            yield from dict.fromkeys(f"cell {number} {site.pci} {site.earfcn}" for site in self.trace.cells.every() if self.trace.cells.station(site.eci) == name)
+        yield from (f"count {self.kasmes[kasme]} {count}" for kasme, count in due)
+        yield from (f"first {number}" for number in self.firsts())
+
+    def firsts(self) -> list[int]:
+        """The first NCC that the cores of the trace send: 2, or 1 where they step their chain only for an answer."""
+        judge = self.trace.judge
+        seen = {number for numbers in judge.seen_firsts.values() for number in numbers}
+        return sorted({*judge.firsts.values()} or seen & {1, 2} or {1, 2})
+
+    def taps(self) -> Iterator[str]:
+        coverage, found = self.trace.coverage, self.numbers.found
+        for name, number in found.items():
+            if coverage.s1(name, DOWN):
+                yield from (f"covers {what} {number}" for what in ("setup", "change", "answer", "request"))
+            if coverage.s1(name, UP):
+                yield from (f"covers {what} {number}" for what in ("took", "asked"))
+        if not any(value.verdict == NOTE and WITHOUT_X2 in value.text for one in self.messages for value in one.values):
+            yield from (f"covers over {found[one]} {found[other]}" for one in found for other in found if one != other and coverage.x2(one, other))
+
+    def fits(self) -> bool:
+        """Whether the program takes a question of so many stations and KASMEs."""
+        return len(self.numbers.found) <= MOST and len({kasme for kasme, _ in self.counts()}) <= MOST
+
+    def question(self, bound: int, air: bool, upto: int | None = None) -> str:
+        self.kasmes = {}
+        head = [*self.moves(), *self.taps(), f"bound {bound}", *(["air"] if air else [])]
+        return "\n".join([*head, *(one.line for one in self.sightings[:upto])]) + "\n"
+
+
+@dataclass
+class Verdicts:
+    """What became of the blames of a trace, by the identity of their values."""
+
+    confirmed: dict[int, bool] = field(default_factory=dict)  # whether no number of unseen moves on links gives it
+    explained: set[int] = field(default_factory=set)
+    open: int = 0
+
+    def head(self, is_proved: bool) -> Iterator[str]:
+        """What the head of a report says of its blames."""
+        how = "by proof" if is_proved else "by lte_trace, which was built without proof"
+        closed = sum(self.confirmed.values())
+        if self.confirmed:
+            yield (
+                f"blames of keys confirmed {how}: {len(self.confirmed)}; no lawful history of these cells and COUNTs with at most {BOUND} unseen moves between two messages gives them"
+                + (f", and for {closed} none without moves over the air, however many go unseen" if closed else "")
+            )
+        if self.explained:
+            yield f"blames of keys withdrawn: {len(self.explained)}; lte_trace finds a lawful history"
+        if self.open:
+            yield f"blames of keys not confirmed: {self.open}; their search was given up"
+
+
+def asked(phone: Phone, taken: Program, verdicts: Verdicts) -> None:
+    """Asks for the blames of a phone, the first first. A message that no history gives is left out then, and what follows is asked again."""
+    blamed = [one for one in phone.sightings if one.value is not None]
+    for _ in range(ASKS):
+        answer = taken.ask(phone.question(BOUND, True)) if phone.fits() else None
+        if answer is None:
+            verdicts.open += sum(id(one.value) not in verdicts.confirmed for one in blamed)
+            return
+        if answer.explained >= len(phone.sightings):
+            verdicts.explained.update(id(one.value) for one in blamed if id(one.value) not in verdicts.confirmed)
+            return
+        first = phone.sightings[answer.explained]
+        if first.value is not None:
+            near = taken.ask(phone.question(FAR_BOUND, False, answer.explained + 1))
+            verdicts.confirmed[id(first.value)] = near is not None and near.closed and near.explained == answer.explained
+        if first.passed or not first.key:
+            phone.sightings.pop(answer.explained)
+        first.passed = True
+    verdicts.open += sum(id(one.value) not in verdicts.confirmed for one in blamed)
+
+
+def withdrawn(one: Seen, value: Value) -> Value:
+    """A blame that a lawful history explains."""
+    line = unknown_line(one.frame, one.title, value.what, NOT_FOUND, value.term)
+    return replace(value, verdict=UNKNOWN, text=line.text, reason=NOT_FOUND, clause="")
+
+
+def confirmed(trace: Trace, taken: Program | None = None) -> Account:
+    """What was seen of a trace, with its blames asked for."""
+    seen, taken = trace.seen, taken or program()
+    phones: dict[int, list[Seen]] = {}
+    for one in seen.messages:
+        if one.phone is not None:
+            phones.setdefault(one.phone, []).append(one)
+    to_ask = [messages for messages in phones.values() if any(is_blamed(value) for one in messages for value in one.values)]
+    if not to_ask:
+        return seen
+    if taken is None:
+        return replace(seen, head=(*seen.head, NOT_BUILT))
+    verdicts = Verdicts()
+    for messages in to_ask:
+        asked(Phone(trace, messages), taken, verdicts)
+    found = tuple(replace(one, values=tuple(withdrawn(one, value) if id(value) in verdicts.explained else value for value in one.values)) for one in seen.messages)
+    return replace(seen, messages=found, head=(*seen.head, *verdicts.head(taken.is_proved)))

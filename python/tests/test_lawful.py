@@ -1,0 +1,99 @@
+"""Blames of keys, asked of the program lte_trace: the questions, and what becomes of its answers. The program itself is proved, and tried by the examples."""
+from __future__ import annotations
+
+import os
+import tempfile
+import unittest
+from pathlib import Path
+from unittest import mock
+
+from lte_sec import lawful
+from lte_sec.captures import read
+from lte_sec.report import DIFFERS, UNKNOWN
+from lte_sec.seen import Account
+from lte_sec.trace import Trace
+
+from .test_traces import TRACES
+from .test_traces import traced as judged
+
+SIGHTINGS = ("setup", "change", "answer", "request", "over", "any", "asked", "took")
+
+
+def traced(name: str) -> Trace:
+    return judged(name, list(read(TRACES / f"{name}.json.gz")))
+
+
+class Says(lawful.Program):
+    """A program that finds a history for all messages but those with these keys."""
+
+    def __init__(self, *wrong: str, closed: bool = True):
+        super().__init__("", True)
+        object.__setattr__(self, "wrong", wrong)
+        object.__setattr__(self, "closed", closed)
+        object.__setattr__(self, "questions", [])
+
+    def ask(self, question: str) -> lawful.Answer | None:
+        self.questions.append(question)  # type: ignore[attr-defined]
+        shown = [line for line in question.splitlines() if line.split()[0] in SIGHTINGS]
+        bad = [place for place, line in enumerate(shown) if any(key in line for key in self.wrong)]  # type: ignore[attr-defined]
+        return lawful.Answer(bad[0] if bad else len(shown), self.closed)  # type: ignore[attr-defined]
+
+
+def blamed(seen: Account) -> list[str]:
+    return [value.got for _, value in seen.values() if value.verdict == DIFFERS and value.what in lawful.KEYS]
+
+
+class Blames(unittest.TestCase):
+    def test_a_blame_that_no_history_explains_is_confirmed(self) -> None:
+        trace = traced("B1-star-earfcn")
+        wrong = blamed(trace.seen)
+        self.assertTrue(wrong)
+        seen = lawful.confirmed(trace, Says(*wrong))
+        self.assertEqual(wrong, blamed(seen))
+        self.assertIn(f"blames of keys confirmed by proof: {len(wrong)}", seen.head[-1])
+        self.assertIn("none without moves over the air", seen.head[-1])
+
+    def test_a_blame_that_a_history_explains_is_withdrawn(self) -> None:
+        trace = traced("B1-star-earfcn")
+        seen = lawful.confirmed(trace, Says())
+        self.assertEqual([], blamed(seen))
+        self.assertIn("blames of keys withdrawn", seen.head[-1])
+        self.assertTrue(any(value.verdict == UNKNOWN and value.reason == lawful.NOT_FOUND for _, value in seen.values()))
+
+    def test_a_question_has_cells_counts_taps_and_messages(self) -> None:
+        trace = traced("B1-star-earfcn")
+        asked = Says(*blamed(trace.seen))
+        lawful.confirmed(trace, asked)
+        first = asked.questions[0].splitlines()  # type: ignore[attr-defined]
+        for word in ("kasme", "cell", "count", "first", "covers", "bound", "air", "setup", "over"):
+            self.assertTrue(any(line.split()[0] == word for line in first), word)
+        self.assertIn("any over", asked.questions[-1])  # type: ignore[attr-defined]
+
+    def test_a_search_that_is_given_up_confirms_nothing(self) -> None:
+        trace = traced("B1-star-earfcn")
+        with mock.patch.object(lawful.Program, "ask", return_value=None):
+            seen = lawful.confirmed(trace, lawful.Program("", True))
+        self.assertEqual(blamed(trace.seen), blamed(seen))
+        self.assertIn("not confirmed", seen.head[-1])
+
+    def test_where_the_program_is_not_built_the_head_says_so(self) -> None:
+        with mock.patch.dict(os.environ, {lawful.VARIABLE: ""}):
+            self.assertEqual(lawful.NOT_BUILT, lawful.confirmed(traced("B1-star-earfcn")).head[-1])
+            trace = traced("A")
+            self.assertIs(trace.seen, lawful.confirmed(trace))
+
+    def test_the_answer_of_a_program(self) -> None:
+        with tempfile.TemporaryDirectory() as folder:
+            program = Path(folder) / "program"
+            for text, status, wanted in (("explained 3 of 4 closed", 0, lawful.Answer(3, True)), ("explained 4 of 4", 0, lawful.Answer(4, False)), ("bad line 1", 3, None), ("", 12, None)):
+                program.write_text(f"#!/bin/sh\ncat >/dev/null\necho '{text}'\nexit {status}\n")
+                program.chmod(0o700)
+                with mock.patch.dict(os.environ, {lawful.VARIABLE: f"proved {program}"}):
+                    found = lawful.program()
+                assert found is not None
+                self.assertEqual(wanted, found.ask("bound 0\n"), text)
+        self.assertIsNone(lawful.Program(str(program), True).ask(""))
+
+
+if __name__ == "__main__":
+    unittest.main()
