@@ -29,6 +29,7 @@ READERS: dict[str, tuple[list[str | pathlib.Path], pathlib.Path]] = {
     "ladder": ([], EXAMPLES / "ladder/first.txt"),
     "calc": ([], EXAMPLES / "calc/keys.txt"),
     "calc --strict": ([], EXAMPLES / "calc/keys.txt"),
+    "lawful": ([], EXAMPLES / "lawful/handover.txt"),
     "run --json": ([], SCENARIO),
     "drive --json": ([], SCENARIO),
     "drive --timeout 20": ([], SCENARIO),
