@@ -32,7 +32,11 @@ def renewed(old: Rows, new: Rows, crates: set[str]) -> Rows:
 
 
 def differences(old: Rows, new: Rows, crates: set[str]) -> list[str]:
-    """How the rows of these crates differ from those that are kept."""
-    wanted = {it: text for it, text in old.items() if it[0] in crates}
-    lost = [f"- {wanted[it]}" for it in sorted(wanted) if new.get(it) != wanted[it]]
-    return lost + [f"+ {new[it]}" for it in sorted(new) if wanted.get(it) != new[it]]
+    """How the rows that are kept of these crates differ from what was tried. An edit that has no row yet differs from none."""
+    differ = [it for it, text in sorted(old.items()) if it[0] in crates and new.get(it) != text]
+    return [f"- {old[it]}" for it in differ] + [f"+ {new[it]}" for it in differ if it in new]
+
+
+def rowless(old: Rows, new: Rows) -> list[str]:
+    """The rows of edits that have none yet."""
+    return [f"+ {text}" for it, text in sorted(new.items()) if it not in old]
