@@ -30,6 +30,8 @@ VALUES = {
     "what-if --kinds": [",".join(some) for count in range(1, len(KINDS) + 1) for some in itertools.combinations(KINDS, count)],
     "what-if --bad": list(OUTCOMES),
     "what-if --faults": list("123"),
+    "what-if --goal": list(OUTCOMES),
+    "what-if --up-to": list("123"),
     "drive --answers": ["done"],
     "serve station": list("01234567"),
 }

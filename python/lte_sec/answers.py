@@ -12,16 +12,11 @@ from .listed import Listed
 from .outcomes import GOES_ON, RANK, USUAL_BAD, limit
 from .remarks import named, with_frames
 from .study import Variant
-from .terms import TraceError
 from .variants import KINDS, Fault
 
 MANY = {1: "variant", 2: "pair", 3: "triple"}
 VERSION = 1  # of the document that --json prints
 LINK = "docs/SCENARIOS.md#where-a-product-does-more"
-
-
-class NoParts(TraceError):
-    """Why files are not the parts of one answer."""
 
 
 @dataclass
@@ -36,6 +31,7 @@ class Answer:
     part: tuple[int, int] | None = None
     whole: bool = True
     frames: dict[int, str] = field(default_factory=dict)  # of steps, where the scenario has them
+    goal: dict[str, Any] | None = None  # of a search for an outcome: what was searched, and the size of the smallest sets
     chart: Chart | None = None  # its own course, where those of the variants are kept
 
     def sort(self) -> None:
@@ -67,6 +63,7 @@ def to_json(answer: Answer) -> dict[str, Any]:
         "messages": [{"step": int(step), "message": message, "frame": answer.frames.get(int(step))} for step, message in answer.messages.items()],
         "variants": [variant_json(variant, answer) | ({"run": run, "gone": variant.gone} if chart else {}) for variant, run in zip(variants, runs)],
         "counts": {str(faults): {word: counts[word] for word in RANK if counts[word]} for faults, counts in sorted(answer.counts.items())},
+        **({"goal": answer.goal} if answer.goal else {}),
         **charted,
     }
 
@@ -98,16 +95,8 @@ def from_json(it: dict[str, Any]) -> Answer:
 
 
 def merged(parts: list[Answer]) -> Answer:
-    """The whole of which these are the parts."""
+    """The whole of these parts, which are those of one."""
     first = parts[0]
-    if any((part.tried, part.messages) != (first.tried, first.messages) for part in parts):
-        raise NoParts("they are of different scenarios or options")
-    if not all(part.whole for part in parts):
-        raise NoParts("one was interrupted")
-    number = first.part[1] if first.part else 1
-    have = sorted(part.part or (1, 1) for part in parts)
-    if have != [(each, number) for each in range(1, number + 1)]:
-        raise NoParts(f"the parts are {', '.join(f'{each}/{of}' for each, of in have)}, and each of 1/{number} to {number}/{number} is wanted once")
     whole = Answer(first.tried, first.messages, frames=first.frames, chart=first.chart)
     for part in parts:
         whole.singles += part.singles
@@ -148,10 +137,10 @@ def cell(variants: list[Variant]) -> str:
     return worst if at == len(variants) else f"{worst} {at}/{len(variants)}"
 
 
-def tellings(variants: list[Variant], answer: Answer) -> Iterator[str]:
-    """A line for variants that differ only in places, if they are worse than `goes on`."""
+def tellings(variants: list[Variant], answer: Answer, above: int = RANK[GOES_ON]) -> Iterator[str]:
+    """A line for variants that differ only in places, if they are worse than `goes on`, or than this rank."""
     messages, frames = answer.messages, answer.frames
-    bad = [variant for variant in variants if RANK[variant.worst] > RANK[GOES_ON]]
+    bad = [variant for variant in variants if RANK[variant.worst] > above]
     told: list[tuple[Variant, list[list[Fault]]]] = [(variant, [[fault] for fault in variant.faults]) for variant in bad]
     for at in reversed(range(max((len(variant.faults) for variant in bad), default=0))):
         told = together(told, at)

@@ -59,10 +59,10 @@ def order(variant: Listed) -> tuple[tuple[int, int, int], ...]:
 
 
 class Lists:
-    """What the program lists of a scenario, with faults of these kinds."""
+    """What the program lists of a scenario, with faults of these kinds, and of the messages that are named, if some are."""
 
-    def __init__(self, program: str, scenario: bytes, kinds: tuple[str, ...], packets: bool):
-        self.program = program
+    def __init__(self, program: str, scenario: bytes, kinds: tuple[str, ...], packets: bool, named: tuple[str, ...] = ()):
+        self.program, self.named = program, named
         self.options = [*kinds, *(["--packets"] if packets else [])]
         self.file = os.memfd_create("scenario")
         os.pwrite(self.file, scenario, 0)
@@ -102,13 +102,16 @@ class Lists:
                 return
             if word == "message":
                 step, _, name = rest.partition(" ")
-                self.messages[step] = name
+                if not self.named or step in self.named:
+                    self.messages[step] = name
             elif word == "scenario":
                 self.serving = int(rest.split(" ")[-1])
             else:
                 count += 1
-                self.count += 1
-                yield variant_of(text)
+                variant = variant_of(text)
+                if not self.named or all(fault.item in self.named for fault in variant.faults):
+                    self.count += 1
+                    yield variant
 
     def ended(self, status: int) -> None:
         """How a process ended."""

@@ -6,6 +6,7 @@ send it.
 from __future__ import annotations
 
 import re
+from functools import lru_cache
 from dataclasses import dataclass
 
 from .contexts import NAMES as NAMES_OF_NAS
@@ -75,15 +76,16 @@ class StepLine:
     text: str | None
     alarm: bool
 
-    @classmethod
-    def read(cls, line: str) -> StepLine | None:
+    @staticmethod
+    @lru_cache(maxsize=1 << 16)  # most lines of a variant are those of another
+    def read(line: str) -> StepLine | None:
         """The line of a step, or None where it is another one."""
         found = LINE.match(line)
         if not found:
             return None
         _, who, answer, rest = found.groups()
         sent, note, text = SENT.search(rest), NOTE.search(rest), TEXT.search(rest)
-        return cls(
+        return StepLine(
             who, answer, int(sent[1]) if sent else None, sent[2] if sent else "", NotedKey(note[3], note[2], note[1]) if note else None,
             text[1] if text else None, rest.endswith(" alarm"),
         )

@@ -283,6 +283,9 @@ def limit(variant: HasOutcomes, word: str, messages: dict[str, str]) -> str | No
         if "NotConnected" in what:
             return "a phone asks again at its timer"
         return "the station has no context, so that a phone goes idle and asks for service" if "NoUe" in what else "a phone re-establishes"
+    if word == "misrouted":
+        late = any(fault.kind in ("late", "twice") and messages[fault.item] == "Handover Notify" for fault in variant.faults)
+        return "this core takes any Handover Notify of its connection" if late else None
     if word in ("weaker key", "keys differ"):
         return "a station keeps its pair at a handover within it" if all(part.endswith(HERE) for part in what.split(", ")) else None
     if word == "context left" and any(fault.kind == "lost" and messages[fault.item] == "Path Switch Request" for fault in variant.faults):

@@ -3,12 +3,12 @@ from __future__ import annotations
 
 import multiprocessing
 import signal
-import sys
 import time
 from collections import Counter
 from collections.abc import Callable, Iterable, Iterator
 from dataclasses import dataclass
 from itertools import combinations, groupby, islice
+from math import comb
 from pathlib import Path
 from typing import Any, TypeVar
 
@@ -16,11 +16,12 @@ from .answers import Answer, line
 from .courses import ProgramFails
 from .listed import Listed, Lists
 from .outcomes import GOES_ON, RANK
+from .progress import Rate
 from .saving import save
 from .study import Study, Tried, Variant
 from .variants import Fault
 
-MANY_AT_ONCE, SECONDS = 32, 5
+MANY_AT_ONCE = 32
 Some = TypeVar("Some")
 More = TypeVar("More")
 
@@ -43,6 +44,7 @@ class Work:
     def __init__(self, study: Study, share: Share):
         self.study, self.share = study, share
         self.has_all = share.folder is not None or study.charts is not None
+        self.by_outcomes: dict[tuple[str, ...], Tried] = {}  # the last that was tried with these outcomes
 
     def told(self, variants: list[Variant]) -> tuple[list[Variant], int]:
         """Variants of one message and kind, or one of several faults, with what is told of them, and how many runs that took."""
@@ -70,7 +72,10 @@ class Work:
 
     def tried(self, variant: Variant, near: Tried | None) -> Tried:
         """The variant as its run has it, with the outcomes that the program lists, saved where it is to be."""
-        tried = self.study.tried(variant.faults, near)
+        outcomes = tuple(variant.outcomes)
+        if near is None or tuple(near.variant.outcomes) != outcomes:
+            near = self.by_outcomes.get(outcomes, near)
+        tried = self.by_outcomes[outcomes] = self.study.tried(variant.faults, near)
         if list(tried.variant.outcomes) != list(variant.outcomes):
             raise ProgramFails(f"{line(variant)} by lte_variants, and {', '.join(tried.variant.outcomes)} by its run")
         if self.share.folder:
@@ -128,7 +133,17 @@ class Gathering:
         self.study, self.lists, self.share = study, lists, share
         self.answer = Answer({}, {}, part=share.part)
         self.outcomes: dict[tuple[Any, ...], tuple[str, ...]] = {}  # of variants of fewer faults, to know what is new
-        self.runs, self.began, self.last = study.runs.count, time.monotonic(), time.monotonic()
+        self.has_fewer = False  # whether these are there
+        self.runs, self.began = study.runs.count, time.monotonic()
+
+    def part(self, part: tuple[int, int]) -> Answer:
+        """The answer for another part of the same."""
+        before = self.answer
+        self.share.part = part
+        self.answer = Answer(before.tried, {}, part=part, frames=before.frames, chart=before.chart)
+        self.gather()
+        self.has_fewer = self.answer.whole
+        return self.answer
 
     def gather(self) -> None:
         """All variants of this share, or those that there are when it is interrupted."""
@@ -142,11 +157,13 @@ class Gathering:
 
     def take(self, faults: int) -> None:
         """The variants of so many faults; where more are tried at once each part needs them all, and tells its share."""
-        if self.share.part and faults < self.share.faults:
+        if self.share.part and faults < self.share.faults and not self.has_fewer:
             self.outcomes |= self.listed(faults, None)
         kept = self.answer.singles if faults == 1 else self.answer.together
         counts = Counter[str]() if faults == 1 else self.answer.counts.setdefault(faults, Counter())
         at = len(kept)
+        alone = sum(len(fewer) == 1 for fewer in self.outcomes)
+        rate = Rate(f"variants of {faults} faults", comb(alone, faults) // (self.share.part or (1, 1))[1])
         for variant in self.listed(faults, self.share.part):
             counts[variant.outcomes[0]] += 1
             self.answer.counts[faults] = counts
@@ -156,7 +173,7 @@ class Gathering:
                 print(line(variant), flush=True)
             if faults == 1 or self.is_new(variant):
                 kept.append(Variant(variant.faults, dict.fromkeys(variant.outcomes, "")))
-            self.tell(faults, counts.total())
+            rate.one()
         if work and (work.has_all or not self.share.lines):
             self.tell_of(kept, at)
 
@@ -188,12 +205,6 @@ class Gathering:
         for fewer in combinations(variant.faults, 2) if len(variant.faults) > 2 else ():
             known.update(self.outcomes.get(fewer, ()))
         return bool(new - known)
-
-    def tell(self, faults: int, done: int) -> None:
-        """How far it is, from time to time."""
-        if faults > 1 and time.monotonic() - self.last > SECONDS:
-            self.last = time.monotonic()
-            print(f"lte_sec: {done:,} variants of {faults} faults in {self.last - self.began:.0f} s", file=sys.stderr)
 
     def cost(self) -> str:
         """What it took, in words."""

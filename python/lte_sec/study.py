@@ -1,9 +1,10 @@
 """The variants of one scenario, each run with the probe behind it and judged."""
 from __future__ import annotations
 
-from collections.abc import Mapping
+from collections.abc import Iterator, Mapping
 from dataclasses import dataclass, field, replace
-from typing import Any, NamedTuple
+from itertools import islice
+from typing import Any
 
 from .charted import Charts
 from .courses import Course, Item, ProgramFails, Runs, act, delivery
@@ -35,12 +36,14 @@ class Variant:
         return next(iter(self.outcomes))
 
 
-class Tried(NamedTuple):
-    """A variant that was run: its course, and the station that serves the phone."""
+@dataclass(slots=True)
+class Tried:
+    """A variant that was run: its course, the station that serves the phone, and its refusals, once they are asked for."""
 
     variant: Variant
     course: Course
     serving: int
+    refusals: list[tuple[str, str]] | None = None
 
 
 class Study:
@@ -120,8 +123,14 @@ class Study:
     def alike(self, faults: tuple[Fault, ...], before: Tried) -> Variant:
         """The variant that ends as this one: the same lines, in its own order."""
         places = {item.name: place for place, item in enumerate(self.faults.put_all(faults) or [])}
-        items = sorted(before.course.items, key=lambda item: places.get(item.name.rstrip("+"), len(places)))
-        return self.told(faults, before.variant.outcomes, replace(before.course, items=items))
+        course = before.course
+        if not self.charts and not course.ended:  # answers are all that depends on the order
+            if before.refusals is None:
+                before.refusals = list(self.refusals(course))
+            refused = sorted(before.refusals, key=lambda one: places.get(one[0].rstrip("+"), len(places)))
+            return Variant(faults, before.variant.outcomes, first_of([text for _, text in refused]))
+        items = sorted(course.items, key=lambda item: places.get(item.name.rstrip("+"), len(places)))
+        return self.told(faults, before.variant.outcomes, replace(course, items=items))
 
     def followed(self, items: list[Item], guess: dict[str, bool], serving: int) -> tuple[Course, int]:
         """The course of the items, in which, if so chosen, a handover that its station cannot begin is begun by the one that serves, which
@@ -173,14 +182,20 @@ class Study:
 
     def answers(self, course: Course) -> list[str]:
         """The first answers that are refusals here and not in the scenario."""
-        found = []
+        return first_of([text for _, text in islice(self.refusals(course), MOST_ANSWERS + 1)])
+
+    def refusals(self, course: Course) -> Iterator[tuple[str, str]]:
+        """The items before the probe whose answers are refusals here and not in the scenario, and these answers."""
         for item in course.items:
             if item.name.startswith(PROBE) or item.name not in course.lines:
                 break
             line, before = course.lines[item.name], self.original.lines.get(item.name)
             if line.answer != "done" and (before is None or before.answer != line.answer):
-                found.append(f"{line.who} {line.answer} at {shown(item.name)}")
-        return found[:MOST_ANSWERS] + ([".."] if len(found) > MOST_ANSWERS else [])
+                yield item.name, f"{line.who} {line.answer} at {shown(item.name)}"
+
+
+def first_of(answers: list[str]) -> list[str]:
+    return answers[:MOST_ANSWERS] + ([".."] if len(answers) > MOST_ANSWERS else [])
 
 
 def own_items(items: list[Item], of: dict[str, Item]) -> set[str]:

@@ -7,6 +7,7 @@ from __future__ import annotations
 
 import dataclasses
 import enum
+import functools
 import json
 import re
 import sys
@@ -107,6 +108,7 @@ def rows_of(lines: list[str]) -> dict[str, ChainedKey]:
     return keys
 
 
+@functools.lru_cache(maxsize=1 << 16)  # most lines of a variant of what-if are those of another
 def step_of(number: int, line: str) -> ReportedStep:
     """The line of the step of this number."""
     found = STEP.fullmatch(line)

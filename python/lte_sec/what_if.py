@@ -9,11 +9,13 @@ import sys
 from pathlib import Path
 from typing import Any, NamedTuple
 
-from . import matrix_page, pages
-from .answers import Answer, from_json, merged, table, to_json
+from . import goals, matrix_page, pages, parts, resumed
+from .answers import Answer, table, to_json
+from .asked import steps_of
 from .charted import name_of
 from .courses import ProgramFails
-from .inputs import MOST_MADE, of_file, of_input
+from .goals import Goal, Search
+from .inputs import of_file, of_input
 from .listed import TOO_MANY, Lists, TooManySteps
 from .matrix import draw
 from .options import Words, WrongWords
@@ -25,7 +27,9 @@ from .study import Study
 from .terms import TraceError
 from .variants import KINDS
 
-MOST_FAULTS, MOST_JOBS, BAD, REFUSED, ENDED, STOPPED = 3, 256, 1, 3, 7, 130
+MOST_FAULTS, MOST_JOBS, BAD, WORDS, REFUSED, ENDED, STOPPED = 3, 256, 1, 2, 3, 7, 130
+NOT_WITH_GOAL = ("--faults", "--part", "--lines", "--picture", "--html", "--merge", "--bad", "--resume", "--out")
+NOT_WITH_RESUME = ("--part", "--lines", "--merge", "--save")
 REASONS = Path(__file__).resolve().parents[2] / "launcher" / "reasons"
 
 
@@ -46,11 +50,22 @@ class WhatIfWords(Words):
                 raise WrongWords(f"--kinds takes {', '.join(KINDS)}, with commas between, and not '{kind}'")
         return tuple(kind for kind in KINDS if kind in given)
 
-    def bad(self) -> str:
-        word = self.last("--bad", USUAL_BAD).replace("-", " ")
+    def outcome(self, option: str) -> str:
+        word = self.last(option, USUAL_BAD).replace("-", " ")
         if word not in RANK:
-            raise WrongWords(f"--bad takes an outcome, one of {', '.join(RANK)}, and not '{word}'")
+            raise WrongWords(f"{option} takes an outcome, one of {', '.join(RANK)}, and not '{word}'")
         return word
+
+    def goal(self) -> Goal | None:
+        """The outcome that is searched for, if one is."""
+        if not self.has("--goal"):
+            if self.has("--up-to") or self.has("--yes"):
+                raise WrongWords("--up-to and --yes are of a search by --goal")
+            return None
+        for other in NOT_WITH_GOAL:
+            if self.has(other):
+                raise WrongWords(f"--goal takes no {other}")
+        return Goal(self.outcome("--goal"), self.number("--up-to", goals.MOST_FAULTS, goals.MOST_FAULTS), self.has("--yes"))
 
     def part(self) -> tuple[int, int] | None:
         if not self.has("--part"):
@@ -58,6 +73,12 @@ class WhatIfWords(Words):
         first, _, parts = self.last("--part").partition("/")
         of = self.number_of(parts, "N of --part I/N", 10**6)
         return self.number_of(first, "I of --part I/N", of), of
+
+    def share(self) -> Share:
+        """How the variants are spread: a part by one process, where no other number is given."""
+        part = self.part()
+        jobs = self.number("--jobs", 1 if part else len(os.sched_getaffinity(0)), MOST_JOBS)
+        return Share(jobs, part, self.number("--faults", 1, MOST_FAULTS), self.folder(), self.has("--lines") and not self.has("--json"))
 
     def folder(self) -> Path | None:
         """The folder for variants, which is made where it is not there."""
@@ -95,43 +116,33 @@ def scenario_of(program: str, words: WhatIfWords) -> tuple[bytes, int]:
     return octets, ran.returncode
 
 
-def share_of(words: WhatIfWords) -> Share:
-    """What of the variants is tried, and how."""
-    jobs = words.number("--jobs", len(os.sched_getaffinity(0)), MOST_JOBS)
-    return Share(jobs, words.part(), words.number("--faults", 1, MOST_FAULTS), words.folder(), words.has("--lines") and not words.has("--json"))
-
-
-def tried(programs: Programs, words: WhatIfWords, share: Share) -> tuple[Answer | None, int]:
-    """The answer for a scenario, and a status where there is none."""
+def tried(programs: Programs, words: WhatIfWords, share: Share, goal: Goal | None) -> tuple[Gathering | None, int]:
+    """What was gathered of a scenario, and a status where nothing was."""
     kinds, packets, follows = words.kinds(), words.has("--packets"), words.has("--follow")
     octets, status = scenario_of(programs.run, words)
     if status:
         return None, status
     scenario = read(octets)
-    study = Study(programs.run, scenario, follows, words.has("--json") or words.has("--html"))
-    gathering = Gathering(study, Lists(programs.variants, octets, kinds, packets), share)
+    study = Study(programs.run, scenario, follows, words.has("--html") or goal is None and (words.has("--json") or words.has("--out")))
+    named = steps_of(words.last("--messages"), study.original.messages, packets) if words.has("--messages") else ()
+    lists = Lists(programs.variants, octets, kinds, packets, named)
+    gathering = Search(study, lists, share, goal) if goal else Gathering(study, lists, share)
+    answer = gathering.answer
     if study.charts:
-        gathering.answer.chart = study.charts.chart(name_of(octets.decode(errors="replace"), words.files[0].stem if words.files else "a scenario"))
-    gathering.answer.tried = {
+        answer.chart = study.charts.chart(name_of(octets.decode(errors="replace"), words.files[0].stem if words.files else "a scenario"))
+    answer.tried = {
         "scenario": hashlib.sha256(octets).hexdigest(), "faults": share.faults, "kinds": list(kinds), "packets": packets, "follow": follows,
-        "within": any(step.get("do") == "intra" for step in scenario.steps),
+        "within": any(step.get("do") == "intra" for step in scenario.steps), **({"messages": [int(step) for step in named]} if named else {}),
     }
-    gathering.answer.frames = frames_of(octets.decode(errors="replace"))
-    gathering.gather()
+    answer.frames = frames_of(octets.decode(errors="replace"))
+    if words.has("--resume"):
+        kept = resumed.Kept(Path(words.last("--resume")))
+        kept.fits(answer.tried)
+        gathering.answer = resumed.gathered(kept, gathering.part, answer)
+    else:
+        gathering.gather()
     print(f"lte_sec: {gathering.cost()}", file=sys.stderr)
-    return gathering.answer, 0
-
-
-def merged_of(words: WhatIfWords) -> Answer:
-    if not words.files or words.has("--lines"):
-        raise WrongWords("--merge takes the files that --json wrote of each part")
-    parts = []
-    for file in words.files:
-        try:
-            parts.append(from_json(json.loads(of_file(file, most=MOST_MADE))))
-        except (ValueError, LookupError, TypeError, AttributeError, RecursionError):
-            raise WrongWords(f"{file} is not what --json writes") from None
-    return merged(parts)
+    return gathering, 0
 
 
 def write_page(file: Path, document: dict[str, Any]) -> None:
@@ -149,34 +160,49 @@ def tell(answer: Answer, words: WhatIfWords) -> int:
             raise WrongWords(f"{words.last('--picture')} cannot be written: {fault.strerror}") from None
     if words.has("--html"):
         write_page(Path(words.last("--html")), to_json(answer))
-    if words.has("--json"):
+    if words.has("--out"):
+        if answer.whole:
+            parts.write(Path(words.last("--out")), answer)
+    elif words.has("--json"):
         print(json.dumps(to_json(answer), indent=1))
     elif not words.has("--lines"):
-        print(*table(answer), sep="\n")
+        print(*(goals.table(answer) if answer.goal else table(answer)), sep="\n")
     sys.stdout.flush()
     if not answer.whole:
         print("lte_sec: status 130: interrupted; this is what there is", file=sys.stderr)
         return STOPPED
+    if answer.goal:
+        return BAD if answer.goal["smallest"] else 0
     worst = answer.worst()
-    return BAD if worst is not None and RANK[worst] >= RANK[words.bad()] else 0
+    return BAD if worst is not None and RANK[worst] >= RANK[words.outcome("--bad")] else 0
 
 
 def answered(programs: Programs, given: list[str]) -> int:
     """The status; without programs only the words are read."""
     words = WhatIfWords.read("what-if", given)
-    words.bad()
+    words.outcome("--bad")
     picture = Path(words.last("--picture")) if words.has("--picture") else None
     if picture and not os.access(picture if picture.exists() else picture.parent, os.W_OK):
         raise WrongWords(f"{picture} cannot be written")
     if words.has("--html"):
         pages.writable(Path(words.last("--html")))
+    if words.has("--resume") and any(words.has(other) for other in NOT_WITH_RESUME):
+        raise WrongWords(f"--resume takes none of {', '.join(NOT_WITH_RESUME)}")
     if words.has("--merge"):
-        return tell(merged_of(words), words) if programs.run else 0
-    share, _ = share_of(words), words.kinds()
+        if not words.files or words.has("--lines"):
+            raise WrongWords("--merge takes the files that --json wrote of each part")
+        return tell(parts.merged_of(words.files), words) if programs.run else 0
+    share, goal, _ = words.share(), words.goal(), words.kinds()
     if not programs.run:
         return 0
-    answer, status = tried(programs, words, share)
-    return tell(answer, words) if answer else status
+    gathering, status = tried(programs, words, share, goal)
+    if gathering is None:
+        return status
+    status = tell(gathering.answer, words)
+    if isinstance(gathering, Search) and gathering.choices and status == 0:
+        print(f"lte_sec: status 2: {gathering.warning()}", file=sys.stderr)
+        return WORDS
+    return status
 
 
 def main(words: list[str]) -> int:

@@ -64,6 +64,7 @@ def by_the_program() -> Iterator[tuple[str, Any]]:
     for name in ("run/ordinary", "run/eight-ahead", "run/coincidence", "run/two-preparations", "run/key-change"):
         yield "run", launched("run", "--json", EXAMPLES / f"{name}.toml")
     yield "what-if", launched("what-if", "--json", "--kinds", "late", EXAMPLES / "run/ordinary.toml")
+    yield "what-if", launched("what-if", "--json", "--goal", "stuck", "--messages", "2,3", EXAMPLES / "run/ordinary.toml")
     yield "what-if", launched("what-if", "--json", "--faults", "2", "--part", "1/2", EXAMPLES / "run/smc-complete-lost.toml")
     for name in ("A", "B2-nh-twice"):
         yield "replay", launched("replay", "--json", "--cells", TRACES / f"{name}.cells.txt", TRACES / f"{name}.json.gz", KASME)

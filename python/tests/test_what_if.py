@@ -234,7 +234,8 @@ class Outcomes(unittest.TestCase):
     def test_who_can_derive_the_phones_key_is_as_audit_has_it(self) -> None:
         whole = study("what-if/two-path-switches")
         for each in listed(octets("what-if/two-path-switches"), "lost", "again"):
-            variant, course, serving = whole.tried(each.faults)
+            ran = whole.tried(each.faults)
+            variant, course, serving = ran.variant, ran.course, ran.serving
             standing = Standing(whole.scenario, course, serving)
             key = standing.phone_key()
             given = text(whole.runs.setup, course.steps).encode()
@@ -247,7 +248,8 @@ class Outcomes(unittest.TestCase):
         whole = study("what-if/attach-and-handovers")
         tried = 0
         for each in listed(octets("what-if/attach-and-handovers"), "lost", "late")[::3]:
-            variant, course, serving = whole.tried(each.faults)
+            ran = whole.tried(each.faults)
+            variant, course, serving = ran.variant, ran.course, ran.serving
             places = [place for place, item in enumerate(course.items) if item.name == PROBE + "up"]
             steps = [*course.steps[: places[0]], '{ do = "release" }', '{ do = "deliver", record = -1 }']
             lines = [StepLine.read(line) for line in whole.runs.run(steps).splitlines()[places[0] : places[0] + 2]]
