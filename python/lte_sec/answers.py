@@ -32,11 +32,16 @@ class Answer:
     whole: bool = True
     frames: dict[int, str] = field(default_factory=dict)  # of steps, where the scenario has them
     goal: dict[str, Any] | None = None  # of a search for an outcome: what was searched, and the size of the smallest sets
+    itself: list[str] = field(default_factory=list)  # what is wrong in the scenario without any fault, as lte_variants says it
     chart: Chart | None = None  # its own course, where those of the variants are kept
 
     def sort(self) -> None:
         self.singles.sort(key=order)
         self.together.sort(key=order)
+
+    def others(self) -> int:
+        """How many variants have other outcomes by their own run than the program lists."""
+        return sum(bool(variant.by_run) for variant in [*self.singles, *self.together])
 
     def worst(self) -> str | None:
         """The worst outcome of all, or None where nothing was tried."""
@@ -60,12 +65,23 @@ def to_json(answer: Answer) -> dict[str, Any]:
         "tried": answer.tried,
         "part": f"{answer.part[0]}/{answer.part[1]}" if answer.part else None,
         "whole": answer.whole,
+        "itself": [itself_json(line) for line in answer.itself],
         "messages": [{"step": int(step), "message": message, "frame": answer.frames.get(int(step))} for step, message in answer.messages.items()],
         "variants": [variant_json(variant, answer) | ({"run": run, "gone": variant.gone} if chart else {}) for variant, run in zip(variants, runs)],
         "counts": {str(faults): {word: counts[word] for word in RANK if counts[word]} for faults, counts in sorted(answer.counts.items())},
         **({"goal": answer.goal} if answer.goal else {}),
         **charted,
     }
+
+
+def itself_json(line: str) -> dict[str, Any]:
+    """What is wrong in the scenario itself: the outcome, and its step; none of `stuck`, and of keys that differ in the probe."""
+    words = line.split(" ")
+    return {"is": "stuck", "step": None} if words == ["stuck"] else {"is": " ".join(words[:2]), "step": int(words[2]) if words[2].isdigit() else None}
+
+
+def itself_from(it: dict[str, Any]) -> str:
+    return "stuck" if it["is"] == "stuck" else f"{it['is']} {'probe' if it['step'] is None else it['step']}"
 
 
 def variant_json(variant: Variant, answer: Answer) -> dict[str, Any]:
@@ -75,7 +91,7 @@ def variant_json(variant: Variant, answer: Answer) -> dict[str, Any]:
         for fault in variant.faults
     ]
     outcomes = [{"is": word, "what": what, "limit": limit(variant, word, messages)} for word, what in variant.outcomes.items()]
-    return {"faults": faults, "outcomes": outcomes, "answers": variant.answers}
+    return {"faults": faults, "outcomes": outcomes, "answers": variant.answers} | ({"by_run": variant.by_run} if variant.by_run else {})
 
 
 def from_json(it: dict[str, Any]) -> Answer:
@@ -85,9 +101,10 @@ def from_json(it: dict[str, Any]) -> Answer:
     answer.frames = {each["step"]: each["frame"] for each in it["messages"] if each.get("frame")}
     answer.part = (int(numbers[0]), int(numbers[1])) if numbers else None
     answer.chart = Chart(it["name"], it["lanes"], it["base"]) if "base" in it else None
+    answer.itself = [itself_from(each) for each in it.get("itself", [])]
     for each in it["variants"]:
         faults = tuple(Fault(KINDS[KINDS.index(one["kind"])], str(one["step"]), str(one["after"]) if "after" in one else None) for one in each["faults"])
-        variant = Variant(faults, {one["is"]: one["what"] for one in each["outcomes"] if RANK[one["is"]] >= 0}, each["answers"], gone=each.get("gone", []))
+        variant = Variant(faults, {one["is"]: one["what"] for one in each["outcomes"] if RANK[one["is"]] >= 0}, each["answers"], gone=each.get("gone", []), by_run=each.get("by_run", []))
         variant.run = [it["steps"][entry] if isinstance(entry, int) else entry for entry in each.get("run", [])]
         (answer.singles if len(faults) == 1 else answer.together).append(variant)
     answer.counts = {int(faults): Counter(counts) for faults, counts in it["counts"].items()}
@@ -97,7 +114,7 @@ def from_json(it: dict[str, Any]) -> Answer:
 def merged(parts: list[Answer]) -> Answer:
     """The whole of these parts, which are those of one."""
     first = parts[0]
-    whole = Answer(first.tried, first.messages, frames=first.frames, chart=first.chart)
+    whole = Answer(first.tried, first.messages, frames=first.frames, chart=first.chart, itself=first.itself)
     for part in parts:
         whole.singles += part.singles
         whole.together += part.together
@@ -110,7 +127,10 @@ def merged(parts: list[Answer]) -> Answer:
 # As a table
 
 def table(answer: Answer) -> Iterator[str]:
-    """The lines: a table of messages and faults, each outcome worse than `goes on`, and the counts."""
+    """The lines: what is wrong in the scenario itself, a table of messages and faults, each outcome worse than `goes on`, and the counts."""
+    if answer.itself:
+        yield f"without any fault: {'; '.join(of_itself(line, answer.frames) for line in answer.itself)}"
+        yield ""
     kinds: list[str] = [kind for kind in KINDS if kind in answer.tried["kinds"]]
     cells = {place: list(variants) for place, variants in groupby(answer.singles, lambda it: (it.faults[0].item, it.faults[0].kind))}
     width = max([len("message"), *map(len, answer.messages.values())])
@@ -128,6 +148,16 @@ def table(answer: Answer) -> Iterator[str]:
     yield "; ".join(counted(faults, answer) for faults in sorted(answer.counts)) or "no variant"
 
 
+def of_itself(line: str, frames: dict[int, str]) -> str:
+    """A line of the program on the scenario itself, in words."""
+    word, _, step = line.rpartition(" ")
+    if not word:
+        return line
+    if not step.isdigit():
+        return f"{word} in the probe behind it"
+    return f"{word} at step {named(step, frames)}" if word == USUAL_BAD else f"{word} of step {named(step, frames)}"
+
+
 def cell(variants: list[Variant]) -> str:
     """The worst outcome of a message and a kind of fault, and at how many of its places it comes."""
     if not variants:
@@ -140,14 +170,15 @@ def cell(variants: list[Variant]) -> str:
 def tellings(variants: list[Variant], answer: Answer, above: int = RANK[GOES_ON]) -> Iterator[str]:
     """A line for variants that differ only in places, if they are worse than `goes on`, or than this rank."""
     messages, frames = answer.messages, answer.frames
-    bad = [variant for variant in variants if RANK[variant.worst] > above]
+    bad = [variant for variant in variants if variant.by_run or RANK[variant.worst] > above]
     told: list[tuple[Variant, list[list[Fault]]]] = [(variant, [[fault] for fault in variant.faults]) for variant in bad]
     for at in reversed(range(max((len(variant.faults) for variant in bad), default=0))):
         told = together(told, at)
     for first, faults in told:
         outcomes = "; ".join(outcome(first, word, answer) for word in first.outcomes)
         answers = f", from {with_frames(', '.join(first.answers), frames)}" if first.answers else ""
-        yield f"{' and '.join(of_faults(each, messages, frames) for each in faults)}: {outcomes}{answers}"
+        others = f" (its own run: {'; '.join(first.by_run)})" if first.by_run else ""
+        yield f"{' and '.join(of_faults(each, messages, frames) for each in faults)}: {outcomes}{answers}{others}"
 
 
 def together(told: list[tuple[Variant, list[list[Fault]]]], at: int) -> list[tuple[Variant, list[list[Fault]]]]:
@@ -158,7 +189,7 @@ def together(told: list[tuple[Variant, list[list[Fault]]]], at: int) -> list[tup
             groups[variant.faults] = variant, faults
             continue
         others = tuple(tuple(each) for each in [*faults[:at], *faults[at + 1 :]])
-        key = (others, faults[at][0].item, faults[at][0].kind, tuple(variant.outcomes.items()), tuple(variant.answers))
+        key = (others, faults[at][0].item, faults[at][0].kind, tuple(variant.outcomes.items()), tuple(variant.answers), tuple(variant.by_run))
         if key in groups:
             groups[key][1][at].extend(faults[at])
         else:

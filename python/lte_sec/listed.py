@@ -1,7 +1,7 @@
 """The variants of a scenario and what becomes of each, as the proved program `lte_variants` lists them.
 
-It writes `scenario STEPS MESSAGES serving STATION`, a line `message STEP KIND` for each message, a line for each variant, as
-`late 9 12, lost 14: stuck; not made`, and `end VARIANTS`. Variants are numbered in one order, of which a share takes each N-th.
+It writes `scenario STEPS MESSAGES serving STATION`, a line for each thing that is wrong in the scenario itself, as `keys differ 33`, a line
+`message STEP KIND` for each message, a line for each variant, as `late 9 12, lost 14: stuck; not made`, and `end VARIANTS`. Variants are numbered in one order, of which a share takes each N-th.
 """
 from __future__ import annotations
 
@@ -68,6 +68,7 @@ class Lists:
         os.pwrite(self.file, scenario, 0)
         self.serving: int | None = None
         self.messages: dict[str, str] = {}
+        self.itself: list[str] = []  # what is wrong in the scenario itself
         self.count = 0  # of variants that were listed
 
     def __del__(self) -> None:
@@ -106,6 +107,9 @@ class Lists:
                     self.messages[step] = name
             elif word == "scenario":
                 self.serving = int(rest.split(" ")[-1])
+            elif word in ("keys", "stuck", "packet"):
+                if text not in self.itself:
+                    self.itself.append(text)
             else:
                 count += 1
                 variant = variant_of(text)

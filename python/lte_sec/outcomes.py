@@ -21,7 +21,9 @@ WORDS = (
     "COUNTs apart", "cut off", "stuck", "keys differ", "coincidence",
 )
 RANK = {word: rank for rank, word in enumerate(WORDS)}
-GOES_ON, USUAL_BAD = "goes on", "keys differ"
+GOES_ON, KEYS_DIFFER = "goes on", "keys differ"
+USUAL_BAD = KEYS_DIFFER
+NOT_TOLD = "at which handover the report does not tell"
 HERE = " (here)"  # behind what an outcome is about, where the standard has it otherwise
 WAITS = " (7.2.10)"  # and where it is not there if each security procedure of the core waits for the one before
 ROW = re.compile(r"row \d+ (\w+)(?:\((\d+),([\d,]+)\))? ([0-9a-f]{64}) (\S+)")
@@ -52,7 +54,7 @@ class Standing:
         self.passes = self.up is True and self.down is True
         self.view = self.core_view()
         self.dropped = Dropped(course)
-        self.different = different(course.report, self.dropped) if course.report.find("\nend ") >= 0 else []
+        self.different = different(course, self.dropped) if course.report.find("\nend ") >= 0 else {}
 
     def opens(self, name: str, text: str) -> bool | None:
         """Whether a packet or text of the probe is opened to what was sent; None if it is opened to something else."""
@@ -128,12 +130,12 @@ class Standing:
         return found
 
 
-def different(report: str, dropped: Dropped) -> list[tuple[str, bool]]:
-    """What `verdict` says of keys that differ, at handovers and key changes, and at a connection; and of each whether they differ in the standard,
-    too."""
-    told = read(report)
-    found = [(str(item), not dropped.brings(item, told)) for item in items(told) if item.outcome is Outcome.DIFFER]
-    return [*found, *([("phone and station have different keys of a connection", True)] if connected(told) is False else [])]
+def different(course: Course, dropped: Dropped) -> dict[str, tuple[str, bool]]:
+    """What `verdict` says of keys that differ, by the item at which the phone takes its key: at handovers and key changes, and at a connection; and of
+    each whether they differ in the standard, too."""
+    told, names = read(course.report), list(course.lines)
+    found = {names[item.last]: (str(item), not dropped.brings(item, told)) for item in items(told) if item.outcome is Outcome.DIFFER}
+    return found | ({"": ("phone and station have different keys of a connection", True)} if connected(told) is False else {})
 
 
 def rows_of(report: str) -> tuple[list[HeldKey], dict[str, int]]:
@@ -191,10 +193,10 @@ class Comparison:
             for name, before, now in zip(("no NAS text up", "no NAS text down", "no service"), [*usual.nas, usual.again], [*here.nas, here.again]):
                 if before and not now:
                     yield "NAS apart", name
-        if len(here.different) > len(usual.different):
-            alike = [what for what, is_alike in here.different if is_alike]
-            is_so = len(alike) > sum(is_alike for _, is_alike in usual.different)
-            yield "keys differ", alike[-1] if is_so else here.different[-1][0] + HERE
+        new = [told for name, told in here.different.items() if name not in usual.different]
+        if new:
+            alike = [what for what, is_alike in new if is_alike]
+            yield "keys differ", alike[-1] if alike else new[-1][0] + HERE
 
     def of_packets(self) -> Iterator[tuple[str, str]]:
         usual, here = self.usual, self.here

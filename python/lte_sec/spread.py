@@ -13,9 +13,8 @@ from pathlib import Path
 from typing import Any, TypeVar
 
 from .answers import Answer, line
-from .courses import ProgramFails
 from .listed import Listed, Lists
-from .outcomes import GOES_ON, RANK
+from .outcomes import GOES_ON, KEYS_DIFFER, NOT_TOLD, RANK
 from .progress import Rate
 from .saving import save
 from .study import Study, Tried, Variant
@@ -76,8 +75,7 @@ class Work:
         if near is None or tuple(near.variant.outcomes) != outcomes:
             near = self.by_outcomes.get(outcomes, near)
         tried = self.by_outcomes[outcomes] = self.study.tried(variant.faults, near)
-        if list(tried.variant.outcomes) != list(variant.outcomes):
-            raise ProgramFails(f"{line(variant)} by lte_variants, and {', '.join(tried.variant.outcomes)} by its run")
+        take_listed(tried.variant, list(variant.outcomes))
         if self.share.folder:
             save(self.share.folder, self.study, tried.variant, tried.course)
         return tried
@@ -87,6 +85,20 @@ class Work:
         before = self.study.runs.count
         outcomes = self.study.tried(variant.faults).variant.outcomes
         return Listed(variant.faults, tuple(outcomes)), self.study.runs.count - before
+
+
+def take_listed(variant: Variant, listed: list[str]) -> None:
+    """Gives a variant the outcomes that the program lists, with what those of its run are about; where its run has others, they are kept
+    beside. `keys differ` is the program's alone: the report does not always tell which key was made for the phone (docs/WHATIF.md)."""
+    found = variant.outcomes
+    if others(found) != others(listed) or KEYS_DIFFER not in (*found, *listed) and list(found) != listed:
+        variant.by_run = list(found)
+    variant.outcomes = {word: found.get(word, NOT_TOLD if word == KEYS_DIFFER else "") for word in listed}
+
+
+def others(outcomes: Iterable[str]) -> list[str]:
+    """Those that are told beside `keys differ`."""
+    return [word for word in outcomes if word not in (KEYS_DIFFER, "same", GOES_ON)]
 
 
 work: Work | None = None
@@ -153,6 +165,7 @@ class Gathering:
         except KeyboardInterrupt:
             self.answer.whole = False
         self.answer.messages |= self.study.names(self.lists.messages, self.lists.serving)
+        self.answer.itself = list(self.lists.itself)
         self.answer.sort()
 
     def take(self, faults: int) -> None:

@@ -30,6 +30,7 @@ class Variant:
     answers: list[str] = field(default_factory=list)
     run: list[Any] = field(default_factory=list)  # of one fault: its course beside the scenario's, and what falls away
     gone: list[str] = field(default_factory=list)
+    by_run: list[str] = field(default_factory=list)  # the outcomes of its own run, where the program lists others
 
     @property
     def worst(self) -> str:

@@ -146,6 +146,11 @@ def is_prepared(report: Report, note: ReportedStep) -> bool:
     return note.way in ways.get(note.sent, [])
 
 
+def is_prepared_within(step: ReportedStep) -> bool:
+    """Whether a station derived the key for a handover within itself."""
+    return step.station is not None and step.sent is None and step.way in ("horizontal", "vertical")
+
+
 def is_asked(note: ReportedStep) -> bool:
     """Whether a station derived the key of another's cell, to ask it over X2 for a handover."""
     return note.station is not None and note.sent == "x2" and note.way in ("horizontal", "vertical")
@@ -168,15 +173,33 @@ class Obeyed:
         return self.prepared[-1] if self.prepared and (not same or same[-1] is self.prepared[-1]) else None
 
 
+def may_be_commanded(begun: ReportedStep, prepared: ReportedStep, behind: list[ReportedStep]) -> bool:
+    """Whether, by the steps behind what was prepared, its source may have sent the command for it: it did so before its next attempt. A key
+    change is commanded where its key is derived."""
+    if prepared.sent == "air":
+        return True
+    for step in behind:
+        is_source = step.station not in (None, prepared.station) if begun.sent == "s1" else step.station == begun.station
+        if is_source and step.sent == "air" and not step.way:
+            return True
+        if is_source and begun.sent != "s1" and (is_asked(step) or is_prepared_within(step)):
+            return False
+    return False
+
+
 def obeyed(report: Report) -> list[Obeyed]:
-    """Each handover and key change that the phone obeyed."""
+    """Each handover and key change that the phone obeyed. An air address is of one preparation, and a command names it; the report tells
+    neither, but that a preparation was not commanded."""
     found: list[Obeyed] = []
+    sources = {to.number: begun for begun, to in attempts(report) if to}
     prepared: dict[int, list[ReportedStep]] = {}
     for note in report.notes():
         row = report.row(note)
         if note.who == "phone" and row.form == "star":
             at = [it for notes in prepared.values() for it in notes if report.row(it).cell == row.cell]
-            found.append(Obeyed(note, at))
+            behind = {it.number: report.steps[it.number + 1:note.number] for it in at}
+            commanded = [it for it in at if may_be_commanded(sources.get(it.number, it), it, behind[it.number])]
+            found.append(Obeyed(note, commanded or at))
         elif note.station is None:
             continue
         elif is_prepared(report, note):

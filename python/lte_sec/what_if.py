@@ -27,7 +27,7 @@ from .study import Study
 from .terms import TraceError
 from .variants import KINDS
 
-MOST_FAULTS, MOST_JOBS, BAD, WORDS, REFUSED, ENDED, STOPPED = 3, 256, 1, 2, 3, 7, 130
+MOST_FAULTS, MOST_JOBS, BAD, WORDS, REFUSED, FAILS, ENDED, STOPPED = 3, 256, 1, 2, 3, 6, 7, 130
 NOT_WITH_GOAL = ("--faults", "--part", "--lines", "--picture", "--html", "--merge", "--bad", "--resume", "--out")
 NOT_WITH_RESUME = ("--part", "--lines", "--merge", "--save")
 REASONS = Path(__file__).resolve().parents[2] / "launcher" / "reasons"
@@ -171,10 +171,13 @@ def tell(answer: Answer, words: WhatIfWords) -> int:
     if not answer.whole:
         print("lte_sec: status 130: interrupted; this is what there is", file=sys.stderr)
         return STOPPED
+    if others := answer.others():
+        print(f"lte_sec: status {FAILS}: {others:,} variant{' has' if others == 1 else 's have'} other outcomes by {'its' if others == 1 else 'their'} own run, told beside", file=sys.stderr)
+        return FAILS
     if answer.goal:
         return BAD if answer.goal["smallest"] else 0
     worst = answer.worst()
-    return BAD if worst is not None and RANK[worst] >= RANK[words.outcome("--bad")] else 0
+    return BAD if answer.itself or worst is not None and RANK[worst] >= RANK[words.outcome("--bad")] else 0
 
 
 def answered(programs: Programs, given: list[str]) -> int:
@@ -218,8 +221,8 @@ def main(words: list[str]) -> int:
         print(f"lte_sec: status {TOO_MANY}: {fault}", file=sys.stderr)
         return TOO_MANY
     except ProgramFails as fault:
-        print(f"lte_sec: status 6: {fault}", file=sys.stderr)
-        return 6
+        print(f"lte_sec: status {FAILS}: {fault}", file=sys.stderr)
+        return FAILS
     except KeyboardInterrupt:
         return STOPPED
 

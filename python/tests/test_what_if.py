@@ -14,13 +14,14 @@ import unittest.mock
 import xml.dom.minidom
 from functools import lru_cache
 from pathlib import Path
+from typing import Any
 
 from lte_sec import scenarios, what_if
-from lte_sec.answers import Answer, from_json, merged, ranges, to_json
+from lte_sec.answers import Answer, from_json, merged, ranges, table, to_json
 from lte_sec.courses import Course, Item, ProgramFails, act, delivery
 from lte_sec.listed import Listed, Lists, order, variant_of
 from lte_sec.messages import StepLine
-from lte_sec.outcomes import RANK, WORDS, Comparison, Standing, limit, signature
+from lte_sec.outcomes import NOT_TOLD, RANK, WORDS, Comparison, Standing, limit, signature
 from lte_sec.probe import PROBE
 from lte_sec.saving import save
 from lte_sec.scenarios import text
@@ -149,15 +150,38 @@ class Lines(unittest.TestCase):
                 before = tried
         self.assertGreater(alike, 500)
 
-    def test_an_outcome_of_its_own_that_differs_is_told(self) -> None:
+    def listed_otherwise(self, line: str) -> tuple[int, dict[str, Any], str]:
+        """The status, the document and what is said where the program lists this in place of its line for `lost 3`."""
         with tempfile.TemporaryDirectory() as room:
             wrong = Path(room) / "wrong"
-            wrong.write_text(f"#!/bin/sh\n'{VARIANTS}' \"$@\" | sed 's/^lost 3: .*/lost 3: keys differ/'\n")
+            wrong.write_text(f"#!/bin/sh\n'{VARIANTS}' \"$@\" | sed 's/^lost 3: .*/lost 3: {line}/'\n")
             wrong.chmod(0o700)
             out, err = io.StringIO(), io.StringIO()
             with contextlib.redirect_stdout(out), contextlib.redirect_stderr(err):
-                status = what_if.main([PROGRAM, str(wrong), "--jobs", "1", str(EXAMPLES / "run/wrong-ksi.toml")])
-        self.assertEqual((status, out.getvalue(), err.getvalue()), (6, "", "lte_sec: status 6: lost 3: keys differ by lte_variants, and goes on by its run\n"))
+                status = what_if.main([PROGRAM, str(wrong), "--jobs", "1", "--json", str(EXAMPLES / "run/wrong-ksi.toml")])
+        return status, json.loads(out.getvalue()), err.getvalue()
+
+    def test_a_variant_whose_own_run_has_other_outcomes_is_marked(self) -> None:
+        status, document, said = self.listed_otherwise("stuck")
+        self.assertEqual((status, said.splitlines()[-1]), (6, "lte_sec: status 6: 1 variant has other outcomes by its own run, told beside"))
+        marked = [one for one in document["variants"] if "by_run" in one]
+        self.assertEqual([(one["faults"][0]["step"], one["outcomes"][0]["is"], one["by_run"]) for one in marked], [(3, "stuck", ["goes on"])])
+        self.assertIn("3 NAS Security Mode Command lost: stuck", "\n".join(table(from_json(document))))
+        self.assertIn("(its own run: goes on)", "\n".join(table(from_json(document))))
+
+    def test_keys_that_differ_are_as_the_program_says(self) -> None:
+        status, document, _ = self.listed_otherwise("keys differ")
+        told = [one["outcomes"] for one in document["variants"] if one["outcomes"][0]["is"] == "keys differ"]
+        self.assertEqual((status, told), (1, [[{"is": "keys differ", "what": NOT_TOLD, "limit": None}]]))
+
+    def test_what_is_wrong_in_the_scenario_itself_is_told_first(self) -> None:
+        document = json.loads(launched("--kinds", "lost", "--json", EXAMPLES / "run/eight-ahead.toml").stdout)
+        self.assertEqual(document["itself"], [{"is": "keys differ", "step": 69}, {"is": "packet lost", "step": 73}])
+        answer = from_json(document)
+        answer.itself = ["keys differ 69", "keys differ probe", "stuck", "packet lost 14"]
+        self.assertEqual(from_json(to_json(answer)).itself, answer.itself)
+        self.assertEqual(next(table(answer)), "without any fault: keys differ at step 69; keys differ in the probe behind it; stuck; packet lost of step 14")
+        self.assertEqual(launched("--kinds", "lost", "--bad", "coincidence", EXAMPLES / "run/eight-ahead.toml").returncode, 1)
 
 
 def told(course: Course) -> dict[str, object]:
@@ -341,7 +365,7 @@ class Answers(unittest.TestCase):
 
     def test_a_triple_is_told_if_no_pair_brings_its_outcome(self) -> None:
         status, out, err = called("--faults", "3", EXAMPLES / "worked/nas-count-spent.toml")
-        self.assertEqual(status, 0, err)
+        self.assertEqual(status, 1, err)  # its phone is stuck without any fault
         self.assertIn("triple", out.splitlines()[-1])
 
     def test_interrupted_it_tells_what_it_has(self) -> None:
@@ -363,7 +387,7 @@ class Answers(unittest.TestCase):
         for status, words in (
             (0, ["run/ordinary.toml"]), (1, ["--bad", "cut off", "run/ordinary.toml"]), (1, ["--bad", "cut-off", "run/ordinary.toml"]),
             (1, ["--kinds", "again", "run/seven-ahead.toml"]), (0, ["--bad", "coincidence", "--kinds", "again", "run/seven-ahead.toml"]), (3, ["ladder/first.txt"]), (3, ["fleet/two-phones.toml"]),
-            (7, ["run/coincidence.toml"]), (0, ["worked/repeated-root.toml"]), (0, ["--follow", "--kinds", "lost", "run/two-preparations.toml"]),
+            (7, ["run/coincidence.toml"]), (1, ["worked/repeated-root.toml"]), (0, ["--follow", "--kinds", "lost", "run/two-preparations.toml"]),
         ):
             ran = launched(*words[:-1], EXAMPLES / words[-1])
             self.assertEqual(ran.returncode, status, f"{words} {ran.stderr!r}")

@@ -7,9 +7,11 @@ use Rattle.lte_machine.specs.{BothRuns.written_run, ByEvent.in_octets, Carried.m
 use Rattle.lte_machine.specs.PhoneState.{Radio, Idle, Connecting, Connected, map_radio}
 use Rattle.lte_machine.proofs.{AnnexB.annex_b_ciphers, EventByEvent.each_of_first, WholeRun.run_is_value, Worlds.TheWorld}
 use Rattle.item_lines.specs.declared.lines.Told.{Told}
-use Rattle.item_keys.specs.Addresses.{phone_air, station_air, address_of, place_in, Placed}
+use Rattle.item_runs.specs.Course.{place_in, place_of, Placed}
+use Rattle.lte_world.specs.Whole.{address_of, station_air}
+use Rattle.ue_context.specs.Step.{air_of}
 
-radio_value : (r : Radio Term ℕ) → phone_air (map_radio value_of ncc_of r) ≡ phone_air r
+radio_value : (r : Radio Term ℕ) → air_of (map_radio value_of ncc_of r) ≡ air_of r
 radio_value Idle = refl
 radio_value (Connecting waiting) = refl
 radio_value (Connected l) = refl
@@ -43,6 +45,7 @@ pub placed_written : (setup : Setup) (events : List Event) (told : List Told)
     → slice_get told k ≡ Some t
     → written_run setup (take (suc k) events) ≡ Running w
     → t.at ≡ address_of w t.line.who
+unfolding place_of
 placed_written setup events told set are placed k t w at runs =
     placed k t at
     ∙ ap (λ r. place_in r t.line.who)

@@ -18,13 +18,14 @@ use Rattle.lte_properties.specs.Agreement.{ahead, ObeysMade, TookIsTold, TookLas
 use Rattle.lte_properties.specs.BySteps.{TakesAt, MakesAt, Follows}
 use Rattle.lte_properties.specs.Headline.{Headline}
 use Rattle.lte_properties.proofs.StepByStep.{makes_tell, takes_tell, holds_on}
-use Rattle.lte_world.specs.{Whole.answer_of, declared.faults.WorldFault.WorldFault}
+use Rattle.enb_context.specs.Drawn.{last_drawn}
+use Rattle.ue_context.specs.Step.{air_of}
+use Rattle.lte_world.specs.{Whole.address_of, Whole.answer_of, Whole.station_air, declared.faults.WorldFault.WorldFault}
 use Rattle.lte_world.proofs.OneTerm.{happens_stands, one_term}
 use Rattle.item_lines.specs.Lines.{differs, is_made_for, made_for, note_at_phone, note_at_station, note_in, parts, phone_note, same_air, station_note}
 use Rattle.item_lines.specs.declared.lines.Told.{Told}
-use Rattle.item_keys.specs.Addresses.{phone_air, last_drawn, station_air, address_of}
-use Rattle.item_keys.specs.Far.{TakesFar, IsRun, ExactlyFar}
-use Rattle.item_keys.specs.Runs.{Tells}
+use Rattle.item_runs.specs.Course.{Seen, Promises}
+use Rattle.item_keys.specs.Far.{TakesFar, ExactlyFar}
 use Rattle.item_keys.proofs.Addresses.{placed_written}
 use Rattle.item_keys.proofs.Drawing.{MakesNext, MadeDrawn, Drawn, step_drawn}
 use Rattle.item_keys.proofs.Places.{map_got, got_of_map, find_first}
@@ -172,23 +173,32 @@ connected_at : (took ws : List (Took Term ℕ)) (x : Took Term ℕ) (radio : Rad
     → took ≡ ws ++ x ∷ []
     → IsUnder radio x.key
     → TookLast took radio
-    → phone_air radio ≡ Some (x.station, x.air)
+    → air_of radio ≡ Some (x.station, x.air)
 connected_at took ws x Idle grows under last = absurd under
 connected_at took ws x (Connecting waiting) grows under last = absurd under
 connected_at took ws x (Connected l) grows under last =
     let one : last.1 ≡ x = last_one last.0 ws last.1 x (sym last.2 ∙ grows) in
     λ j. Some ((sym last.3.0 ∙ ap (λ (y : Took Term ℕ). y.station) one) j, (sym last.3.1 ∙ ap (λ (y : Took Term ℕ). y.air) one) j)
 
-module _ (setup : Setup) (events : List Event) (told : List Told) (run : IsRun setup events told) where
+module _ (run : Seen) (holds : Promises run) where
+  abbrev setup : Setup
+  setup = run.setup
+
+  abbrev events : List Event
+  events = run.coming.events
+
+  abbrev told : List Told
+  told = run.coming.told
+
   placed_at : (k : ℕ) (t : Told) (w : TheWorld) → slice_get told k ≡ Some t → written_run setup (take (suc k) events) ≡ Running w → t.at ≡ address_of w t.line.who
-  placed_at = placed_written setup events told run.scenario.can_start (in_range setup events run.scenario.can_happen) run.placed
+  placed_at = placed_written setup events told holds.scenario.can_start (in_range setup events holds.scenario.can_happen) holds.placed
 
   -- WHAT STANDS AT A PLACE is the line of that step
 
   line_at : (k : ℕ) (t : Told) → slice_get told k ≡ Some t → (l : Line Term) × StepTold setup events k l × (seen_line l ≡ t.line)
   line_at k t at =
       let here : slice_get (map told_by (written_report setup events)) k ≡ Some (told_in t) =
-      ap (λ xs. slice_get xs k) run.tells ∙ map_got told_in told k t at in
+      ap (λ xs. slice_get xs k) holds.tells ∙ map_got told_in told k t at in
       let got = got_of_map told_by (written_report setup events) k (told_in t) here in
       let line = line_told got.0 t.line got.2 in
       (line.0, told_step setup events k line.0 (got.1 ∙ ap (λ r. Some r) line.1), line.2)
@@ -198,7 +208,7 @@ module _ (setup : Setup) (events : List Event) (told : List Told) (run : IsRun s
       → (t : Told) × (slice_get told k ≡ Some t) × (seen_line l ≡ t.line)
   told_at k w e u l step =
       let here : slice_get (map told_in told) k ≡ Some (told_by (Reported l)) =
-      ap (λ xs. slice_get xs k) (sym run.tells) ∙ map_got told_by (written_report setup events) k (Reported l) (step_told setup events k w e u l step) in
+      ap (λ xs. slice_get xs k) (sym holds.tells) ∙ map_got told_by (written_report setup events) k (Reported l) (step_told setup events k w e u l step) in
       let got = got_of_map told_in told k (told_by (Reported l)) here in
       (got.0, got.1, one_line (seen_line l) got.0.line (told_by (Reported l)) (told_in got.0) refl refl (sym got.2))
 
@@ -231,7 +241,7 @@ module _ (setup : Setup) (events : List Event) (told : List Told) (run : IsRun s
         placed_at k t takes.after at world_is
         ∙ ap (λ (m : lines.Line). address_of takes.after m.who) (sym same) ∙ ap (address_of takes.after) taken.1
         ∙ connected_at takes.after.took takes.world.took x takes.after.phone.radio takes.takes under
-        (run.headline.agrees (suc k) takes.after world_is).last
+        (holds.headline.agrees (suc k) takes.after world_is).last
 
     -- WHAT WAS MADE THERE
     module _ (f : Follows setup events k x l) where
@@ -326,7 +336,7 @@ module _ (setup : Setup) (events : List Event) (told : List Told) (run : IsRun s
       let step = line_at k t at in
       let note = some_note (phone_note t) (made_for (take k told) t) so in
       let phone = is_phone step.0 t step.2 note.0 note.1 in
-      by step.0 step.1 step.2 phone.0 phone.1 (run.headline.lines k step.1.world step.1.event step.1.after step.0 step.1.step).1
+      by step.0 step.1 step.2 phone.0 phone.1 (holds.headline.lines k step.1.world step.1.event step.1.after step.0 step.1.step).1
     where
       by_far : (x : Took Term ℕ) (l : Line Term) (takes : TakesAt setup events k x l) → seen_line l ≡ t.line
           → (f : Follows setup events k x l)
@@ -342,7 +352,7 @@ module _ (setup : Setup) (events : List Event) (told : List Told) (run : IsRun s
       by l s same who a (inl nothing) = let bad : None ≡ Some a.0 = sym (nothing.1 who) ∙ a.1 in absurd cc
       by l s same who a (inr (x, grows, tells)) =
           let takes : TakesAt setup events k x l = record { world = s.world; event = s.event; after = s.after; step = s.step; takes = grows } in
-          let f = run.headline.agreement k x l takes in
+          let f = holds.headline.agreement k x l takes in
           by_far x l takes same f (cases_order (ahead f.made x.came) 8)
 
   each : (k : ℕ) (t : Told) → slice_get told k ≡ Some t → TakesFar setup events k → parts (take k told) t ≡ true
@@ -351,5 +361,5 @@ module _ (setup : Setup) (events : List Event) (told : List Told) (run : IsRun s
       let one : got.0 ≡ t = same_some (sym got.1 ∙ at) in
       far_parts k t at h.took h.line h.takes (got.2 ∙ ap (λ (u : Told). u.line) one) h.follows h.far
 
-  pub exactly_far : ExactlyFar setup events told
+  pub exactly_far : ExactlyFar run
   exactly_far = record { only = only; each = each }

@@ -1,5 +1,5 @@
-pub mod Addresses
-pub mod Differ
-pub mod Drawing
-pub mod Exact
 pub mod Places
+pub mod Drawing
+pub mod Addresses
+pub mod Exact
+pub mod AtItems

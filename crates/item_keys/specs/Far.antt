@@ -1,11 +1,11 @@
 -- Where keys part, against the headline: exactly where the phone takes a key eight or more steps ahead.
 use Rattle.std.specs.Prelude.{◌≡◌, ℕ, ◌≤◌, true, List, take, slice_get, Some}
-use Rattle.key_model.specs.{Term.Term, Value.value_of}
-use Rattle.lte_events.specs.{Scenario.IsScenario, declared.events.Event.Event, declared.setups.Setup.Setup}
+use Rattle.key_model.specs.Term.{Term}
+use Rattle.lte_events.specs.{declared.events.Event.Event, declared.setups.Setup.Setup}
 use Rattle.lte_machine.specs.{Reply.Took, World.Line}
-use Rattle.lte_properties.specs.{Agreement.ahead, BySteps.TakesAt, BySteps.Follows, Headline.Headline}
+use Rattle.lte_properties.specs.{Agreement.ahead, BySteps.TakesAt, BySteps.Follows}
 use Rattle.item_lines.specs.{Lines.parts, declared.lines.Told.Told}
-use Rattle.item_keys.specs.{Runs.Tells, Addresses.Placed}
+use Rattle.item_runs.specs.Course.{Seen}
 
 -- at step k of the written machine's run the phone takes a key, and what was made for that air address was eight or more steps ahead; a key
 -- change from another authentication counts as eight
@@ -16,14 +16,9 @@ pub record TakesFar (setup : Setup) (events : List Event) (k : ℕ) : Type 0 whe
   pub follows : Follows setup events k took line
   pub far : 8 ≤ ahead follows.made took.came
 
--- a run of items whose lines are those of the written machine's run
-pub record IsRun (setup : Setup) (events : List Event) (told : List Told) : Type 0 where
-  pub scenario : IsScenario setup events
-  pub tells : Tells setup events told
-  pub placed : Placed setup events told
-  pub headline : Headline setup events
-
--- KEYS PART EXACTLY WHERE IT IS FAR: in octets on the left, over terms on the right
-pub record ExactlyFar (setup : Setup) (events : List Event) (told : List Told) : Type 0 where
-  pub only : (k : ℕ) (t : Told) → slice_get told k ≡ Some t → parts (take k told) t ≡ true → TakesFar setup events k
-  pub each : (k : ℕ) (t : Told) → slice_get told k ≡ Some t → TakesFar setup events k → parts (take k told) t ≡ true
+-- KEYS PART EXACTLY WHERE IT IS FAR, of a run of items: in octets on the left, over terms on the right
+pub record ExactlyFar (s : Seen) : Type 0 where
+  pub only : (k : ℕ) (t : Told) → slice_get s.coming.told k ≡ Some t → parts (take k s.coming.told) t ≡ true
+      → TakesFar s.setup s.coming.events k
+  pub each : (k : ℕ) (t : Told) → slice_get s.coming.told k ≡ Some t → TakesFar s.setup s.coming.events k
+      → parts (take k s.coming.told) t ≡ true

@@ -1,4 +1,2 @@
-pub mod Addresses
-pub mod Differ
 pub mod Far
-pub mod Runs
+pub mod Items

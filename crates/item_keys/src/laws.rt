@@ -1,13 +1,20 @@
-// Where keys part, of the lines of a run.
-ghost use Rattle.item_keys.specs.Differ.{DifferIsFar};
-ghost use Rattle.item_keys.specs.Far.{ExactlyFar, IsRun};
+// Where keys part, of runs of items.
+ghost use Rattle.item_keys.specs.Far.{ExactlyFar};
+ghost use Rattle.item_keys.specs.Items.{DifferFar, PartsFar};
+ghost use Rattle.item_runs.specs.Course.{Promises};
 
-use item_lines::Told;
-use lte_events::{Events, Setup};
+use item_runs::Course;
 
-/// TRIAL: Keys part exactly where the phone takes a key eight or more steps ahead.
-pub fn keys_part_exactly_far(setup: &Setup, events: &Events, told: &[Told])
-    requires is_run { IsRun setup.now events.now.items told.now }
-    ensures exact { ExactlyFar setup.now events.now.items told.now }
-    ensures differ { DifferIsFar setup.now events.now.items told.now }
+/// Keys part exactly where the phone takes a key eight or more steps ahead: at each line, and so at each item.
+pub fn keys_part_exactly_far(course: &Course)
+    requires promises { Promises course.now }
+    ensures lines { ExactlyFar course.now }
+    ensures items { PartsFar course.now }
+{}
+
+/// Keys differ from those of another run exactly where the phone does so at an item, and in the other run it does not at that item.
+pub fn keys_differ_exactly_far(usual: &Course, here: &Course)
+    requires promises { Promises usual.now }
+    requires promises_too { Promises here.now }
+    ensures differ { DifferFar usual.now here.now }
 {}

@@ -3,4 +3,4 @@
 
 mod laws;
 
-pub use laws::keys_part_exactly_far;
+pub use laws::{keys_differ_exactly_far, keys_part_exactly_far};

@@ -4,7 +4,7 @@ use Rattle.std.specs.List.{list_any}
 use Rattle.lte_events.specs.declared.replies.KeyNote.{KeyNote}
 use Rattle.item_lines.specs.declared.lines.Told.{Told}
 use Rattle.item_lines.specs.Lines.{line_of, parts, phone_note, note_in, is_vertical, is_horizontal}
-use Rattle.item_outcomes.specs.{Probe.probe, Standing.Standing}
+use Rattle.item_outcomes.specs.{Probe.is_among, Probe.probe, Standing.Standing}
 
 abbrev pub is_told : Option KeyNote → Bool
 is_told None = false
@@ -32,13 +32,17 @@ is_weaker here t = is_vertical (phone_note t) && is_horizontal (note_in (line_of
 abbrev pub weaker_key : Standing → Standing → Bool
 weaker_key usual here = list_any (is_weaker here.told) usual.told || nat_lt (length usual.reach) (length here.reach)
 
--- KEYS DIFFER: the items by which the phone took, at an air address, another key than the station there told are more than in the scenario
+-- KEYS DIFFER: the phone takes, at an item and an air address, another key than the station there told, and in the scenario it does not at that item
 unfoldable pub parted_from : List Told → List Told → List ℕ → List ℕ
 parted_from before [] found = found
 parted_from before (t ∷ ts) found = parted_from (before ++ t ∷ []) ts (with_if (parts before t) t.name found)
 
+-- the items at which it does so
 abbrev pub parted : List Told → List ℕ
 parted told = parted_from [] told []
 
+abbrev pub is_new : List ℕ → ℕ → Bool
+is_new usual name = not (is_among usual name)
+
 abbrev pub keys_differ : List Told → List Told → Bool
-keys_differ usual here = nat_lt (length (parted usual)) (length (parted here))
+keys_differ usual here = list_any (is_new (parted usual)) (parted here)

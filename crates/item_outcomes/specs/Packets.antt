@@ -1,10 +1,10 @@
 -- The packets and texts of the probe, and those of the scenario.
-use Rattle.std.specs.Prelude.{ℕ, ◌==◌, ◌&&◌, ◌||◌, nat_lt, Bool, true, false, not, if◌then◌else◌, List, Option, Some, None}
+use Rattle.std.specs.Prelude.{ℕ, ◌&&◌, ◌||◌, nat_lt, Bool, true, false, not, if◌then◌else◌, List, Option, Some, None}
 use Rattle.std.specs.List.{list_any}
 use Rattle.lte_events.specs.declared.lines.Line.{Line}
 use Rattle.item_lines.specs.declared.lines.Told.{Told}
 use Rattle.item_lines.specs.Lines.{line_of, is_done, is_text, opened_in}
-use Rattle.item_outcomes.specs.Probe.{probe, up_arrives, down_arrives, nas_up_arrives, nas_down_arrives, again_arrives, text_up, text_down, text_nas_up, text_nas_down, text_again}
+use Rattle.item_outcomes.specs.Probe.{is_among, probe, up_arrives, down_arrives, nas_up_arrives, nas_down_arrives, again_arrives, text_up, text_down, text_nas_up, text_nas_down, text_again}
 use Rattle.item_outcomes.specs.{Standing.Standing, declared.packets.Fate.Fate, declared.packets.Fates.Fates}
 use Rattle.item_outcomes.specs.declared.packets.Fate.TheVariants.{Fails, Garbled, Arrives}
 
@@ -63,8 +63,11 @@ abbrev pub cut_off : Fates → Fates → Bool
 cut_off usual here = passes usual && (fails here && arrives here.again)
 
 -- STUCK: the same, and that packet does not arrive
+abbrev pub is_stuck : Fates → Bool
+is_stuck here = fails here && not (arrives here.again)
+
 abbrev pub stuck : Fates → Fates → Bool
-stuck usual here = passes usual && (fails here && not (arrives here.again))
+stuck usual here = passes usual && is_stuck here
 
 -- NAS APART: a NAS text of the probe, or its packet after the Service Request, arrives in the scenario and not here
 abbrev pub is_lost_on_way : Fate → Fate → Bool
@@ -75,15 +78,12 @@ nas_apart usual here =
     is_lost_on_way usual.nas_up here.nas_up || (is_lost_on_way usual.nas_down here.nas_down || is_lost_on_way usual.again here.again)
 
 -- PACKET LOST: a text that an item opens in the scenario, not one of the fault's own, is not opened by it here, or to other octets
-abbrev pub is_own : List ℕ → ℕ → Bool
-is_own own name = list_any (λ n. n == name) own
-
 abbrev pub opens_same : List Told → ℕ → Option (List ℕ) → Bool
 opens_same here name None = true
 opens_same here name (Some text) = is_text text (opened_in (line_of name here))
 
 abbrev pub is_lost : List ℕ → List Told → Told → Bool
-is_lost own here t = not (opens_same here t.name t.line.opened) && (nat_lt t.name probe && not (is_own own t.name))
+is_lost own here t = not (opens_same here t.name t.line.opened) && (nat_lt t.name probe && not (is_among own t.name))
 
 abbrev pub packet_lost : List ℕ → List Told → List Told → Bool
 packet_lost own usual here = list_any (is_lost own here) usual

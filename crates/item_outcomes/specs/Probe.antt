@@ -1,5 +1,10 @@
 -- The items of the probe by their names.
-use Rattle.std.specs.Prelude.{ℕ, ◌+◌, ◌*◌, List, [], ◌∷◌, codes}
+use Rattle.std.specs.Prelude.{ℕ, ◌+◌, ◌*◌, ◌==◌, Bool, List, [], ◌∷◌, codes}
+use Rattle.std.specs.List.{list_any}
+
+-- whether a name is among these
+abbrev pub is_among : List ℕ → ℕ → Bool
+is_among names name = list_any (λ n. n == name) names
 
 -- the name of the first one: all items of a variant have lower names
 abbrev pub probe : ℕ

@@ -3,11 +3,11 @@ ghost use Rattle.growth.specs.Growth.{WasRefused};
 ghost use Rattle.std.specs.Prelude.{◌≡◌, IfOk, OnErr};
 ghost use Rattle.std.specs.List.{list_any};
 ghost use Rattle.std.specs.Option.{option_map};
-ghost use Rattle.item_outcomes.specs.Keys.{is_made, is_missed, is_weaker, keys_differ, not_made, parted, weaker_key};
+ghost use Rattle.item_outcomes.specs.Keys.{is_made, is_missed, is_new, is_weaker, keys_differ, not_made, parted, weaker_key};
 ghost use Rattle.item_lines.specs.Lines.{is_horizontal, is_vertical};
 
 use crate::Standing;
-use crate::names::PROBE;
+use crate::names::{PROBE, is_among};
 use item_lines::{Told, note_in, parts, phone_note};
 use lte_events::KeyNote;
 use rec_base::Way;
@@ -74,10 +74,16 @@ fn is_horizontal(note: Option<KeyNote>) -> bool
 pub(crate) fn keys_differ(usual: &Standing, here: &Standing) -> bool
     ensures { result ≡ keys_differ usual.now.told here.now.told }
 {
-    usual.parted().len() < here.parted().len()
+    here.parted().iter().any(|name| is_new(usual, *name))
 }
 
-// The items by which the phone took another key than the station told for that air address.
+pub(crate) fn is_new(usual: &Standing, name: u32) -> bool
+    ensures { result ≡ is_new (parted usual.now.told) name }
+{
+    !is_among(usual.parted(), name)
+}
+
+// The items at which the phone took, at an air address, another key than the station there told.
 #[tactic(auto, unfolding(crate::specs::Keys::parted_from))]
 pub(crate) fn parted(alloc: Global, told: &[Told]) -> Result<Vec<u32>, AllocError>
     ensures names { IfOk result (λ names. names.items ≡ parted told.now) }

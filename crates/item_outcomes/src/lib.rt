@@ -8,7 +8,9 @@ pub mod names;
 mod packets;
 mod same;
 mod standing;
+mod troubles;
 
 pub use judging::{Outcome, outcomes};
 pub use packets::{Fate, Fates};
 pub use standing::Standing;
+pub use troubles::Trouble;

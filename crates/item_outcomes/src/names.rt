@@ -1,6 +1,6 @@
 // The items of the probe by their names.
 ghost use Rattle.std.specs.Prelude.{◌≡◌};
-ghost use Rattle.item_outcomes.specs.Probe.{down, down_arrives};
+ghost use Rattle.item_outcomes.specs.Probe.{down, down_arrives, is_among};
 
 /// The name of the first item of the probe: all items of a variant have lower names.
 pub const PROBE: u32 = 1_000_000;
@@ -59,4 +59,11 @@ pub fn down_arrives(station: u8) -> u32
     ensures { result ≡ down_arrives station }
 {
     PROBE + 3 + 2 * u32::from(station)
+}
+
+/// Whether a name is among these.
+pub(crate) fn is_among(names: &[u32], name: u32) -> bool
+    ensures { result ≡ is_among names.now name }
+{
+    names.iter().any(|n| *n == name)
 }

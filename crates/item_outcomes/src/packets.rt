@@ -1,10 +1,10 @@
 // The packets and texts of the probe, and those of the scenario.
 ghost use Rattle.std.specs.Prelude.{◌≡◌};
-ghost use Rattle.item_outcomes.specs.Packets.{better, counts_apart, cut_off, fails, fate_in, fate_of, fates_of, is_lost, is_lost_on_way, is_own, nas_apart, opens_same, packet_lost, passes, stuck};
+ghost use Rattle.item_outcomes.specs.Packets.{better, counts_apart, cut_off, fails, fate_in, fate_of, fates_of, is_lost, is_lost_on_way, is_stuck, nas_apart, opens_same, packet_lost, passes, stuck};
 
 use crate::Standing;
 use crate::names::{
-    AGAIN_ARRIVES, NAS_DOWN_ARRIVES, NAS_UP_ARRIVES, PROBE, UP_ARRIVES, down_arrives,
+    AGAIN_ARRIVES, NAS_DOWN_ARRIVES, NAS_UP_ARRIVES, PROBE, UP_ARRIVES, down_arrives, is_among,
 };
 use item_lines::{Told, line_of, opens, opens_to};
 use lte_events::{Answer, Line};
@@ -86,6 +86,13 @@ impl Fates {
     {
         self.up == Fate::Fails || self.down == Fate::Fails
     }
+
+    /// Whether one of them fails, and the packet after the Service Request does not arrive.
+    pub fn is_stuck(&self) -> bool
+        ensures { result ≡ is_stuck self.now }
+    {
+        self.fails() && self.again != Fate::Arrives
+    }
 }
 
 pub(crate) fn better(usual: &Fates, here: &Fates) -> bool
@@ -109,7 +116,7 @@ pub(crate) fn cut_off(usual: &Fates, here: &Fates) -> bool
 pub(crate) fn stuck(usual: &Fates, here: &Fates) -> bool
     ensures { result ≡ stuck usual.now here.now }
 {
-    usual.passes() && here.fails() && here.again != Fate::Arrives
+    usual.passes() && here.is_stuck()
 }
 
 fn is_lost_on_way(usual: Fate, here: Fate) -> bool
@@ -135,7 +142,7 @@ pub(crate) fn packet_lost(own: &[u32], usual: &Standing, here: &Standing) -> boo
 pub(crate) fn is_lost(own: &[u32], here: &Standing, t: &Told) -> bool
     ensures { result ≡ is_lost own.now here.now.told t.now }
 {
-    !opens_same(here, t) && t.name < PROBE && !is_own(own, t.name)
+    !opens_same(here, t) && t.name < PROBE && !is_among(own, t.name)
 }
 
 // Whether the item of this line opens the same text here, where it opens one.
@@ -146,11 +153,4 @@ fn opens_same(here: &Standing, t: &Told) -> bool
         None => true,
         Some(text) => opens(here.line_of(t.name), text.as_slice()),
     }
-}
-
-// Whether an item is one of the fault's own.
-pub(crate) fn is_own(own: &[u32], name: u32) -> bool
-    ensures { result ≡ is_own own.now name }
-{
-    own.iter().any(|n| *n == name)
 }

@@ -4,7 +4,7 @@ ghost use Rattle.std.specs.List.{list_all};
 ghost use Rattle.item_outcomes.specs.Same.{is_same, others, same};
 
 use crate::Standing;
-use crate::packets::is_own;
+use crate::names::is_among;
 use item_lines::{Told, same_told};
 
 pub(crate) fn same(own: &[u32], usual: &Standing, here: &Standing) -> bool
@@ -19,7 +19,7 @@ pub(crate) fn same(own: &[u32], usual: &Standing, here: &Standing) -> bool
 fn others(own: &[u32], told: &[Told]) -> usize
     ensures { result ≡ others own.now told.now }
 {
-    told.iter().filter(|t| !is_own(own, t.name)).count()
+    told.iter().filter(|t| !is_among(own, t.name)).count()
 }
 
 // Whether the items of these lines have the same line in both.
@@ -32,5 +32,5 @@ fn all_same(own: &[u32], usual: &Standing, here: &Standing, told: &[Told]) -> bo
 fn is_same(own: &[u32], usual: &Standing, here: &Standing, t: &Told) -> bool
     ensures { result ≡ is_same own.now usual.now.told here.now.told t.now }
 {
-    is_own(own, t.name) || same_told(usual.line_of(t.name), here.line_of(t.name))
+    is_among(own, t.name) || same_told(usual.line_of(t.name), here.line_of(t.name))
 }

@@ -21,8 +21,8 @@ pub struct Standing {
     over: bool,
     // what the lines say of the packets of the probe
     packets: Fates,
-    // the items by which the phone took another key than the station told for that air address
-    new_keys: Vec<u32>,
+    // the items at which the phone took, at an air address, another key than the station there told
+    parted_at: Vec<u32>,
 }
 
 impl Model for Standing {
@@ -41,7 +41,7 @@ impl Model for Standing {
       over = s.over;
     } };
 
-    ghost invariant = { λ s. (s.packets ≡ fates_of s.told.items s.serving) × (s.new_keys.items ≡ parted s.told.items) };
+    ghost invariant = { λ s. (s.packets ≡ fates_of s.told.items s.serving) × (s.parted_at.items ≡ parted s.told.items) };
 }
 
 impl Standing {
@@ -59,7 +59,7 @@ impl Standing {
         ensures refused { OnErr result WasRefused }
     {
         let packets = fates_of(told.as_slice(), serving);
-        let new_keys = parted(alloc, told.as_slice())?;
+        let parted_at = parted(alloc, told.as_slice())?;
         Ok(Standing {
             told,
             serving,
@@ -67,7 +67,7 @@ impl Standing {
             reach,
             over,
             packets,
-            new_keys,
+            parted_at,
         })
     }
 
@@ -120,10 +120,10 @@ impl Standing {
         &self.packets
     }
 
-    /// The items by which the phone took another key than the station told for that air address.
+    /// The items at which the phone took, at an air address, another key than the station there told.
     pub fn parted(&self) -> &[u32]
         ensures { result.now ≡ parted self.now.told }
     {
-        self.new_keys.as_slice()
+        self.parted_at.as_slice()
     }
 }

@@ -1,13 +1,14 @@
 -- Each line that the program writes is a line.
-use Rattle.std.proofs.Common.{◌≡◌, ℕ, true, List}
+use Rattle.std.proofs.Common.{◌≡◌, ℕ, ◌++◌, nat_lt, Bool, true, false, if◌then◌else◌, List}
 use Rattle.std.specs.{Prelude.codes, Fmt.decimal}
 use Rattle.edge_io.specs.Lines.{EndsLine, are_lines}
 use Rattle.edge_io.proofs.Ending.{feed, is_lines, on}
 use Rattle.item_faults.specs.{declared.changes.Fault.Fault, declared.messages.Message.Message}
-use Rattle.item_outcomes.specs.declared.judging.Outcome.{Outcome}
+use Rattle.item_outcomes.specs.{declared.judging.Outcome.Outcome, declared.troubles.Trouble.Trouble}
+use Rattle.item_outcomes.specs.declared.troubles.Trouble.TheVariants as trouble
 use Rattle.scenario_file.specs.{Refused.fault_text, Refused.refused_text, declared.faults.ScenarioFault.ScenarioFault}
 use Rattle.variant_text.specs.{Faults.faults_text, Messages.message_name, Outcomes.outcomes_text}
-use Rattle.variant_text.specs.Lines.{end_line, message_line, scenario_line, variant_line}
+use Rattle.variant_text.specs.Lines.{end_line, keys_line, lost_line, message_line, scenario_line, trouble_line, variant_line}
 
 refused_ends : (fault : ScenarioFault) → EndsLine (refused_text fault)
 unfolding refused_text
@@ -23,6 +24,27 @@ scenario_ends steps messages serving =
 
 pub scenario_is : (steps messages serving : ℕ) → are_lines (scenario_line steps messages serving) ≡ true
 scenario_is steps messages serving = is_lines _ (scenario_ends steps messages serving)
+
+keys_ends : (steps name : ℕ) → EndsLine (keys_line steps name)
+unfolding keys_line
+keys_ends steps name = by (nat_lt name steps)
+  where
+    by : (b : Bool) → EndsLine (if b then codes "keys differ " ++ (decimal name ++ codes "\n") else codes "keys differ probe\n")
+    by true = on (codes "keys differ ") _ (on (decimal name) _ feed)
+    by false = on (codes "keys differ probe") _ feed
+
+lost_ends : (step : ℕ) → EndsLine (lost_line step)
+unfolding lost_line
+lost_ends step = on (codes "packet lost ") _ (on (decimal step) _ feed)
+
+trouble_ends : (steps : ℕ) (t : Trouble) → EndsLine (trouble_line steps t)
+unfolding trouble_line
+trouble_ends steps (trouble.KeysDiffer name) = keys_ends steps name
+trouble_ends steps trouble.Stuck = on (codes "stuck") _ feed
+trouble_ends steps (trouble.PacketLost step) = lost_ends step
+
+pub trouble_is : (steps : ℕ) (t : Trouble) → are_lines (trouble_line steps t) ≡ true
+trouble_is steps t = is_lines _ (trouble_ends steps t)
 
 message_ends : (number : ℕ) (message : Message) → EndsLine (message_line number message)
 unfolding message_line

@@ -3,9 +3,9 @@ use Rattle.std.specs.Prelude.{ℕ, Bool, List, [], ◌++◌, length, Option, Som
 use Rattle.std.specs.{List.filter, List.flat_map, Option.is_some, Option.option_and_then}
 use Rattle.item_faults.specs.{Faults.faults_of, declared.changes.Fault.Fault, declared.messages.Message.Message, declared.steps.Step.Step}
 use Rattle.item_faults.specs.Steps.{delivered, messages_of, step_of}
-use Rattle.item_outcomes.specs.{declared.judging.Outcome.Outcome, Keys.parted}
-use Rattle.variant_runs.specs.{Judged.entries, Judged.judged, Original.Original}
-use Rattle.variant_text.specs.Lines.{end_line, keys_line, message_line, scenario_line, variant_line}
+use Rattle.item_outcomes.specs.{declared.judging.Outcome.Outcome, declared.troubles.Trouble.Trouble}
+use Rattle.variant_runs.specs.{Judged.entries, Judged.judged, Original.Original, Troubles.troubles_of}
+use Rattle.variant_text.specs.Lines.{end_line, message_line, scenario_line, trouble_line, variant_line}
 use Rattle.lte_variants.specs.{Choices.choices_of, Choices.in_share, Kinds.happening, declared.request.Request.Request}
 
 -- ITS MESSAGES: a line for each, by the step that delivers it
@@ -34,9 +34,18 @@ is_variant o faults = is_some (judged o faults)
 abbrev pub message_lines : Original → List ℕ → List ℕ
 message_lines o messages = flat_map (line_at o.steps) messages
 
+-- the scenario, with so many messages, and what is wrong in it without any fault
+abbrev pub trouble_lines : Original → List Trouble → List ℕ
+trouble_lines o troubles = flat_map (trouble_line (length o.steps)) troubles
+
+abbrev pub scenario_with : Original → ℕ → List Trouble → List ℕ
+scenario_with o messages troubles = scenario_line (length o.steps) messages o.usual.serving ++ trouble_lines o troubles
+
+abbrev pub scenario_told : Original → ℕ → List ℕ
+scenario_told o messages = scenario_with o messages (troubles_of o.usual o.acts o.steps)
+
 abbrev pub messages_told : Original → List ℕ → List ℕ
-messages_told o messages =
-    scenario_line (length o.steps) (length messages) o.usual.serving ++ (flat_map (keys_line (length o.steps)) (parted o.usual.told) ++ message_lines o messages)
+messages_told o messages = scenario_told o (length messages) ++ message_lines o messages
 
 -- the variants of these choices, and how many there are
 abbrev pub variant_lines : Original → List (List Fault) → List ℕ

@@ -6,8 +6,8 @@ ghost use Rattle.std.specs.String.{string_bytes};
 ghost use Rattle.edge_io.specs.Lines.{are_lines};
 ghost use Rattle.item_faults.specs.Entries.{most_steps};
 ghost use Rattle.run_report.specs.Written.{WritesText};
-ghost use Rattle.variant_text.specs.Lines.{keys_line};
-ghost use Rattle.lte_variants.specs.Report.{asked, is_variant, line_at, line_of, message_at, messages_told, report_of, report_with, told_of, variant_lines, variants};
+ghost use Rattle.variant_text.specs.Lines.{trouble_line};
+ghost use Rattle.lte_variants.specs.Report.{asked, is_variant, line_at, line_of, message_at, messages_told, report_of, report_with, scenario_told, scenario_with, told_of, variant_lines, variants};
 ghost use Rattle.lte_variants.specs.Request.{IsShare};
 
 use crate::choices::Shared;
@@ -15,10 +15,11 @@ use crate::kinds::faults_with;
 use crate::request::Request;
 use edge_io::Sink;
 use item_faults::{Fault, Message, Step, delivered, messages_of};
+use item_outcomes::Trouble;
 use run_report::{Unwritten, write_lines, write_text};
 use std::alloc::{AllocError, Global};
 use variant_runs::Study;
-use variant_text::{end_line, keys_line, message_line, scenario_line, variant_line};
+use variant_text::{end_line, message_line, scenario_line, trouble_line, variant_line};
 
 /// Writes what is asked of a scenario.
 pub(crate) fn write_report<W: Sink>(
@@ -56,7 +57,7 @@ fn write_parts<W: Sink>(
     write_variants(alloc, request, study, messages, out)
 }
 
-// Writes the line of the scenario, and one for each of these messages.
+// Writes the lines of the scenario, and one for each of these messages.
 fn write_messages<W: Sink>(
     alloc: Global,
     study: &Study,
@@ -68,25 +69,57 @@ fn write_messages<W: Sink>(
     requires fewer { length messages.now ≤ most_steps }
     ensures { WritesText (messages_told study.now messages.now) result (W.told out.old) (W.told out.new) }
 {
-    let steps = study.steps().len() as u32;
-    let line = scenario_line(alloc, steps, messages.len() as u32, study.serving());
-    write_string(line, out)?;
-    write_parted(alloc, steps, study.parted(), out)?;
+    write_scenario(alloc, study, messages.len() as u32, out)?;
     write_each(alloc, study.steps(), messages, out)
 }
 
-// Writes a line for each of these steps of the scenario itself.
-fn write_parted<W: Sink>(
+// Writes the line of the scenario, with so many messages, and what is wrong in it without any fault.
+fn write_scenario<W: Sink>(
+    alloc: Global,
+    study: &Study,
+    messages: u32,
+    out: &mut W,
+) -> Result<(), Unwritten>
+    requires out_ready { IsTrue (W.told out.old).ready }
+    requires few { length study.now.steps ≤ most_steps }
+    ensures { WritesText (scenario_told study.now messages) result (W.told out.old) (W.told out.new) }
+{
+    match study.troubles(alloc) {
+        Ok(troubles) => write_itself(alloc, study, messages, troubles.as_slice(), out),
+        Err(_) => Err(Unwritten::Memory),
+    }
+}
+
+// The same, by what is wrong.
+fn write_itself<W: Sink>(
+    alloc: Global,
+    study: &Study,
+    messages: u32,
+    troubles: &[Trouble],
+    out: &mut W,
+) -> Result<(), Unwritten>
+    requires out_ready { IsTrue (W.told out.old).ready }
+    requires few { length study.now.steps ≤ most_steps }
+    ensures { WritesText (scenario_with study.now messages troubles.now) result (W.told out.old) (W.told out.new) }
+{
+    let steps = study.steps().len() as u32;
+    let line = scenario_line(alloc, steps, messages, study.serving());
+    write_string(line, out)?;
+    write_troubles(alloc, steps, troubles, out)
+}
+
+// Writes a line for each of these, of a scenario of so many steps.
+fn write_troubles<W: Sink>(
     alloc: Global,
     steps: u32,
-    names: &[u32],
+    troubles: &[Trouble],
     out: &mut W,
 ) -> Result<(), Unwritten>
     requires { IsTrue (W.told out.old).ready }
-    ensures { WritesText (flat_map (keys_line steps) names.now) result (W.told out.old) (W.told out.new) }
+    ensures { WritesText (flat_map (trouble_line steps) troubles.now) result (W.told out.old) (W.told out.new) }
 {
-    for name in names {
-        write_string(keys_line(alloc, steps, *name), out)?;
+    for trouble in troubles {
+        write_string(trouble_line(alloc, steps, *trouble), out)?;
     }
     Ok(())
 }

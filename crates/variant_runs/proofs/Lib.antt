@@ -1,2 +1,3 @@
 pub mod OwnItems
 pub mod Through
+pub mod Lost

@@ -1,2 +1,3 @@
 pub mod Original
 pub mod Judged
+pub mod Troubles

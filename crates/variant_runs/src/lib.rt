@@ -5,5 +5,6 @@ mod judging;
 mod originals;
 mod running;
 mod studies;
+mod troubles;
 
 pub use studies::Study;

@@ -1,4 +1,3 @@
-ghost use Rattle.item_outcomes.specs.Keys.{parted};
 ghost use Rattle.growth.specs.Growth.{WasRefused};
 ghost use Rattle.std.specs.Prelude.{◌≡◌, ◌≢◌, ◌≤◌, None, length, IfOk, IfSome, IsOkUnless, OnErr};
 ghost use Rattle.std.specs.Option.{option_map};
@@ -8,12 +7,14 @@ ghost use Rattle.item_faults.specs.Changes.{variant};
 ghost use Rattle.item_faults.specs.Laws.{CanRun};
 ghost use Rattle.variant_runs.specs.Judged.{entries, judged, judged_beside, judged_with, standing_with};
 ghost use Rattle.variant_runs.specs.Original.{original_of, own_lines};
+ghost use Rattle.variant_runs.specs.Troubles.{troubles_of};
 
 use crate::judging::can_all_be;
 use crate::originals::{acts_of, entries_of, first_station, own_run, senders_of, steps_of};
 use crate::running::{own_names, run_with};
+use crate::troubles::troubles_of;
 use item_faults::{Entry, Fault, Step};
-use item_outcomes::{Outcome, Standing};
+use item_outcomes::{Outcome, Standing, Trouble};
 use item_standing::standing_of;
 use lte_events::{Events, Setup};
 use lte_world::WorldFault;
@@ -119,11 +120,16 @@ impl Study {
         self.usual.serving()
     }
 
-    /// The steps of the scenario itself, and of the probe behind it, at which its phone takes another key than the station there made.
-    pub fn parted(&self) -> &[u32]
-        ensures { result.now ≡ parted self.now.usual.told }
+    /// What is wrong in the scenario itself, without any fault. `Memory` where std refuses memory.
+    pub fn troubles(&self, alloc: Global) -> Result<Vec<Trouble>, WorldFault>
+        ensures memory { IsOkUnless result WorldFault.Memory }
+        ensures refused { OnErr result WasRefused }
+        ensures troubles { IfOk result (λ list. list.items ≡ troubles_of self.now.usual self.now.acts self.now.steps) }
     {
-        self.usual.parted()
+        match troubles_of(alloc, &self.usual, &self.acts, self.steps.as_slice()) {
+            Ok(list) => Ok(list),
+            Err(_) => Err(WorldFault::Memory),
+        }
     }
 
     // The items with these faults.

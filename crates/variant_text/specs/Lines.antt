@@ -2,7 +2,8 @@
 use Rattle.std.specs.Prelude.{ℕ, nat_lt, if◌then◌else◌, List, ◌++◌, codes}
 use Rattle.std.specs.Fmt.{decimal}
 use Rattle.item_faults.specs.{declared.changes.Fault.Fault, declared.messages.Message.Message}
-use Rattle.item_outcomes.specs.declared.judging.Outcome.{Outcome}
+use Rattle.item_outcomes.specs.{declared.judging.Outcome.Outcome, declared.troubles.Trouble.Trouble}
+use Rattle.item_outcomes.specs.declared.troubles.Trouble.TheVariants as trouble
 use Rattle.variant_text.specs.{Faults.faults_text, Messages.message_name, Outcomes.outcomes_text}
 
 -- `scenario 27 16 serving 1`: how many steps and messages a scenario has, and the station that serves its phone behind them
@@ -10,10 +11,18 @@ unfoldable pub scenario_line : ℕ → ℕ → ℕ → List ℕ
 scenario_line steps messages serving =
     codes "scenario " ++ (decimal steps ++ (codes " " ++ (decimal messages ++ (codes " serving " ++ (decimal serving ++ codes "\n")))))
 
--- `keys differ 33`: a step of the scenario itself at which its phone takes another key than the station there made; `keys differ probe` is
--- one of the probe behind it
+-- What is wrong in the scenario itself: `keys differ 33`, the step at which its phone takes another key than the station there made, or
+-- `keys differ probe`, of the probe behind it; `stuck`; `packet lost 12`, the step that sends a text that comes and that nobody opens
 unfoldable pub keys_line : ℕ → ℕ → List ℕ
 keys_line steps name = if nat_lt name steps then codes "keys differ " ++ (decimal name ++ codes "\n") else codes "keys differ probe\n"
+
+unfoldable pub lost_line : ℕ → List ℕ
+lost_line step = codes "packet lost " ++ (decimal step ++ codes "\n")
+
+unfoldable pub trouble_line : ℕ → Trouble → List ℕ
+trouble_line steps (trouble.KeysDiffer name) = keys_line steps name
+trouble_line steps trouble.Stuck = codes "stuck\n"
+trouble_line steps (trouble.PacketLost step) = lost_line step
 
 -- `message 9 X2 Handover Request`: the step that delivers a message
 unfoldable pub message_line : ℕ → Message → List ℕ

@@ -7,4 +7,4 @@ mod lines;
 mod messages;
 mod outcomes;
 
-pub use lines::{end_line, keys_line, message_line, scenario_line, variant_line};
+pub use lines::{end_line, message_line, scenario_line, trouble_line, variant_line};

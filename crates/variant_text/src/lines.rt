@@ -1,13 +1,13 @@
 ghost use Rattle.growth.specs.Growth.{WasRefused};
 ghost use Rattle.std.specs.Prelude.{◌≡◌, IfOk, OnErr};
 ghost use Rattle.std.specs.String.{string_bytes};
-ghost use Rattle.variant_text.specs.Lines.{end_line, keys_line, message_line, scenario_line, variant_line};
+ghost use Rattle.variant_text.specs.Lines.{end_line, keys_line, lost_line, message_line, scenario_line, trouble_line, variant_line};
 
 use crate::faults::faults_text;
 use crate::messages::message_name;
 use crate::outcomes::outcomes_text;
 use item_faults::{Fault, Message};
-use item_outcomes::Outcome;
+use item_outcomes::{Outcome, Trouble};
 use std::alloc::{AllocError, Global};
 
 /// The first line: how many steps and messages a scenario has, and the station that serves its phone behind them.
@@ -27,9 +27,22 @@ pub fn scenario_line(
     )
 }
 
-/// A line of the scenario itself: a step at which its phone takes another key than the station there made. Those of the probe behind it have no step.
+/// What is wrong in the scenario itself, of so many steps.
+#[tactic(auto, unfolding(crate::specs::Lines::trouble_line))]
+pub fn trouble_line(alloc: Global, steps: u32, trouble: Trouble) -> Result<String, AllocError>
+    ensures text { IfOk result (λ text. string_bytes text ≡ trouble_line steps trouble) }
+    ensures refused { OnErr result WasRefused }
+{
+    match trouble {
+        Trouble::KeysDiffer(name) => keys_line(alloc, steps, name),
+        Trouble::Stuck => growth::format(alloc, format_args!("stuck\n")),
+        Trouble::PacketLost(step) => lost_line(alloc, step),
+    }
+}
+
+// A step at which the phone takes another key than the station there made. Those of the probe behind it have no step.
 #[tactic(auto, unfolding(crate::specs::Lines::keys_line))]
-pub fn keys_line(alloc: Global, steps: u32, name: u32) -> Result<String, AllocError>
+fn keys_line(alloc: Global, steps: u32, name: u32) -> Result<String, AllocError>
     ensures text { IfOk result (λ text. string_bytes text ≡ keys_line steps name) }
     ensures refused { OnErr result WasRefused }
 {
@@ -38,6 +51,15 @@ pub fn keys_line(alloc: Global, steps: u32, name: u32) -> Result<String, AllocEr
     } else {
         growth::format(alloc, format_args!("keys differ probe\n"))
     }
+}
+
+// A step that sends a text that nobody opens.
+#[tactic(auto, unfolding(crate::specs::Lines::lost_line))]
+fn lost_line(alloc: Global, step: u32) -> Result<String, AllocError>
+    ensures text { IfOk result (λ text. string_bytes text ≡ lost_line step) }
+    ensures refused { OnErr result WasRefused }
+{
+    growth::format(alloc, format_args!("packet lost {step}\n"))
 }
 
 /// The line of a message, by the step that delivers it.

@@ -1,10 +1,8 @@
-use Rattle.item_keys.proofs.{Differ.differ_far, Exact.exactly_far}
+use Rattle.item_keys.proofs.{AtItems.parts_far, Exact.exactly_far}
 use Rattle.item_keys.proofs.laws.keys_part_exactly_far.Goals as goal
 
-pub returns-clause-exact : goal.returns-clause-exact
-returns-clause-exact c = exactly_far c.args.setup.now c.args.events.now.items c.args.told.now c.requires.is_run
+pub returns-clause-lines : goal.returns-clause-lines
+returns-clause-lines c = exactly_far c.args.course.now c.requires.promises
 
-pub returns-clause-differ : goal.returns-clause-differ
-returns-clause-differ c =
-    differ_far c.args.setup.now c.args.events.now.items c.args.told.now
-    (exactly_far c.args.setup.now c.args.events.now.items c.args.told.now c.requires.is_run)
+pub returns-clause-items : goal.returns-clause-items
+returns-clause-items c = parts_far c.args.course.now c.requires.promises

@@ -1,41 +1,27 @@
-use Rattle.std.proofs.Common.{◌≡◌, subst, length, IfOk}
+use Rattle.std.proofs.Common.{subst, length}
 use Rattle.std.proofs.lemmas.Result.{err_from_is_err_and}
-use Rattle.std.specs.{List.flat_map, String.string_bytes}
-use Rattle.edge_io.proofs.Ending.{text_is}
+use Rattle.std.specs.List.{flat_map}
 use Rattle.run_report.specs.Written.{WritesText}
 use Rattle.run_report.proofs.Partly.{both_written, first_cut}
-use Rattle.variant_text.specs.Lines.{scenario_line}
-use Rattle.lte_variants.specs.Report.{line_at, message_lines}
-use Rattle.lte_variants.proofs.Ends.{scenario_is}
+use Rattle.lte_variants.specs.Report.{line_at, message_lines, scenario_told}
 use Rattle.lte_variants.proofs.report.write_messages.Goals as goal
 
-pub write_string-requires-clause-lines : goal.write_string-requires-clause-lines
-write_string-requires-clause-lines g c = text_is string_bytes _ _ c.scenario_line-line.ensures.text (scenario_is _ _ _)
-
 pub write_each-requires : goal.write_each-requires
-write_each-requires g c = (c.in_ok-write_string.ensures _ c.scenario_line-line.ensures.text).used.ready
+write_each-requires g c = c.in_ok-write_scenario.ensures.used.ready
 
 pub returns : goal.returns
 returns g c =
     let o = c.args.study.now in
     let messages = c.args.messages.now in
-    let line = scenario_line (length o.steps) (length messages) o.usual.serving in
-    let text = subst (λ s. IfOk c.scenario_line-line.result (λ t. string_bytes t ≡ scenario_line (length s) (length messages) o.usual.serving))
-    c.steps.ensures
-    (subst (λ n. IfOk c.scenario_line-line.result (λ t. string_bytes t ≡ scenario_line (length c.steps.result.now) (length messages) n))
-    c.serving.ensures c.scenario_line-line.ensures.text) in
-    both_written c.write_each.result line (message_lines o messages) c.requires.out_ready (c.in_ok-write_string.ensures line text)
-    (subst (λ s. WritesText (flat_map (line_at s) messages) c.write_each.result (g.W.Edge.told c.write_string.new.out) (g.W.Edge.told c.write_each.new.out))
-    c.steps-2.ensures c.write_each.ensures)
+    both_written c.write_each.result (scenario_told o (length messages)) (message_lines o messages) c.requires.out_ready
+    c.in_ok-write_scenario.ensures
+    (subst (λ s. WritesText (flat_map (line_at s) messages) c.write_each.result (g.W.Edge.told c.write_scenario.new.out) (g.W.Edge.told c.write_each.new.out))
+    c.steps.ensures c.write_each.ensures)
 
-pub returns-in_err-write_string : goal.returns-in_err-write_string
-returns-in_err-write_string g c =
+pub returns-in_err-write_scenario : goal.returns-in_err-write_scenario
+returns-in_err-write_scenario g c =
     let p = err_from_is_err_and c.from_residual.result c.from_residual.ensures.1 in
     let o = c.args.study.now in
     let messages = c.args.messages.now in
-    let line = scenario_line (length o.steps) (length messages) o.usual.serving in
-    let text = subst (λ s. IfOk c.scenario_line-line.result (λ t. string_bytes t ≡ scenario_line (length s) (length messages) o.usual.serving))
-    c.steps.ensures
-    (subst (λ n. IfOk c.scenario_line-line.result (λ t. string_bytes t ≡ scenario_line (length c.steps.result.now) (length messages) n))
-    c.serving.ensures c.scenario_line-line.ensures.text) in
-    rw (p.1, p.2) (first_cut line (message_lines o messages) c.requires.out_ready (c.in_err-write_string.ensures line text))
+    rw (p.1, p.2)
+    (first_cut (scenario_told o (length messages)) (message_lines o messages) c.requires.out_ready c.in_err-write_scenario.ensures)

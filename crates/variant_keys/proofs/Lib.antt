@@ -1,0 +1,4 @@
+pub mod Kept
+pub mod Probing
+pub mod Outcomes
+pub mod Exact

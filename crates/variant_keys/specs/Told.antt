@@ -1,0 +1,35 @@
+-- What is told of keys that differ.
+use Rattle.std.specs.Prelude.{◌≡◌, ◌↔◌, ℕ, ◌≤◌, Bool, true, false, List, length, Some, None}
+use Rattle.std.specs.List.{list_any}
+use Rattle.lte_events.specs.{declared.events.Event.Event, declared.setups.Setup.Setup}
+use Rattle.item_faults.specs.{Changes.variant, declared.changes.Fault.Fault, declared.entries.Entry.Entry}
+use Rattle.item_keys.specs.Items.{FarHere, PartsFar}
+use Rattle.item_outcomes.specs.declared.judging.Outcome.{Outcome}
+use Rattle.item_outcomes.specs.declared.judging.Outcome.TheVariants as outcome
+use Rattle.item_runs.specs.Course.{Seen}
+use Rattle.variant_runs.specs.{Judged.entries, Judged.judged, Original.original_of}
+use Rattle.variant_keys.specs.Probed.{own_probed, variant_probed}
+
+abbrev pub is_keys_differ : Outcome → Bool
+is_keys_differ outcome.KeysDiffer = true
+is_keys_differ other = false
+
+-- whether it is among these outcomes
+abbrev pub tells_keys : List Outcome → Bool
+tells_keys outcomes = list_any is_keys_differ outcomes
+
+-- KEYS DIFFER is told of a variant exactly where the phone takes, at an item, a key that was made eight or more steps ahead, and in the
+-- scenario does not at that item; at a coincidence nothing else is told
+abbrev pub ToldExactly : Seen → Seen → List Outcome → Type 0
+ToldExactly usual here outcomes = (tells_keys outcomes ≡ true) ↔ ((here.coming.over ≡ None) × FarHere usual here)
+
+-- WHAT IS TOLD IS EXACT
+pub record KeysAreTold (setup : Setup) (events : List Event) : Type 0 where
+  -- of the scenario itself: the items that are told are those at which the phone takes such a key
+  pub own : PartsFar (own_probed setup events)
+  -- and of each variant of up to three faults
+  pub variants : (faults : List Fault) (list : List Entry) (outcomes : List Outcome)
+      → length faults ≤ 3
+      → variant faults (entries (original_of setup events)) ≡ Some list
+      → judged (original_of setup events) faults ≡ Some outcomes
+      → ToldExactly (own_probed setup events) (variant_probed (original_of setup events) list) outcomes
