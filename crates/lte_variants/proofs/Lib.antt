@@ -3,3 +3,4 @@ pub mod Ends
 pub mod Few
 pub mod Telling
 pub mod Running
+pub mod Exact

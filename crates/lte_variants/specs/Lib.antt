@@ -5,3 +5,4 @@ pub mod Choices
 pub mod Report
 pub mod Output
 pub mod Run
+pub mod Keys

@@ -20,6 +20,7 @@ pub(crate) fn read_text<R: Source>(alloc: Global, input: &mut R) -> Result<Vec<u
     ensures text { IfOk result (λ text. IfSome (R.told input.old).left (λ left. text.items ≡ left)) }
     ensures within { IfOk result (λ text. length text.items ≤ most_octets) }
     ensures unread { IfErr result (λ status. (request : Request) (out : Told) → RunAt request status (R.told input.old) (R.told input.new) out out) }
+    ensures not_done { IfErr result (λ status. status ≢ Status.Done) }
     ensures memory { IfErr result (λ status. status ≡ Status.Memory → WasRefused) }
     ensures no_fault { result ≢ Err Status.ReadFault → NoFault (R.told input.old) (R.told input.new) }
     ensures input { UsedAsSource (R.told input.old) (R.told input.new) }

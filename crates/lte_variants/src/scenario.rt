@@ -4,9 +4,11 @@ ghost use Rattle.std.specs.Prelude.{◌≡◌, ◌≢◌, Err, IsTrue};
 ghost use Rattle.edge_io.specs.Cause.{NoFault, Rose};
 ghost use Rattle.edge_io.specs.Used.{UsedAsSink};
 ghost use Rattle.lte_events.specs.Scenario.{IsScenario};
+ghost use Rattle.lte_variants.specs.Keys.{KeysTold};
 ghost use Rattle.lte_variants.specs.Output.{output_of, refusal_output, scenario_output, status_of};
 ghost use Rattle.lte_variants.specs.Request.{IsShare};
 ghost use Rattle.lte_variants.specs.Run.{WritesAt};
+ghost use Rattle.variant_keys.specs.Told.{KeysAreTold};
 
 use crate::report::write_report;
 use crate::request::Request;
@@ -15,6 +17,7 @@ use edge_io::{Sink, write_all};
 use run_report::Unwritten;
 use scenario_file::{Scenario, ScenarioFault, read};
 use std::alloc::Global;
+use variant_keys::keys_are_told;
 use variant_runs::Study;
 
 /// The greatest number of steps of a scenario.
@@ -34,6 +37,7 @@ pub(crate) fn answer<W: Sink>(
     ensures memory { result ≡ Status.Memory → WasRefused }
     ensures no_fault { result ≢ Status.WriteFault → NoFault (W.told out.old) (W.told out.new) }
     ensures out { UsedAsSink (W.told out.old) (W.told out.new) }
+    ensures keys { result ≡ Status.Done → KeysTold octets.now }
 {
     match read(alloc, octets) {
         Ok(scenario) => answer_scenario(alloc, request, scenario, out),
@@ -73,10 +77,12 @@ fn answer_scenario<W: Sink>(
     ensures memory { result ≡ Status.Memory → WasRefused }
     ensures no_fault { result ≢ Status.WriteFault → NoFault (W.told out.old) (W.told out.new) }
     ensures out { UsedAsSink (W.told out.old) (W.told out.new) }
+    ensures keys { result ≡ Status.Done → KeysAreTold scenario.setup scenario.events.items }
 {
     if scenario.events.len() > MOST_STEPS {
         return Status::TooManySteps;
     }
+    keys_are_told(&scenario.setup, &scenario.events);
     match Study::of(alloc, scenario.setup, &scenario.events) {
         Ok(Some(study)) => {
             let written = write_report(alloc, request, &study, out);

@@ -1,7 +1,8 @@
-ghost use Rattle.std.specs.Prelude.{◌≡◌, ◌≢◌, ◌↔◌, None, Some, IsTrue};
+ghost use Rattle.std.specs.Prelude.{◌≡◌, ◌≢◌, ◌↔◌, None, Some, IfSome, IsTrue};
 ghost use Rattle.growth.specs.Growth.{WasRefused};
 ghost use Rattle.edge_io.specs.Cause.{NoFault};
 ghost use Rattle.edge_io.specs.Used.{UsedAsSource, UsedAsSink};
+ghost use Rattle.lte_variants.specs.Keys.{KeysTold};
 ghost use Rattle.lte_variants.specs.Request.{request_of, IsShare};
 ghost use Rattle.lte_variants.specs.Run.{RunAt, RunIsComplete};
 ghost use Rattle.lte_variants.specs.declared.request.Request.{Request as ARequest};
@@ -41,6 +42,9 @@ pub fn run<R: Source, W: Sink>(
     ensures run { (request : ARequest) → request_of words.now ≡ Some request → RunAt request result (R.told input.old) (R.told input.new) (W.told out.old) (W.told out.new) }
     ensures complete { (request : ARequest) → request_of words.now ≡ Some request → RunIsComplete request result (R.told input.old) (R.told input.new) (W.told out.old) (W.told out.new) }
 
+    // Where all was told, what is told of keys that differ is exact.
+    ensures keys { result ≡ Status.Done → IfSome (R.told input.old).left KeysTold }
+
     // Memory ran out only where std refused it.
     ensures memory { result ≡ Status.Memory → WasRefused }
 
@@ -73,6 +77,7 @@ fn answer_input<R: Source, W: Sink>(
     requires out_ready { IsTrue (W.told out.old).ready }
     requires share { IsShare request.now.share }
     ensures run { RunAt request.now result (R.told input.old) (R.told input.new) (W.told out.old) (W.told out.new) }
+    ensures keys { result ≡ Status.Done → IfSome (R.told input.old).left KeysTold }
     ensures complete { RunIsComplete request.now result (R.told input.old) (R.told input.new) (W.told out.old) (W.told out.new) }
     ensures memory { result ≡ Status.Memory → WasRefused }
     ensures unread { result ≡ Status.ReadFault → out.new ≡ out.old }

@@ -13,3 +13,10 @@ returns-in-Ok-Some-clause-text g c =
     let is : c.in-Ok-Some.study ≡ original_of setup events = search rules in
     report_told c.args.request.now setup events c.in-Ok-Some.study c.write_report-written.result c.status_of.result _ _ few all is
     c.status_of.ensures.value c.write_report-written.ensures
+
+pub returns-in-Ok-Some-clause-keys : goal.returns-in-Ok-Some-clause-keys
+returns-in-Ok-Some-clause-keys g c = λ done.
+    let setup = c.args.scenario.setup in
+    let events = c.args.scenario.events.items in
+    let all : length (own_lines setup events) ≡ length events = search rules in
+    c.keys_are_told.ensures.told all
