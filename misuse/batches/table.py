@@ -32,8 +32,9 @@ def renewed(old: Rows, new: Rows, crates: set[str]) -> Rows:
 
 
 def differences(old: Rows, new: Rows, crates: set[str]) -> list[str]:
-    """How the rows that are kept of these crates differ from what was tried. An edit that has no row yet differs from none."""
-    differ = [it for it, text in sorted(old.items()) if it[0] in crates and new.get(it) != text]
+    """How the rows that are kept of these crates differ from what was tried: each goal of a row must stay open, in its order from the
+    first, and more may. An edit that has no row yet differs from none."""
+    differ = [it for it, text in sorted(old.items()) if it[0] in crates and not f"{new.get(it, '')} ".startswith(f"{text} ")]
     return [f"- {old[it]}" for it in differ] + [f"+ {new[it]}" for it in differ if it in new]
 
 

@@ -192,6 +192,8 @@ class Table(unittest.TestCase):
         new = dict([table.row(Edit("a", "z", b"", ()), Verdict(Kind.REFUSED, "f", ("one",)))])
         self.assertEqual(table.differences(old, new, {"a"}), ["- a x f one"])
         self.assertEqual(table.differences(old, {("a", "x"): "a x f two"}, {"a"}), ["- a x f one", "+ a x f two"])
+        self.assertEqual(table.differences(old, {("a", "x"): "a x f one two"}, {"a"}), [])
+        self.assertEqual(table.differences(old, {("a", "x"): "a x f onetwo"}, {"a"}), ["- a x f one", "+ a x f onetwo"])
         self.assertEqual(table.rowless(old, new), ["+ a z f one"])
         self.assertEqual(table.renewed(old, new, {"a"}), {("a", "z"): "a z f one", ("b", "y"): "b y g two"})
         with tempfile.TemporaryDirectory() as room:
