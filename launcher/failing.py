@@ -68,7 +68,7 @@ LEFT = {
 
 
 # The statuses with which a text may end that none takes, where they are others than 3.
-ENDS = {"ladder": (0, 3), "calc": (0, 3), "repeats": (0, 2), "explain": (1, 3)}
+ENDS = {"ladder": (0, 3), "calc": (0, 3), "lawful": (0, 3), "repeats": (0, 2), "explain": (1, 3)}
 
 
 def calls() -> Iterator[tuple[str, list[str | pathlib.Path], pathlib.Path | None]]:
