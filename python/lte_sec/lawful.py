@@ -133,7 +133,8 @@ class Phone:
         """Where a message goes that carries a key."""
         message, link = one.decoded, one.link
         if link.kind == "X2" and message.key is not None and message.ncc is not None:
-            return f"over {self.numbers.of(link.one)} {self.numbers.of(link.other)}"
+            cells = self.trace.cells  # the cells tell the stations, also where no X2 Setup names an end
+            return f"over {self.numbers.of(cells.station(message.source_eci) or link.one)} {self.numbers.of(cells.station(message.eci) or link.other)}"
         if link.kind != "S1":
             return ""
         station = self.numbers.of(link.one)
@@ -232,26 +233,31 @@ class Verdicts:
         if self.explained:
             yield f"blames of keys withdrawn: {len(self.explained)}; lte_trace finds a lawful history"
         if self.open:
-            yield f"blames of keys not confirmed: {self.open}; their search was given up"
+            yield f"blames of keys not confirmed: {self.open}; their search was given up, or no history has the message whatever its key"
 
 
 def asked(phone: Phone, taken: Program, verdicts: Verdicts) -> None:
-    """Asks for the blames of a phone, the first first. A message that no history gives is left out then, and what follows is asked again."""
+    """Asks for the blames of a phone, the first first. A message whose key no history gives is passed over then, and what follows is asked again.
+
+    Where no history has the message at all, whatever its key, the moves of the question are too few to judge by: what is left is not confirmed.
+    """
     blamed = [one for one in phone.sightings if one.value is not None]
+    waiting: dict[int, bool] = {}  # blames that no history explains, until it is seen that one has the message with another key
     for _ in range(ASKS):
         answer = taken.ask(phone.question(BOUND, True)) if phone.fits() else None
-        if answer is None:
-            verdicts.open += sum(id(one.value) not in verdicts.confirmed for one in blamed)
-            return
-        if answer.explained >= len(phone.sightings):
+        at = answer.explained if answer is not None else 0
+        if answer is not None and (at >= len(phone.sightings) or not phone.sightings[at].passed):
+            verdicts.confirmed.update(waiting)
+            waiting = {}
+        if answer is not None and at >= len(phone.sightings):
             verdicts.explained.update(id(one.value) for one in blamed if id(one.value) not in verdicts.confirmed)
             return
-        first = phone.sightings[answer.explained]
+        first = phone.sightings[at]
+        if answer is None or first.passed or not first.key:
+            break
         if first.value is not None:
-            near = taken.ask(phone.question(FAR_BOUND, False, answer.explained + 1))
-            verdicts.confirmed[id(first.value)] = near is not None and near.closed and near.explained == answer.explained
-        if first.passed or not first.key:
-            phone.sightings.pop(answer.explained)
+            near = taken.ask(phone.question(FAR_BOUND, False, at + 1))
+            waiting[id(first.value)] = near is not None and near.closed and near.explained == at
         first.passed = True
     verdicts.open += sum(id(one.value) not in verdicts.confirmed for one in blamed)
 

@@ -69,6 +69,14 @@ class Blames(unittest.TestCase):
             self.assertTrue(any(line.split()[0] == word for line in first), word)
         self.assertIn("any over", asked.questions[-1])  # type: ignore[attr-defined]
 
+    def test_a_blame_whose_message_no_history_has_is_not_confirmed(self) -> None:
+        trace = traced("B1-star-earfcn")
+        with mock.patch.object(lawful.Program, "ask", return_value=lawful.Answer(1, True)):
+            seen = lawful.confirmed(trace, lawful.Program("", True))
+        self.assertEqual(blamed(trace.seen), blamed(seen))
+        self.assertNotIn("confirmed by proof", seen.head[-1])
+        self.assertIn("not confirmed", seen.head[-1])
+
     def test_a_search_that_is_given_up_confirms_nothing(self) -> None:
         trace = traced("B1-star-earfcn")
         with mock.patch.object(lawful.Program, "ask", return_value=None):
