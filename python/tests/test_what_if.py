@@ -252,7 +252,8 @@ class Outcomes(unittest.TestCase):
 
     def test_the_words_are_those_of_the_page(self) -> None:
         page = (TOP / "docs" / "WHATIF.md").read_text()
-        rows = [line.split("|")[1].strip(" `") for line in page.split("\n## Outcomes")[1].split("**Limits")[0].splitlines() if line.startswith("| `")]
+        table = "| `" + page.split("\n## Outcomes")[1].partition("\n| `")[2].partition("\n\n")[0]
+        rows = [line.split("|")[1].strip(" `") for line in table.splitlines()]
         self.assertEqual(tuple(rows), WORDS)
 
     def test_who_can_derive_the_phones_key_is_as_audit_has_it(self) -> None:
@@ -428,7 +429,7 @@ class Answers(unittest.TestCase):
 
     def test_no_folder_is_written_unless_one_is_named(self) -> None:
         with unittest.mock.patch("os.access", return_value=False):
-            self.assertEqual(called("--kinds", "lost", EXAMPLES / "run/wrong-ksi.toml")[0], 0)
+            self.assertEqual(called("--kinds", "lost", EXAMPLES / "run/wrong-ksi.toml")[0], 1)
             for option in ("--picture", "--save"):
                 with tempfile.TemporaryDirectory() as room:
                     status, _, err = called(option, Path(room) / "x", EXAMPLES / "run/wrong-ksi.toml")
