@@ -105,8 +105,9 @@ work: Work | None = None
 
 
 def quiet() -> None:
-    """A process leaves ctrl-C to the one that began it."""
+    """A process leaves ctrl-C to the one that began it, and ends where that one ends it, whatever it did at a signal itself."""
     signal.signal(signal.SIGINT, signal.SIG_IGN)
+    signal.signal(signal.SIGTERM, signal.SIG_DFL)
 
 
 def told(variants: list[Variant]) -> tuple[list[Variant], int]:
