@@ -8,11 +8,11 @@ from __future__ import annotations
 
 import os
 import subprocess
-from collections.abc import Iterator, Mapping
+from collections.abc import Iterator
 from dataclasses import dataclass, field, replace
 from pathlib import Path
 
-from .coverage import DOWN, UP, Coverage
+from .coverage import DOWN, UP
 from .report import DIFFERS, NOTE, UNKNOWN, unknown_line
 from .seen import Account, Seen, Value
 from .terms import counted
@@ -34,7 +34,7 @@ REQUESTS = tuple(ANSWERED.values())
 
 
 @dataclass(frozen=True)
-class Answer:
+class Found:
     """So many messages of a question have a lawful history, and whether no number of unseen moves gives one more."""
 
     explained: int
@@ -48,14 +48,14 @@ class Program:
     path: str
     is_proved: bool
 
-    def ask(self, question: str) -> Answer | None:
+    def ask(self, question: str) -> Found | None:
         """The answer to a question; None where the search was given up."""
         try:
             ran = subprocess.run([self.path], input=question, capture_output=True, text=True, timeout=SECONDS, check=False)
         except (OSError, subprocess.TimeoutExpired):
             return None
         words = ran.stdout.split()
-        return Answer(int(words[1]), words[-1] == "closed") if ran.returncode == 0 and words[:1] == ["explained"] else None
+        return Found(int(words[1]), words[-1] == "closed") if ran.returncode == 0 and words[:1] == ["explained"] else None
 
 
 def program() -> Program | None:
@@ -80,7 +80,7 @@ class Sighting:
 
 
 @dataclass
-class Numbers:
+class Numbering:
     """Stations by their numbers."""
 
     found: dict[str, int] = field(default_factory=dict)
@@ -108,7 +108,7 @@ class Phone:
 
     def __init__(self, trace: Trace, messages: list[Seen]):
         self.trace, self.messages = trace, messages
-        self.numbers = Numbers()
+        self.numbers = Numbering()
         self.kasmes: dict[int, int] = {}
         self.sightings = [*self.all()]
 

@@ -32,11 +32,11 @@ class Says(lawful.Program):
         object.__setattr__(self, "closed", closed)
         object.__setattr__(self, "questions", [])
 
-    def ask(self, question: str) -> lawful.Answer | None:
+    def ask(self, question: str) -> lawful.Found | None:
         self.questions.append(question)  # type: ignore[attr-defined]
         shown = [line for line in question.splitlines() if line.split()[0] in SIGHTINGS]
         bad = [place for place, line in enumerate(shown) if any(key in line for key in self.wrong)]  # type: ignore[attr-defined]
-        return lawful.Answer(bad[0] if bad else len(shown), self.closed)  # type: ignore[attr-defined]
+        return lawful.Found(bad[0] if bad else len(shown), self.closed)  # type: ignore[attr-defined]
 
 
 def blamed(seen: Account) -> list[str]:
@@ -71,7 +71,7 @@ class Blames(unittest.TestCase):
 
     def test_a_blame_whose_message_no_history_has_is_not_confirmed(self) -> None:
         trace = traced("B1-star-earfcn")
-        with mock.patch.object(lawful.Program, "ask", return_value=lawful.Answer(1, True)):
+        with mock.patch.object(lawful.Program, "ask", return_value=lawful.Found(1, True)):
             seen = lawful.confirmed(trace, lawful.Program("", True))
         self.assertEqual(blamed(trace.seen), blamed(seen))
         self.assertNotIn("confirmed by proof", seen.head[-1])
@@ -93,7 +93,7 @@ class Blames(unittest.TestCase):
     def test_the_answer_of_a_program(self) -> None:
         with tempfile.TemporaryDirectory() as folder:
             program = Path(folder) / "program"
-            for text, status, wanted in (("explained 3 of 4 closed", 0, lawful.Answer(3, True)), ("explained 4 of 4", 0, lawful.Answer(4, False)), ("bad line 1", 3, None), ("", 12, None)):
+            for text, status, wanted in (("explained 3 of 4 closed", 0, lawful.Found(3, True)), ("explained 4 of 4", 0, lawful.Found(4, False)), ("bad line 1", 3, None), ("", 12, None)):
                 program.write_text(f"#!/bin/sh\ncat >/dev/null\necho '{text}'\nexit {status}\n")
                 program.chmod(0o700)
                 with mock.patch.dict(os.environ, {lawful.VARIABLE: f"proved {program}"}):

@@ -419,10 +419,10 @@ class Answers(unittest.TestCase):
             part | {"variants": [variant | {"outcomes": [{"is": "no outcome", "what": ""}]}]}, part | {"variants": [variant | {"faults": [{"kind": "never", "step": 0}]}]}, [], {},
         )
         with tempfile.NamedTemporaryFile("w") as file:
-            for text in (*map(json.dumps, wrong), '{"a":' * 10_000, "\0"):
+            for each in (*map(json.dumps, wrong), '{"a":' * 10_000, "\0"):
                 file.seek(0)
                 file.truncate()
-                file.write(text)
+                file.write(each)
                 file.flush()
                 status, out, err = called("--merge", file.name)
                 self.assertEqual((status, out, err), (2, "", f"lte_sec: status 2: what-if: {file.name} is not what --json writes\n"))
