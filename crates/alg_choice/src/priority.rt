@@ -7,7 +7,7 @@ use std::marker::Model;
 
 /// The encryption algorithms that a core or a base station may use, in the operator's order of
 /// priority (TS 33.401 7.2.4.2.1 and 7.2.4.3.1). A contract sees it as the list of them.
-#[derive(Clone, Copy, Debug, PartialEq, Eq)]
+#[derive(Clone, Copy, PartialEq, Eq)]
 pub struct Priority {
     first: Eea,
     second: Option<Eea>,

@@ -1,7 +1,7 @@
 ghost use Rattle.std.specs.Prelude.{◌≡◌};
 
 /// The use of an algorithm key (TS 33.401 A.7, table A.7-1).
-#[derive(Clone, Copy, PartialEq, Eq)]
+#[derive(Clone, Copy)]
 pub enum AlgType {
     /// NAS encryption, 1.
     NasEnc = 1,

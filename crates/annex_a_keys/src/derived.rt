@@ -5,7 +5,7 @@ use hmac_kdf::{KdfInput, KdfKey};
 
 /// One derivation of TS 33.401 Annex A: the key that was used, its input, and the 32 octets that
 /// came out.
-#[derive(Clone, Copy, Debug, Default, PartialEq, Eq)]
+#[derive(Clone, Copy, Default, PartialEq, Eq)]
 pub struct Derived {
     /// The 32 octets of KASME, KeNB or NH.
     pub key: [u8; 32],

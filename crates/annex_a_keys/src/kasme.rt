@@ -8,7 +8,7 @@ use hmac_kdf::KdfInput;
 use std::marker::Model;
 
 /// KASME, the root of the keys of one authentication (TS 33.401 6.2): 32 octets.
-#[derive(Clone, Copy, Debug, PartialEq, Eq)]
+#[derive(Clone, Copy, PartialEq, Eq)]
 pub struct Kasme {
     octets: [u8; 32],
 }

@@ -8,7 +8,7 @@ use hmac_kdf::{KdfInput, KdfKey};
 use std::marker::Model;
 
 /// KeNB, the key of a connection between phone and base station (TS 33.401 6.2): 32 octets.
-#[derive(Clone, Copy, Debug, PartialEq, Eq)]
+#[derive(Clone, Copy, PartialEq, Eq)]
 pub struct Kenb {
     octets: [u8; 32],
 }

@@ -7,7 +7,7 @@ use hmac_kdf::KdfInput;
 use std::marker::Model;
 
 /// NH, a next hop of the chain (TS 33.401 7.2.8): 32 octets.
-#[derive(Clone, Copy, Debug, PartialEq, Eq)]
+#[derive(Clone, Copy)]
 pub struct Nh {
     octets: [u8; 32],
 }

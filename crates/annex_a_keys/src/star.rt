@@ -7,7 +7,7 @@ use hmac_kdf::{KdfInput, KdfKey};
 use std::marker::Model;
 
 /// KeNB*, the key that a handover makes for its target cell (TS 33.401 A.5): 32 octets.
-#[derive(Clone, Copy, Debug, PartialEq, Eq)]
+#[derive(Clone, Copy)]
 pub struct Star {
     octets: [u8; 32],
 }

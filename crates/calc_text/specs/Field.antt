@@ -50,12 +50,16 @@ unfoldable pub number_in : ℕ → ℕ → Field → List ℕ → Result ℕ Fie
 number_in least greatest field word =
     ok_or (option_and_then (λ n. if nat_le least n && nat_le n greatest then Some n else None) (number_of word)) field
 
--- a NAS COUNT, of 24 bits (TS 24.301 4.4.3.1); where it may be any, it is the least
+-- a NAS COUNT, of 24 bits (TS 24.301 4.4.3.1)
+abbrev pub nas_count_in : List ℕ → Result ℕ Field
+nas_count_in word = number_in 0 0xffffff field.Count word
+
+-- the same, or none where it may be any
 abbrev pub is_any : List ℕ → Bool
 is_any word = bytes_eq word (codes "any")
 
-unfoldable pub nas_count_in : Bool → List ℕ → Result ℕ Field
-nas_count_in any word = if any then Ok 0 else number_in 0 0xffffff field.Count word
+unfoldable pub count_or_any_in : List ℕ → Result (Option ℕ) Field
+count_or_any_in word = if is_any word then Ok None else (nas_count_in word >>= λ n. Ok (Some n))
 
 -- a cell: a PCI up to 503 and an EARFCN-DL up to 262143 (TS 36.331 6.3.4 and 6.4)
 unfoldable pub cell_in : List ℕ → List ℕ → Result Place Field
@@ -103,6 +107,10 @@ algorithms_in (e ∷ slash ∷ i ∷ []) =
     if slash == 47 then both_of (eea_of_digit e) (eia_of_digit i) else Err field.Eea
 algorithms_in word = Err field.Eea
 
+-- the same, or none where they may be any
+unfoldable pub algorithms_or_any_in : List ℕ → Result (Option Algorithms) Field
+algorithms_or_any_in word = if is_any word then Ok None else (algorithms_in word >>= λ a. Ok (Some a))
+
 -- an integrity algorithm alone
 abbrev pub eia_by : Option Integrity → Result Integrity Field
 eia_by (Some eia) = Ok eia
@@ -111,6 +119,10 @@ eia_by None = Err field.Eia
 unfoldable pub eia_in : List ℕ → Result Integrity Field
 eia_in (digit ∷ []) = eia_by (eia_of_digit digit)
 eia_in word = Err field.Eia
+
+-- whether a last field is any
+unfoldable pub is_last_any : ℕ → List (List ℕ) → Bool
+is_last_any place fields = nat_lt place (length fields) && is_any (word place fields)
 
 -- the integrity algorithm of a last field, or 128-EIA2 where there is none
 unfoldable pub last_eia : ℕ → List (List ℕ) → Result Integrity Field

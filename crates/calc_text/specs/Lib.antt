@@ -4,3 +4,6 @@ pub mod Reading
 pub mod PduReading
 pub mod Answer
 pub mod PduAnswer
+pub mod NasText
+pub mod Recovery
+pub mod Trying

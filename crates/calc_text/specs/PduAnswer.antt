@@ -18,7 +18,7 @@ use Rattle.pdu_guard.specs.{declared.drb.DrbKeys.DrbKeys, declared.drb.Numbers.N
 use Rattle.pdu_guard.specs.declared.short_macs.ServiceFault.TheVariants as service_fault
 use Rattle.pdu_guard.specs.Nas.{NasOpening, nas_head_of, nas_opened, nas_sent}
 use Rattle.pdu_guard.specs.Srb.{SrbOpening, srb_pdu_opened, srb_pdu_text}
-use Rattle.calc_text.specs.{declared.requests.Algorithms.Algorithms, declared.requests.NasInputs.NasInputs, declared.requests.ServicePdu.ServicePdu, declared.requests.BearerInputs.BearerInputs}
+use Rattle.calc_text.specs.{declared.requests.Algorithms.Algorithms, declared.requests.NasPdu.NasPdu, declared.requests.ServicePdu.ServicePdu, declared.requests.BearerInputs.BearerInputs, declared.requests.SrbPdu.SrbPdu}
 
 -- octets in hex digits, or `-` for none
 abbrev pub written : List ℕ → List ℕ
@@ -36,13 +36,13 @@ nas_keys kasme algorithms = record {
   eia = algorithms.eia;
 }
 
-abbrev pub srb_keys : BearerInputs → SrbKeys
-srb_keys i = record {
-  enc = kdf i.kenb (input.Alg (distinguisher RrcEnc) (eea_identity i.algorithms.eea));
-  int = kdf i.kenb (input.Alg (distinguisher RrcInt) (eia_identity i.algorithms.eia));
-  eea = i.algorithms.eea;
-  eia = i.algorithms.eia;
-  bearer = i.bearer;
+abbrev pub srb_keys : List ℕ → Algorithms → ℕ → SrbKeys
+srb_keys kenb algorithms bearer = record {
+  enc = kdf kenb (input.Alg (distinguisher RrcEnc) (eea_identity algorithms.eea));
+  int = kdf kenb (input.Alg (distinguisher RrcInt) (eia_identity algorithms.eia));
+  eea = algorithms.eea;
+  eia = algorithms.eia;
+  bearer = bearer;
 }
 
 abbrev pub drb_keys : BearerInputs → Numbers → DrbKeys
@@ -103,9 +103,6 @@ abbrev pub nas_answer : NasKeys → Dir → List ℕ → Result NasOpening OpenF
 nas_answer keys dir pdu (Ok o) = nas_opens_line o.header o.count o.text o.checked
 nas_answer keys dir pdu (Err fault) = nas_fault_line keys dir pdu fault
 
-abbrev pub nas_line : NasInputs → List ℕ → List ℕ
-nas_line i pdu = let keys = nas_keys i.kasme i.algorithms in nas_answer keys i.dir pdu (nas_opened keys i.count i.dir pdu)
-
 -- a NAS message at the least COUNT at which its MAC is right, of all that have its sequence number
 abbrev pub nas_at : NasKeys → ℕ → Dir → List ℕ → Option ℕ → List ℕ
 nas_at keys header dir pdu (Some count) = nas_opens_line header count (nas_sent keys header count dir (sent_in pdu)) (is_checked keys.eia)
@@ -115,8 +112,13 @@ abbrev pub any_nas_answer : NasKeys → Dir → List ℕ → Result NasHead Open
 any_nas_answer keys dir pdu (Ok head) = nas_at keys head.header dir pdu (nas_search keys dir pdu)
 any_nas_answer keys dir pdu (Err fault) = nas_fault_line keys dir pdu fault
 
-abbrev pub any_nas_line : NasInputs → List ℕ → List ℕ
-any_nas_line i pdu = any_nas_answer (nas_keys i.kasme i.algorithms) i.dir pdu (nas_head_of 0 pdu)
+-- a NAS message at a COUNT or at any
+abbrev pub nas_under : NasKeys → Option ℕ → Dir → List ℕ → List ℕ
+nas_under keys (Some next) dir pdu = nas_answer keys dir pdu (nas_opened keys next dir pdu)
+nas_under keys None dir pdu = any_nas_answer keys dir pdu (nas_head_of 0 pdu)
+
+abbrev pub nas_line : Algorithms → NasPdu → List ℕ
+nas_line algorithms n = nas_under (nas_keys n.kasme algorithms) n.count n.dir n.pdu
 
 -- a Service Request: it has no text
 unfoldable pub count_line : ℕ → Bool → List ℕ
@@ -132,18 +134,22 @@ service_answer (Err (service_fault.BadHeader octet)) = bad_header_line octet
 service_answer (Err service_fault.CountSpent) = spent_line
 service_answer (Err (service_fault.MacFails count wanted got)) = short_mac_fails_line count wanted got
 
-abbrev pub service_line : ServicePdu → List ℕ
-service_line s = service_answer (service_checked s.eia (nas_int s.kasme s.eia) s.count s.pdu)
-
 -- a Service Request at the least COUNT at which its short MAC is right, of all that have its 5 bits
 abbrev pub service_at : Integrity → Option ℕ → List ℕ
 service_at eia (Some count) = count_line count (is_checked eia)
 service_at eia None = no_count_line
 
-abbrev pub any_service_line : ServicePdu → List ℕ
-any_service_line s =
-    if slice_index s.pdu 0 == service_first then service_at s.eia (service_search s.eia (nas_int s.kasme s.eia) s.pdu)
-    else bad_header_line (slice_index s.pdu 0)
+abbrev pub any_service_line : Integrity → List ℕ → List ℕ → List ℕ
+any_service_line eia int pdu =
+    if slice_index pdu 0 == service_first then service_at eia (service_search eia int pdu) else bad_header_line (slice_index pdu 0)
+
+-- a Service Request at a COUNT or at any
+abbrev pub service_under : Integrity → List ℕ → Option ℕ → List ℕ → List ℕ
+service_under eia int (Some next) pdu = service_answer (service_checked eia int next pdu)
+service_under eia int None pdu = any_service_line eia int pdu
+
+abbrev pub service_line : Integrity → ServicePdu → List ℕ
+service_line eia s = service_under eia (nas_int s.kasme eia) s.count s.pdu
 
 -- a PDU of a signalling radio bearer
 abbrev pub srb_answer : SrbKeys → Dir → List ℕ → Result SrbOpening PdcpFault → List ℕ
@@ -154,8 +160,9 @@ srb_answer keys dir pdu (Err pdcp_fault.CountSpent) = spent_line
 srb_answer keys dir pdu (Err (pdcp_fault.MacFails count wanted got)) =
     mac_fails_line count wanted got (srb_pdu_text keys count dir pdu)
 
-abbrev pub srb_line : BearerInputs → List ℕ → List ℕ
-srb_line i pdu = srb_answer (srb_keys i) i.dir pdu (srb_pdu_opened (srb_keys i) i.count i.dir pdu)
+abbrev pub srb_line : Algorithms → SrbPdu → List ℕ
+srb_line algorithms s =
+    let keys = srb_keys s.kenb algorithms s.bearer in srb_answer keys s.dir s.pdu (srb_pdu_opened keys s.count s.dir s.pdu)
 
 -- a PDU of a data radio bearer, which has no MAC
 abbrev pub drb_answer : Result PdcpOpened PdcpFault → List ℕ

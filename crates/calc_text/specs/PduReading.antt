@@ -1,52 +1,63 @@
 -- The lines of PDUs, and of a phone's chain.
-use Rattle.std.specs.Prelude.{ℕ, Bool, false, if◌then◌else◌, Result, Ok, Err, List, codes}
+use Rattle.std.specs.Prelude.{ℕ, if◌then◌else◌, Option, Some, None, Result, Ok, Err, List, codes}
 use Rattle.std.specs.Str.{bytes_eq}
-use Rattle.calc_text.specs.{declared.fields.Field.Field, declared.requests.NasInputs.NasInputs, declared.requests.NasPdu.NasPdu, declared.requests.NasText.NasText, declared.requests.BearerInputs.BearerInputs, declared.requests.SrbOctets.SrbOctets, declared.requests.DrbOctets.DrbOctets, declared.requests.ServicePdu.ServicePdu, declared.requests.Request.Request}
+use Rattle.calc_text.specs.{declared.fields.Field.Field, declared.requests.Algorithms.Algorithms, declared.requests.NasPdu.NasPdu, declared.requests.NasText.NasText, declared.requests.BearerInputs.BearerInputs, declared.requests.DrbOctets.DrbOctets, declared.requests.ServicePdu.ServicePdu, declared.requests.SrbPdu.SrbPdu, declared.requests.Request.Request}
 use Rattle.calc_text.specs.declared.fields.Field.TheVariants as field
-use Rattle.calc_text.specs.declared.requests.Request.TheVariants.{Nas, AnyNas, SealNas, ServiceRequest, AnyServiceRequest, Srb, SealSrb, Drb, SealDrb, Reach}
-use Rattle.calc_text.specs.Field.{◌>>=◌, between, sized, word, is_any, key_in, number_in, nas_count_in, cell_in, direction_in, algorithms_in, last_eia, numbers_in, octets_in, few_octets_in}
+use Rattle.calc_text.specs.declared.requests.Request.TheVariants.{Nas, TryNas, SealNas, ServiceRequest, TryServiceRequest, ShortMacI, Srb, TrySrb, SealSrb, Drb, SealDrb, Reach}
+use Rattle.calc_text.specs.Field.{◌>>=◌, between, sized, word, key_in, number_in, nas_count_in, count_or_any_in, cell_in, direction_in, algorithms_in, algorithms_or_any_in, eia_in, is_last_any, last_eia, numbers_in, octets_in, few_octets_in}
 
--- what protects a NAS message, by the first four fields
-unfoldable pub nas_inputs_of : Bool → List (List ℕ) → Result NasInputs Field
-nas_inputs_of any fields = do
-  k ← key_in 32 field.Kasme (word 0 fields)
-  e ← algorithms_in (word 1 fields)
-  c ← nas_count_in any (word 2 fields)
-  d ← direction_in (word 3 fields)
-  Ok (record { kasme = k; algorithms = e; count = c; dir = d })
-
--- a NAS message as sent, at a COUNT or at any
-unfoldable pub nas_pdu_of : List (List ℕ) → Result NasPdu Field
-nas_pdu_of fields = do
-  _ ← sized 5 fields
-  inputs ← nas_inputs_of (is_any (word 2 fields)) fields
-  octets ← octets_in field.Pdu (word 4 fields)
-  Ok (record { inputs = inputs; pdu = octets })
+-- a NAS message, whose algorithms are given or any
+abbrev pub nas_request : Option Algorithms → NasPdu → Request
+nas_request (Some algorithms) n = Nas algorithms n
+nas_request None n = TryNas n
 
 unfoldable pub nas_of : List (List ℕ) → Result Request Field
-nas_of fields = nas_pdu_of fields >>= λ n. Ok (if is_any (word 2 fields) then AnyNas n else Nas n)
+nas_of fields = do
+  _ ← sized 5 fields
+  k ← key_in 32 field.Kasme (word 0 fields)
+  a ← algorithms_or_any_in (word 1 fields)
+  c ← count_or_any_in (word 2 fields)
+  d ← direction_in (word 3 fields)
+  octets ← octets_in field.Pdu (word 4 fields)
+  Ok (nas_request a (record { kasme = k; count = c; dir = d; pdu = octets }))
 
 -- a NAS message to be protected; the security header type is 1 to 4 (TS 24.301 9.3.1)
 unfoldable pub nas_text_of : List (List ℕ) → Result NasText Field
 nas_text_of fields = do
   _ ← sized 6 fields
-  inputs ← nas_inputs_of false fields
+  k ← key_in 32 field.Kasme (word 0 fields)
+  e ← algorithms_in (word 1 fields)
+  c ← nas_count_in (word 2 fields)
+  d ← direction_in (word 3 fields)
   t ← number_in 1 4 field.Type (word 4 fields)
   octets ← octets_in field.Text (word 5 fields)
-  Ok (record { inputs = inputs; header = t; text = octets })
+  Ok (record { kasme = k; algorithms = e; count = c; dir = d; header = t; text = octets })
 
 -- a Service Request, of four octets (TS 24.301 8.2.25), at a COUNT or at any
 unfoldable pub service_pdu_of : List (List ℕ) → Result ServicePdu Field
 service_pdu_of fields = do
-  _ ← between 3 4 fields
   k ← key_in 32 field.Kasme (word 0 fields)
-  c ← nas_count_in (is_any (word 1 fields)) (word 1 fields)
+  c ← count_or_any_in (word 1 fields)
   p ← key_in 4 field.Pdu (word 2 fields)
-  i ← last_eia 3 fields
-  Ok (record { kasme = k; eia = i; count = c; pdu = p })
+  Ok (record { kasme = k; count = c; pdu = p })
 
+-- the same under 128-EIA2, or under the algorithm of a fourth field, which may be any
 unfoldable pub service_of : List (List ℕ) → Result Request Field
-service_of fields = service_pdu_of fields >>= λ s. Ok (if is_any (word 1 fields) then AnyServiceRequest s else ServiceRequest s)
+service_of fields = do
+  _ ← between 3 4 fields
+  s ← service_pdu_of fields
+  if is_last_any 3 fields then Ok (TryServiceRequest s) else (last_eia 3 fields >>= λ i. Ok (ServiceRequest i s))
+
+-- a phone that re-establishes its connection: cellIdentity of 28 bits, physCellId up to 503, and c-RNTI of 16 bits (TS 36.331 6.3.4 and 6.3.6)
+unfoldable pub reestablishment_of : List (List ℕ) → Result Request Field
+reestablishment_of fields = do
+  _ ← sized 5 fields
+  k ← key_in 32 field.Key (word 0 fields)
+  i ← eia_in (word 1 fields)
+  c ← number_in 0 0xfffffff field.CellIdentity (word 2 fields)
+  p ← number_in 0 503 field.Pci (word 3 fields)
+  r ← number_in 0 0xffff field.CRnti (word 4 fields)
+  Ok (ShortMacI (record { kenb = k; eia = i; cell_identity = c; pci = p; c_rnti = r }))
 
 -- what protects a PDU of a radio bearer, by the first five fields
 unfoldable pub bearer_inputs_of : List (List ℕ) → Result BearerInputs Field
@@ -57,14 +68,6 @@ bearer_inputs_of fields = do
   b ← number_in 0 31 field.Bearer (word 3 fields)
   d ← direction_in (word 4 fields)
   Ok (record { kenb = k; algorithms = e; count = c; bearer = b; dir = d })
-
--- octets of a signalling radio bearer, so many at the most
-unfoldable pub srb_octets_of : ℕ → Field → List (List ℕ) → Result SrbOctets Field
-srb_octets_of most field fields = do
-  _ ← sized 6 fields
-  inputs ← bearer_inputs_of fields
-  octets ← few_octets_in most field (word 5 fields)
-  Ok (record { inputs = inputs; octets = octets })
 
 -- octets of a data radio bearer
 unfoldable pub drb_octets_of : Field → List (List ℕ) → Result DrbOctets Field
@@ -91,13 +94,30 @@ reach_of fields = do
 abbrev pub seal_nas_of : List (List ℕ) → Result Request Field
 seal_nas_of fields = nas_text_of fields >>= λ n. Ok (SealNas n)
 
--- a PDU or a text of a bearer; an SDU of a signalling radio bearer has at most 8,188 octets, and its PDU five more
+-- a PDU of a signalling radio bearer, whose algorithms are given or any; an SDU has at most 8,188 octets, and its PDU five more
 -- (TS 36.323 4.3.1 and 6.2.2)
-abbrev pub srb_of : List (List ℕ) → Result Request Field
-srb_of fields = srb_octets_of 8193 field.Pdu fields >>= λ s. Ok (Srb s)
+abbrev pub srb_request : Option Algorithms → SrbPdu → Request
+srb_request (Some algorithms) s = Srb algorithms s
+srb_request None s = TrySrb s
 
-abbrev pub seal_srb_of : List (List ℕ) → Result Request Field
-seal_srb_of fields = srb_octets_of 8188 field.Text fields >>= λ s. Ok (SealSrb s)
+unfoldable pub srb_of : List (List ℕ) → Result Request Field
+srb_of fields = do
+  _ ← sized 6 fields
+  k ← key_in 32 field.Key (word 0 fields)
+  a ← algorithms_or_any_in (word 1 fields)
+  c ← number_in 0 0xffffffff field.Count (word 2 fields)
+  b ← number_in 0 31 field.Bearer (word 3 fields)
+  d ← direction_in (word 4 fields)
+  octets ← few_octets_in 8193 field.Pdu (word 5 fields)
+  Ok (srb_request a (record { kenb = k; count = c; bearer = b; dir = d; pdu = octets }))
+
+-- a text of a signalling radio bearer
+unfoldable pub seal_srb_of : List (List ℕ) → Result Request Field
+seal_srb_of fields = do
+  _ ← sized 6 fields
+  inputs ← bearer_inputs_of fields
+  octets ← few_octets_in 8188 field.Text (word 5 fields)
+  Ok (SealSrb (record { inputs = inputs; text = octets }))
 
 abbrev pub drb_of : List (List ℕ) → Result Request Field
 drb_of fields = drb_octets_of field.Pdu fields >>= λ d. Ok (Drb d)
@@ -111,6 +131,7 @@ pdu_named name fields =
     if bytes_eq name (codes "nas") then nas_of fields
     else if bytes_eq name (codes "seal-nas") then seal_nas_of fields
     else if bytes_eq name (codes "service-request") then service_of fields
+    else if bytes_eq name (codes "short-mac-i") then reestablishment_of fields
     else if bytes_eq name (codes "srb") then srb_of fields
     else if bytes_eq name (codes "seal-srb") then seal_srb_of fields
     else if bytes_eq name (codes "drb") then drb_of fields

@@ -1,5 +1,5 @@
 -- What a line asks for: its first word says which line it is, and its fields stand behind it.
-use Rattle.std.specs.Prelude.{ℕ, false, if◌then◌else◌, Result, Ok, Err, List, [], ◌∷◌, codes}
+use Rattle.std.specs.Prelude.{ℕ, if◌then◌else◌, Result, Ok, Err, List, [], ◌∷◌, codes}
 use Rattle.std.specs.Str.{bytes_eq}
 use Rattle.calc_text.specs.{declared.fields.Field.Field, declared.requests.KeyedText.KeyedText, declared.requests.UsimKeys.UsimKeys, declared.requests.Request.Request, PduReading.pdu_named}
 use Rattle.calc_text.specs.declared.fields.Field.TheVariants as field
@@ -24,7 +24,7 @@ unfoldable pub kenb_of : List (List ℕ) → Result Request Field
 kenb_of fields = do
   _ ← sized 2 fields
   k ← key_in 32 field.Kasme (word 0 fields)
-  c ← nas_count_in false (word 1 fields)
+  c ← nas_count_in (word 1 fields)
   Ok (Kenb k c)
 
 -- KASME and the SYNC-input, which is a KeNB or an NH

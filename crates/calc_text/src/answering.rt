@@ -7,10 +7,13 @@ ghost use Rattle.calc_text.specs.PduAnswer.{written};
 
 use crate::ciphering::mac_under;
 use crate::fields::{Field, LineFault};
-use crate::nas_answering::{any_nas, any_service_request, nas, sealed_nas, service_request};
+use crate::nas_answering::{nas, sealed_nas, service_request};
+use crate::nas_trying::{try_nas, try_service_request};
 use crate::octet_texts::written;
 use crate::pdu_answering::{drb, reached, sealed_drb, sealed_srb, srb};
+use crate::recovering::recovered;
 use crate::requests::{KeyedText, Request};
+use crate::srb_trying::try_srb;
 use alg_suite::{Ciphering, Integrity};
 use annex_a_keys::{Kasme, Kenb, Nh};
 use hmac_kdf::{KdfInput, kdf};
@@ -96,12 +99,14 @@ fn given(alloc: Global, request: Request) -> Result<String, AllocError>
         Request::Alg { key, alg } => written(alloc, &kdf(&key, &KdfInput::Alg(alg.kind, alg.id))),
         Request::Cipher(eea, taken) => ciphered(alloc, eea, taken),
         Request::Mac(eia, taken) => mac(alloc, eia, &taken),
-        Request::Nas(n) => nas(alloc, &n),
-        Request::AnyNas(n) => any_nas(alloc, &n),
+        Request::Nas(algorithms, n) => nas(alloc, algorithms, &n),
+        Request::TryNas(n) => try_nas(alloc, &n),
         Request::SealNas(n) => sealed_nas(alloc, &n),
-        Request::ServiceRequest(s) => service_request(alloc, &s),
-        Request::AnyServiceRequest(s) => any_service_request(alloc, &s),
-        Request::Srb(s) => srb(alloc, &s),
+        Request::ServiceRequest(eia, s) => service_request(alloc, eia, &s),
+        Request::TryServiceRequest(s) => try_service_request(alloc, &s),
+        Request::ShortMacI(r) => recovered(alloc, &r),
+        Request::Srb(algorithms, s) => srb(alloc, algorithms, &s),
+        Request::TrySrb(s) => try_srb(alloc, &s),
         Request::SealSrb(s) => sealed_srb(alloc, &s),
         Request::Drb(d) => drb(alloc, &d),
         Request::SealDrb(d) => sealed_drb(alloc, &d),

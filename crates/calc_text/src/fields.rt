@@ -51,6 +51,10 @@ pub enum Field {
     NccInUse,
     /// The NCC of a handover command.
     Ncc,
+    /// A cell's identity, of 28 bits.
+    CellIdentity,
+    /// A phone's C-RNTI.
+    CRnti,
 }
 
 impl Field {
@@ -84,6 +88,8 @@ impl Field {
             Field::Bits => "bits",
             Field::NccInUse => "ncc-in-use",
             Field::Ncc => "ncc",
+            Field::CellIdentity => "cell-identity",
+            Field::CRnti => "c-rnti",
         }
     }
 }

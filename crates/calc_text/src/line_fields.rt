@@ -1,7 +1,7 @@
 // The fields of a line, read at their places.
-ghost use Rattle.std.specs.Prelude.{◌≡◌, ◌≤◌, ◌<◌, length, map, IfOk, OnOk};
+ghost use Rattle.std.specs.Prelude.{◌≡◌, ◌≤◌, ◌<◌, length, map, IfOk, IfSome, OnOk};
 ghost use Rattle.std.specs.Option.{ok_or};
-ghost use Rattle.calc_text.specs.Field.{Reads, between, sized, word, is_any, key_in, number_in, nas_count_in, cell_in, direction_in, algorithms_in, both_of, eea_of_digit, eia_in, eia_of_digit, last_eia, numbers_in, octets_in, few_octets_in};
+ghost use Rattle.calc_text.specs.Field.{Reads, between, sized, word, is_any, key_in, number_in, nas_count_in, count_or_any_in, cell_in, direction_in, algorithms_in, algorithms_or_any_in, both_of, eea_of_digit, eia_in, eia_of_digit, is_last_any, last_eia, numbers_in, octets_in, few_octets_in};
 
 use crate::fields::{Field, LineFault};
 use crate::octet_texts::Octets;
@@ -110,18 +110,26 @@ impl<'a> Fields<'a> {
         self.at(place) == b"any".as_slice()
     }
 
-    // A NAS COUNT, or the least where it may be any.
-    #[tactic(auto, unfolding(crate::specs::Field::nas_count_in))]
-    pub(crate) fn nas_count(&self, place: usize, any: bool) -> Result<u32, LineFault>
+    // A NAS COUNT.
+    pub(crate) fn nas_count(&self, place: usize) -> Result<u32, LineFault>
         requires { place < length self.now }
-        ensures reads { Reads result (nas_count_in any (word place self.now)) }
+        ensures reads { Reads result (nas_count_in (word place self.now)) }
         ensures fits { IfOk result (λ n. n < 0x1000000) }
     {
-        if any {
-            Ok(0)
-        } else {
-            self.number(place, 0, 0xff_ffff, Field::Count)
+        self.number(place, 0, 0xff_ffff, Field::Count)
+    }
+
+    // A NAS COUNT, or none where it may be any.
+    #[tactic(auto, unfolding(crate::specs::Field::count_or_any_in))]
+    pub(crate) fn count_or_any(&self, place: usize) -> Result<Option<u32>, LineFault>
+        requires { place < length self.now }
+        ensures reads { Reads result (count_or_any_in (word place self.now)) }
+        ensures fits { IfOk result (λ count. IfSome count (λ n. n < 0x1000000)) }
+    {
+        if self.is_any(place) {
+            return Ok(None);
         }
+        Ok(Some(self.nas_count(place)?))
     }
 
     // A cell by its PCI and EARFCN-DL.
@@ -169,8 +177,41 @@ impl<'a> Fields<'a> {
         }
     }
 
+    // The same, or none where they may be any.
+    #[tactic(auto, unfolding(crate::specs::Field::algorithms_or_any_in))]
+    pub(crate) fn algorithms_or_any(&self, place: usize) -> Result<Option<Algorithms>, LineFault>
+        requires { place < length self.now }
+        ensures { Reads result (algorithms_or_any_in (word place self.now)) }
+    {
+        if self.is_any(place) {
+            return Ok(None);
+        }
+        Ok(Some(self.algorithms(place)?))
+    }
+
+    // An integrity algorithm.
+    #[tactic(auto, unfolding(crate::specs::Field::eia_in))]
+    pub(crate) fn eia(&self, place: usize) -> Result<Integrity, LineFault>
+        requires { place < length self.now }
+        ensures { Reads result (eia_in (word place self.now)) }
+    {
+        match self.at(place) {
+            [digit] => or_bad(eia_of_digit(*digit), Field::Eia),
+            _ => Err(LineFault::Bad(Field::Eia)),
+        }
+    }
+
+    // Whether `any` stands in a last field.
+    #[tactic(auto, unfolding(crate::specs::Field::is_last_any))]
+    pub(crate) fn is_last_any(&self, place: usize) -> bool
+        ensures { result ≡ is_last_any place self.now }
+    {
+        let words = self.words;
+        place < words.len() && self.is_any(place)
+    }
+
     // The integrity algorithm of a last field, or 128-EIA2 where there is none.
-    #[tactic(auto, unfolding(crate::specs::Field::last_eia, crate::specs::Field::eia_in))]
+    #[tactic(auto, unfolding(crate::specs::Field::last_eia))]
     pub(crate) fn last_eia(&self, place: usize) -> Result<Integrity, LineFault>
         ensures { Reads result (last_eia place self.now) }
     {
@@ -178,10 +219,7 @@ impl<'a> Fields<'a> {
         if place >= words.len() {
             return Ok(Integrity::Eia2);
         }
-        match self.at(place) {
-            [digit] => or_bad(eia_of_digit(*digit), Field::Eia),
-            _ => Err(LineFault::Bad(Field::Eia)),
-        }
+        self.eia(place)
     }
 
     // The sequence numbers of a data radio bearer by their bits.

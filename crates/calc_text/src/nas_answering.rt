@@ -1,11 +1,12 @@
 // What the lines of NAS messages give.
-ghost use Rattle.std.specs.Prelude.{◌≡◌, ◌<◌, ◌≤◌, length, IfOk, OnErr};
+ghost use Rattle.std.specs.Prelude.{◌≡◌, ◌<◌, ◌≤◌, length, IfOk, IfSome, OnErr};
 ghost use Rattle.std.specs.String.{string_bytes};
 ghost use Rattle.growth.specs.Growth.{WasRefused};
 ghost use Rattle.pdu_guard.specs.Nas.{nas_head_of, nas_opened};
 ghost use Rattle.pdu_guard.specs.Search.{nas_search};
+ghost use Rattle.pdu_guard.specs.ShortMacs.{service_checked};
 ghost use Rattle.calc_text.specs.Answer.{IsRequest, gives};
-ghost use Rattle.calc_text.specs.PduAnswer.{any_nas_line, any_service_line, nas_answer, nas_at, nas_int, nas_keys, nas_line, service_line};
+ghost use Rattle.calc_text.specs.PduAnswer.{any_nas_answer, any_service_line, nas_answer, nas_at, nas_int, nas_keys, nas_line, service_answer, service_line};
 ghost use Rattle.calc_text.specs.declared.requests.Request.TheVariants.{SealNas as SealNasOf};
 
 use crate::line_texts::{
@@ -24,7 +25,7 @@ use rec_base::Dir;
 use std::alloc::{AllocError, Global};
 
 // The key of NAS integrity.
-fn nas_int(kasme: &[u8; 32], eia: Integrity) -> GivenKey
+pub(crate) fn nas_int(kasme: &[u8; 32], eia: Integrity) -> GivenKey
     ensures { result ≡ nas_int kasme.now eia }
 {
     let (int, _) = Kasme::of_octets(*kasme).nas_alg(AlgType::NasInt, eia.identity());
@@ -32,7 +33,7 @@ fn nas_int(kasme: &[u8; 32], eia: Integrity) -> GivenKey
 }
 
 // The keys of NAS.
-fn nas_keys(kasme: &[u8; 32], algorithms: Algorithms) -> NasKeys
+pub(crate) fn nas_keys(kasme: &[u8; 32], algorithms: Algorithms) -> NasKeys
     ensures { result ≡ nas_keys kasme.now algorithms }
 {
     let kasme = Kasme::of_octets(*kasme).keyed();
@@ -46,23 +47,22 @@ fn nas_keys(kasme: &[u8; 32], algorithms: Algorithms) -> NasKeys
     }
 }
 
-// What a NAS message opens to.
-#[tactic(auto, unfolding(pdu_guard::specs::Nas::nas_head_of))]
-pub(crate) fn nas(alloc: Global, n: &NasPdu) -> Result<String, AllocError>
-    requires { n.now.inputs.count < 0x1000000 }
-    ensures line { IfOk result (λ line. string_bytes line ≡ nas_line n.now.inputs n.now.pdu) }
+// What a NAS message opens to, at a COUNT or at any.
+pub(crate) fn nas(alloc: Global, algorithms: Algorithms, n: &NasPdu) -> Result<String, AllocError>
+    requires { IfSome n.now.count (λ count. count < 0x1000000) }
+    ensures line { IfOk result (λ line. string_bytes line ≡ nas_line algorithms n.now) }
     ensures refused { OnErr result WasRefused }
 {
-    let pdu = n.pdu.as_slice();
-    if pdu.len() < 6 {
-        return short(alloc);
+    let kasme = n.kasme;
+    let keys = nas_keys(&kasme, algorithms);
+    match n.count {
+        Some(next) => opened_nas(alloc, &keys, next, n.dir, n.pdu.as_slice()),
+        None => any_nas(alloc, &keys, n.dir, n.pdu.as_slice()),
     }
-    let kasme = n.inputs.kasme;
-    let keys = nas_keys(&kasme, n.inputs.algorithms);
-    opened_nas(alloc, &keys, n.inputs.count, n.inputs.dir, pdu)
 }
 
-// What a NAS message opens to that is not short.
+// What a NAS message opens to at a COUNT.
+#[tactic(auto, unfolding(pdu_guard::specs::Nas::nas_head_of))]
 fn opened_nas(
     alloc: Global,
     keys: &NasKeys,
@@ -70,11 +70,13 @@ fn opened_nas(
     dir: Dir,
     pdu: &[u8],
 ) -> Result<String, AllocError>
-    requires next { next < 0x1000000 }
-    requires long { 6 ≤ length pdu.now }
+    requires { next < 0x1000000 }
     ensures line { IfOk result (λ line. string_bytes line ≡ nas_answer keys.now dir pdu.now (nas_opened keys.now next dir pdu.now)) }
     ensures refused { OnErr result WasRefused }
 {
+    if pdu.len() < 6 {
+        return short(alloc);
+    }
     let mut text = growth::from_elem(alloc, 0, pdu.len() - 6)?;
     match open_nas(keys, next, dir, pdu, text.as_mut_slice()) {
         Ok(found) => nas_opens(
@@ -95,17 +97,12 @@ fn opened_nas(
 }
 
 // What a NAS message opens to at the least COUNT at which its MAC is right.
-pub(crate) fn any_nas(alloc: Global, n: &NasPdu) -> Result<String, AllocError>
-    ensures line { IfOk result (λ line. string_bytes line ≡ any_nas_line n.now.inputs n.now.pdu) }
+fn any_nas(alloc: Global, keys: &NasKeys, dir: Dir, pdu: &[u8]) -> Result<String, AllocError>
+    ensures line { IfOk result (λ line. string_bytes line ≡ any_nas_answer keys.now dir pdu.now (nas_head_of 0 pdu.now)) }
     ensures refused { OnErr result WasRefused }
 {
-    let pdu = n.pdu.as_slice();
     match nas_head(0, pdu) {
-        Ok(head) => {
-            let kasme = n.inputs.kasme;
-            let keys = nas_keys(&kasme, n.inputs.algorithms);
-            found_nas(alloc, &keys, head.header, n.inputs.dir, pdu)
-        }
+        Ok(head) => found_nas(alloc, keys, head.header, dir, pdu),
         Err(OpenFault::Short) => short(alloc),
         Err(OpenFault::BadHeader(octet)) => bad_header(alloc, octet),
         Err(OpenFault::CountSpent) => spent(alloc),
@@ -142,30 +139,45 @@ pub(crate) fn sealed_nas(alloc: Global, n: &NasText) -> Result<String, AllocErro
     ensures line { IfOk result (λ line. string_bytes line ≡ gives (SealNasOf n.now)) }
     ensures refused { OnErr result WasRefused }
 {
-    let kasme = n.inputs.kasme;
-    let keys = nas_keys(&kasme, n.inputs.algorithms);
+    let kasme = n.kasme;
+    let keys = nas_keys(&kasme, n.algorithms);
     let text = n.text.as_slice();
     let mut pdu = growth::from_elem(alloc, 0, text.len() + 6)?;
-    seal_nas(
-        &keys,
-        n.header,
-        n.inputs.count,
-        n.inputs.dir,
-        text,
-        pdu.as_mut_slice(),
-    );
+    seal_nas(&keys, n.header, n.count, n.dir, text, pdu.as_mut_slice());
     written(alloc, pdu.as_slice())
 }
 
-// Whether the short MAC of a Service Request is right.
-pub(crate) fn service_request(alloc: Global, s: &ServicePdu) -> Result<String, AllocError>
-    requires { s.now.count < 0x1000000 }
-    ensures line { IfOk result (λ line. string_bytes line ≡ service_line s.now) }
+// Whether the short MAC of a Service Request is right, at a COUNT or at any.
+pub(crate) fn service_request(
+    alloc: Global,
+    eia: Integrity,
+    s: &ServicePdu,
+) -> Result<String, AllocError>
+    requires { IfSome s.now.count (λ count. count < 0x1000000) }
+    ensures line { IfOk result (λ line. string_bytes line ≡ service_line eia s.now) }
     ensures refused { OnErr result WasRefused }
 {
     let (kasme, pdu) = (s.kasme, s.pdu);
-    let int = nas_int(&kasme, s.eia);
-    match check_service_request(s.eia, &int, s.count, &pdu) {
+    let int = nas_int(&kasme, eia);
+    match s.count {
+        Some(next) => checked_service_request(alloc, eia, &int, next, &pdu),
+        None => any_service_request(alloc, eia, &int, &pdu),
+    }
+}
+
+// Whether the short MAC of a Service Request is right at a COUNT.
+fn checked_service_request(
+    alloc: Global,
+    eia: Integrity,
+    int: &GivenKey,
+    next: u32,
+    pdu: &[u8; 4],
+) -> Result<String, AllocError>
+    requires { next < 0x1000000 }
+    ensures line { IfOk result (λ line. string_bytes line ≡ service_answer (service_checked eia int.now next pdu.now)) }
+    ensures refused { OnErr result WasRefused }
+{
+    match check_service_request(eia, int, next, pdu) {
         Ok(found) => opens_at(alloc, found.count, found.checked),
         Err(ServiceFault::BadHeader(octet)) => bad_header(alloc, octet),
         Err(ServiceFault::CountSpent) => spent(alloc),
@@ -176,17 +188,20 @@ pub(crate) fn service_request(alloc: Global, s: &ServicePdu) -> Result<String, A
 }
 
 // The least COUNT at which the short MAC of a Service Request is right.
-pub(crate) fn any_service_request(alloc: Global, s: &ServicePdu) -> Result<String, AllocError>
-    ensures line { IfOk result (λ line. string_bytes line ≡ any_service_line s.now) }
+fn any_service_request(
+    alloc: Global,
+    eia: Integrity,
+    int: &GivenKey,
+    pdu: &[u8; 4],
+) -> Result<String, AllocError>
+    ensures line { IfOk result (λ line. string_bytes line ≡ any_service_line eia int.now pdu.now) }
     ensures refused { OnErr result WasRefused }
 {
-    let (kasme, pdu) = (s.kasme, s.pdu);
     if pdu[0] != 0xc7 {
         return bad_header(alloc, pdu[0]);
     }
-    let int = nas_int(&kasme, s.eia);
-    match find_service_request(s.eia, &int, &pdu) {
-        Some(count) => opens_at(alloc, count, is_checked(s.eia)),
+    match find_service_request(eia, int, pdu) {
+        Some(count) => opens_at(alloc, count, is_checked(eia)),
         None => no_count(alloc),
     }
 }

@@ -10,7 +10,7 @@ ghost use Rattle.calc_text.specs.declared.requests.Request.TheVariants.{SealSrb 
 
 use crate::line_texts::{bad_header, mac_fails, opens, short, spent};
 use crate::octet_texts::written;
-use crate::requests::{BearerInputs, DrbOctets, SrbOctets};
+use crate::requests::{Algorithms, BearerInputs, DrbOctets, SrbPdu, SrbText};
 use alg_suite::GivenKey;
 use annex_a_keys::{AlgType, Cell, Kenb};
 use pdcp_guard::PdcpFault;
@@ -21,20 +21,19 @@ use rec_base::Dir;
 use std::alloc::{AllocError, Global};
 
 // The keys of a signalling radio bearer.
-fn srb_keys(inputs: &BearerInputs) -> SrbKeys
-    ensures value { result ≡ srb_keys inputs.now }
-    ensures bearer { result.bearer ≡ inputs.now.bearer }
+pub(crate) fn srb_keys(kenb: &[u8; 32], algorithms: Algorithms, bearer: u8) -> SrbKeys
+    ensures value { result ≡ srb_keys kenb.now algorithms bearer }
+    ensures bearer { result.bearer ≡ bearer }
 {
-    let kenb = inputs.kenb;
-    let kenb = Kenb::of_octets(kenb).keyed();
-    let (enc, _) = kenb.alg(AlgType::RrcEnc, inputs.algorithms.eea.identity());
-    let (int, _) = kenb.alg(AlgType::RrcInt, inputs.algorithms.eia.identity());
+    let kenb = Kenb::of_octets(*kenb).keyed();
+    let (enc, _) = kenb.alg(AlgType::RrcEnc, algorithms.eea.identity());
+    let (int, _) = kenb.alg(AlgType::RrcInt, algorithms.eia.identity());
     SrbKeys {
         enc: GivenKey::from(enc),
         int: GivenKey::from(int),
-        eea: inputs.algorithms.eea,
-        eia: inputs.algorithms.eia,
-        bearer: inputs.bearer,
+        eea: algorithms.eea,
+        eia: algorithms.eia,
+        bearer,
     }
 }
 
@@ -56,18 +55,19 @@ fn drb_keys(inputs: &BearerInputs, numbers: Numbers) -> DrbKeys
 
 // What a PDU of a signalling radio bearer opens to.
 #[tactic(auto, unfolding(pdcp_guard::specs::Srb::srb_count))]
-pub(crate) fn srb(alloc: Global, s: &SrbOctets) -> Result<String, AllocError>
-    requires bearer { s.now.inputs.bearer < 32 }
-    requires few { length s.now.octets ≤ 8193 }
-    ensures line { IfOk result (λ line. string_bytes line ≡ srb_line s.now.inputs s.now.octets) }
+pub(crate) fn srb(alloc: Global, algorithms: Algorithms, s: &SrbPdu) -> Result<String, AllocError>
+    requires bearer { s.now.bearer < 32 }
+    requires few { length s.now.pdu ≤ 8193 }
+    ensures line { IfOk result (λ line. string_bytes line ≡ srb_line algorithms s.now) }
     ensures refused { OnErr result WasRefused }
 {
-    let pdu = s.octets.as_slice();
+    let pdu = s.pdu.as_slice();
     if pdu.len() < 5 {
         return short(alloc);
     }
-    let keys = srb_keys(&s.inputs);
-    opened_srb(alloc, &keys, s.inputs.count, s.inputs.dir, pdu)
+    let kenb = s.kenb;
+    let keys = srb_keys(&kenb, algorithms, s.bearer);
+    opened_srb(alloc, &keys, s.count, s.dir, pdu)
 }
 
 // What a PDU of a signalling radio bearer opens to that is not short.
@@ -98,13 +98,14 @@ fn opened_srb(
 }
 
 // The PDU of a text of a signalling radio bearer.
-pub(crate) fn sealed_srb(alloc: Global, s: &SrbOctets) -> Result<String, AllocError>
+pub(crate) fn sealed_srb(alloc: Global, s: &SrbText) -> Result<String, AllocError>
     requires { s.now.inputs.bearer < 32 }
     ensures line { IfOk result (λ line. string_bytes line ≡ gives (SealSrbOf s.now)) }
     ensures refused { OnErr result WasRefused }
 {
-    let keys = srb_keys(&s.inputs);
-    let text = s.octets.as_slice();
+    let kenb = s.inputs.kenb;
+    let keys = srb_keys(&kenb, s.inputs.algorithms, s.inputs.bearer);
+    let text = s.text.as_slice();
     let mut pdu = growth::from_elem(alloc, 0, text.len() + 5)?;
     seal_srb(
         &keys,

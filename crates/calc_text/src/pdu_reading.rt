@@ -1,51 +1,38 @@
 // The lines of PDUs, and of a phone's chain.
-ghost use Rattle.std.specs.Prelude.{◌≡◌, ◌≤◌, ◌<◌, length, IfOk};
+ghost use Rattle.std.specs.Prelude.{◌≡◌, ◌≤◌, ◌<◌, length, IfOk, IfSome};
 ghost use Rattle.calc_text.specs.Answer.{IsRequest};
 ghost use Rattle.calc_text.specs.Field.{Reads};
-ghost use Rattle.calc_text.specs.PduReading.{nas_inputs_of, nas_pdu_of, nas_of, nas_text_of, seal_nas_of, service_pdu_of, service_of, bearer_inputs_of, srb_octets_of, drb_octets_of, srb_of, seal_srb_of, drb_of, seal_drb_of, reach_of, pdu_named};
+ghost use Rattle.calc_text.specs.PduReading.{nas_of, nas_text_of, seal_nas_of, service_pdu_of, service_of, reestablishment_of, bearer_inputs_of, drb_octets_of, srb_of, seal_srb_of, drb_of, seal_drb_of, reach_of, pdu_named};
 
 use crate::fields::{Field, LineFault};
 use crate::line_fields::Fields;
 use crate::requests::{
-    BearerInputs, DrbOctets, NasInputs, NasPdu, NasText, Request, ServicePdu, SrbOctets,
+    BearerInputs, DrbOctets, NasPdu, NasText, Reestablishment, Request, ServicePdu, SrbPdu, SrbText,
 };
 use annex_a_keys::{Kasme, Kenb, Nh};
 use pdu_guard::Phone;
 
-// What protects a NAS message, at a COUNT or at any.
-#[tactic(auto, unfolding(crate::specs::PduReading::nas_inputs_of))]
-fn nas_inputs(fields: &Fields, any: bool) -> Result<NasInputs, LineFault>
-    requires { 4 ≤ length fields.now }
-    ensures reads { Reads result (nas_inputs_of any fields.now) }
-    ensures count { IfOk result (λ inputs. inputs.count < 0x1000000) }
-{
-    let kasme = fields.key(0, Field::Kasme)?;
-    let algorithms = fields.algorithms(1)?;
-    let count = fields.nas_count(2, any)?;
-    let dir = fields.direction(3)?;
-    Ok(NasInputs {
-        kasme,
-        algorithms,
-        count,
-        dir,
-    })
-}
-
-// A NAS message as sent.
-#[tactic(auto, unfolding(crate::specs::PduReading::nas_of, crate::specs::PduReading::nas_pdu_of))]
+// A NAS message, whose algorithms are given or any.
+#[tactic(auto, unfolding(crate::specs::PduReading::nas_of))]
 fn nas(fields: &Fields) -> Result<Request, LineFault>
     ensures reads { Reads result (nas_of fields.now) }
     ensures fits { IfOk result IsRequest }
 {
     fields.sized(5)?;
-    let any = fields.is_any(2);
-    let inputs = nas_inputs(fields, any)?;
+    let kasme = fields.key(0, Field::Kasme)?;
+    let algorithms = fields.algorithms_or_any(1)?;
+    let count = fields.count_or_any(2)?;
+    let dir = fields.direction(3)?;
     let pdu = fields.octets(4, Field::Pdu)?;
-    let taken = NasPdu { inputs, pdu };
-    if any {
-        Ok(Request::AnyNas(taken))
-    } else {
-        Ok(Request::Nas(taken))
+    let taken = NasPdu {
+        kasme,
+        count,
+        dir,
+        pdu,
+    };
+    match algorithms {
+        Some(algorithms) => Ok(Request::Nas(algorithms, taken)),
+        None => Ok(Request::TryNas(taken)),
     }
 }
 
@@ -53,16 +40,22 @@ fn nas(fields: &Fields) -> Result<Request, LineFault>
 #[tactic(auto, unfolding(crate::specs::PduReading::nas_text_of))]
 fn nas_text(fields: &Fields) -> Result<NasText, LineFault>
     ensures reads { Reads result (nas_text_of fields.now) }
-    ensures count { IfOk result (λ n. n.inputs.count < 0x1000000) }
+    ensures count { IfOk result (λ n. n.count < 0x1000000) }
     ensures above_plain { IfOk result (λ n. 1 ≤ n.header) }
     ensures at_most_four { IfOk result (λ n. n.header ≤ 4) }
 {
     fields.sized(6)?;
-    let inputs = nas_inputs(fields, false)?;
+    let kasme = fields.key(0, Field::Kasme)?;
+    let algorithms = fields.algorithms(1)?;
+    let count = fields.nas_count(2)?;
+    let dir = fields.direction(3)?;
     let header = fields.number(4, 1, 4, Field::Type)?;
     let text = fields.octets(5, Field::Text)?;
     Ok(NasText {
-        inputs,
+        kasme,
+        algorithms,
+        count,
+        dir,
         header: header as u8,
         text,
     })
@@ -75,29 +68,53 @@ fn seal_nas(fields: &Fields) -> Result<Request, LineFault>
     Ok(Request::SealNas(nas_text(fields)?))
 }
 
-// A Service Request, under 128-EIA2 or under the algorithm of a fourth field.
-#[tactic(auto, unfolding(crate::specs::PduReading::service_of, crate::specs::PduReading::service_pdu_of))]
+// A Service Request, at a COUNT or at any.
+#[tactic(auto, unfolding(crate::specs::PduReading::service_pdu_of))]
+fn service_pdu(fields: &Fields) -> Result<ServicePdu, LineFault>
+    requires { 3 ≤ length fields.now }
+    ensures reads { Reads result (service_pdu_of fields.now) }
+    ensures count { IfOk result (λ s. IfSome s.count (λ n. n < 0x1000000)) }
+{
+    let kasme = fields.key(0, Field::Kasme)?;
+    let count = fields.count_or_any(1)?;
+    let pdu = fields.key(2, Field::Pdu)?;
+    Ok(ServicePdu { kasme, count, pdu })
+}
+
+// The same under 128-EIA2, or under the algorithm of a fourth field, which may be any.
+#[tactic(auto, unfolding(crate::specs::PduReading::service_of))]
 fn service_request(fields: &Fields) -> Result<Request, LineFault>
     ensures reads { Reads result (service_of fields.now) }
     ensures fits { IfOk result IsRequest }
 {
     fields.between(3, 4)?;
-    let any = fields.is_any(1);
-    let kasme = fields.key(0, Field::Kasme)?;
-    let count = fields.nas_count(1, any)?;
-    let pdu = fields.key(2, Field::Pdu)?;
-    let eia = fields.last_eia(3)?;
-    let taken = ServicePdu {
-        kasme,
-        eia,
-        count,
-        pdu,
-    };
-    if any {
-        Ok(Request::AnyServiceRequest(taken))
-    } else {
-        Ok(Request::ServiceRequest(taken))
+    let taken = service_pdu(fields)?;
+    if fields.is_last_any(3) {
+        return Ok(Request::TryServiceRequest(taken));
     }
+    let eia = fields.last_eia(3)?;
+    Ok(Request::ServiceRequest(eia, taken))
+}
+
+// A phone that re-establishes its connection.
+#[tactic(auto, unfolding(crate::specs::PduReading::reestablishment_of))]
+fn reestablishment(fields: &Fields) -> Result<Request, LineFault>
+    ensures reads { Reads result (reestablishment_of fields.now) }
+    ensures fits { IfOk result IsRequest }
+{
+    fields.sized(5)?;
+    let kenb = fields.key(0, Field::Key)?;
+    let eia = fields.eia(1)?;
+    let cell_identity = fields.number(2, 0, 0xfff_ffff, Field::CellIdentity)?;
+    let pci = fields.number(3, 0, 503, Field::Pci)?;
+    let c_rnti = fields.number(4, 0, 0xffff, Field::CRnti)?;
+    Ok(Request::ShortMacI(Reestablishment {
+        kenb,
+        eia,
+        cell_identity,
+        pci: pci as u16,
+        c_rnti: c_rnti as u16,
+    }))
 }
 
 // What protects a PDU of a radio bearer.
@@ -121,19 +138,6 @@ fn bearer_inputs(fields: &Fields) -> Result<BearerInputs, LineFault>
     })
 }
 
-// Octets of a signalling radio bearer, so many at the most.
-#[tactic(auto, unfolding(crate::specs::PduReading::srb_octets_of))]
-fn srb_octets(fields: &Fields, most: usize, field: Field) -> Result<SrbOctets, LineFault>
-    ensures reads { Reads result (srb_octets_of most field fields.now) }
-    ensures bearer { IfOk result (λ s. s.inputs.bearer < 32) }
-    ensures few { IfOk result (λ s. length s.octets ≤ most) }
-{
-    fields.sized(6)?;
-    let inputs = bearer_inputs(fields)?;
-    let octets = fields.few_octets(5, most, field)?;
-    Ok(SrbOctets { inputs, octets })
-}
-
 // Octets of a data radio bearer.
 #[tactic(auto, unfolding(crate::specs::PduReading::drb_octets_of))]
 fn drb_octets(fields: &Fields, field: Field) -> Result<DrbOctets, LineFault>
@@ -151,19 +155,42 @@ fn drb_octets(fields: &Fields, field: Field) -> Result<DrbOctets, LineFault>
     })
 }
 
-// A PDU or a text of a bearer.
+// A PDU of a signalling radio bearer, whose algorithms are given or any.
+#[tactic(auto, unfolding(crate::specs::PduReading::srb_of))]
 fn srb(fields: &Fields) -> Result<Request, LineFault>
     ensures reads { Reads result (srb_of fields.now) }
     ensures fits { IfOk result IsRequest }
 {
-    Ok(Request::Srb(srb_octets(fields, 8193, Field::Pdu)?))
+    fields.sized(6)?;
+    let kenb = fields.key(0, Field::Key)?;
+    let algorithms = fields.algorithms_or_any(1)?;
+    let count = fields.number(2, 0, 0xffff_ffff, Field::Count)?;
+    let bearer = fields.number(3, 0, 31, Field::Bearer)?;
+    let dir = fields.direction(4)?;
+    let pdu = fields.few_octets(5, 8193, Field::Pdu)?;
+    let taken = SrbPdu {
+        kenb,
+        count,
+        bearer: bearer as u8,
+        dir,
+        pdu,
+    };
+    match algorithms {
+        Some(algorithms) => Ok(Request::Srb(algorithms, taken)),
+        None => Ok(Request::TrySrb(taken)),
+    }
 }
 
+// A text of a signalling radio bearer.
+#[tactic(auto, unfolding(crate::specs::PduReading::seal_srb_of))]
 fn seal_srb(fields: &Fields) -> Result<Request, LineFault>
     ensures reads { Reads result (seal_srb_of fields.now) }
     ensures fits { IfOk result IsRequest }
 {
-    Ok(Request::SealSrb(srb_octets(fields, 8188, Field::Text)?))
+    fields.sized(6)?;
+    let inputs = bearer_inputs(fields)?;
+    let text = fields.few_octets(5, 8188, Field::Text)?;
+    Ok(Request::SealSrb(SrbText { inputs, text }))
 }
 
 fn drb(fields: &Fields) -> Result<Request, LineFault>
@@ -216,6 +243,7 @@ pub(crate) fn pdu_named(name: &[u8], fields: &Fields) -> Result<Request, LineFau
         _ if name == b"nas".as_slice() => nas(fields),
         _ if name == b"seal-nas".as_slice() => seal_nas(fields),
         _ if name == b"service-request".as_slice() => service_request(fields),
+        _ if name == b"short-mac-i".as_slice() => reestablishment(fields),
         _ if name == b"srb".as_slice() => srb(fields),
         _ if name == b"seal-srb".as_slice() => seal_srb(fields),
         _ if name == b"drb".as_slice() => drb(fields),

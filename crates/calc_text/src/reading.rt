@@ -39,7 +39,7 @@ fn kenb(fields: &Fields) -> Result<Request, LineFault>
 {
     fields.sized(2)?;
     let kasme = fields.key(0, Field::Kasme)?;
-    let count = fields.nas_count(1, false)?;
+    let count = fields.nas_count(1)?;
     Ok(Request::Kenb { kasme, count })
 }
 

@@ -44,24 +44,15 @@ pub struct Algorithm {
     pub id: u8,
 }
 
-/// What protects a NAS message (TS 24.301 4.4).
-#[derive(Clone, Copy, Drop)]
-pub struct NasInputs {
-    /// KASME.
-    pub kasme: [u8; 32],
-    /// The algorithms.
-    pub algorithms: Algorithms,
-    /// The NAS COUNT, or the least that it may be; of 24 bits.
-    pub count: u32,
-    /// DIRECTION.
-    pub dir: Dir,
-}
-
-/// A NAS message as sent.
+/// A NAS message as sent (TS 24.301 4.4).
 #[derive(Drop)]
 pub struct NasPdu {
-    /// What protects it.
-    pub inputs: NasInputs,
+    /// KASME.
+    pub kasme: [u8; 32],
+    /// The least that the NAS COUNT may be, of 24 bits, or none where it may be any.
+    pub count: Option<u32>,
+    /// DIRECTION.
+    pub dir: Dir,
     /// Its octets.
     pub pdu: Octets,
 }
@@ -69,8 +60,14 @@ pub struct NasPdu {
 /// A NAS message to be protected.
 #[derive(Drop)]
 pub struct NasText {
-    /// What protects it.
-    pub inputs: NasInputs,
+    /// KASME.
+    pub kasme: [u8; 32],
+    /// The algorithms.
+    pub algorithms: Algorithms,
+    /// The NAS COUNT, of 24 bits.
+    pub count: u32,
+    /// DIRECTION.
+    pub dir: Dir,
     /// The security header type, 1 to 4.
     pub header: u8,
     /// Its octets.
@@ -92,13 +89,28 @@ pub struct BearerInputs {
     pub dir: Dir,
 }
 
-/// A PDU of a signalling radio bearer, or its text.
+/// A PDU of a signalling radio bearer.
 #[derive(Drop)]
-pub struct SrbOctets {
+pub struct SrbPdu {
+    /// KeNB.
+    pub kenb: [u8; 32],
+    /// The least that COUNT may be.
+    pub count: u32,
+    /// BEARER, of 5 bits.
+    pub bearer: u8,
+    /// DIRECTION.
+    pub dir: Dir,
+    /// Its octets.
+    pub pdu: Octets,
+}
+
+/// A text of a signalling radio bearer.
+#[derive(Drop)]
+pub struct SrbText {
     /// What protects it.
     pub inputs: BearerInputs,
     /// Its octets.
-    pub octets: Octets,
+    pub text: Octets,
 }
 
 /// A PDU of a data radio bearer, or its text.
@@ -112,17 +124,30 @@ pub struct DrbOctets {
     pub octets: Octets,
 }
 
-/// A Service Request (TS 24.301 8.2.25), and what protects it.
+/// A Service Request (TS 24.301 8.2.25).
 #[derive(Clone, Copy, Drop)]
 pub struct ServicePdu {
     /// KASME.
     pub kasme: [u8; 32],
-    /// The integrity algorithm.
-    pub eia: Integrity,
-    /// The least that the NAS COUNT may be, of 24 bits.
-    pub count: u32,
+    /// The least that the NAS COUNT may be, of 24 bits, or none where it may be any.
+    pub count: Option<u32>,
     /// Its octets.
     pub pdu: [u8; 4],
+}
+
+/// What a phone proves itself by that re-establishes its connection (TS 36.331 5.3.7.4 and 7.1).
+#[derive(Clone, Copy, Drop)]
+pub struct Reestablishment {
+    /// The KeNB of the connection that failed.
+    pub kenb: [u8; 32],
+    /// Its integrity algorithm.
+    pub eia: Integrity,
+    /// cellIdentity of the cell that the phone comes to, of 28 bits.
+    pub cell_identity: u32,
+    /// physCellId of the cell in which the connection failed.
+    pub pci: u16,
+    /// c-RNTI that the phone had there.
+    pub c_rnti: u16,
 }
 
 /// What KASME is derived of (TS 33.401 A.2).
@@ -155,20 +180,25 @@ pub enum Request {
     Cipher(Ciphering, KeyedText),
     /// `eia1`, `eia2` and `eia3`: the MAC of a text by the algorithm (TS 33.401 B.2).
     Mac(Integrity, KeyedText),
-    /// `nas`: what a NAS message opens to (TS 24.301 4.4).
-    Nas(NasPdu),
-    /// `nas` with `any`: the same at the least COUNT with its sequence number at which its MAC is right.
-    AnyNas(NasPdu),
+    /// `nas`: what a NAS message opens to (TS 24.301 4.4). With `any` COUNT it is the least with its sequence number at which its MAC is right.
+    Nas(Algorithms, NasPdu),
+    /// `nas` with `any` algorithms: under which the MAC is right.
+    TryNas(NasPdu),
     /// `seal-nas`: a NAS message, protected.
     SealNas(NasText),
-    /// `service-request`: whether the short MAC of a Service Request is right (TS 24.301 9.9.3.28).
-    ServiceRequest(ServicePdu),
-    /// `service-request` with `any`: the least COUNT with its 5 bits at which it is.
-    AnyServiceRequest(ServicePdu),
+    /// `service-request`: whether the short MAC of a Service Request is right (TS 24.301 9.9.3.28). With `any` COUNT it is the least with its 5
+    /// bits at which it is.
+    ServiceRequest(Integrity, ServicePdu),
+    /// `service-request` with `any` algorithm: under which the short MAC is right.
+    TryServiceRequest(ServicePdu),
+    /// `short-mac-i`: shortMAC-I (TS 36.331 5.3.7.4) of a phone that re-establishes its connection.
+    ShortMacI(Reestablishment),
     /// `srb`: what a PDU of a signalling radio bearer opens to (TS 36.323 5.6 and 5.7).
-    Srb(SrbOctets),
+    Srb(Algorithms, SrbPdu),
+    /// `srb` with `any` algorithms: under which the MAC-I is right.
+    TrySrb(SrbPdu),
     /// `seal-srb`: the PDU of a text.
-    SealSrb(SrbOctets),
+    SealSrb(SrbText),
     /// `drb`: what a PDU of a data radio bearer opens to (TS 36.323 5.6).
     Drb(DrbOctets),
     /// `seal-drb`: the PDU of a text.

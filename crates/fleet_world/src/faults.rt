@@ -1,7 +1,7 @@
 use key_terms::{Proof, Row};
 
 /// Why a fleet does not answer with a line.
-#[derive(Clone, Copy, Debug, Drop, PartialEq, Eq)]
+#[derive(Clone, Copy, Drop, PartialEq, Eq)]
 pub enum FleetFault {
     /// Memory ran out.
     Memory,

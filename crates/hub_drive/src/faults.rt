@@ -2,7 +2,7 @@ use role_wire::Frame;
 use run_report::Unwritten;
 
 /// Why a scenario was not driven to its end.
-#[derive(Debug, PartialEq, Eq, Drop)]
+#[derive(Drop)]
 pub enum DriveFault {
     /// Memory ran out.
     Memory,

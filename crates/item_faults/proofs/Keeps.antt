@@ -1,5 +1,5 @@
 -- What faults keep of the items, and how many they leave.
-use Rattle.std.proofs.Common.{◌≡◌, ℕ, ◌+◌, ◌*◌, ◌-◌, ◌<◌, ◌≤◌, nat_lt, Bool, true, false, not, List, [], ◌∷◌, ◌++◌, length, take, drop, position, All, Option, Some, None, Result, Ok, Err, IfOk, IfSome, if◌then◌else◌, ap, sym, subst, ◌∙◌, arith, length-append}
+use Rattle.std.proofs.Common.{◌≡◌, ℕ, ◌+◌, ◌*◌, ◌-◌, ◌<◌, ◌≤◌, nat_lt, Bool, true, false, not, List, [], ◌∷◌, ◌++◌, length, take, drop, position, All, Option, Some, None, Result, Ok, Err, IfOk, IfSome, if◌then◌else◌, ap, refl, sym, subst, ◌∙◌, arith, length-append}
 use Rattle.std.specs.{List.slice_range, Option.option_map, Option.option_and_then}
 use Rattle.std.proofs.lemmas.List.{take-append-drop}
 use Rattle.std.proofs.lemmas.List.Elements.{All-nil, All-cons, All-head, All-tail, All-append, All-push, All-take, All-drop}
@@ -9,6 +9,7 @@ use Rattle.item_faults.specs.declared.entries.Again.TheVariants as again
 use Rattle.item_faults.specs.Entries.{act_of, delivery_of, own, has, is_named, kept_from, moves, movers, movers_from, with_if}
 use Rattle.item_faults.specs.Changes.{changed, copy_of, edited, if_not, lost, ordered, in_order, put, put_all, put_at, repeated, sent_again, sent_by, twice, variant}
 use Rattle.item_faults.specs.Laws.{AreEntries, CanRun, IsAgainOf, IsEntryOf, at_most, most_items}
+use Rattle.item_faults.proofs.Fewer.{room}
 
 -- A LIST THAT GROWS
 
@@ -22,14 +23,6 @@ length-kept gone kept [] = omega arith
 length-kept gone kept (e ∷ es) =
     let step = length-with_if (not (has e.name gone)) e kept in
     let rest = length-kept gone (with_if (not (has e.name gone)) e kept) es in
-    omega arith
-
-length-movers : (moved xs : List Entry) → length (movers_from moved xs) ≤ length moved + length xs
-unfolding movers_from
-length-movers moved [] = omega arith
-length-movers moved (e ∷ es) =
-    let step = length-with_if (moves moved e) e moved in
-    let rest = length-movers (with_if (moves moved e) e moved) es in
     omega arith
 
 All-with_if : (P : Entry → Type 0) (b : Bool) (e : Entry) (xs : List Entry) → P e → All P xs → All P (with_if b e xs)
@@ -141,9 +134,15 @@ leaves_new acts n gone to (Some new) xs all h few =
     let those = h.few in leaves_edited acts n gone to new xs all h.entries (omega arith)
 
 leaves_late : (acts n : ℕ) (b : Bool) (to : ℕ) (moved xs : List Entry) → AreEntries acts xs → AreEntries acts moved →
-    length moved + length xs ≤ n → IfSome (if_not b (edited moved to moved xs)) (Leaves acts n)
-leaves_late acts n true to moved xs all those few = tt
-leaves_late acts n false to moved xs all those few = leaves_edited acts n moved to moved xs all those few
+    length (kept_from moved [] (take (to + 1) xs)) + length moved ≤ length (take (to + 1) xs) → length xs ≤ n →
+    IfSome (if_not b (edited moved to moved xs)) (Leaves acts n)
+leaves_late acts n true to moved xs all those fit few = tt
+leaves_late acts n false to moved xs all those fit few =
+    let wide = leaves_edited acts (length moved + length xs) moved to moved xs all those (omega arith) in
+    let both = length-append (kept_from moved [] (take (to + 1) xs)) moved in
+    let last = length-kept moved (kept_from moved [] (take (to + 1) xs) ++ moved) (drop (to + 1) xs) in
+    let cut = length-cut (to + 1) xs in
+    record { entries = wide.entries; few = omega (arith, both, last, cut, fit, few) }
 
 leaves_lost : (acts n to : ℕ) (xs span : List Entry) → AreEntries acts xs → length xs ≤ n → IfSome (lost to xs span) (Leaves acts n)
 leaves_lost acts n to xs [] all few = tt
@@ -166,33 +165,31 @@ leaves_repeated acts n number to xs (e ∷ []) all those few =
 leaves_repeated acts n number to xs (e ∷ d ∷ es) all those few = tt
 
 leaves_changed : (acts n number : ℕ) (k : Kind) (after to : ℕ) (xs span : List Entry) → AreEntries acts xs → AreEntries acts span →
-    length span ≤ length xs → 2 * length xs + 5 ≤ n → IfSome (changed number k after to xs span) (Leaves acts n)
+    length (kept_from (movers span) [] (take (to + 1) xs)) + length (movers span) ≤ length (take (to + 1) xs) → length xs + 5 ≤ n →
+    IfSome (changed number k after to xs span) (Leaves acts n)
 leaves_changed acts n number kind.Lost after to xs span all those fit few = leaves_lost acts n to xs span all (omega arith)
 leaves_changed acts n number kind.Late after to xs span all those fit few =
-    let long = length-movers [] span in
     leaves_late acts n (has after (movers span)) to (movers span) xs all
-    (All-movers (IsEntryOf acts) [] span (All-nil (IsEntryOf acts)) those) (omega arith)
+    (All-movers (IsEntryOf acts) [] span (All-nil (IsEntryOf acts)) those) fit (omega arith)
 leaves_changed acts n number kind.Twice after to xs span all those fit few =
     leaves_twice acts n number to xs span all those (omega arith)
 leaves_changed acts n number kind.Again after to xs span all those fit few =
     leaves_repeated acts n number to xs span all those (omega arith)
 
-leaves_behind : (acts n number : ℕ) (f : Fault) (b : Bool) (at to : ℕ) (xs : List Entry) → AreEntries acts xs → 2 * length xs + 5 ≤ n →
+leaves_behind : (acts n number : ℕ) (f : Fault) (b : Bool) (at to : ℕ) (xs : List Entry) → AreEntries acts xs → length xs + 5 ≤ n →
     IfSome (if b then None else changed number f.kind f.after to xs (slice_range xs at (to + 1))) (Leaves acts n)
 leaves_behind acts n number f true at to xs all few = tt
 leaves_behind acts n number f false at to xs all few =
-    let dropped = length-cut at xs in
-    let taken = length-cut (to + 1 - at) (drop at xs) in
     leaves_changed acts n number f.kind f.after to xs (slice_range xs at (to + 1)) all
-    (All-take (IsEntryOf acts) (to + 1 - at) (drop at xs) (All-drop (IsEntryOf acts) at xs all)) (omega arith) few
+    (All-take (IsEntryOf acts) (to + 1 - at) (drop at xs) (All-drop (IsEntryOf acts) at xs all)) (room (to + 1 - at) at (to + 1) xs refl) few
 
-leaves_put_at : (acts n number : ℕ) (f : Fault) (xs : List Entry) (at to : Option ℕ) → AreEntries acts xs → 2 * length xs + 5 ≤ n →
+leaves_put_at : (acts n number : ℕ) (f : Fault) (xs : List Entry) (at to : Option ℕ) → AreEntries acts xs → length xs + 5 ≤ n →
     IfSome (put_at number f xs at to) (Leaves acts n)
 leaves_put_at acts n number f xs None to all few = tt
 leaves_put_at acts n number f xs (Some at) None all few = tt
 leaves_put_at acts n number f xs (Some at) (Some to) all few = leaves_behind acts n number f (nat_lt to at) at to xs all few
 
-leaves_put : (acts n number : ℕ) (f : Fault) (xs : List Entry) → AreEntries acts xs → 2 * length xs + 5 ≤ n →
+leaves_put : (acts n number : ℕ) (f : Fault) (xs : List Entry) → AreEntries acts xs → length xs + 5 ≤ n →
     IfSome (put number f xs) (Leaves acts n)
 leaves_put acts n number f xs all few =
     leaves_put_at acts n number f xs (position (is_named f.message) xs) (position (is_named f.after) xs) all few
@@ -210,9 +207,9 @@ leaves_all : (acts m number : ℕ) (fs : List Fault) (xs : List Entry) → AreEn
 unfolding put_all
 leaves_all acts m number [] xs all few = record { entries = all; few = few }
 leaves_all acts m number (f ∷ fs) xs all few =
-    leaves_rest acts (at_most fs (2 * m + 5)) (2 * m + 5) (number + 1) fs (put number f xs)
-    (leaves_put acts (2 * m + 5) number f xs all (omega arith))
-    (λ list h. leaves_all acts (2 * m + 5) (number + 1) fs list h.entries h.few)
+    leaves_rest acts (at_most fs (m + 5)) (m + 5) (number + 1) fs (put number f xs)
+    (leaves_put acts (m + 5) number f xs all (omega arith))
+    (λ list h. leaves_all acts (m + 5) (number + 1) fs list h.entries h.few)
 
 leaves_checked : (acts n : ℕ) (b : Bool) (list : List Entry) → Leaves acts n list → IfSome (if_not (not b) list) (Leaves acts n)
 leaves_checked acts n true list h = h
@@ -227,18 +224,18 @@ variant_leaves : (acts m : ℕ) (fs : List Fault) (xs : List Entry) → AreEntri
 variant_leaves acts m fs xs all few = leaves_ordered acts (at_most fs m) (put_all 0 fs xs) (leaves_all acts m 0 fs xs all few)
 
 -- so few that they can run
-few_at_most : (fs : List Fault) → length fs ≤ 3 → at_most fs most_steps ≤ most_items
-few_at_most [] _ = omega arith
-few_at_most (a ∷ []) _ = omega arith
-few_at_most (a ∷ b ∷ []) _ = omega arith
-few_at_most (a ∷ b ∷ c ∷ []) _ = omega arith
-few_at_most (a ∷ b ∷ c ∷ d ∷ fs) h = absurd (omega arith)
+more_at_most : (fs : List Fault) (n : ℕ) → at_most fs n ≡ n + 5 * length fs
+more_at_most [] n = omega arith
+more_at_most (f ∷ fs) n = let rest = more_at_most fs (n + 5) in omega (arith, rest)
+
+few_at_most : (fs : List Fault) → length fs ≤ 8 → at_most fs most_steps ≤ most_items
+few_at_most fs h = let all = more_at_most fs most_steps in omega (arith, all, h)
 
 some_can_run : (acts n : ℕ) (o : Option (List Entry)) → n ≤ most_items → IfSome o (Leaves acts n) → IfSome o (CanRun acts)
 some_can_run acts n None few h = tt
 some_can_run acts n (Some list) few h = let long = h.few in record { entries = h.entries; few = omega arith }
 
-pub variant_can_run : (acts : ℕ) (fs : List Fault) (xs : List Entry) → length fs ≤ 3 → AreEntries acts xs → length xs ≤ most_steps →
+pub variant_can_run : (acts : ℕ) (fs : List Fault) (xs : List Entry) → length fs ≤ 8 → AreEntries acts xs → length xs ≤ most_steps →
     IfSome (variant fs xs) (CanRun acts)
 variant_can_run acts fs xs three all few =
     some_can_run acts (at_most fs most_steps) (variant fs xs) (few_at_most fs three) (variant_leaves acts most_steps fs xs all few)

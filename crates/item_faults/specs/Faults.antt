@@ -1,8 +1,32 @@
--- All faults of a scenario, and all choices of two and three of them.
-use Rattle.std.specs.Prelude.{ℕ, Bool, true, false, List, [], ◌∷◌, ◌++◌, map}
+-- All faults of a scenario.
+use Rattle.std.specs.Prelude.{ℕ, Bool, true, false, not, List, [], ◌∷◌, ◌++◌}
 use Rattle.std.specs.Option.{is_some}
-use Rattle.item_faults.specs.{declared.changes.Fault.Fault, declared.changes.Kind.Kind, declared.entries.Entry.Entry, Changes.put}
+use Rattle.item_faults.specs.{declared.changes.Fault.Fault, declared.changes.Kind.Kind, declared.entries.Again.Again, declared.entries.Entry.Entry, Changes.put, Entries.has, Entries.movers}
 use Rattle.item_faults.specs.declared.changes.Kind.TheVariants as kind
+use Rattle.item_faults.specs.declared.entries.Again.TheVariants as again
+
+-- WHETHER A FAULT CAN BE, by the items from its message to its place
+abbrev pub is_one : List Entry → Bool
+is_one (e ∷ []) = true
+is_one other = false
+
+abbrev pub is_there : List Entry → Bool
+is_there [] = false
+is_there (e ∷ es) = true
+
+abbrev pub is_sent : Again → Bool
+is_sent again.Never = false
+is_sent other = true
+
+abbrev pub repeats : List Entry → Bool
+repeats (e ∷ []) = is_sent e.again
+repeats other = false
+
+abbrev pub can_be : Kind → ℕ → List Entry → Bool
+can_be kind.Lost after span = is_one span
+can_be kind.Late after span = not (has after (movers span))
+can_be kind.Twice after span = is_there span
+can_be kind.Again after span = repeats span
 
 -- a fault that the scenario can have
 abbrev pub is_fault : List Entry → Fault → Bool
@@ -36,24 +60,3 @@ of_messages all faults (m ∷ ms) = of_messages all (of_message all m faults) ms
 
 abbrev pub faults_of : List Entry → List ℕ → List Fault
 faults_of entries messages = of_messages entries [] messages
-
--- two and three of these faults, each choice once, in their order
-abbrev pub pair : Fault → Fault → List Fault
-pair f g = f ∷ g ∷ []
-
-unfoldable pub pairs : List Fault → List (List Fault)
-pairs [] = []
-pairs (f ∷ fs) = map (pair f) fs ++ pairs fs
-
-unfoldable pub triples : List Fault → List (List Fault)
-triples [] = []
-triples (f ∷ fs) = map (λ two. f ∷ two) (pairs fs) ++ triples fs
-
--- what is left of them, where the first fault has been chosen with some of the others
-abbrev pub pairs_left : List Fault → List Fault → List (List Fault)
-pairs_left [] others = []
-pairs_left (f ∷ fs) others = map (pair f) others ++ pairs fs
-
-abbrev pub triples_left : List Fault → List (List Fault) → List (List Fault)
-triples_left [] others = []
-triples_left (f ∷ fs) others = map (λ two. f ∷ two) others ++ triples fs

@@ -1,5 +1,5 @@
 -- What holds of the items of each variant.
-use Rattle.std.specs.Prelude.{ℕ, ◌+◌, ◌*◌, ◌<◌, ◌≤◌, List, [], ◌∷◌, length, All, Option, Some, None}
+use Rattle.std.specs.Prelude.{ℕ, ◌+◌, ◌<◌, ◌≤◌, List, [], ◌∷◌, length, All, Option, Some, None}
 use Rattle.item_faults.specs.{declared.changes.Fault.Fault, declared.entries.Again.Again, declared.entries.Entry.Entry, declared.steps.Step.Step}
 use Rattle.item_faults.specs.declared.entries.Again.TheVariants as again
 use Rattle.items.specs.Items.{IsDeedOf}
@@ -30,11 +30,11 @@ pub record IsStep (acts : ℕ) (s : Step) : Type 0 where
 -- how many items so many faults leave at most
 abbrev pub at_most : List Fault → ℕ → ℕ
 at_most [] n = n
-at_most (f ∷ fs) n = at_most fs (2 * n + 5)
+at_most (f ∷ fs) n = at_most fs (n + 5)
 
--- so many items a variant has at most: nine times as many events are fewer than 200,000
+-- so many items a variant of eight faults has at most
 abbrev pub most_items : ℕ
-most_items = 16035
+most_items = 2040
 
 -- items of so many acts that can happen in a row
 pub record CanRun (acts : ℕ) (list : List Entry) : Type 0 where

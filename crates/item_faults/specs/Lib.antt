@@ -4,3 +4,5 @@ pub mod Faults
 pub mod AtOnce
 pub mod Steps
 pub mod Laws
+pub mod Once
+pub mod Walk

@@ -194,8 +194,8 @@ fn changed(
     }
 }
 
-/// The items with a fault more. None where they do not have its message, or its place stands before that.
-pub(crate) fn put(
+// The items with a fault more. None where they do not have its message, or its place stands before that.
+fn put(
     alloc: Global,
     number: u8,
     fault: &Fault,
@@ -266,7 +266,7 @@ pub fn variant(
     faults: &[Fault],
     entries: &[Entry],
 ) -> Result<Option<Vec<Entry>>, AllocError>
-    requires { length faults.now ≤ 3 }
+    requires { length faults.now ≤ 8 }
     ensures items { IfOk result (λ new. option_map (λ list. list.items) new ≡ variant faults.now entries.now) }
     ensures can_run { (acts : ℕ) → AreEntries acts entries.now → length entries.now ≤ most_steps → IfOk result (λ new. IfSome new (λ list. CanRun acts list.items)) }
     ensures refused { OnErr result WasRefused }
@@ -279,7 +279,7 @@ fn together(
     faults: &[Fault],
     entries: &[Entry],
 ) -> Result<Option<Vec<Entry>>, AllocError>
-    requires { length faults.now ≤ 3 }
+    requires { length faults.now ≤ 8 }
     ensures items { IfOk result (λ new. option_map (λ list. list.items) new ≡ variant faults.now entries.now) }
     ensures refused { OnErr result WasRefused }
 {

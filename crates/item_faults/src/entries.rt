@@ -88,7 +88,7 @@ pub(crate) fn follows(moved: &[Entry], e: &Entry) -> bool
 }
 
 /// Whether an item moves with those that do: the first of all does.
-fn moves(moved: &[Entry], e: &Entry) -> bool
+pub(crate) fn moves(moved: &[Entry], e: &Entry) -> bool
     ensures { result ≡ moves moved.now e.now }
 {
     moved.is_empty() || follows(moved, e)

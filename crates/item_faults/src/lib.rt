@@ -7,8 +7,8 @@ mod changes;
 mod entries;
 mod faults;
 mod messages;
-mod pairs;
 mod steps;
+mod walk;
 
 pub use again::{cancel, command};
 pub use at_once::items_of;
@@ -16,5 +16,4 @@ pub use changes::{Fault, Kind, variant};
 pub use entries::{Again, Entry};
 pub use faults::faults_of;
 pub use messages::Message;
-pub use pairs::{Pairs, Triples};
 pub use steps::{Does, Step, delivered, entries_of, messages_of, senders_of};

@@ -1,5 +1,5 @@
 -- The address of a line, in the run in octets and in that over terms.
-use Rattle.std.proofs.Common.{◌≡◌, refl, sym, ap, ◌∙◌, subst, ℕ, suc, ◌==◌, Bool, true, false, cond, List, [], ◌∷◌, take, Option, Some, None, option_map}
+use Rattle.std.proofs.Common.{◌≡◌, refl, ap, ◌∙◌, ℕ, suc, ◌==◌, Bool, true, false, cond, List, [], ◌∷◌, take, Option, Some, None, option_map}
 use Rattle.std.specs.{Prelude.slice_get, List.AllByRecursion as AllOf}
 use Rattle.key_model.specs.{Chain.ncc_of, Term.Term, Value.value_of}
 use Rattle.lte_events.specs.{Ranges.IsEvent, Ranges.IsSetup, declared.events.Event.Event, declared.lines.Who.Who, declared.setups.Setup.Setup}

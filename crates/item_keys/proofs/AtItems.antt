@@ -1,13 +1,14 @@
 -- The items at which keys part are those at which the phone takes a key eight or more steps ahead.
-use Rattle.std.proofs.Common.{◌≡◌, refl, sym, ap, ◌∙◌, ℕ, zero, suc, ◌==◌, ◌||◌, ◌⊎◌, inl, inr, Bool, true, false, not, List, [], ◌∷◌, ◌++◌, take, Some}
-use Rattle.std.specs.{Prelude.slice_get, List.list_any}
+use Rattle.std.proofs.Common.{◌≡◌, refl, sym, ap, ◌∙◌, ℕ, zero, suc, ◌==◌, ◌||◌, ◌⊎◌, inl, inr, Bool, true, false, not, List, [], ◌∷◌, ◌++◌, take, Option, Some, None}
+use Rattle.std.specs.{Prelude.◌&&◌, Prelude.slice_get, List.list_any}
 use Rattle.std.proofs.lemmas.Bool.{eq-eqb, eqb-true}
 use Rattle.std.proofs.lemmas.List.{append-nil, append_assoc, Folds.list_any-append}
-use Rattle.item_lines.specs.{Lines.parts, declared.lines.Told.Told}
-use Rattle.item_outcomes.specs.{Keys.with_if, Keys.parted_from, Keys.parted, Keys.is_new, Keys.keys_differ, Probe.is_among}
+use Rattle.lte_events.specs.declared.replies.KeyNote.{KeyNote}
+use Rattle.item_lines.specs.{Lines.line_of, Lines.parts, Lines.phone_note, declared.lines.Told.Told}
+use Rattle.item_outcomes.specs.{Keys.is_made, Keys.is_told, Keys.with_if, Keys.parted_from, Keys.parted, Keys.is_new, Keys.keys_differ, Probe.is_among}
 use Rattle.item_runs.specs.Course.{Seen, Promises}
-use Rattle.item_keys.specs.{Far.ExactlyFar, Items.FarAt, Items.PartsFar, Items.FarHere, Items.DifferFar}
-use Rattle.item_keys.proofs.Exact.{exactly_far}
+use Rattle.item_keys.specs.{Far.ExactlyFar, Items.FarAt, Items.PartsFar, Items.FarHere, Items.DifferFar, Items.MadeAt, Items.TakesOne}
+use Rattle.item_keys.proofs.{Exact.else_made, Exact.exactly_far, Places.found_at}
 
 -- TESTS
 
@@ -126,6 +127,39 @@ module _ (s : Seen) (exact : ExactlyFar s) where
 
 pub parts_far : (s : Seen) → Promises s → PartsFar s
 parts_far s p = λ name. (far_at s (exactly_far s p) name, parted_at s (exactly_far s p) name)
+
+-- WHERE KEYS DO NOT PART the phone takes what was made
+
+both_so : (a b : Bool) → (a && b) ≡ true → (a ≡ true) × (b ≡ true)
+both_so true b e = (refl, e)
+both_so false b e = absurd cc
+
+some_note : (o : Option KeyNote) → is_told o ≡ true → (n : KeyNote) × (o ≡ Some n)
+some_note None e = absurd cc
+some_note (Some n) e = (n, refl)
+
+not_parted : (b : Bool) → (b ≡ true → ⊥) → b ≡ false
+not_parted true f = absurd (f refl)
+not_parted false f = refl
+
+made_at : (s : Seen) (p : Promises s) (name : ℕ) (o : Option Told) → line_of name s.coming.told ≡ o → is_made o ≡ true
+    → is_among (parted s.coming.told) name ≡ false
+    → MadeAt s name
+made_at s p name None is e none = absurd cc
+made_at s p name (Some t) is e none =
+    let at = found_at (λ (u : Told). u.name == name) s.coming.told t is in
+    let named : t.name ≡ name = eqb-true t.name name at.2 in
+    let note = some_note (phone_note t) e in
+    let one = not_parted (parts (take at.0 s.coming.told) t)
+    (λ so. let far = parted_at s (exactly_far s p) name
+    (record { place = at.0; line = t; stands = at.1; named = named; far = (exactly_far s p).only at.0 t at.1 so }) in
+    let bad : true ≡ false = sym far ∙ none in cc) in
+    record { place = at.0; line = t; stands = at.1; named = named; made = else_made s p at.0 t note.0 at.1 note.1 one }
+
+pub takes_made : (s : Seen) → Promises s → TakesOne s
+takes_made s p = λ name e.
+    let both = both_so (is_made (line_of name s.coming.told)) (not (is_among (parted s.coming.told) name)) e in
+    made_at s p name (line_of name s.coming.told) refl both.0 (not_so (is_among (parted s.coming.told) name) both.1)
 
 -- OF TWO RUNS
 

@@ -1,16 +1,16 @@
 -- What a station makes has the number that it draws in that step, and what it draws rises; where the phone takes a key it is connected.
-use Rattle.std.proofs.Common.{◌≡◌, refl, sym, ap, ◌∙◌, subst, ℕ, suc, ◌+◌, ◌≤◌, ◌<◌, ◌==◌, Bool, true, false, cond, List, [], ◌∷◌, ◌++◌, take, Option, Some, None, inl, inr, arith}
+use Rattle.std.proofs.Common.{◌≡◌, refl, sym, ap, ◌∙◌, subst, ℕ, suc, ◌+◌, ◌≤◌, ◌==◌, Bool, true, false, cond, List, [], ◌∷◌, ◌++◌, Option, Some, None, inl, inr, arith}
 use Rattle.std.specs.Prelude.{◌⊎◌}
 use Rattle.std.proofs.{lemmas.Bool.eqb-true, lemmas.Bool.Decides.nat_tests}
-use Rattle.lte_events.specs.{declared.acts.StationAct.StationAct, declared.events.Event.Event, declared.lines.Who.Who, declared.setups.Setup.Setup}
+use Rattle.lte_events.specs.{declared.acts.StationAct.StationAct, declared.events.Event.Event, declared.setups.Setup.Setup}
 use Rattle.key_model.specs.{Term.Term, Term.Root, Value.same_value, Reading.term_reading_by}
 use Rattle.s1x2_rec.specs.Fields.{Fields}
-use Rattle.lte_machine.specs.{Bearers.Which, BothRuns.annex_b_terms, ByEvent.IsStep, Ciphers.annex_b, Ciphers.octets_of, Wire.KeyUse, Wire.Outgoing, StationKeys.station_does}
+use Rattle.lte_machine.specs.{Bearers.Which, BothRuns.annex_b_terms, ByEvent.IsStep, Ciphers.octets_of, Wire.KeyUse, Wire.Outgoing, StationKeys.station_does}
 use Rattle.lte_machine.specs.Machines.{machine_by, sender_of, written_in_values}
 use Rattle.lte_machine.specs.Opening.{Opening, Outcome, open_by_uses}
-use Rattle.lte_machine.specs.Reply.{Made, Took, Reply}
+use Rattle.lte_machine.specs.Reply.{Made, Reply}
 use Rattle.lte_machine.specs.StationState.{Station, StationInput, Interface}
-use Rattle.lte_machine.specs.StationStep.{station_opens, station_pdu_in, station_row_of, station_key, station_step}
+use Rattle.lte_machine.specs.StationStep.{station_opens, station_pdu_in, station_row_of, station_key}
 use Rattle.lte_machine.specs.World.{Machine, Line, with_one, put_if, put_station, station_of_id, turn_of, happens}
 use Rattle.lte_machine.proofs.{EventByEvent.step_happens, RecordFacts.RecordHas, AirFacts.AirHas, StationActFacts.StationActHas, Routing.happens_each, Worlds.TheWorld}
 use Rattle.lte_machine.proofs.StationCases.{RecordCases, AirCases, ActCases, step_case}

@@ -1,5 +1,5 @@
 -- Keys part exactly where the phone takes a key eight or more steps ahead.
-use Rattle.std.proofs.Common.{◌≡◌, refl, sym, ap, ◌∙◌, subst, ℕ, zero, suc, ◌+◌, ◌-◌, ◌<◌, ◌≤◌, ◌==◌, arith, Bool, true, false, not, cond, List, [], ◌∷◌, ◌++◌, map, take, Option, Some, None, Result, Ok, inl, inr}
+use Rattle.std.proofs.Common.{◌≡◌, refl, sym, ap, ◌∙◌, subst, ℕ, zero, suc, ◌-◌, ◌<◌, ◌≤◌, ◌==◌, arith, Bool, true, false, not, List, [], ◌∷◌, ◌++◌, map, take, Option, Some, None, Result, Ok, inl, inr}
 use Rattle.std.specs.Prelude.{◌⊎◌, ◌&&◌, slice_get, find, is_some}
 use Rattle.std.specs.{Option.option_map, Str.bytes_eq}
 use Rattle.std.proofs.{lemmas.Bool.cases_order, lemmas.Bool.Decides.nat_tests, lemmas.Slice.Eq.bytes_eq-Decides}
@@ -7,16 +7,15 @@ use Rattle.key_model.specs.{Term.Term, Value.value_of, Term.Root, Value.same_val
 use Rattle.lte_events.proofs.InRange.{in_range}
 use Rattle.lte_events.specs.{declared.events.Event.Event, declared.lines.Who.Who, declared.replies.KeyNote.KeyNote, declared.setups.Setup.Setup}
 use Rattle.lte_events.specs.declared.lines.Line as lines
-use Rattle.lte_machine.specs.{BothRuns.written_run, BothRuns.written_report, ByEvent.IsStep, ByEvent.Told as StepTold, Calls.note_out, Calls.line_out, Carried.map_line, Carried.report_value, StationState.Station, Wire.Outgoing, Ciphers.octets_of, BothRuns.annex_b_terms, Machines.sender_of, Machines.written_in_values, Opening.open_by_uses}
+use Rattle.lte_machine.specs.{BothRuns.written_run, BothRuns.written_report, ByEvent.IsStep, ByEvent.Told as StepTold, Calls.note_out, Calls.line_out, Carried.map_line, Carried.report_value, StationState.Station, Ciphers.octets_of, BothRuns.annex_b_terms, Machines.sender_of, Machines.written_in_values, Opening.open_by_uses}
 use Rattle.lte_machine.specs.PhoneState.{Radio, Idle, Connecting, Connected}
 use Rattle.lte_machine.specs.Reply.{Note, map_note, Made, Came, Secured, Commanded, Changed, Took}
 use Rattle.lte_machine.specs.Run.{Running, EventReport, Reported, Coincided}
-use Rattle.lte_machine.specs.World.{World, Line, station_of_id}
+use Rattle.lte_machine.specs.World.{Line, station_of_id}
 use Rattle.lte_machine.proofs.EventByEvent.{step_told, told_step, step_takes, step_happens}
 use Rattle.lte_machine.proofs.{PhoneGives.IsUnder, Routing.found_id, Worlds.TheWorld}
-use Rattle.lte_properties.specs.Agreement.{ahead, ObeysMade, TookIsTold, TookLast, Reported as Tells_key}
-use Rattle.lte_properties.specs.BySteps.{TakesAt, MakesAt, Follows}
-use Rattle.lte_properties.specs.Headline.{Headline}
+use Rattle.lte_properties.specs.Agreement.{ahead, ObeysMade, TookIsTold, TookLast, TookMade, Reported as Tells_key}
+use Rattle.lte_properties.specs.BySteps.{TakesAt, Follows}
 use Rattle.lte_properties.proofs.StepByStep.{makes_tell, takes_tell, holds_on}
 use Rattle.enb_context.specs.Drawn.{last_drawn}
 use Rattle.ue_context.specs.Step.{air_of}
@@ -25,23 +24,23 @@ use Rattle.lte_world.proofs.OneTerm.{happens_stands, one_term}
 use Rattle.item_lines.specs.Lines.{differs, is_made_for, made_for, note_at_phone, note_at_station, note_in, parts, phone_note, same_air, station_note}
 use Rattle.item_lines.specs.declared.lines.Told.{Told}
 use Rattle.item_runs.specs.Course.{Seen, Promises}
-use Rattle.item_keys.specs.Far.{TakesFar, ExactlyFar}
+use Rattle.item_keys.specs.Far.{TakesFar, TakesMade, ElseMade, ExactlyFar}
 use Rattle.item_keys.proofs.Addresses.{placed_written}
-use Rattle.item_keys.proofs.Drawing.{MakesNext, MadeDrawn, Drawn, step_drawn}
+use Rattle.item_keys.proofs.Drawing.{MakesNext, MadeDrawn, step_drawn}
 use Rattle.item_keys.proofs.Places.{map_got, got_of_map, find_first}
 
 -- WHAT IS TOLD, in values
 
-abbrev seen_note : Option (Note Term) → Option KeyNote
+abbrev pub seen_note : Option (Note Term) → Option KeyNote
 seen_note note = option_map note_out (option_map (map_note value_of) note)
 
-abbrev seen_line : Line Term → lines.Line
+abbrev pub seen_line : Line Term → lines.Line
 seen_line l = line_out (map_line value_of l)
 
-abbrev told_by : EventReport Term → Result lines.Line WorldFault
+abbrev pub told_by : EventReport Term → Result lines.Line WorldFault
 told_by r = answer_of (report_value r)
 
-abbrev told_in : Told → Result lines.Line WorldFault
+abbrev pub told_in : Told → Result lines.Line WorldFault
 told_in t = Ok t.line
 
 line_told : (r : EventReport Term) (line : lines.Line) → told_by r ≡ Ok line → (l : Line Term) × (r ≡ Reported l) × (seen_line l ≡ line)
@@ -140,10 +139,10 @@ drew (Some s) station air e = by s.next refl e
 
 -- THE KEY
 
-takes_made : (x : Took Term ℕ) (m : Made Term ℕ) (came : Came Term ℕ) → ObeysMade x came m → ahead m came < 8 → x.key ≡ m.key
-takes_made x m Secured o low = o.0.0
-takes_made x m (Commanded before) o low = (o.near low).0
-takes_made x m (Changed before root) o low = (o.near low).0
+takes_made : (x : Took Term ℕ) (m : Made Term ℕ) (came : Came Term ℕ) → ObeysMade x came m → ahead m came < 8 → TookMade x m
+takes_made x m Secured o low = o.0
+takes_made x m (Commanded before) o low = o.near low
+takes_made x m (Changed before root) o low = o.near low
 
 takes_other : (x : Took Term ℕ) (m : Made Term ℕ) (came : Came Term ℕ) → ObeysMade x came m → 8 ≤ ahead m came → x.key ≡ m.key → ⊥
 takes_other x m Secured o high same = omega (arith, high)
@@ -316,7 +315,7 @@ module _ (run : Seen) (holds : Promises run) where
       near_parts : ahead f.made x.came < 8 → parts (take k told) t ≡ false
       near_parts low =
           parts_is ∙ ap not ((bytes_eq-Decides (value_of f.made.key) (value_of x.key)).1
-          (ap value_of (sym (takes_made x f.made x.came f.obeys low))))
+          (ap value_of (sym (takes_made x f.made x.came f.obeys low).0)))
 
       far_parts : 8 ≤ ahead f.made x.came → parts (take k told) t ≡ true
       far_parts high =
@@ -363,3 +362,34 @@ module _ (run : Seen) (holds : Promises run) where
 
   pub exactly_far : ExactlyFar run
   exactly_far = record { only = only; each = each }
+
+  -- WHERE KEYS DO NOT PART
+
+  takes_it : (k : ℕ) (t : Told) (n : KeyNote) → slice_get told k ≡ Some t → phone_note t ≡ Some n → parts (take k told) t ≡ false
+      → TakesMade setup events k
+  takes_it k t n at is one =
+      let step = line_at k t at in
+      let phone = is_phone step.0 t step.2 n is in
+      by step.0 step.1 step.2 phone.0 phone.1 (holds.headline.lines k step.1.world step.1.event step.1.after step.0 step.1.step).1
+    where
+      by_near : (x : Took Term ℕ) (l : Line Term) (takes : TakesAt setup events k x l) → seen_line l ≡ t.line
+          → (f : Follows setup events k x l)
+          → (ahead f.made x.came ≡ 8) ⊎ ((ahead f.made x.came < 8) ⊎ (8 < ahead f.made x.came))
+          → TakesMade setup events k
+      by_near x l takes same f (inl eight) =
+          let bad : true ≡ false = sym (far_parts k t at x l takes same f (omega (arith, eight))) ∙ one in absurd cc
+      by_near x l takes same f (inr (inl low)) =
+          record { took = x; line = l; takes = takes; follows = f; made = takes_made x f.made x.came f.obeys low }
+      by_near x l takes same f (inr (inr high)) =
+          let bad : true ≡ false = sym (far_parts k t at x l takes same f (omega (arith, high))) ∙ one in absurd cc
+
+      by : (l : Line Term) (s : StepTold setup events k l) → seen_line l ≡ t.line → l.who ≡ Who.Phone → (a : Note Term) × (l.note ≡ Some a)
+          → TookIsTold s.world s.after l → TakesMade setup events k
+      by l s same who a (inl nothing) = let bad : None ≡ Some a.0 = sym (nothing.1 who) ∙ a.1 in absurd cc
+      by l s same who a (inr (x, grows, tells)) =
+          let takes : TakesAt setup events k x l = record { world = s.world; event = s.event; after = s.after; step = s.step; takes = grows } in
+          let f = holds.headline.agreement k x l takes in
+          by_near x l takes same f (cases_order (ahead f.made x.came) 8)
+
+  pub else_made : ElseMade run
+  else_made = takes_it

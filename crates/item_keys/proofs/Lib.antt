@@ -3,3 +3,6 @@ pub mod Drawing
 pub mod Addresses
 pub mod Exact
 pub mod AtItems
+pub mod ChainSteps
+pub mod NoChange
+pub mod FewKeep

@@ -1,5 +1,5 @@
 -- What stands at places of lists.
-use Rattle.std.proofs.Common.{◌≡◌, refl, sym, ap, ◌∙◌, ℕ, zero, suc, ◌<◌, arith, Bool, true, false, cond, List, [], ◌∷◌, ◌++◌, length, map, take, Some}
+use Rattle.std.proofs.Common.{◌≡◌, refl, sym, ap, ◌∙◌, ℕ, zero, suc, ◌<◌, arith, Bool, true, false, cond, List, [], ◌∷◌, map, take, Some}
 use Rattle.std.specs.{Prelude.slice_get, Prelude.find, Option.option_map}
 use Rattle.std.proofs.lemmas.Option.{slice_get-map}
 
@@ -29,3 +29,14 @@ find_first p (y ∷ ys) zero (suc k) x at low is none =
 find_first p (y ∷ ys) (suc j) (suc k) x at low is none =
     ap (λ b. cond b (Some y) (find p (take k ys))) (none 0 y (omega arith) refl)
     ∙ find_first p ys j k x at (omega (arith, low)) is (λ i z less stands. none (suc i) z (omega (arith, less)) stands)
+
+-- what is found stands at a place
+pub found_at : {A : Type 0} (p : A → Bool) (xs : List A) (x : A) → find p xs ≡ Some x → (k : ℕ) × (slice_get xs k ≡ Some x) × (p x ≡ true)
+found_at p [] x e = absurd cc
+found_at p (y ∷ ys) x e = by (p y) refl e (found_at p ys x)
+  where
+    by : (b : Bool) → p y ≡ b → cond b (Some y) (find p ys) ≡ Some x
+        → (find p ys ≡ Some x → (k : ℕ) × (slice_get ys k ≡ Some x) × (p x ≡ true))
+        → (k : ℕ) × (slice_get (y ∷ ys) k ≡ Some x) × (p x ≡ true)
+    by true is f later = let same : y ≡ x = cc in (0, ap (λ z. Some z) same, ap p (sym same) ∙ is)
+    by false is f later = let rest = later f in (suc rest.0, rest.1, rest.2)

@@ -3,4 +3,7 @@
 
 mod laws;
 
-pub use laws::{keys_differ_exactly_far, keys_part_exactly_far};
+pub use laws::{
+    else_the_phone_takes_what_was_made, few_steps_keep_keys, keys_differ_exactly_far,
+    keys_part_exactly_far,
+};

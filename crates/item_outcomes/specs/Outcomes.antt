@@ -1,9 +1,9 @@
 -- The outcomes of a variant beside its scenario.
-use Rattle.std.specs.Prelude.{ℕ, ◌==◌, Bool, true, false, if◌then◌else◌, List, [], ◌∷◌, ◌++◌, length}
+use Rattle.std.specs.Prelude.{ℕ, ◌==◌, Bool, true, false, if◌then◌else◌, List, [], ◌∷◌, ◌++◌, length, Option, Some, None}
 use Rattle.item_outcomes.specs.Handovers.{context_left, misrouted, no_handover}
 use Rattle.item_outcomes.specs.Keys.{keys_differ, not_made, weaker_key}
 use Rattle.item_outcomes.specs.Packets.{better, counts_apart, cut_off, fates, nas_apart, packet_lost, stuck}
-use Rattle.item_outcomes.specs.{Same.same, Standing.Standing, declared.judging.Outcome.Outcome}
+use Rattle.item_outcomes.specs.{Heals.heals_of, Same.same, Standing.Standing, declared.heals.Heals.Heals, declared.judging.Outcome.Outcome}
 use Rattle.item_outcomes.specs.declared.judging.Outcome.TheVariants as outcome
 
 -- whether an outcome is told of a variant, with the names of its fault's own items, beside the scenario
@@ -51,3 +51,16 @@ abbrev pub outcomes : List ℕ → Standing → Standing → List Outcome
 outcomes own usual here =
     if here.over then outcome.Coincidence ∷ []
     else (if length (worse own usual here) == 0 then best (same own usual.told here.told) ∷ [] else worse own usual here)
+
+-- WHAT IS TOLD OF A VARIANT
+pub record Verdict : Type 0 where
+  -- its outcomes
+  pub outcomes : List Outcome
+  -- what heals it; at a coincidence nothing is told
+  pub heals : Option Heals
+
+abbrev pub verdict_of : List ℕ → Standing → Standing → Verdict
+verdict_of own usual here = record {
+  outcomes = outcomes own usual here;
+  heals = if here.over then None else Some (heals_of here.told);
+}

@@ -61,11 +61,40 @@ service = probe + 35
 abbrev pub connect : ℕ
 connect = probe + 37
 
+-- the phone takes the key of that connection
+abbrev pub secured : ℕ
+secured = probe + 39
+
 abbrev pub again : ℕ
 again = probe + 41
 
 abbrev pub again_arrives : ℕ
 again_arrives = probe + 42
+
+-- an authentication and its Security Mode; idle, a Service Request, a connection with its security, and a user packet
+abbrev pub renew : ℕ
+renew = probe + 43
+
+abbrev pub command_anew : ℕ
+command_anew = probe + 44
+
+abbrev pub idle_anew : ℕ
+idle_anew = probe + 47
+
+abbrev pub service_anew : ℕ
+service_anew = probe + 48
+
+abbrev pub connect_anew : ℕ
+connect_anew = probe + 50
+
+abbrev pub secured_anew : ℕ
+secured_anew = probe + 52
+
+abbrev pub anew : ℕ
+anew = probe + 54
+
+abbrev pub anew_arrives : ℕ
+anew_arrives = probe + 55
 
 -- THE TEXTS
 
@@ -83,3 +112,6 @@ text_nas_down = codes "nas down"
 
 abbrev pub text_again : List ℕ
 text_again = codes "again"
+
+abbrev pub text_anew : List ℕ
+text_anew = codes "anew"

@@ -1,13 +1,15 @@
 ghost use Rattle.growth.specs.Growth.{WasRefused};
 ghost use Rattle.std.specs.Prelude.{◌≡◌, ◌∷◌, [], IfOk, OnErr};
-ghost use Rattle.item_outcomes.specs.Outcomes.{best, is_told, outcomes, told_from, worse};
+ghost use Rattle.item_outcomes.specs.Outcomes.{best, is_told, outcomes, told_from, verdict_of, worse};
 
 use crate::handovers::{context_left, misrouted, no_handover};
+use crate::heals::Heals;
 use crate::keys::{keys_differ, not_made, weaker_key};
 use crate::packets::{better, counts_apart, cut_off, nas_apart, packet_lost, stuck};
 use crate::same::same;
 use crate::standing::Standing;
 use std::alloc::{AllocError, Global};
+use std::marker::Model;
 
 /// What becomes of a variant beside its scenario, from the best to the worst.
 #[derive(Clone, Copy)]
@@ -60,9 +62,59 @@ static WORST_FIRST: [Outcome; 12] = [
     Outcome::Better,
 ];
 
+/// What is told of a variant: its outcomes, the worst first, and what heals it.
+#[derive(Drop)]
+pub struct Verdict {
+    outcomes: Vec<Outcome>,
+    heals: Option<Heals>,
+}
+
+impl Model for Verdict {
+    ghost use Rattle.item_outcomes.specs.Outcomes.{Verdict as AVerdict};
+
+    ghost Value = { AVerdict };
+
+    ghost view = { λ v. record { outcomes = v.outcomes.items; heals = v.heals } };
+}
+
+impl Verdict {
+    /// Its outcomes, the worst first.
+    pub fn outcomes(&self) -> &[Outcome]
+        ensures { result.now ≡ self.now.outcomes }
+    {
+        self.outcomes.as_slice()
+    }
+
+    /// What heals it; none where a coincidence ended it.
+    pub fn heals(&self) -> Option<Heals>
+        ensures { result ≡ self.now.heals }
+    {
+        self.heals
+    }
+}
+
+/// What is told of a variant beside its scenario; `own` has the names of the items of its faults.
+pub fn verdict_of(
+    alloc: Global,
+    own: &[u32],
+    usual: &Standing,
+    here: &Standing,
+) -> Result<Verdict, AllocError>
+    ensures verdict { IfOk result (λ told. told ≡ verdict_of own.now usual.now here.now) }
+    ensures refused { OnErr result WasRefused }
+{
+    let outcomes = outcomes(alloc, own, usual, here)?;
+    let heals = if here.over() {
+        None
+    } else {
+        Some(here.heals())
+    };
+    Ok(Verdict { outcomes, heals })
+}
+
 /// All outcomes of a variant beside its scenario, the worst first; `own` has the names of the items of its faults. At a coincidence nothing
 /// else is told.
-pub fn outcomes(
+fn outcomes(
     alloc: Global,
     own: &[u32],
     usual: &Standing,

@@ -25,7 +25,7 @@ pub(crate) fn is_missed(here: &Standing, t: &Told) -> bool
     phone_note(t).is_some() && t.name < PROBE && !is_made(here.line_of(t.name))
 }
 
-fn is_made(t: Option<&Told>) -> bool
+pub(crate) fn is_made(t: Option<&Told>) -> bool
     ensures { result ≡ is_made (option_map (λ u. u.now) t.entry) }
 {
     match t {

@@ -2,6 +2,7 @@
 #![tactic(auto)]
 
 mod handovers;
+mod heals;
 mod judging;
 mod keys;
 pub mod names;
@@ -10,7 +11,8 @@ mod same;
 mod standing;
 mod troubles;
 
-pub use judging::{Outcome, outcomes};
+pub use heals::{Heals, serves_again};
+pub use judging::{Outcome, Verdict, verdict_of};
 pub use packets::{Fate, Fates};
 pub use standing::Standing;
 pub use troubles::Trouble;

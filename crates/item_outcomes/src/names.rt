@@ -41,11 +41,38 @@ pub const SERVICE: u32 = PROBE + 35;
 /// The core sets up its context.
 pub const CONNECT: u32 = PROBE + 37;
 
+/// The phone takes the key of that connection.
+pub const SECURED: u32 = PROBE + 39;
+
 /// A user packet behind that.
 pub const AGAIN: u32 = PROBE + 41;
 
 /// Its delivery.
 pub const AGAIN_ARRIVES: u32 = PROBE + 42;
+
+/// Phone and core authenticate anew.
+pub const RENEW: u32 = PROBE + 43;
+
+/// The core begins Security Mode.
+pub const COMMAND_ANEW: u32 = PROBE + 44;
+
+/// The phone leaves its connection once more.
+pub const IDLE_ANEW: u32 = PROBE + 47;
+
+/// It asks for service.
+pub const SERVICE_ANEW: u32 = PROBE + 48;
+
+/// The core sets up its context.
+pub const CONNECT_ANEW: u32 = PROBE + 50;
+
+/// The phone takes the key of that connection.
+pub const SECURED_ANEW: u32 = PROBE + 52;
+
+/// A user packet behind that.
+pub const ANEW: u32 = PROBE + 54;
+
+/// Its delivery.
+pub const ANEW_ARRIVES: u32 = PROBE + 55;
 
 /// A user packet down from this station.
 pub fn down(station: u8) -> u32

@@ -49,7 +49,7 @@ pub(crate) fn fates_of(told: &[Told], serving: u8) -> Fates
 }
 
 // What becomes of this text, which the item of this name is to bring.
-fn fate_of(told: &[Told], name: u32, text: &[u8]) -> Fate
+pub(crate) fn fate_of(told: &[Told], name: u32, text: &[u8]) -> Fate
     ensures { result ≡ fate_of told.now name text.now }
 {
     match line_of(name, told) {

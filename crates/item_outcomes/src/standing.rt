@@ -2,9 +2,11 @@ ghost use Rattle.growth.specs.Growth.{WasRefused};
 ghost use Rattle.std.specs.Prelude.{◌≡◌, IfOk, OnErr};
 ghost use Rattle.std.specs.Option.{option_map};
 ghost use Rattle.item_lines.specs.Lines.{line_of};
+ghost use Rattle.item_outcomes.specs.Heals.{heals_of as heals_by};
 ghost use Rattle.item_outcomes.specs.Keys.{parted};
 ghost use Rattle.item_outcomes.specs.Packets.{fates};
 
+use crate::heals::{Heals, heals_of};
 use crate::keys::parted;
 use crate::packets::{Fates, fates_of};
 use item_lines::{Told, line_of};
@@ -23,10 +25,13 @@ pub struct Standing {
     packets: Fates,
     // the items at which the phone took, at an air address, another key than the station there told
     parted_at: Vec<u32>,
+    // what leads phone and station back to one key
+    heals: Heals,
 }
 
 impl Model for Standing {
     ghost use Rattle.std.specs.Prelude.{◌≡◌};
+    ghost use Rattle.item_outcomes.specs.Heals.{heals_of};
     ghost use Rattle.item_outcomes.specs.Keys.{parted};
     ghost use Rattle.item_outcomes.specs.Packets.{fates_of};
     ghost use Rattle.item_outcomes.specs.Standing.{Standing as State};
@@ -41,7 +46,7 @@ impl Model for Standing {
       over = s.over;
     } };
 
-    ghost invariant = { λ s. (s.packets ≡ fates_of s.told.items s.serving) × (s.parted_at.items ≡ parted s.told.items) };
+    ghost invariant = { λ s. (s.packets ≡ fates_of s.told.items s.serving) × (s.parted_at.items ≡ parted s.told.items) × (s.heals ≡ heals_of s.told.items) };
 }
 
 impl Standing {
@@ -60,6 +65,7 @@ impl Standing {
     {
         let packets = fates_of(told.as_slice(), serving);
         let parted_at = parted(alloc, told.as_slice())?;
+        let heals = heals_of(told.as_slice(), parted_at.as_slice());
         Ok(Standing {
             told,
             serving,
@@ -68,6 +74,7 @@ impl Standing {
             over,
             packets,
             parted_at,
+            heals,
         })
     }
 
@@ -125,5 +132,11 @@ impl Standing {
         ensures { result.now ≡ parted self.now.told }
     {
         self.parted_at.as_slice()
+    }
+    /// What leads phone and station back to one key.
+    pub fn heals(&self) -> Heals
+        ensures { result ≡ heals_by self.now.told }
+    {
+        self.heals
     }
 }

@@ -10,8 +10,8 @@ use Rattle.items.specs.declared.Deed.TheVariants as deed
 use Rattle.item_faults.specs.Steps.{cancel, command, service}
 use Rattle.item_outcomes.specs.Probe as probe
 use Rattle.item_probe.specs.Acts.{other_cell}
-use Rattle.item_probe.specs.Parts.{act, chain, down_from, first_part, hands_over, second_part}
-use Rattle.item_probe.specs.Places.{begins_at, connects_at, go_idle, more_acts, send_again, send_down, send_nas_down, send_nas_up, send_up}
+use Rattle.item_probe.specs.Parts.{act, chain, down_from, first_part, hands_over, second_part, third_part}
+use Rattle.item_probe.specs.Places.{authenticates, begins_at, begins_security, connects_at, go_idle, more_acts, send_again, send_anew, send_down, send_nas_down, send_nas_up, send_up}
 
 -- a chain goes on
 pub chain_more : (name : ℕ) (d : Deed) (times : ℕ) → 0 < times →
@@ -72,6 +72,16 @@ second_is acts setup steps serving room low =
     (All-append P (act probe.service (service steps) 1) _ (act_is acts probe.service (service steps) 1 (omega arith))
     (All-append P (act probe.connect (connects_at steps serving) 3) _ (act_is acts probe.connect (connects_at steps serving) 3 (omega arith))
     (act_is acts probe.again (send_again steps) 1 (omega arith))))))
+
+pub third_is : (acts steps serving : ℕ) → steps + more_acts ≤ acts → serving ≤ 7 → All (IsItemOf acts) (third_part steps serving)
+third_is acts steps serving room low =
+    let P : Item → Type 0 = IsItemOf acts in
+    All-append P (act probe.renew (authenticates steps) 0) _ (act_is acts probe.renew (authenticates steps) 0 (omega arith))
+    (All-append P (act probe.command_anew (begins_security steps) 2) _ (act_is acts probe.command_anew (begins_security steps) 2 (omega arith))
+    (All-append P (act probe.idle_anew (go_idle steps) 0) _ (act_is acts probe.idle_anew (go_idle steps) 0 (omega arith))
+    (All-append P (act probe.service_anew (service steps) 1) _ (act_is acts probe.service_anew (service steps) 1 (omega arith))
+    (All-append P (act probe.connect_anew (connects_at steps serving) 3) _ (act_is acts probe.connect_anew (connects_at steps serving) 3 (omega arith))
+    (act_is acts probe.anew (send_anew steps) 1 (omega arith))))))
 
 -- HOW MANY THEY ARE
 
@@ -136,6 +146,26 @@ length-second setup steps serving =
     let four = length-act probe.service (service steps) 1 in
     let five = length-act probe.connect (connects_at steps serving) 3 in
     let six = length-act probe.again (send_again steps) 1 in
+    omega arith
+
+pub length-third : (steps serving : ℕ) → length (third_part steps serving) ≤ 13
+length-third steps serving =
+    let begins = act probe.command_anew (begins_security steps) 2 in
+    let idle = act probe.idle_anew (go_idle steps) 0 in
+    let asks = act probe.service_anew (service steps) 1 in
+    let connects = act probe.connect_anew (connects_at steps serving) 3 in
+    let anew = act probe.anew (send_anew steps) 1 in
+    let a = length-append (act probe.renew (authenticates steps) 0) (begins ++ (idle ++ (asks ++ (connects ++ anew)))) in
+    let b = length-append begins (idle ++ (asks ++ (connects ++ anew))) in
+    let c = length-append idle (asks ++ (connects ++ anew)) in
+    let d = length-append asks (connects ++ anew) in
+    let e = length-append connects anew in
+    let one = length-act probe.renew (authenticates steps) 0 in
+    let two = length-act probe.command_anew (begins_security steps) 2 in
+    let three = length-act probe.idle_anew (go_idle steps) 0 in
+    let four = length-act probe.service_anew (service steps) 1 in
+    let five = length-act probe.connect_anew (connects_at steps serving) 3 in
+    let six = length-act probe.anew (send_anew steps) 1 in
     omega arith
 
 -- IN CODE

@@ -10,9 +10,9 @@ use Rattle.lte_events.specs.Ranges.{has_station, IsSetup, IsSiteOf, IsStationAct
 use Rattle.lte_events.specs.{Scenario.CanHappen, Site.Site, declared.acts.StationAct.StationAct, declared.events.Event.Event, declared.setups.Setup.Setup, declared.setups.StationSetup.StationSetup}
 use Rattle.lte_events.specs.declared.acts.PhoneAct.TheVariants as phone
 use Rattle.lte_events.specs.declared.events.Event.TheVariants as event
-use Rattle.item_outcomes.specs.Probe.{text_up, text_down, text_nas_up, text_nas_down, text_again}
+use Rattle.item_outcomes.specs.Probe.{text_up, text_down, text_nas_up, text_nas_down, text_again, text_anew}
 use Rattle.item_probe.specs.Places.{more_acts}
-use Rattle.item_probe.specs.Acts.{acts_of, all_stations, at_station, behind, begins, connects, nothing, other_cell, own_cell, packets, phone_repeats, station_repeats, station_tries, texts, tries}
+use Rattle.item_probe.specs.Acts.{acts_of, all_stations, at_station, behind, begins, connects, new_kasme, nothing, other_cell, own_cell, packets, phone_repeats, renewal, station_repeats, station_tries, texts, tries}
 
 -- octets, by a test that computes
 octets : (xs : List ℕ) → list_all (λ o. ltb o 256) xs ≡ true → AreOctets xs
@@ -91,18 +91,25 @@ station_tries_can setup id is =
     (begins_can setup id (own_cell setup.cells id) (other_cell setup.cells id) (own_found setup id is) (other_found setup id is))
     (connects_can setup (own_cell setup.cells id) (own_found setup id is))
 
+renewal_can : (setup : Setup) → IsSetup setup → All (CanHappen setup) (renewal setup)
+renewal_can setup is =
+    all_three (CanHappen setup) _ _ _ ((omega arith, (octets new_kasme refl, refl), is.caps), tt) (tt, tt)
+    ((octets text_anew refl, omega arith), tt)
+
 -- each can happen where the events of the scenario can
 pub acts_can : (setup : Setup) (events : List Event) → IsSetup setup → All (CanHappen setup) events →
     All (CanHappen setup) (acts_of setup events)
 acts_can setup events is all =
     let P : Event → Type 0 = CanHappen setup in
     let again : List Event = flat_map (station_repeats setup) all_stations in
-    let last : List Event = flat_map (station_tries setup) all_stations in
+    let at_each : List Event = flat_map (station_tries setup) all_stations in
+    let last : List Event = at_each ++ renewal setup in
     All-append P events (behind setup) all
     (All-append P phone_repeats (again ++ (tries ++ last)) (phone_repeats_can setup)
     (All-append P again (tries ++ last) (all_in P (station_repeats setup) all_stations (station_repeats_can setup))
     (All-append P tries last (tries_can setup)
-    (all_in P (station_tries setup) all_stations (λ id. station_tries_can setup id is)))))
+    (All-append P at_each (renewal setup) (all_in P (station_tries setup) all_stations (λ id. station_tries_can setup id is))
+    (renewal_can setup is)))))
 
 -- how many there are
 pub length-acts : (setup : Setup) (events : List Event) → length (acts_of setup events) ≡ length events + more_acts

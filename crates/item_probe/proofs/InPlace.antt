@@ -61,5 +61,8 @@ are_in_place setup events = record {
   nas_up = stands events (behind setup) 28 _ _ (omega arith) refl;
   nas_down = stands events (behind setup) 29 _ _ (omega arith) refl;
   idle = stands events (behind setup) 30 _ _ (omega arith) refl;
+  renews = stands events (behind setup) 55 _ _ (omega arith) refl;
+  secures = stands events (behind setup) 56 _ _ (omega arith) refl;
+  anew = stands events (behind setup) 57 _ _ (omega arith) refl;
   of_stations = of_station setup events;
 }

@@ -1,6 +1,6 @@
 -- The acts that variants of a scenario run over: its own events, behind them those by which messages are sent again, and behind these
 -- those of the probe. Which station serves is known only as the probe goes on, so those of a station are there for each of eight.
-use Rattle.std.specs.Prelude.{◌≡◌, ℕ, ◌<◌, ◌==◌, not, if◌then◌else◌, List, [], ◌∷◌, ◌++◌, find, slice_get, Option, Some, None}
+use Rattle.std.specs.Prelude.{◌≡◌, ℕ, ◌<◌, ◌==◌, not, if◌then◌else◌, List, [], ◌∷◌, ◌++◌, codes, find, slice_get, Option, Some, None}
 use Rattle.std.specs.{List.flat_map, Option.option_map}
 use Rattle.annex_a_keys.specs.Cell.{Place}
 use Rattle.rec_base.specs.declared.bearers.Bearer.TheVariants.{Drb1}
@@ -11,8 +11,8 @@ use Rattle.lte_events.specs.declared.acts.PhoneAct.TheVariants as phone
 use Rattle.lte_events.specs.declared.acts.StationAct.TheVariants as station
 use Rattle.lte_events.specs.declared.events.Event.TheVariants as event
 use Rattle.item_faults.specs.Steps.{ask, cancel, command, resend, service}
-use Rattle.item_outcomes.specs.Probe.{text_up, text_down, text_nas_up, text_nas_down, text_again}
-use Rattle.item_probe.specs.Places.{begins_at, connects_at, go_idle, send_again, send_down, send_nas_down, send_nas_up, send_up}
+use Rattle.item_outcomes.specs.Probe.{text_up, text_down, text_nas_up, text_nas_down, text_again, text_anew}
+use Rattle.item_probe.specs.Places.{authenticates, begins_at, begins_security, connects_at, go_idle, send_again, send_anew, send_down, send_nas_down, send_nas_up, send_up}
 
 -- stands where there is nothing to do: the phone passes over no COUNT
 abbrev pub nothing : Event
@@ -66,9 +66,19 @@ station_tries setup id =
     at_station setup id (station.SendUser Drb1 text_down) ∷ begins setup id (own_cell setup.cells id) (other_cell setup.cells id)
     ∷ connects (own_cell setup.cells id) ∷ []
 
+-- an authentication with a KASME that no other one has, by which the core learns the phone's own capabilities; Security Mode; a packet
+abbrev pub new_kasme : List ℕ
+new_kasme = codes "a KASME of the probe, 32 octets."
+
+abbrev pub renewal : Setup → List Event
+renewal setup =
+    event.Auth 0 new_kasme setup.caps ∷ event.Core core.StartSmc ∷ event.Phone (phone.SendUser Drb1 text_anew) ∷ []
+
 -- THE ACTS
 abbrev pub behind : Setup → List Event
-behind setup = phone_repeats ++ (flat_map (station_repeats setup) all_stations ++ (tries ++ flat_map (station_tries setup) all_stations))
+behind setup =
+    phone_repeats
+    ++ (flat_map (station_repeats setup) all_stations ++ (tries ++ (flat_map (station_tries setup) all_stations ++ renewal setup)))
 
 abbrev pub acts_of : Setup → List Event → List Event
 acts_of setup events = events ++ behind setup
@@ -93,4 +103,7 @@ pub record AreInPlace (setup : Setup) (steps : ℕ) (acts : List Event) : Type 0
   pub nas_up : StandsAt acts (send_nas_up steps) (event.Phone (phone.SendNas text_nas_up))
   pub nas_down : StandsAt acts (send_nas_down steps) (event.Core (core.SendNas text_nas_down))
   pub idle : StandsAt acts (go_idle steps) (event.Phone phone.GoIdle)
+  pub renews : StandsAt acts (authenticates steps) (event.Auth 0 new_kasme setup.caps)
+  pub secures : StandsAt acts (begins_security steps) (event.Core core.StartSmc)
+  pub anew : StandsAt acts (send_anew steps) (event.Phone (phone.SendUser Drb1 text_anew))
   pub of_stations : (id : ℕ) → id < 8 → OfStation setup steps acts id

@@ -8,7 +8,7 @@ use Rattle.items.specs.declared.Deed.TheVariants as deed
 use Rattle.item_faults.specs.Steps.{cancel, command, service}
 use Rattle.item_outcomes.specs.Probe as probe
 use Rattle.item_probe.specs.Acts.{other_cell}
-use Rattle.item_probe.specs.Places.{begins_at, connects_at, go_idle, send_again, send_down, send_nas_down, send_nas_up, send_up}
+use Rattle.item_probe.specs.Places.{authenticates, begins_at, begins_security, connects_at, go_idle, send_again, send_anew, send_down, send_nas_down, send_nas_up, send_up}
 
 -- an act or a delivery, and so many deliveries behind it, each of what the one before sent. What the last one sends is delivered at once
 unfoldable pub chain : ℕ → Deed → ℕ → List Item
@@ -44,9 +44,23 @@ second_part setup steps serving =
     ++ (act probe.connect (connects_at steps serving) 3
     ++ act probe.again (send_again steps) 1))))
 
+-- THE THIRD PART, where the second one's connection does not heal: an authentication and its Security Mode; then idle, a Service Request, a
+-- connection and a user packet as before
+abbrev pub third_part : ℕ → ℕ → List Item
+third_part steps serving =
+    act probe.renew (authenticates steps) 0
+    ++ (act probe.command_anew (begins_security steps) 2
+    ++ (act probe.idle_anew (go_idle steps) 0
+    ++ (act probe.service_anew (service steps) 1
+    ++ (act probe.connect_anew (connects_at steps serving) 3
+    ++ act probe.anew (send_anew steps) 1))))
+
 -- so many items each part has at most
 abbrev pub most_first : ℕ
 most_first = 22
 
 abbrev pub most_second : ℕ
 most_second = 21
+
+abbrev pub most_third : ℕ
+most_third = 13

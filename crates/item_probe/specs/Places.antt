@@ -3,7 +3,7 @@ use Rattle.std.specs.Prelude.{ℕ, ◌+◌, ◌*◌}
 
 -- so many acts stand behind those of the scenario
 abbrev pub more_acts : ℕ
-more_acts = 55
+more_acts = 58
 
 abbrev pub send_up : ℕ → ℕ
 send_up steps = steps + 26
@@ -28,3 +28,12 @@ begins_at steps station = steps + 32 + 3 * station
 
 abbrev pub connects_at : ℕ → ℕ → ℕ
 connects_at steps station = steps + 33 + 3 * station
+
+abbrev pub authenticates : ℕ → ℕ
+authenticates steps = steps + 55
+
+abbrev pub begins_security : ℕ → ℕ
+begins_security steps = steps + 56
+
+abbrev pub send_anew : ℕ → ℕ
+send_anew steps = steps + 57

@@ -10,7 +10,7 @@ ghost use Rattle.lte_events.specs.declared.acts.CoreAct.{CoreAct as ACoreAct};
 ghost use Rattle.lte_events.specs.declared.acts.PhoneAct.{PhoneAct as APhoneAct};
 ghost use Rattle.lte_events.specs.declared.acts.StationAct.{StationAct as AStationAct};
 ghost use Rattle.lte_events.specs.declared.events.Event.{Event as AnEvent};
-ghost use Rattle.item_probe.specs.Acts.{AreInPlace, acts_of, at_station, begins, connects, nothing, other_cell, own_cell, packets, phone_repeats, station_repeats, station_tries, texts, tries};
+ghost use Rattle.item_probe.specs.Acts.{AreInPlace, acts_of, at_station, begins, connects, new_kasme, nothing, other_cell, own_cell, packets, phone_repeats, renewal, station_repeats, station_tries, texts, tries};
 ghost use Rattle.item_probe.specs.Places.{more_acts};
 
 use annex_a_keys::Cell;
@@ -21,6 +21,9 @@ use rec_base::{Bearer, ShortText, UserText};
 use std::alloc::AllocError;
 
 static STATIONS: [u8; 8] = [0, 1, 2, 3, 4, 5, 6, 7];
+
+// The KASME of the probe's authentication.
+const NEW_KASME: [u8; 32] = *b"a KASME of the probe, 32 octets.";
 
 /// The acts that variants of a scenario with this setup and these events run over.
 pub fn acts_of(setup: &Setup, events: Events) -> Result<Events, AllocError>
@@ -43,6 +46,7 @@ fn list_acts(setup: &Setup, events: Events) -> Result<Events, AllocError>
     push_station_repeats(&mut acts, setup, &STATIONS)?;
     push_tries(&mut acts)?;
     push_station_tries(&mut acts, setup, &STATIONS)?;
+    push_renewal(&mut acts, setup)?;
     Ok(acts)
 }
 
@@ -115,6 +119,15 @@ fn push_tries_of(acts: &mut Events, setup: &Setup, station: u8) -> Result<(), Al
     acts.push(&station_sends(setup, station, b"down"))?;
     acts.push(&begins(setup, station))?;
     acts.push(&connects(setup, station))
+}
+
+fn push_renewal(acts: &mut Events, setup: &Setup) -> Result<(), AllocError>
+    ensures acts { OnOk result (acts.new.items ≡ acts.old.items ++ renewal setup.now) }
+    ensures refused { OnErr result WasRefused }
+{
+    acts.push(&Event::Auth(0, NEW_KASME, setup.caps))?;
+    acts.push(&Event::Core(CoreAct::StartSmc))?;
+    acts.push(&phone_sends(b"anew"))
 }
 
 // The phone sends a user packet.

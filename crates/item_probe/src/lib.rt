@@ -6,4 +6,4 @@ mod parts;
 mod places;
 
 pub use acts::acts_of;
-pub use parts::{first_part, second_part};
+pub use parts::{first_part, second_part, third_part};

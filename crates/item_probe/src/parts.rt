@@ -5,18 +5,19 @@ ghost use Rattle.std.specs.List.{flat_map};
 ghost use Rattle.lte_events.specs.Ranges.{IsSetup};
 ghost use Rattle.items.specs.Items.{IsItemOf};
 ghost use Rattle.item_faults.specs.Entries.{most_steps};
-ghost use Rattle.item_probe.specs.Parts.{act, chain, down_from, first_part, hands_over, most_first, most_second, second_part};
+ghost use Rattle.item_probe.specs.Parts.{act, chain, down_from, first_part, hands_over, most_first, most_second, most_third, second_part, third_part};
 ghost use Rattle.item_probe.specs.Places.{more_acts};
 
 use crate::acts::other_cell;
 use crate::places::{
-    begins_at, connects_at, go_idle, send_again, send_down, send_nas_down, send_nas_up, send_up,
-    service,
+    authenticates, begins_at, begins_security, connects_at, go_idle, send_again, send_anew,
+    send_down, send_nas_down, send_nas_up, send_up, service,
 };
 use annex_a_keys::Cell;
 use item_faults::{cancel, command};
 use item_outcomes::names::{
-    AGAIN, BEGIN, CANCEL, COMMAND, CONNECT, IDLE, NAS_DOWN, NAS_UP, SERVICE, UP, down,
+    AGAIN, ANEW, BEGIN, CANCEL, COMMAND, COMMAND_ANEW, CONNECT, CONNECT_ANEW, IDLE, IDLE_ANEW,
+    NAS_DOWN, NAS_UP, RENEW, SERVICE, SERVICE_ANEW, UP, down,
 };
 use items::{Deed, Item};
 use lte_events::{Setup, StationSetup};
@@ -54,6 +55,18 @@ pub fn second_part(
     list_second(alloc, setup, steps, serving)
 }
 
+/// The third part, where this station serves: an authentication and its Security Mode, idle, a Service Request, a connection, and a user
+/// packet.
+pub fn third_part(alloc: Global, steps: u32, serving: u8) -> Result<Vec<Item>, AllocError>
+    requires { steps ≤ most_steps }
+    ensures items { IfOk result (λ list. list.items ≡ third_part steps serving) }
+    ensures are_items { (acts : ℕ) → steps + more_acts ≤ acts → serving ≤ 7 → IfOk result (λ list. All (IsItemOf acts) list.items) }
+    ensures few { IfOk result (λ list. length list.items ≤ most_third) }
+    ensures refused { OnErr result WasRefused }
+{
+    list_third(alloc, steps, serving)
+}
+
 fn list_first(alloc: Global, setup: &Setup, steps: u32) -> Result<Vec<Item>, AllocError>
     requires { steps ≤ most_steps }
     ensures items { IfOk result (λ list. list.items ≡ first_part setup.now steps) }
@@ -84,6 +97,21 @@ fn list_second(
     act(&mut list, SERVICE, service(steps), 1)?;
     act(&mut list, CONNECT, connects_at(steps, serving), 3)?;
     act(&mut list, AGAIN, send_again(steps), 1)?;
+    Ok(list)
+}
+
+fn list_third(alloc: Global, steps: u32, serving: u8) -> Result<Vec<Item>, AllocError>
+    requires { steps ≤ most_steps }
+    ensures items { IfOk result (λ list. list.items ≡ third_part steps serving) }
+    ensures refused { OnErr result WasRefused }
+{
+    let mut list = Vec::new(alloc);
+    act(&mut list, RENEW, authenticates(steps), 0)?;
+    act(&mut list, COMMAND_ANEW, begins_security(steps), 2)?;
+    act(&mut list, IDLE_ANEW, go_idle(steps), 0)?;
+    act(&mut list, SERVICE_ANEW, service(steps), 1)?;
+    act(&mut list, CONNECT_ANEW, connects_at(steps, serving), 3)?;
+    act(&mut list, ANEW, send_anew(steps), 1)?;
     Ok(list)
 }
 

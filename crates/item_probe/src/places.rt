@@ -2,7 +2,7 @@
 ghost use Rattle.std.specs.Prelude.{◌≡◌, ◌≤◌};
 ghost use Rattle.item_faults.specs.Entries.{most_steps};
 ghost use Rattle.item_faults.specs.Steps.{service};
-ghost use Rattle.item_probe.specs.Places.{begins_at, connects_at, go_idle, send_again, send_down, send_nas_down, send_nas_up, send_up};
+ghost use Rattle.item_probe.specs.Places.{authenticates, begins_at, begins_security, connects_at, go_idle, send_again, send_anew, send_down, send_nas_down, send_nas_up, send_up};
 
 pub(crate) fn service(steps: u32) -> u32
     requires { steps ≤ most_steps }
@@ -65,4 +65,25 @@ pub(crate) fn connects_at(steps: u32, station: u8) -> u32
     ensures { result ≡ connects_at steps station }
 {
     steps + 33 + 3 * u32::from(station)
+}
+
+pub(crate) fn authenticates(steps: u32) -> u32
+    requires { steps ≤ most_steps }
+    ensures { result ≡ authenticates steps }
+{
+    steps + 55
+}
+
+pub(crate) fn begins_security(steps: u32) -> u32
+    requires { steps ≤ most_steps }
+    ensures { result ≡ begins_security steps }
+{
+    steps + 56
+}
+
+pub(crate) fn send_anew(steps: u32) -> u32
+    requires { steps ≤ most_steps }
+    ensures { result ≡ send_anew steps }
+{
+    steps + 57
 }

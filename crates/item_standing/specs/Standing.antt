@@ -3,8 +3,8 @@ use Rattle.std.specs.Prelude.{ℕ, if◌then◌else◌, List, Option, Some, None
 use Rattle.lte_events.specs.{Ranges.has_station, declared.events.Event.Event, declared.lines.Who.Who, declared.setups.Setup.Setup}
 use Rattle.lte_events.specs.declared.lines.Who.TheVariants as who
 use Rattle.item_lines.specs.{Lines.line_of, declared.lines.Told.Told}
-use Rattle.item_outcomes.specs.{Probe.up_arrives, Standing.Standing}
-use Rattle.item_probe.specs.Parts.{first_part, second_part}
+use Rattle.item_outcomes.specs.{Heals.serves_again, Probe.up_arrives, Standing.Standing}
+use Rattle.item_probe.specs.Parts.{first_part, second_part, third_part}
 use Rattle.item_runs.specs.{Coming.Coming, CoreStation.core_station_of, Course.Seen, Course.going_on, Reach.reach_of}
 
 -- WHICH STATION SERVES: the one that the phone's packet comes to. Where it comes to none of the setup, the one that serves in the scenario
@@ -26,6 +26,13 @@ after_first acts steps s = going_on s.setup acts (first_part s.setup steps) s.co
 abbrev pub after_second : List Event → ℕ → ℕ → Setup → Coming → Coming
 after_second acts steps serving setup c = going_on setup acts (second_part setup steps serving) c
 
+-- where the packet behind the Service Request does not arrive, the third part goes on
+abbrev pub after_third : List Event → ℕ → ℕ → Setup → Coming → Coming
+after_third acts steps serving setup c = if serves_again c.told then c else going_on setup acts (third_part steps serving) c
+
+abbrev pub after_probe : List Event → ℕ → ℕ → Setup → Coming → Coming
+after_probe acts steps serving setup c = after_third acts steps serving setup (after_second acts steps serving setup c)
+
 -- WHAT BECAME of phone, stations and core: key and core before the probe, the lines with it
 abbrev pub standing_at : Seen → ℕ → Coming → Standing
 standing_at before serving c = record {
@@ -37,7 +44,7 @@ standing_at before serving c = record {
 }
 
 abbrev pub standing_from : List Event → ℕ → Seen → ℕ → Coming → Standing
-standing_from acts steps s serving c = standing_at s serving (after_second acts steps serving s.setup c)
+standing_from acts steps s serving c = standing_at s serving (after_probe acts steps serving s.setup c)
 
 abbrev pub standing_by : List Event → ℕ → ℕ → Seen → Coming → Standing
 standing_by acts steps usual s c = standing_from acts steps s (serving_of s.setup usual c.told) c

@@ -5,14 +5,15 @@ ghost use Rattle.lte_events.specs.Ranges.{has_station, IsSetup};
 ghost use Rattle.lte_events.specs.Scenario.{most_events, CanHappen};
 ghost use Rattle.items.specs.Items.{most_at_once};
 ghost use Rattle.item_faults.specs.Entries.{most_steps};
-ghost use Rattle.item_probe.specs.Parts.{most_first, most_second};
+ghost use Rattle.item_probe.specs.Parts.{most_first, most_second, most_third, third_part};
 ghost use Rattle.item_probe.specs.Places.{more_acts};
-ghost use Rattle.item_standing.specs.Standing.{after_first, after_second, serving_by, serving_of, standing_of};
+ghost use Rattle.item_runs.specs.Course.{going_on};
+ghost use Rattle.item_standing.specs.Standing.{after_first, after_probe, after_second, after_third, serving_by, serving_of, standing_of};
 
 use item_lines::{Told, line_of};
-use item_outcomes::Standing;
 use item_outcomes::names::UP_ARRIVES;
-use item_probe::{first_part, second_part};
+use item_outcomes::{Standing, serves_again};
+use item_probe::{first_part, second_part, third_part};
 use item_runs::Course;
 use lte_events::{Events, Setup, StationSetup, Who};
 use lte_world::WorldFault;
@@ -34,7 +35,7 @@ pub fn standing_of(
     requires steps { steps ≤ most_steps }
     requires acts { steps + more_acts ≤ length acts.now.items }
     requires station { serving ≤ 7 }
-    requires few { length course.coming.events + (most_first + most_second) * (most_at_once + 1) ≤ most_events }
+    requires few { length course.coming.events + (most_first + most_second + most_third) * (most_at_once + 1) ≤ most_events }
     ensures memory { IsOkUnless result WorldFault.Memory }
     ensures refused { OnErr result WasRefused }
     ensures standing { IfOk result (λ s. s ≡ standing_of acts.now.items steps serving course) }
@@ -57,7 +58,7 @@ pub fn standing_of(
         }
     }
     let serving = serving_of(setup, serving, course.told());
-    match go_second(alloc, &mut course, setup, acts, steps, serving) {
+    match go_behind(alloc, &mut course, setup, acts, steps, serving) {
         Ok(()) => {}
         Err(fault) => {
             drop(course);
@@ -97,6 +98,33 @@ fn go_first(
     }
 }
 
+// Lets what follows the first part go on, where this station serves.
+fn go_behind(
+    alloc: Global,
+    course: &mut Course,
+    setup: &Setup,
+    acts: &Events,
+    steps: u32,
+    serving: u8,
+) -> Result<(), WorldFault>
+    requires setup { course.old.setup ≡ setup.now }
+    requires is_setup { IsSetup setup.now }
+    requires can_happen { All (CanHappen setup.now) acts.now.items }
+    requires steps { steps ≤ most_steps }
+    requires acts { steps + more_acts ≤ length acts.now.items }
+    requires station { serving ≤ 7 }
+    requires few { length course.old.coming.events + (most_second + most_third) * (most_at_once + 1) ≤ most_events }
+    ensures memory { IsOkUnless result WorldFault.Memory }
+    ensures refused { OnErr result WasRefused }
+    ensures coming { OnOk result (course.new.coming ≡ after_probe acts.now.items steps serving setup.now course.old.coming) }
+{
+    go_second(alloc, course, setup, acts, steps, serving)?;
+    if serves_again(course.told()) {
+        return Ok(());
+    }
+    go_third(alloc, course, setup, acts, steps, serving)
+}
+
 // Lets the second part go on, where this station serves.
 fn go_second(
     alloc: Global,
@@ -115,9 +143,37 @@ fn go_second(
     requires few { length course.old.coming.events + most_second * (most_at_once + 1) ≤ most_events }
     ensures memory { IsOkUnless result WorldFault.Memory }
     ensures refused { OnErr result WasRefused }
+    ensures setup { OnOk result (course.new.setup ≡ course.old.setup) }
     ensures coming { OnOk result (course.new.coming ≡ after_second acts.now.items steps serving setup.now course.old.coming) }
+    ensures longer { OnOk result (length course.new.coming.events ≤ length course.old.coming.events + most_second * (most_at_once + 1)) }
 {
     match second_part(alloc, setup, steps, serving) {
+        Ok(items) => course.go_on(acts, items.as_slice()),
+        Err(_) => Err(WorldFault::Memory),
+    }
+}
+
+// Lets the third part go on, where this station serves.
+fn go_third(
+    alloc: Global,
+    course: &mut Course,
+    setup: &Setup,
+    acts: &Events,
+    steps: u32,
+    serving: u8,
+) -> Result<(), WorldFault>
+    requires setup { course.old.setup ≡ setup.now }
+    requires is_setup { IsSetup setup.now }
+    requires can_happen { All (CanHappen setup.now) acts.now.items }
+    requires steps { steps ≤ most_steps }
+    requires acts { steps + more_acts ≤ length acts.now.items }
+    requires station { serving ≤ 7 }
+    requires few { length course.old.coming.events + most_third * (most_at_once + 1) ≤ most_events }
+    ensures memory { IsOkUnless result WorldFault.Memory }
+    ensures refused { OnErr result WasRefused }
+    ensures coming { OnOk result (course.new.coming ≡ going_on setup.now acts.now.items (third_part steps serving) course.old.coming) }
+{
+    match third_part(alloc, steps, serving) {
         Ok(items) => course.go_on(acts, items.as_slice()),
         Err(_) => Err(WorldFault::Memory),
     }

@@ -3,7 +3,7 @@ use annex_a_keys::Derived;
 use rec_base::Use;
 
 /// What shows a coincidence: two keys, or two uses of keys, that are the same only by chance.
-#[derive(Clone, Copy, Debug, PartialEq, Eq)]
+#[derive(Clone, Copy, PartialEq, Eq)]
 pub enum Proof {
     /// A row has the octets of a derivation and another origin.
     Rows(Row, Derived),

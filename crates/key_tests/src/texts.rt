@@ -220,21 +220,6 @@ fn assert_ladder(
     Ok(())
 }
 
-#[test]
-fn rows_of_the_ladder_have_a_line_each(rt: HostRuntime) -> Result<(), Fail> {
-    let mut ladder = ladder_with_room(&rt, rt.alloc());
-    same(&rt, ladder.root(KASME), Ok(Row(0)));
-    add_one_of_each(&rt, &mut ladder);
-    let wanted = "\
-row 0 root 000102030405060708090a0b0c0d0e0f101112131415161718191a1b1c1d1e1f -
-row 1 kenb(0,0) e6267359de012d9bda173d1b6fae57dec0e04e01cfcf57cb33a7573f142b8b95 -
-row 2 nh(0,1) 09aba1730b0aaeee84feac6bc03f66b9aa90d45309b719114a90be777b24b74c -
-row 3 star(1,11,101) 4f92e8cee01ca1f84e022ac503175c61f6792a8fe01fa36a8e154c3910ba1a1c -
-row 4 alg(1,3,2) 9bf10551417d3b3128705dd54a20f8f1ae14c26e3ba014f8e4279841fb8ade28 -
-";
-    assert_ladder(&rt, rt.alloc(), &ladder, wanted)
-}
-
 // Gives the four rows of a ladder their holders, in no order.
 fn give_holders(rt: &impl Abort, ladder: &mut Ladder) {
     same(rt, ladder.len(), 4);

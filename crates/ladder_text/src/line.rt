@@ -10,7 +10,7 @@ use std::alloc::{AllocError, Global};
 use text_lines::{first_words, hex_octets, number};
 
 /// A line of a ladder text. Rows are named by the number that their line printed.
-#[derive(Clone, Copy, PartialEq, Eq)]
+#[derive(Clone, Copy)]
 pub enum LadderLine {
     /// `root`: a KASME of 32 octets.
     Root([u8; 32]),

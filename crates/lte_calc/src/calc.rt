@@ -9,7 +9,7 @@ use crate::status::Status;
 use edge_io::{Sink, Source};
 use std::alloc::Global;
 
-/// Runs the program: answers each line of the input at once, in order, and returns the status. It holds one line at
+/// Runs the program: answers each line of the input, in order, and returns the status. It holds one line at
 /// a time.
 ///
 /// It takes no words after its name: `BadWords` if there are any, and input and output stay as they were.

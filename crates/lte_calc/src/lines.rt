@@ -1,4 +1,4 @@
-// The lines of an input, each answered before the next is read.
+// The lines of an input and their answers, in order.
 ghost use Rattle.std.specs.Prelude.{◌≡◌, ◌≢◌, true, Err, IfOk, IfErr, IsErrOf, IsTrue, OnErr};
 ghost use Rattle.std.specs.String.{string_bytes};
 ghost use Rattle.growth.specs.Growth.{WasRefused};

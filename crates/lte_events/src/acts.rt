@@ -2,7 +2,7 @@ use annex_a_keys::Cell;
 use rec_base::{Bearer, ShortText, UserText};
 
 /// The kind of a handover.
-#[derive(Clone, Copy, Debug, PartialEq, Eq)]
+#[derive(Clone, Copy, PartialEq, Eq)]
 pub enum HoKind {
     /// Between two stations over X2 (TS 33.401 7.2.8.4.2).
     X2,
@@ -13,7 +13,7 @@ pub enum HoKind {
 }
 
 /// What a phone is made to do.
-#[derive(Clone, PartialEq, Eq, Debug, Drop)]
+#[derive(Clone, PartialEq, Eq, Drop)]
 pub enum PhoneAct {
     /// Sends a Service Request (TS 24.301 5.6.1).
     ServiceRequest,
@@ -32,7 +32,7 @@ pub enum PhoneAct {
 }
 
 /// What a station is made to do.
-#[derive(Clone, PartialEq, Eq, Debug, Drop)]
+#[derive(Clone, PartialEq, Eq, Drop)]
 pub enum StationAct {
     /// Opens a handover attempt of this kind to this cell.
     Start(HoKind, Cell),
@@ -51,7 +51,7 @@ pub enum StationAct {
 }
 
 /// What the core is made to do.
-#[derive(Clone, PartialEq, Eq, Debug, Drop)]
+#[derive(Clone, PartialEq, Eq, Drop)]
 pub enum CoreAct {
     /// Sends a NAS Security Mode Command (TS 24.301 5.4.3).
     StartSmc,

@@ -5,7 +5,7 @@ use crate::Class;
 use rec_base::Bearer;
 
 /// Where a record goes: an actor, and the interface at which it takes the record.
-#[derive(Clone, Copy, Debug, PartialEq, Eq)]
+#[derive(Clone, Copy, PartialEq, Eq)]
 pub enum Address {
     /// The phone at an address on the radio interface: the station, 0 to 7, the address there, and
     /// the radio bearer.

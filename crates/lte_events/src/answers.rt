@@ -6,7 +6,7 @@ use rec_base::RecFault;
 
 /// What an actor or the network answers to an input: done, or the first cause of refusal, with the
 /// values that tell the case.
-#[derive(Clone, Copy, Debug, PartialEq, Eq)]
+#[derive(Clone, Copy, PartialEq, Eq)]
 pub enum Answer {
     /// Done.
     Done,

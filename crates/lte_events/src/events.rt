@@ -3,7 +3,7 @@ use alg_choice::Caps;
 use rec_base::Octets;
 
 /// One event of a system of one phone, its stations and one core.
-#[derive(PartialEq, Eq, Debug, Drop)]
+#[derive(PartialEq, Eq, Drop)]
 pub enum Event {
     /// Phone and core authenticate: the KSI, 0 to 6, the 32 octets of KASME, and the capabilities of
     /// the phone that the core learns.

@@ -4,7 +4,7 @@ use annex_a_keys::Kasme;
 use rec_base::{Bearer, Octets};
 
 /// One input of the phone.
-#[derive(PartialEq, Eq, Debug, Drop)]
+#[derive(Drop)]
 pub enum PhoneIn {
     /// An authentication: the KSI, 0 to 6, and its KASME.
     Auth(u8, Kasme),
@@ -17,7 +17,7 @@ pub enum PhoneIn {
 }
 
 /// One input of a station.
-#[derive(PartialEq, Eq, Debug, Drop)]
+#[derive(Drop)]
 pub enum StationIn {
     /// An act of its own.
     Act(StationAct),
@@ -30,7 +30,7 @@ pub enum StationIn {
 }
 
 /// One input of the core.
-#[derive(PartialEq, Eq, Debug, Drop)]
+#[derive(Drop)]
 pub enum CoreIn {
     /// An authentication: the KSI, 0 to 6, its KASME, and the capabilities of the phone.
     Auth(u8, Kasme, Caps),
@@ -43,7 +43,7 @@ pub enum CoreIn {
 }
 
 /// One input of one actor.
-#[derive(PartialEq, Eq, Debug, Drop)]
+#[derive(Drop)]
 pub enum ActorIn {
     /// Of the phone.
     Phone(PhoneIn),

@@ -6,7 +6,7 @@ use annex_a_keys::Derived;
 use rec_base::{Few, Octets, Use, UserText, Way};
 
 /// A record as an actor sends it.
-#[derive(PartialEq, Eq, Debug, Drop)]
+#[derive(Drop)]
 pub struct Record {
     /// Where it goes.
     pub to: Address,
@@ -15,7 +15,7 @@ pub struct Record {
 }
 
 /// What is told of a key that an actor got.
-#[derive(Clone, Copy, Debug, PartialEq, Eq)]
+#[derive(Clone, Copy)]
 pub struct KeyNote {
     /// The NCC that belongs to it, 0 to 7.
     pub ncc: u8,
@@ -26,7 +26,7 @@ pub struct KeyNote {
 }
 
 /// What an actor answers to an input.
-#[derive(PartialEq, Eq, Debug, Default, Drop)]
+#[derive(Default, Drop)]
 pub struct ActorOut {
     /// Done, or why the input was refused.
     pub answer: Answer,

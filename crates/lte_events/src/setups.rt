@@ -3,7 +3,7 @@ use alg_choice::{Caps, Eea, Priority};
 use rec_base::Few;
 
 /// What a station starts with.
-#[derive(Clone, Copy, Debug, PartialEq, Eq)]
+#[derive(Clone, Copy, PartialEq, Eq)]
 pub struct StationSetup {
     /// Its number, 0 to 7.
     pub id: u8,
@@ -30,7 +30,7 @@ impl Default for StationSetup {
 }
 
 /// The NCC of the first pair of NH and NCC that a core sends for a chain (TS 33.401 7.2.8.1.1).
-#[derive(Clone, Copy, Debug, PartialEq, Eq)]
+#[derive(Clone, Copy, PartialEq, Eq)]
 pub enum FirstNcc {
     /// 1, this project's own rule: each NH is derived as it is sent.
     One,
@@ -39,7 +39,7 @@ pub enum FirstNcc {
 }
 
 /// What a system of one phone, its stations and one core starts with.
-#[derive(Clone, Debug, PartialEq, Eq, Drop)]
+#[derive(Clone, PartialEq, Eq, Drop)]
 pub struct Setup {
     /// The capabilities of the phone.
     pub caps: Caps,

@@ -8,7 +8,7 @@ use arrayvec::ArrayVec;
 use std::marker::Model;
 
 // A cell, and the station that has it.
-#[derive(Clone, Copy, Debug, Default, PartialEq, Eq)]
+#[derive(Clone, Copy, Default, PartialEq, Eq)]
 struct Entry {
     station: u8,
     cell: Cell,
@@ -26,7 +26,7 @@ impl Model for Entry {
 
 /// The cells of all stations, at most 32, in the order in which they were added, none of them twice.
 /// A contract sees them as the list of the cells with their stations.
-#[derive(Clone, Debug, PartialEq, Eq, Drop)]
+#[derive(Clone, PartialEq, Eq, Drop)]
 pub struct Cells {
     entries: ArrayVec<Entry, 32>,
 }

@@ -1,5 +1,5 @@
 -- What the core took on NAS was sent by the phone: where both use one KASME, the COUNT that the core expects is not above the phone's next one.
-use Rattle.std.proofs.Common.{◌≡◌, refl, sym, ap, ◌∙◌, subst, ℕ, ◌+◌, arith, Bool, true, false, List, [], ◌∷◌, ◌++◌, Option, Some, None, inl, inr}
+use Rattle.std.proofs.Common.{◌≡◌, refl, sym, ap, ◌∙◌, subst, ℕ, ◌+◌, Bool, true, false, List, [], ◌∷◌, ◌++◌, Option, Some, None, inl, inr}
 use Rattle.std.specs.{Prelude.IfSome, List.flat_map, List.AllByRecursion as AllOf}
 use Rattle.rec_base.specs.declared.uses.Dir.TheVariants.{Up, Down}
 use Rattle.lte_events.specs.{declared.addresses.Address.Address, declared.events.Event.Event}
@@ -43,7 +43,7 @@ any_append P [] ys h = absurd h
 any_append P (x ∷ xs) ys (inl h) = inl h
 any_append P (x ∷ xs) ys (inr h) = inr (any_append P xs ys h)
 
-any_one : (P : Outgoing Term ℕ → Type 0) (o : Option (Outgoing Term ℕ)) (xs : List (Outgoing Term ℕ)) → AnyOf P xs → AnyOf P (with_one o xs)
+pub any_one : (P : Outgoing Term ℕ → Type 0) (o : Option (Outgoing Term ℕ)) (xs : List (Outgoing Term ℕ)) → AnyOf P xs → AnyOf P (with_one o xs)
 any_one P None xs h = h
 any_one P (Some x) xs h = any_append P xs (x ∷ []) h
 
@@ -52,7 +52,7 @@ heard_more one sent None h = tt
 heard_more one sent (Some k) h = (h.0, h.1, any_one (IsUnder (nas_use Up k.nas.keys.int h.0)) one sent h.2)
 
 -- what is so of one of a list is so of some of it
-any_member : (P : Outgoing Term ℕ → Type 0) (x : Outgoing Term ℕ) (xs : List (Outgoing Term ℕ)) → Member x xs → P x → AnyOf P xs
+pub any_member : (P : Outgoing Term ℕ → Type 0) (x : Outgoing Term ℕ) (xs : List (Outgoing Term ℕ)) → Member x xs → P x → AnyOf P xs
 any_member P x [] m h = absurd m
 any_member P x (y ∷ ys) (inl e) h = inl (subst P e h)
 any_member P x (y ∷ ys) (inr m) h = inr (any_member P x ys m h)
@@ -67,7 +67,7 @@ module _ (c : Ciphers Term) (between : Fields → Option (NumberedKey Term ℕ) 
   r = term_reading_by same_value
 
   -- what is foreign does not open
-  foreign_closed : (u : KeyUse Term) (e : Option (Ciphering Term)) (pdu text : List ℕ) → open_foreign c (OpensNas u e) pdu ≡ Opened text → ⊥
+  pub foreign_closed : (u : KeyUse Term) (e : Option (Ciphering Term)) (pdu text : List ℕ) → open_foreign c (OpensNas u e) pdu ≡ Opened text → ⊥
   unfolding open_foreign
   foreign_closed u e pdu text h = absurd cc
 

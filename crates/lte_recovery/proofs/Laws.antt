@@ -1,13 +1,16 @@
 -- The laws over runs that go on: the premises in a run are those in any world.
-use Rattle.std.proofs.Common.{ap, ◌∙◌, ℕ, List, ◌++◌}
+use Rattle.std.proofs.Common.{◌≡◌, ap, ◌∙◌, subst, ℕ, List, ◌++◌, Ok}
 use Rattle.std.specs.List.{AllByRecursion as AllOf}
+use Rattle.alg_choice.specs.Choice.{choice_of}
 use Rattle.annex_a_keys.specs.Cell.{Place}
 use Rattle.lte_events.specs.{Ranges.IsEvent, Ranges.IsSetup, Site.station_of, declared.events.Event.Event, declared.setups.Setup.Setup}
 use Rattle.lte_machine.specs.{Ciphers.annex_b, Machines.written_machine, Standing.RunsTo}
 use Rattle.lte_recovery.specs.InRuns.{InTouch, RecoversIn, CanStartAnew, RecoversAnewIn}
 use Rattle.lte_recovery.specs.Reconnection.{TheWorld, reconnect, CanReconnect}
 use Rattle.lte_recovery.specs.Renewal.{restart, CanRestart}
+use Rattle.lte_recovery.proofs.Chosen.{chosen_held}
 use Rattle.lte_recovery.proofs.OverRuns.{recovers_in_runs, recovers_anew_in_runs}
+use Rattle.lte_recovery.proofs.OwnCaps.{core_has_own}
 use Rattle.lte_recovery.proofs.Reached.{core_cells, same_keys, in_order, station_ok, newer_than}
 
 module _ (setup : Setup) (events : List Event) (set : IsSetup setup) (are : AllOf IsEvent events) (w : TheWorld) (is : RunsTo annex_b setup events w) where
@@ -34,7 +37,10 @@ module _ (setup : Setup) (events : List Event) (set : IsSetup setup) (are : AllO
         from_one = ok.2;
         algs = h.algs;
         chosen = h.chosen;
-        supported = h.supported;
+        supported =
+            chosen_held h.station.priority w.phone.caps h.algs
+            (subst (λ caps. choice_of h.station.priority caps ≡ Ok h.algs)
+            (core_has_own setup events are w is h.phone h.core h.at_phone h.at_core h.root) h.chosen);
       }
 
   -- and where a new authentication comes first
@@ -46,7 +52,7 @@ module _ (setup : Setup) (events : List Event) (set : IsSetup setup) (are : AllO
         key_set = h.key_set;
         nas_algs = h.nas_algs;
         nas_chosen = h.nas_chosen;
-        nas_supported = h.nas_supported;
+        nas_supported = chosen_held w.core.priority w.phone.caps h.nas_algs h.nas_chosen;
         station = h.station;
         there = h.there;
         serves = ap (station_of cell) (core_cells setup events set are w is) ∙ h.serves;
@@ -58,7 +64,7 @@ module _ (setup : Setup) (events : List Event) (set : IsSetup setup) (are : AllO
         from_one = ok.2;
         algs = h.algs;
         chosen = h.chosen;
-        supported = h.supported;
+        supported = chosen_held h.station.priority w.phone.caps h.algs h.chosen;
       }
 
   pub recovers_in : (u : TheWorld) (cell : Place) → RunsTo annex_b setup (events ++ reconnect cell) u → (h : InTouch setup w cell) → RecoversIn setup w cell h u

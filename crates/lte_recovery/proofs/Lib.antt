@@ -1,3 +1,4 @@
+pub mod Chosen
 pub mod CoreSteps
 pub mod ElevenEvents
 pub mod Examples
@@ -7,10 +8,12 @@ pub mod Laws
 pub mod Least
 pub mod Newer
 pub mod OverRuns
+pub mod OwnCaps
 pub mod PhoneSteps
 pub mod Premises
 pub mod Reached
 pub mod RecoveryHolds
+pub mod Replayed
 pub mod SecurityMode
 pub mod SevenEvents
 pub mod StationSteps

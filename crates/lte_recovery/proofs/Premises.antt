@@ -1,7 +1,7 @@
 -- The premises hold in a worked world where the keys of phone and station differ.
 use Rattle.std.proofs.Common.{◌≡◌, refl, ℕ, ◌+◌, Bool, true, false, Option, Some, None, Result, Ok, Err}
 use Rattle.std.specs.Prelude.{◌&&◌, nat_le, nat_lt}
-use Rattle.alg_choice.specs.{Choice.choice_of, Choice.are_supported, declared.algs.Algs.Algs, declared.choices.NoAlgorithm.NoAlgorithm}
+use Rattle.alg_choice.specs.{Choice.choice_of, declared.algs.Algs.Algs, declared.choices.NoAlgorithm.NoAlgorithm}
 use Rattle.annex_a_keys.specs.Cell.{Place}
 use Rattle.key_model.specs.Term.{Term, same_term}
 use Rattle.lte_events.specs.Site.{station_of}
@@ -18,17 +18,17 @@ nas_fits (Some p) (Some k) =
     same_term k.nas.root p.root && (nat_le k.nas.receive p.send && (nat_lt p.send (k.nas.receive + 256) && nat_lt p.send 16777216))
 nas_fits other context = false
 
-abbrev supports : TheWorld → Result Algs NoAlgorithm → Bool
-supports w (Ok algs) = are_supported w.phone.caps algs
-supports w (Err none) = false
+abbrev is_chosen : Result Algs NoAlgorithm → Bool
+is_chosen (Ok algs) = true
+is_chosen (Err none) = false
 
-abbrev chooses : TheWorld → Station Term ℕ → Option (CoreContext Term) → Bool
-chooses w s None = false
-chooses w s (Some k) = supports w (choice_of s.priority k.caps)
+abbrev chooses : Station Term ℕ → Option (CoreContext Term) → Bool
+chooses s None = false
+chooses s (Some k) = is_chosen (choice_of s.priority k.caps)
 
 abbrev station_fits : TheWorld → Option (Station Term ℕ) → Bool
 station_fits w None = false
-station_fits w (Some s) = nat_lt s.next 4294967296 && (nat_lt s.last w.core.next && chooses w s w.core.context)
+station_fits w (Some s) = nat_lt s.next 4294967296 && (nat_lt s.last w.core.next && chooses s w.core.context)
 
 abbrev cell_fits : TheWorld → Option ℕ → Bool
 cell_fits w None = false

@@ -1,6 +1,6 @@
 -- Recovery in a run from a setup: fewer premises are enough, since the rest holds in every run.
-use Rattle.std.specs.Prelude.{◌≡◌, ℕ, ◌+◌, ◌<◌, ◌≤◌, List, ◌++◌, Some, None, true, Ok}
-use Rattle.alg_choice.specs.{Choice.choice_of, Choice.are_supported, declared.algs.Algs.Algs}
+use Rattle.std.specs.Prelude.{◌≡◌, ℕ, ◌+◌, ◌<◌, ◌≤◌, List, ◌++◌, Some, None, Ok}
+use Rattle.alg_choice.specs.{Choice.choice_of, declared.algs.Algs.Algs}
 use Rattle.annex_a_keys.specs.Cell.{Place}
 use Rattle.key_model.specs.Term.{Term, Root}
 use Rattle.lte_events.specs.{Site.station_of, declared.events.Event.Event, declared.setups.Setup.Setup}
@@ -32,7 +32,6 @@ pub record InTouch (setup : Setup) (w : TheWorld) (cell : Place) : Type 0 where
   -- station and phone have an algorithm in common
   pub algs : Algs
   pub chosen : choice_of station.priority core.caps ≡ Ok algs
-  pub supported : are_supported w.phone.caps algs ≡ true
 
 abbrev pub RecoversIn : (setup : Setup) (w : TheWorld) (cell : Place) → InTouch setup w cell → TheWorld → Type 0
 RecoversIn setup w cell h u = Reconnected h.phone.root h.phone.send h.station.id w.core.next h.station.next h.algs u
@@ -45,7 +44,6 @@ pub record CanStartAnew (setup : Setup) (w : TheWorld) (cell : Place) (ksi : ℕ
   -- core and phone have an algorithm in common
   pub nas_algs : Algs
   pub nas_chosen : choice_of w.core.priority w.phone.caps ≡ Ok nas_algs
-  pub nas_supported : are_supported w.phone.caps nas_algs ≡ true
   -- the cell is one of the setup; this is its station now
   pub station : Station Term ℕ
   pub serves : station_of cell setup.cells ≡ Some station.id
@@ -56,7 +54,6 @@ pub record CanStartAnew (setup : Setup) (w : TheWorld) (cell : Place) (ksi : ℕ
   -- station and phone have an algorithm in common
   pub algs : Algs
   pub chosen : choice_of station.priority w.phone.caps ≡ Ok algs
-  pub supported : are_supported w.phone.caps algs ≡ true
 
 abbrev pub RecoversAnewIn : (setup : Setup) (w : TheWorld) (cell : Place) (ksi : ℕ) (octets : List ℕ) → CanStartAnew setup w cell ksi octets → TheWorld → Type 0
 RecoversAnewIn setup w cell ksi octets h u =

@@ -9,7 +9,7 @@ ghost use Rattle.lte_recovery.specs.Octets.{ReconnectsInOctets};
 
 /// After every list of events, whatever was delivered, lost, late or repeated, also where the keys of phone and station
 /// differ: where phone and core use one NAS context with a COUNT left, and the station of a cell has a number left and
-/// an algorithm that the phone supports, seven events lead back to one key. The phone goes idle and asks, the core sets
+/// an algorithm of the phone's capabilities, seven events lead back to one key. The phone goes idle and asks, the core sets
 /// up a connection in the cell, and the four records between arrive as they are sent. Then phone and station have the
 /// KeNB of the KASME and of the COUNT of the Service Request, both are active, and the core's connection is there. A
 /// coincidence in these events ends the run instead.

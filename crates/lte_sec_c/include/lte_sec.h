@@ -62,8 +62,8 @@ uint32_t ltesec_proved(void);
 void ltesec_kasme(const uint8_t ck[16], const uint8_t ik[16], const uint8_t plmn[3], const uint8_t sqn_xor_ak[6],
                   uint8_t kasme[32]);
 
-/* KeNB from KASME at an uplink NAS COUNT (A.3). */
-void ltesec_kenb(const uint8_t kasme[32], uint32_t count, uint8_t kenb[32]);
+/* KeNB from KASME at an uplink NAS COUNT, 0 to 2^24 - 1 (A.3). DONE or OUT_OF_RANGE. */
+uint32_t ltesec_kenb(const uint8_t kasme[32], uint32_t count, uint8_t kenb[32]);
 
 /* NH from KASME and the SYNC-input: the KeNB for the first NH, and else the NH before (A.4). */
 void ltesec_nh(const uint8_t kasme[32], const uint8_t sync[32], uint8_t nh[32]);

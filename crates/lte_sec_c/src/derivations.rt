@@ -1,13 +1,15 @@
 // The derivations of TS 33.401 Annex A.
-ghost use Rattle.std.specs.Prelude.{◌≡◌, ◌≢◌, ◌≤◌, ◌↔◌};
+ghost use Rattle.std.specs.Prelude.{◌≡◌, ◌≢◌, ◌<◌, ◌≤◌, ◌↔◌};
 ghost use Rattle.hmac_kdf.specs.Kdf.{greatest_earfcn, kdf};
 ghost use Rattle.kasme_kdf.specs.Kasme.{kasme_of};
 ghost use Rattle.annex_a_keys.specs.Cell.{greatest_pci};
+ghost use Rattle.nas_count.specs.Estimate.{nas_count_limit};
 ghost use Rattle.lte_sec_c.specs.Status.{done, status_of};
 
 use crate::fault::{DONE, Fault};
 use hmac_kdf::{KdfInput, kdf};
 use kasme_kdf::kasme;
+use nas_count::LIMIT;
 
 /// KASME from CK and IK, for the PLMN identity of the serving network, as TS 24.301 9.9.3.32 writes it, and SQN xor AK (A.2).
 #[unsafe(no_mangle)]
@@ -23,12 +25,19 @@ pub extern "C" fn ltesec_kasme(
     *out = kasme(ck, ik, plmn, sqn_xor_ak);
 }
 
-/// KeNB from KASME at an uplink NAS COUNT (A.3).
+/// KeNB from KASME at an uplink NAS COUNT, of 24 bits (A.3; TS 24.301 4.4.3.1).
 #[unsafe(no_mangle)]
-pub extern "C" fn ltesec_kenb(kasme: &[u8; 32], count: u32, kenb: &mut [u8; 32])
-    ensures { kenb.new ≡ kdf kasme.now (KdfInput.Kenb count) }
+pub extern "C" fn ltesec_kenb(kasme: &[u8; 32], count: u32, kenb: &mut [u8; 32]) -> u32
+    ensures done { result ≡ done ↔ (count < nas_count_limit) }
+    ensures value { result ≡ done → kenb.new ≡ kdf kasme.now (KdfInput.Kenb count) }
+    ensures cause { result ≢ done → result ≡ status_of Fault.OutOfRange }
+    ensures kept { result ≢ done → kenb.new ≡ kenb.old }
 {
+    if count >= LIMIT {
+        return Fault::OutOfRange.status();
+    }
     *kenb = kdf(kasme, &KdfInput::Kenb(count));
+    DONE
 }
 
 /// NH from KASME and the SYNC-input, which is the KeNB for the first NH and else the NH before (A.4).

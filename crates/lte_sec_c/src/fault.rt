@@ -9,7 +9,7 @@ use pdu_guard::AmFault;
 pub(crate) const DONE: u32 = 0;
 
 // Why a call did nothing.
-#[derive(Clone, Copy, Debug, PartialEq, Eq)]
+#[derive(Clone, Copy, Debug)]
 pub(crate) enum Fault {
     // What it was given is not in range.
     OutOfRange,

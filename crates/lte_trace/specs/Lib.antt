@@ -1,3 +1,4 @@
+pub mod Moves
 pub mod Answer
 pub mod Status
 pub mod Run

@@ -1,5 +1,5 @@
 -- What is so of a run of the program at each status.
-use Rattle.std.specs.Prelude.{◌≡◌, ◌⊎◌, ℕ, ◌+◌, ◌<◌, ◌≤◌, Some, List, length, IfSome}
+use Rattle.std.specs.Prelude.{◌≡◌, ℕ, ◌+◌, ◌<◌, ◌≤◌, List, length, IfSome}
 use Rattle.edge_io.specs.{Told.Told, Told.HasEnded, Cause.Rose}
 use Rattle.edge_io.specs.Octets.{Grows, GrowsByProperPrefix, LosesWithin}
 use Rattle.lte_trace.specs.{Answer.IsAnswer, declared.answer.Ends.Ends}

@@ -1,14 +1,17 @@
 // The answer to a question.
-ghost use Rattle.std.specs.Prelude.{◌≡◌, Ok, Err, IfOk, OnErr};
+ghost use Rattle.std.specs.Prelude.{◌≡◌, ◌++◌, ◌≤◌, true, length, Ok, Err, IfOk, OnErr};
 ghost use Rattle.std.specs.String.{string_bytes};
 ghost use Rattle.growth.specs.Growth.{WasRefused};
-ghost use Rattle.lte_trace.specs.Answer.{Finds, IsAnswer, explained_text, bad_text, closed_word};
+ghost use Rattle.lte_trace.specs.Answer.{Finds, HasHistory, IsAnswer, IsFound, IsTooLarge, IsWitness, TellsIf, explained_text, bad_text, closed_word, never_word, IsNeverMore};
+ghost use Rattle.lte_trace.specs.Moves.{moves_text};
 ghost use Rattle.trace_text.specs.Question.{nothing};
 ghost use Rattle.trace_text.specs.Text.{reading_of};
 
+use crate::moves::add_moves;
 use std::alloc::{AllocError, Global};
 use trace_keys::Net;
-use trace_plain::{Found, Unsearched, explained};
+use trace_order::is_never;
+use trace_plain::{Found, Told, Unsearched, explained, way_to};
 use trace_text::{Question, TextFault, moves_of, read_lines};
 
 /// What became of a text.
@@ -25,15 +28,15 @@ pub enum Ends {
 /// The answer to a text.
 #[derive(Drop)]
 pub struct Answer {
-    /// What is written: a line, or nothing.
-    pub text: String,
+    /// What is written: lines, or nothing.
+    pub text: Vec<u8>,
     /// What became of the text.
     pub ends: Ends,
 }
 
 /// The answer to a text. The one error is want of memory.
 pub fn answered(alloc: Global, text: &[u8]) -> Result<Answer, AllocError>
-    ensures answer { IfOk result (λ answer. IsAnswer text.now answer.ends (string_bytes answer.text)) }
+    ensures answer { IfOk result (λ answer. IsAnswer text.now answer.ends answer.text.items) }
     ensures refused { OnErr result WasRefused }
 {
     let mut question = Question::new(alloc);
@@ -45,7 +48,7 @@ pub fn answered(alloc: Global, text: &[u8]) -> Result<Answer, AllocError>
 // The same, with a question of nothing to read it into.
 fn answer_to(alloc: Global, question: &mut Question, text: &[u8]) -> Result<Answer, AllocError>
     requires { question.old ≡ nothing }
-    ensures answer { IfOk result (λ answer. IsAnswer text.now answer.ends (string_bytes answer.text)) }
+    ensures answer { IfOk result (λ answer. IsAnswer text.now answer.ends answer.text.items) }
     ensures refused { OnErr result WasRefused }
 {
     match read_lines(alloc, question, text) {
@@ -58,25 +61,97 @@ fn answer_to(alloc: Global, question: &mut Question, text: &[u8]) -> Result<Answ
 // The answer to a question, which this text is.
 fn searched(alloc: Global, question: &Question, text: &[u8]) -> Result<Answer, AllocError>
     requires { reading_of text.now ≡ Ok question.now }
-    ensures answer { IfOk result (λ answer. IsAnswer text.now answer.ends (string_bytes answer.text)) }
+    ensures answer { IfOk result (λ answer. IsAnswer text.now answer.ends answer.text.items) }
     ensures refused { OnErr result WasRefused }
 {
-    match search(alloc, question) {
-        Ok(found) => Ok(Answer {
-            text: explained_line(alloc, found, question.capture().len())?,
+    match found(alloc, question) {
+        Ok(text) => Ok(Answer {
+            text,
             ends: Ends::Explained,
         }),
         Err(Unsearched::TooMany) => Ok(Answer {
-            text: String::new(alloc),
+            text: Vec::new(alloc),
             ends: Ends::TooMany,
         }),
         Err(Unsearched::Memory) => Err(AllocError),
     }
 }
 
+// How far a question is explained, and the moves that explain, as lines.
+fn found(alloc: Global, question: &Question) -> Result<Vec<u8>, Unsearched>
+    ensures found { IfOk result (λ text. IsFound question.now text.items) }
+    ensures large { result ≡ Err Unsearched.TooMany → IsTooLarge question.now }
+    ensures memory { result ≡ Err Unsearched.Memory → WasRefused }
+{
+    let found = search(alloc, question)?;
+    let told = told(alloc, question, found.count)?;
+    let never = never(alloc, question, found.count)?;
+    let text = lines(
+        alloc,
+        found,
+        never,
+        question.capture().len(),
+        told.as_slice(),
+    )?;
+    Ok(text)
+}
+
+// The moves that explain so many sightings, if they are asked for.
+fn told(alloc: Global, question: &Question, count: usize) -> Result<Vec<Told>, AllocError>
+    requires within { count ≤ length question.now.capture }
+    requires explained { HasHistory question.now count }
+    ensures tells { IfOk result (λ told. TellsIf question.now.moves question.now count told.items) }
+    ensures refused { OnErr result WasRefused }
+{
+    if question.moves() {
+        witness(alloc, question, count)
+    } else {
+        Ok(Vec::new(alloc))
+    }
+}
+
+fn witness(alloc: Global, question: &Question, count: usize) -> Result<Vec<Told>, AllocError>
+    requires within { count ≤ length question.now.capture }
+    requires explained { HasHistory question.now count }
+    ensures witness { IfOk result (λ told. IsWitness question.now count told.items) }
+    ensures refused { OnErr result WasRefused }
+{
+    let family = moves_of(alloc, question)?;
+    way_to(
+        alloc,
+        question.kasmes(),
+        question.covered(),
+        family.as_slice(),
+        question.bound(),
+        &Net::idle(0, 0),
+        &question.capture()[..count],
+    )
+}
+
+// Whether it is known that no history shows one sighting more.
+fn never(alloc: Global, question: &Question, count: usize) -> Result<bool, AllocError>
+    requires { count ≤ length question.now.capture }
+    ensures never { IfOk result (λ never. never ≡ true → IsNeverMore question.now count) }
+    ensures refused { OnErr result WasRefused }
+{
+    let Some(sight) = question.capture().get(count) else {
+        return Ok(false);
+    };
+    let family = moves_of(alloc, question)?;
+    let shown = &question.capture()[..count];
+    Ok(is_never(
+        question.kasmes(),
+        question.covered(),
+        family.as_slice(),
+        shown,
+        sight,
+    ))
+}
+
 // How far a question is explained.
 fn search(alloc: Global, question: &Question) -> Result<Found, Unsearched>
     ensures found { IfOk result (λ e. Finds question.now e.count e.closed) }
+    ensures large { result ≡ Err Unsearched.TooMany → IsTooLarge question.now }
     ensures memory { result ≡ Err Unsearched.Memory → WasRefused }
 {
     let family = moves_of(alloc, question)?;
@@ -93,13 +168,39 @@ fn search(alloc: Global, question: &Question) -> Result<Found, Unsearched>
 
 // The line of a question that was searched.
 #[tactic(auto, unfolding(crate::specs::Answer::explained_text))]
-fn explained_line(alloc: Global, found: Found, all: usize) -> Result<String, AllocError>
-    ensures text { IfOk result (λ text. string_bytes text ≡ explained_text found.count all found.closed) }
+fn explained_line(
+    alloc: Global,
+    found: Found,
+    never: bool,
+    all: usize,
+) -> Result<String, AllocError>
+    ensures text { IfOk result (λ text. string_bytes text ≡ explained_text found.count all found.closed never) }
     ensures refused { OnErr result WasRefused }
 {
     let count = found.count;
     let closed = closed_word(found.closed);
-    growth::format(alloc, format_args!("explained {count} of {all}{closed}\n"))
+    let never = never_word(never);
+    growth::format(
+        alloc,
+        format_args!("explained {count} of {all}{closed}{never}\n"),
+    )
+}
+
+// That line, and those of the moves.
+fn lines(
+    alloc: Global,
+    found: Found,
+    never: bool,
+    all: usize,
+    told: &[Told],
+) -> Result<Vec<u8>, AllocError>
+    ensures text { IfOk result (λ text. text.items ≡ explained_text found.count all found.closed never ++ moves_text told.now) }
+    ensures refused { OnErr result WasRefused }
+{
+    let line = explained_line(alloc, found, never, all)?;
+    let mut text = growth::from_slice(alloc, line.as_bytes())?;
+    add_moves(alloc, &mut text, told)?;
+    Ok(text)
 }
 
 fn closed_word(closed: bool) -> &'static str
@@ -108,14 +209,21 @@ fn closed_word(closed: bool) -> &'static str
     if closed { " closed" } else { "" }
 }
 
+fn never_word(never: bool) -> &'static str
+    ensures { result.now ≡ never_word never }
+{
+    if never { " out-of-order" } else { "" }
+}
+
 // The line of a text that is no question.
 fn refusal(alloc: Global, line: usize, text: &[u8]) -> Result<Answer, AllocError>
     requires { reading_of text.now ≡ Err line }
-    ensures answer { IfOk result (λ answer. IsAnswer text.now answer.ends (string_bytes answer.text)) }
+    ensures answer { IfOk result (λ answer. IsAnswer text.now answer.ends answer.text.items) }
     ensures refused { OnErr result WasRefused }
 {
+    let refusal = bad_line(alloc, line)?;
     Ok(Answer {
-        text: bad_line(alloc, line)?,
+        text: growth::from_slice(alloc, refusal.as_bytes())?,
         ends: Ends::Refused,
     })
 }

@@ -1,7 +1,6 @@
 // The text of a question, and what is written for it.
 ghost use Rattle.growth.specs.Growth.{WasRefused};
 ghost use Rattle.std.specs.Prelude.{◌≡◌, ◌≢◌, ◌≤◌, Err, length, IfOk, IfErr, IfSome, IsTrue, OnErr, OnOk, true};
-ghost use Rattle.std.specs.String.{string_bytes};
 ghost use Rattle.edge_io.specs.Cause.{NoFault, Rose};
 ghost use Rattle.edge_io.specs.Lines.{are_lines};
 ghost use Rattle.edge_io.specs.Told.{Told, HasEnded};
@@ -48,7 +47,7 @@ pub(crate) fn write_answer<W: Sink>(alloc: Global, octets: &[u8], out: &mut W) -
     ensures out { UsedAsSink (W.told out.old) (W.told out.new) }
 {
     match answer_of(alloc, octets) {
-        Ok(answer) => match write_all(out, answer.text.as_bytes()) {
+        Ok(answer) => match write_all(out, answer.text.as_slice()) {
             Ok(()) => status_of(answer.ends),
             Err(_) => Status::WriteFault,
         },
@@ -56,10 +55,10 @@ pub(crate) fn write_answer<W: Sink>(alloc: Global, octets: &[u8], out: &mut W) -
     }
 }
 
-// The answer to a text, which is a line or nothing.
+// The answer to a text, which is lines or nothing.
 fn answer_of(alloc: Global, octets: &[u8]) -> Result<Answer, AllocError>
-    ensures answer { IfOk result (λ answer. IsAnswer octets.now answer.ends (string_bytes answer.text)) }
-    ensures lines { IfOk result (λ answer. are_lines (string_bytes answer.text) ≡ true) }
+    ensures answer { IfOk result (λ answer. IsAnswer octets.now answer.ends answer.text.items) }
+    ensures lines { IfOk result (λ answer. are_lines answer.text.items ≡ true) }
     ensures refused { OnErr result WasRefused }
 {
     answered(alloc, octets)

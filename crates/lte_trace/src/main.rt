@@ -3,6 +3,7 @@
 
 mod answer;
 mod asking;
+mod moves;
 mod status;
 mod trace;
 

@@ -4,10 +4,10 @@ use Rattle.std.specs.{Prelude.codes, Fmt.decimal}
 use Rattle.edge_io.specs.Lines.{EndsLine, are_lines}
 use Rattle.edge_io.proofs.Ending.{feed, is_lines, on}
 use Rattle.item_faults.specs.{declared.changes.Fault.Fault, declared.messages.Message.Message}
-use Rattle.item_outcomes.specs.{declared.judging.Outcome.Outcome, declared.troubles.Trouble.Trouble}
+use Rattle.item_outcomes.specs.{Outcomes.Verdict, declared.heals.Heals.Heals, declared.troubles.Trouble.Trouble}
 use Rattle.item_outcomes.specs.declared.troubles.Trouble.TheVariants as trouble
 use Rattle.scenario_file.specs.{Refused.fault_text, Refused.refused_text, declared.faults.ScenarioFault.ScenarioFault}
-use Rattle.variant_text.specs.{Faults.faults_text, Messages.message_name, Outcomes.outcomes_text}
+use Rattle.variant_text.specs.{Faults.faults_text, Healing.heals_name, Healing.heals_text, Messages.message_name, Outcomes.outcomes_text}
 use Rattle.variant_text.specs.Lines.{end_line, keys_line, lost_line, message_line, scenario_line, trouble_line, variant_line}
 
 refused_ends : (fault : ScenarioFault) → EndsLine (refused_text fault)
@@ -17,13 +17,17 @@ refused_ends fault = on (codes "refused ") _ (on (fault_text fault) _ feed)
 pub refused_is : (fault : ScenarioFault) → are_lines (refused_text fault) ≡ true
 refused_is fault = is_lines _ (refused_ends fault)
 
-scenario_ends : (steps messages serving : ℕ) → EndsLine (scenario_line steps messages serving)
+scenario_ends : (steps messages serving : ℕ) (heals : Heals) → EndsLine (scenario_line steps messages serving heals)
 unfolding scenario_line
-scenario_ends steps messages serving =
-    on (codes "scenario ") _ (on (decimal steps) _ (on (codes " ") _ (on (decimal messages) _ (on (codes " serving ") _ (on (decimal serving) _ feed)))))
+scenario_ends steps messages serving heals =
+    on (codes "scenario ") _
+    (on (decimal steps) _
+    (on (codes " ") _
+    (on (decimal messages) _
+    (on (codes " serving ") _ (on (decimal serving) _ (on (codes " heals ") _ (on (heals_name heals) _ feed)))))))
 
-pub scenario_is : (steps messages serving : ℕ) → are_lines (scenario_line steps messages serving) ≡ true
-scenario_is steps messages serving = is_lines _ (scenario_ends steps messages serving)
+pub scenario_is : (steps messages serving : ℕ) (heals : Heals) → are_lines (scenario_line steps messages serving heals) ≡ true
+scenario_is steps messages serving heals = is_lines _ (scenario_ends steps messages serving heals)
 
 keys_ends : (steps name : ℕ) → EndsLine (keys_line steps name)
 unfolding keys_line
@@ -53,8 +57,9 @@ message_ends number message = on (codes "message ") _ (on (decimal number) _ (on
 pub message_is : (number : ℕ) (message : Message) → are_lines (message_line number message) ≡ true
 message_is number message = is_lines _ (message_ends number message)
 
-pub variant_is : (faults : List Fault) (outcomes : List Outcome) → are_lines (variant_line faults outcomes) ≡ true
-variant_is faults outcomes = is_lines _ (on (faults_text faults) _ (on (codes ": ") _ (on (outcomes_text outcomes) _ feed)))
+pub variant_is : (faults : List Fault) (v : Verdict) → are_lines (variant_line faults v) ≡ true
+variant_is faults v =
+    is_lines _ (on (faults_text faults) _ (on (codes ": ") _ (on (outcomes_text v.outcomes) _ (on (heals_text v.heals) _ feed))))
 
 end_ends : (variants : ℕ) → EndsLine (end_line variants)
 unfolding end_line

@@ -1,15 +1,14 @@
 -- There are fewer choices of faults than 2 ^ 128.
-use Rattle.std.proofs.Common.{ℕ, suc, ◌+◌, ◌*◌, ◌^◌, ◌<◌, ◌≤◌, ◌==◌, Bool, true, false, if◌then◌else◌, List, [], ◌∷◌, length, map, arith, length-append}
+use Rattle.std.proofs.Common.{ℕ, zero, suc, inl, inr, ◌+◌, ◌*◌, ◌^◌, ◌<◌, ◌≤◌, ◌==◌, Bool, true, false, if◌then◌else◌, List, [], ◌∷◌, length, map, arith, length-append}
 use Rattle.std.specs.Prelude.{◌%◌}
 use Rattle.std.proofs.lemmas.List.{length-map}
 use Rattle.item_faults.specs.{Entries.most_steps, declared.changes.Fault.Fault, declared.changes.Kind.Kind, declared.entries.Entry.Entry, declared.steps.Step.Step}
-use Rattle.item_faults.specs.Faults.{at_places, fault_at, faults_of, is_fault, of_kind, of_message, of_messages, pair, pairs, triples, with_fault}
+use Rattle.item_faults.specs.Faults.{at_places, fault_at, faults_of, is_fault, of_kind, of_message, of_messages, with_fault}
+use Rattle.fault_sets.specs.Sets.{sets_of}
 use Rattle.item_faults.specs.Steps.{counts, delivered, entry_of, messages_from, messages_of, with_number}
 use Rattle.item_faults.specs.declared.changes.Kind.TheVariants as kind
 use Rattle.variant_runs.specs.{Judged.entries, Original.Original}
-use Rattle.lte_variants.specs.Choices.{alone, choices_of, share_from}
-use Rattle.lte_variants.specs.{Kinds.happening, Kinds.happens, Report.asked, declared.kinds.Kinds.Kinds, declared.request.Request.Request, declared.request.Share.Share, declared.request.Together.Together}
-use Rattle.lte_variants.specs.declared.request.Together.TheVariants.{One, Pairs, Triples}
+use Rattle.lte_variants.specs.{Choices.share_from, Kinds.happening, Kinds.happens, Report.asked, Sizes.FewEnough, declared.kinds.Kinds.Kinds, declared.request.Request.Request, declared.request.Share.Share}
 
 -- MESSAGES: no more than steps
 
@@ -66,36 +65,77 @@ each-few all faults (m ∷ ms) few =
     let rest = each-few all (of_message all m faults) ms few in
     omega (arith, one, rest, few)
 
-faults-few : (all : List Entry) (ms : List ℕ) → length all ≤ 2000 → length ms ≤ 2000 → length (faults_of all ms) ≤ 16000000
-faults-few all ms few fewer = let each = each-few all [] ms few in omega (arith, each, fewer)
+-- by the number of messages
+faults-few : (all : List Entry) (ms : List ℕ) (n : ℕ) → length all ≤ 2000 → length ms ≤ n → length (faults_of all ms) ≤ n * 8000
+faults-few all ms n few fewer = let each = each-few all [] ms few in omega (arith, each, fewer)
 
--- CHOICES
+-- CHOICES: of each fault more so many times as many
 
-pairs-few : (fs : List Fault) → length fs ≤ 16000000 → length (pairs fs) ≤ length fs * 16000000
-unfolding pairs
-pairs-few [] few = omega arith
-pairs-few (f ∷ fs) few =
-    let one = length-map fs (pair f) in
-    let both = length-append (map (pair f) fs) (pairs fs) in
-    let rest = pairs-few fs (omega (arith, few)) in
-    omega (arith, one, both, rest, few)
+more-few : (n k c : ℕ) → ((gs : List Fault) → length gs ≤ n → length (sets_of k gs) ≤ c) → (fs : List Fault) → length fs ≤ n
+    → length (sets_of (suc k) fs) ≤ length fs * c
+unfolding sets_of
+more-few n k c each [] few = omega arith
+more-few n k c each (f ∷ fs) few =
+    let less : length fs ≤ n = omega (arith, few) in
+    let one = length-map (sets_of k fs) (λ s. f ∷ s) in
+    let both = length-append (map (λ s. f ∷ s) (sets_of k fs)) (sets_of (suc k) fs) in
+    let first = each fs less in
+    let rest = more-few n k c each fs less in
+    omega (arith, one, both, first, rest)
 
-triples-few : (fs : List Fault) → length fs ≤ 16000000 → length (triples fs) ≤ length fs * 256000000000000
-unfolding triples
-triples-few [] few = omega arith
-triples-few (f ∷ fs) few =
-    let less : length fs ≤ 16000000 = omega (arith, few) in
-    let one = length-map (pairs fs) (λ two. f ∷ two) in
-    let both = length-append (map (λ two. f ∷ two) (pairs fs)) (triples fs) in
-    let two = pairs-few fs less in
-    let rest = triples-few fs less in
-    omega (arith, one, both, two, rest, few)
+most : ℕ → ℕ → ℕ
+most n zero = 1
+most n (suc k) = n * most n k
 
-choices-few : (together : Together) (fs : List Fault) → length fs ≤ 16000000
-    → length (choices_of together fs) ≤ 4096000000000000000000
-choices-few One fs few = let one = length-map fs alone in omega (arith, one, few)
-choices-few Pairs fs few = let two = pairs-few fs few in omega (arith, two, few)
-choices-few Triples fs few = let three = triples-few fs few in omega (arith, three, few)
+times-few : (n m c : ℕ) → n ≤ m → n * c ≤ m * c
+times-few zero m c h = omega arith
+times-few (suc n) zero c h = absurd (omega (arith, h))
+times-few (suc n) (suc m) c h = let rest = times-few n m c (omega (arith, h)) in omega (arith, rest)
+
+sets-few : (n k : ℕ) (fs : List Fault) → length fs ≤ n → length (sets_of k fs) ≤ most n k
+unfolding sets_of most
+sets-few n zero fs few = omega arith
+sets-few n (suc k) fs few =
+    let one = more-few n k (most n k) (sets-few n k) fs few in
+    let all = times-few (length fs) n (most n k) few in
+    omega (arith, one, all)
+
+-- up to five of 16,000,000 faults, and up to eight of 64,000
+most-wide : (k : ℕ) → k ≤ 5 → most 16000000 k < 2 ^ 128
+unfolding most
+most-wide zero h = omega arith
+most-wide (suc zero) h = omega arith
+most-wide (suc (suc zero)) h = omega arith
+most-wide (suc (suc (suc zero))) h = omega arith
+most-wide (suc (suc (suc (suc zero)))) h = omega arith
+most-wide (suc (suc (suc (suc (suc zero))))) h = omega arith
+most-wide (suc (suc (suc (suc (suc (suc k)))))) h = absurd (omega (arith, h))
+
+most-named : (k : ℕ) → k ≤ 8 → most 64000 k < 2 ^ 128
+unfolding most
+most-named zero h = omega arith
+most-named (suc zero) h = omega arith
+most-named (suc (suc zero)) h = omega arith
+most-named (suc (suc (suc zero))) h = omega arith
+most-named (suc (suc (suc (suc zero)))) h = omega arith
+most-named (suc (suc (suc (suc (suc zero))))) h = omega arith
+most-named (suc (suc (suc (suc (suc (suc zero)))))) h = omega arith
+most-named (suc (suc (suc (suc (suc (suc (suc zero))))))) h = omega arith
+most-named (suc (suc (suc (suc (suc (suc (suc (suc zero)))))))) h = omega arith
+most-named (suc (suc (suc (suc (suc (suc (suc (suc (suc k))))))))) h = absurd (omega (arith, h))
+
+choices-few : (k n : ℕ) (all : List Fault) (fs : List Fault) → FewEnough k n → length all ≤ n * 8000 → length fs ≤ length all
+    → length (sets_of k fs) < 2 ^ 128
+choices-few k n all fs (inl wide) few kept =
+    let m = wide.1 in
+    let some = sets-few 16000000 k fs (omega (arith, m, few, kept)) in
+    let most = most-wide k wide.0 in
+    omega (arith, some, most)
+choices-few k n all fs (inr named) few kept =
+    let m = named.1 in
+    let some = sets-few 64000 k fs (omega (arith, m, few, kept)) in
+    let most = most-named k named.0 in
+    omega (arith, some, most)
 
 -- A SHARE OF THEM
 
@@ -115,14 +155,13 @@ happening-few : (k : Kinds) (fs : List Fault) → length (happening k fs) ≤ le
 happening-few k [] = omega arith
 happening-few k (f ∷ fs) = taken-few (happens k f) f (happening k fs) (length fs) (happening-few k fs)
 
-pub asked-few : (r : Request) (o : Original) (messages : List ℕ) → length o.steps ≤ most_steps → length messages ≤ most_steps
+pub asked-few : (r : Request) (o : Original) (messages : List ℕ) → length o.steps ≤ most_steps → FewEnough r.faults (length messages)
     → length (asked r o messages) < 2 ^ 128
 asked-few r o messages few fewer =
     let items = length-map o.steps (entry_of (length o.steps) o.steps) in
     let all = faults_of (entries o) messages in
-    let faults : length all ≤ 16000000 = faults-few (entries o) messages (omega (arith, items, few)) fewer in
+    let faults : length all ≤ length messages * 8000 = faults-few (entries o) messages (length messages) (omega (arith, items, few)) (omega arith) in
     let kept = happening-few r.kinds all in
-    let choices = choices-few r.together (happening r.kinds all) (omega (arith, faults, kept)) in
-    let share = share-few r.share 0 (choices_of r.together (happening r.kinds all)) in
-    let most : 4096000000000000000000 < 2 ^ 128 = omega arith in
-    omega (arith, choices, share, most)
+    let choices = choices-few r.faults (length messages) all (happening r.kinds all) fewer faults kept in
+    let share = share-few r.share 0 (sets_of r.faults (happening r.kinds all)) in
+    omega (arith, choices, share)

@@ -4,3 +4,4 @@ pub mod Few
 pub mod Telling
 pub mod Running
 pub mod Exact
+pub mod EachOnce

@@ -3,12 +3,12 @@ use Rattle.std.proofs.Common.{◌≡◌, refl, sym, ap, subst, ◌∙◌, ℕ, �
 use Rattle.std.specs.{Prelude.IsTrue, List.filter, List.flat_map, Option.is_some}
 use Rattle.std.proofs.lemmas.List.{drop_more}
 use Rattle.edge_io.specs.Told.{Told}
-use Rattle.item_faults.specs.{Steps.messages_of, declared.changes.Fault.Fault, declared.messages.Message.Message, declared.steps.Step.Step}
-use Rattle.item_outcomes.specs.declared.judging.Outcome.{Outcome}
+use Rattle.item_faults.specs.{declared.changes.Fault.Fault, declared.messages.Message.Message, declared.steps.Step.Step}
+use Rattle.item_outcomes.specs.Outcomes.{Verdict}
 use Rattle.run_report.specs.{Written.WritesText, declared.unwritten.Unwritten.Unwritten}
 use Rattle.run_report.proofs.Partly.{Begins, Partly, all_written, cut_written, last_cut, last_written, more_written, none_written}
 use Rattle.variant_runs.specs.{Judged.judged, Original.Original}
-use Rattle.lte_variants.specs.Report.{is_variant, line_at, line_of, line_told, line_with, message_at, report_of, report_with, variant_lines, variants}
+use Rattle.lte_variants.specs.Report.{is_variant, line_at, line_of, line_told, line_with, message_at, messages_asked, report_of, report_with, variant_lines, variants}
 use Rattle.lte_variants.specs.declared.request.Request.{Request}
 
 -- A TEXT, whatever its writer answers
@@ -40,11 +40,11 @@ each_more f xs i d within = record { is = ap (flat_map f) (drop_more xs i d with
 
 -- A VARIANT
 
-pub told_line : (o : Original) (faults : List Fault) (told : Option (List Outcome)) → told ≡ judged o faults → line_told faults told ≡ line_of o faults
+pub told_line : (o : Original) (faults : List Fault) (told : Option Verdict) → told ≡ judged o faults → line_told faults told ≡ line_of o faults
 unfolding line_of
 told_line o faults told is = ap (line_told faults) is
 
-pub told_so : (o : Original) (faults : List Fault) (told : Option (List Outcome)) → told ≡ judged o faults → is_some told ≡ is_variant o faults
+pub told_so : (o : Original) (faults : List Fault) (told : Option Verdict) → told ≡ judged o faults → is_some told ≡ is_variant o faults
 unfolding is_variant
 told_so o faults told is = ap is_some is
 
@@ -100,6 +100,6 @@ few_more left rest choice count next most false few is add = let one = ap length
 
 -- THE REPORT
 
-pub report_is : (r : Request) (o : Original) (messages : List ℕ) → messages ≡ messages_of r.packets o.steps → report_with r o messages ≡ report_of r o
+pub report_is : (r : Request) (o : Original) (messages : List ℕ) → messages ≡ messages_asked r o.steps → report_with r o messages ≡ report_of r o
 unfolding report_of
 report_is r o messages is = ap (report_with r o) is

@@ -1,8 +1,11 @@
 pub mod Status
 pub mod Kinds
+pub mod Named
 pub mod Request
+pub mod Sizes
 pub mod Choices
 pub mod Report
 pub mod Output
 pub mod Run
 pub mod Keys
+pub mod Once

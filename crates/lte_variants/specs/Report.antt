@@ -3,10 +3,11 @@ use Rattle.std.specs.Prelude.{ℕ, Bool, List, [], ◌++◌, length, Option, Som
 use Rattle.std.specs.{List.filter, List.flat_map, Option.is_some, Option.option_and_then}
 use Rattle.item_faults.specs.{Faults.faults_of, declared.changes.Fault.Fault, declared.messages.Message.Message, declared.steps.Step.Step}
 use Rattle.item_faults.specs.Steps.{delivered, messages_of, step_of}
-use Rattle.item_outcomes.specs.{declared.judging.Outcome.Outcome, declared.troubles.Trouble.Trouble}
+use Rattle.item_outcomes.specs.{Heals.heals_of, Outcomes.Verdict, declared.troubles.Trouble.Trouble}
 use Rattle.variant_runs.specs.{Judged.entries, Judged.judged, Original.Original, Troubles.troubles_of}
 use Rattle.variant_text.specs.Lines.{end_line, message_line, scenario_line, trouble_line, variant_line}
-use Rattle.lte_variants.specs.{Choices.choices_of, Choices.in_share, Kinds.happening, declared.request.Request.Request}
+use Rattle.fault_sets.specs.Sets.{sets_of}
+use Rattle.lte_variants.specs.{Choices.in_share, Kinds.happening, Named.those_named, declared.request.Request.Request}
 
 -- ITS MESSAGES: a line for each, by the step that delivers it
 abbrev pub message_at : List Step → ℕ → Option Message
@@ -20,9 +21,9 @@ unfoldable pub line_at : List Step → ℕ → List ℕ
 line_at steps number = line_with number (message_at steps number)
 
 -- ITS VARIANTS: a line for each choice of faults that go together
-abbrev pub line_told : List Fault → Option (List Outcome) → List ℕ
+abbrev pub line_told : List Fault → Option Verdict → List ℕ
 line_told faults None = []
-line_told faults (Some outcomes) = variant_line faults outcomes
+line_told faults (Some verdict) = variant_line faults verdict
 
 unfoldable pub line_of : Original → List Fault → List ℕ
 line_of o faults = line_told faults (judged o faults)
@@ -30,7 +31,10 @@ line_of o faults = line_told faults (judged o faults)
 unfoldable pub is_variant : Original → List Fault → Bool
 is_variant o faults = is_some (judged o faults)
 
--- THE REPORT: the scenario and its messages
+-- THE REPORT: the scenario and its messages, those that are named where some are
+abbrev pub messages_asked : Request → List Step → List ℕ
+messages_asked r steps = those_named r.named (messages_of r.packets steps)
+
 abbrev pub message_lines : Original → List ℕ → List ℕ
 message_lines o messages = flat_map (line_at o.steps) messages
 
@@ -39,7 +43,8 @@ abbrev pub trouble_lines : Original → List Trouble → List ℕ
 trouble_lines o troubles = flat_map (trouble_line (length o.steps)) troubles
 
 abbrev pub scenario_with : Original → ℕ → List Trouble → List ℕ
-scenario_with o messages troubles = scenario_line (length o.steps) messages o.usual.serving ++ trouble_lines o troubles
+scenario_with o messages troubles =
+    scenario_line (length o.steps) messages o.usual.serving (heals_of o.usual.told) ++ trouble_lines o troubles
 
 abbrev pub scenario_told : Original → ℕ → List ℕ
 scenario_told o messages = scenario_with o messages (troubles_of o.usual o.acts o.steps)
@@ -59,11 +64,11 @@ told_of o choices = variant_lines o choices ++ end_line (variants o choices)
 
 -- the choices of a share, of the faults of these messages that happen
 abbrev pub asked : Request → Original → List ℕ → List (List Fault)
-asked r o messages = in_share r.share (choices_of r.together (happening r.kinds (faults_of (entries o) messages)))
+asked r o messages = in_share r.share (sets_of r.faults (happening r.kinds (faults_of (entries o) messages)))
 
 -- both, by the messages
 abbrev pub report_with : Request → Original → List ℕ → List ℕ
 report_with r o messages = messages_told o messages ++ told_of o (asked r o messages)
 
 unfoldable pub report_of : Request → Original → List ℕ
-report_of r o = report_with r o (messages_of r.packets o.steps)
+report_of r o = report_with r o (messages_asked r o.steps)

@@ -3,6 +3,7 @@
 
 mod choices;
 mod kinds;
+mod named;
 mod reading;
 mod report;
 mod request;

@@ -7,11 +7,13 @@ ghost use Rattle.edge_io.specs.Lines.{are_lines};
 ghost use Rattle.item_faults.specs.Entries.{most_steps};
 ghost use Rattle.run_report.specs.Written.{WritesText};
 ghost use Rattle.variant_text.specs.Lines.{trouble_line};
-ghost use Rattle.lte_variants.specs.Report.{asked, is_variant, line_at, line_of, message_at, messages_told, report_of, report_with, scenario_told, scenario_with, told_of, variant_lines, variants};
-ghost use Rattle.lte_variants.specs.Request.{IsShare};
+ghost use Rattle.lte_variants.specs.Report.{asked, is_variant, line_at, line_of, message_at, messages_asked, messages_told, report_of, report_with, scenario_told, scenario_with, told_of, variant_lines, variants};
+ghost use Rattle.lte_variants.specs.Request.{IsRequest};
+ghost use Rattle.lte_variants.specs.Sizes.{FewEnough};
 
 use crate::choices::Shared;
 use crate::kinds::faults_with;
+use crate::named::those;
 use crate::request::Request;
 use edge_io::Sink;
 use item_faults::{Fault, Message, Step, delivered, messages_of};
@@ -29,13 +31,28 @@ pub(crate) fn write_report<W: Sink>(
     out: &mut W,
 ) -> Result<(), Unwritten>
     requires out_ready { IsTrue (W.told out.old).ready }
-    requires share { IsShare request.now.share }
+    requires request { IsRequest request.now }
     requires few { length study.now.steps ≤ most_steps }
     ensures { WritesText (report_of request.now study.now) result (W.told out.old) (W.told out.new) }
 {
-    match messages_of(alloc, request.packets, study.steps()) {
+    match messages_asked(alloc, request, study.steps()) {
         Ok(messages) => write_parts(alloc, request, study, messages.as_slice(), out),
         Err(_) => Err(Unwritten::Memory),
+    }
+}
+
+// The messages that faults happen to.
+fn messages_asked(alloc: Global, request: &Request, steps: &[Step]) -> Result<Vec<u32>, AllocError>
+    requires request { IsRequest request.now }
+    requires few { length steps.now ≤ most_steps }
+    ensures messages { IfOk result (λ list. list.items ≡ messages_asked request.now steps.now) }
+    ensures few { IfOk result (λ list. FewEnough request.now.faults (length list.items)) }
+    ensures refused { OnErr result WasRefused }
+{
+    let all = messages_of(alloc, request.packets, steps)?;
+    match &request.named {
+        Some(named) => those(alloc, named.steps(), all.as_slice()),
+        None => Ok(all),
     }
 }
 
@@ -48,9 +65,9 @@ fn write_parts<W: Sink>(
     out: &mut W,
 ) -> Result<(), Unwritten>
     requires out_ready { IsTrue (W.told out.old).ready }
-    requires share { IsShare request.now.share }
+    requires request { IsRequest request.now }
     requires few { length study.now.steps ≤ most_steps }
-    requires fewer { length messages.now ≤ most_steps }
+    requires fewer { FewEnough request.now.faults (length messages.now) }
     ensures { WritesText (report_with request.now study.now messages.now) result (W.told out.old) (W.told out.new) }
 {
     write_messages(alloc, study, messages, out)?;
@@ -103,7 +120,7 @@ fn write_itself<W: Sink>(
     ensures { WritesText (scenario_with study.now messages troubles.now) result (W.told out.old) (W.told out.new) }
 {
     let steps = study.steps().len() as u32;
-    let line = scenario_line(alloc, steps, messages, study.serving());
+    let line = scenario_line(alloc, steps, messages, study.serving(), study.heals());
     write_string(line, out)?;
     write_troubles(alloc, steps, troubles, out)
 }
@@ -175,14 +192,14 @@ fn write_variants<W: Sink>(
     out: &mut W,
 ) -> Result<(), Unwritten>
     requires out_ready { IsTrue (W.told out.old).ready }
-    requires share { IsShare request.now.share }
+    requires request { IsRequest request.now }
     requires few { length study.now.steps ≤ most_steps }
-    requires fewer { length messages.now ≤ most_steps }
+    requires fewer { FewEnough request.now.faults (length messages.now) }
     ensures { WritesText (told_of study.now (asked request.now study.now messages.now)) result (W.told out.old) (W.told out.new) }
 {
     match faults_with(alloc, request.kinds, study.entries(), messages) {
         Ok(faults) => {
-            let choices = Shared::of(request.share, request.together, faults.as_slice());
+            let choices = Shared::of(request.share, request.faults, faults.as_slice());
             write_told(alloc, study, choices, out)
         }
         Err(_) => Err(Unwritten::Memory),
@@ -243,13 +260,13 @@ fn write_choice<W: Sink>(
     out: &mut W,
 ) -> Result<bool, Unwritten>
     requires out_ready { IsTrue (W.told out.old).ready }
-    requires few { length faults.now ≤ 3 }
+    requires few { length faults.now ≤ 8 }
     ensures text { WritesText (line_of study.now faults.now) result (W.told out.old) (W.told out.new) }
     ensures told { IfOk result (λ told. told ≡ is_variant study.now faults.now) }
 {
-    match study.outcomes(alloc, faults) {
-        Ok(Some(outcomes)) => {
-            write_text(variant_line(alloc, faults, outcomes.as_slice()), out)?;
+    match study.verdict(alloc, faults) {
+        Ok(Some(verdict)) => {
+            write_text(variant_line(alloc, faults, &verdict), out)?;
             Ok(true)
         }
         Ok(None) => Ok(false),

@@ -6,7 +6,7 @@ ghost use Rattle.edge_io.specs.Used.{UsedAsSink};
 ghost use Rattle.lte_events.specs.Scenario.{IsScenario};
 ghost use Rattle.lte_variants.specs.Keys.{KeysTold};
 ghost use Rattle.lte_variants.specs.Output.{output_of, refusal_output, scenario_output, status_of};
-ghost use Rattle.lte_variants.specs.Request.{IsShare};
+ghost use Rattle.lte_variants.specs.Request.{IsRequest};
 ghost use Rattle.lte_variants.specs.Run.{WritesAt};
 ghost use Rattle.variant_keys.specs.Told.{KeysAreTold};
 
@@ -31,7 +31,7 @@ pub(crate) fn answer<W: Sink>(
     out: &mut W,
 ) -> Status
     requires ready { IsTrue (W.told out.old).ready }
-    requires share { IsShare request.now.share }
+    requires request { IsRequest request.now }
     ensures text { WritesAt (output_of request.now octets.now) result (W.told out.old) (W.told out.new) }
     ensures cause { result ≡ Status.WriteFault → Rose (W.told out.old).write_faults (W.told out.new).write_faults }
     ensures memory { result ≡ Status.Memory → WasRefused }
@@ -70,7 +70,7 @@ fn answer_scenario<W: Sink>(
     out: &mut W,
 ) -> Status
     requires ready { IsTrue (W.told out.old).ready }
-    requires share { IsShare request.now.share }
+    requires request { IsRequest request.now }
     requires is_scenario { IsScenario scenario.setup scenario.events.items }
     ensures text { WritesAt (scenario_output request.now scenario.setup scenario.events.items) result (W.told out.old) (W.told out.new) }
     ensures cause { result ≡ Status.WriteFault → Rose (W.told out.old).write_faults (W.told out.new).write_faults }

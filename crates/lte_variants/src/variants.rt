@@ -3,7 +3,8 @@ ghost use Rattle.growth.specs.Growth.{WasRefused};
 ghost use Rattle.edge_io.specs.Cause.{NoFault};
 ghost use Rattle.edge_io.specs.Used.{UsedAsSource, UsedAsSink};
 ghost use Rattle.lte_variants.specs.Keys.{KeysTold};
-ghost use Rattle.lte_variants.specs.Request.{request_of, IsShare};
+ghost use Rattle.lte_variants.specs.Once.{ChoicesOnce};
+ghost use Rattle.lte_variants.specs.Request.{request_of, IsRequest};
 ghost use Rattle.lte_variants.specs.Run.{RunAt, RunIsComplete};
 ghost use Rattle.lte_variants.specs.declared.request.Request.{Request as ARequest};
 
@@ -17,9 +18,11 @@ use std::alloc::Global;
 /// Runs the program with the words after its name: reads a scenario, and writes what becomes of it with faults of its
 /// messages.
 ///
-/// - `one` takes each fault alone, `pairs` two of them and `triples` three.
+/// - `one` takes each fault alone, `pairs` two of them and `triples` three; `sets` with a number behind it so many, up to eight.
 /// - A share, as `2/3` behind that word, takes each third choice of them only, from the second on.
 /// - `lost`, `late`, `twice` and `again` have only faults of these kinds happen.
+/// - `of` with steps behind it has faults happen to the messages alone that these deliver, up to eight, each later than the one before.
+///   More than five faults are taken only so.
 /// - `--packets` has faults happen to user packets too.
 ///
 /// The output is a line for the scenario, one for each of its messages, one for each choice of faults that go together, and the
@@ -42,8 +45,11 @@ pub fn run<R: Source, W: Sink>(
     ensures run { (request : ARequest) → request_of words.now ≡ Some request → RunAt request result (R.told input.old) (R.told input.new) (W.told out.old) (W.told out.new) }
     ensures complete { (request : ARequest) → request_of words.now ≡ Some request → RunIsComplete request result (R.told input.old) (R.told input.new) (W.told out.old) (W.told out.new) }
 
-    // Where all was told, what is told of keys that differ is exact.
+    // Where all was told, what is told of keys that differ is exact, and what heals leads to one key.
     ensures keys { result ≡ Status.Done → IfSome (R.told input.old).left KeysTold }
+
+    // Of the choices of faults that are asked for, none stands twice.
+    ensures once { (request : ARequest) → request_of words.now ≡ Some request → IfSome (R.told input.old).left (ChoicesOnce request) }
 
     // Memory ran out only where std refused it.
     ensures memory { result ≡ Status.Memory → WasRefused }
@@ -75,7 +81,7 @@ fn answer_input<R: Source, W: Sink>(
 ) -> Status
     requires input_ready { IsTrue (R.told input.old).ready }
     requires out_ready { IsTrue (W.told out.old).ready }
-    requires share { IsShare request.now.share }
+    requires request { IsRequest request.now }
     ensures run { RunAt request.now result (R.told input.old) (R.told input.new) (W.told out.old) (W.told out.new) }
     ensures keys { result ≡ Status.Done → IfSome (R.told input.old).left KeysTold }
     ensures complete { RunIsComplete request.now result (R.told input.old) (R.told input.new) (W.told out.old) (W.told out.new) }

@@ -1,7 +1,7 @@
 use key_terms::Proof;
 
 /// Why a world does not answer with a line.
-#[derive(Clone, Copy, Debug, Drop, PartialEq, Eq)]
+#[derive(Clone, Copy, Drop)]
 pub enum WorldFault {
     /// Memory ran out.
     Memory,

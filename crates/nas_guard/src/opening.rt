@@ -8,7 +8,7 @@ use nas_count::RxCount;
 use rec_base::{Dir, Octets};
 
 /// What a protected NAS message held.
-#[derive(Debug, PartialEq, Eq, Drop)]
+#[derive(Drop)]
 pub struct Opened {
     /// The security header type, 1 to 4 (TS 24.301 9.3.1).
     pub header: u8,

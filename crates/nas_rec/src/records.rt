@@ -6,7 +6,7 @@ use rec_base::{Bounded, RecFault, ShortText};
 use rec_fields::{algs_octet, list_of};
 
 /// A NAS text: its kind, one octet, and then its fields in order.
-#[derive(PartialEq, Eq, Debug, Drop)]
+#[derive(Drop)]
 pub enum NasRecord {
     /// 01, SECURITY MODE COMMAND (TS 24.301 8.2.20): 5 octets.
     SecurityModeCommand {

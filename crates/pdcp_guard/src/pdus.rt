@@ -1,7 +1,7 @@
 use rec_base::Octets;
 
 /// A PDU as sent, and the COUNT that it took.
-#[derive(Debug, PartialEq, Eq, Drop)]
+#[derive(Drop)]
 pub struct PdcpSent {
     /// The octets.
     pub pdu: Octets,
@@ -10,7 +10,7 @@ pub struct PdcpSent {
 }
 
 /// What a PDU held.
-#[derive(Debug, PartialEq, Eq, Drop)]
+#[derive(Drop)]
 pub struct PdcpOpened {
     /// Its COUNT, of 32 bits.
     pub count: u32,

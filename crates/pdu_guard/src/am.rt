@@ -27,7 +27,7 @@ pub struct AmFound {
 }
 
 /// Why a PDU has no COUNT.
-#[derive(Clone, Copy, Debug, PartialEq, Eq)]
+#[derive(Clone, Copy, Debug)]
 pub enum AmFault {
     /// The header is not whole.
     Short,

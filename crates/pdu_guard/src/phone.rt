@@ -6,7 +6,7 @@ ghost use Rattle.pdu_guard.specs.Phone.{keys_in};
 use annex_a_keys::{Cell, Kasme, Kenb, Nh, Star};
 
 /// What a phone keeps of its chain (TS 33.401 7.2.8.1.1).
-#[derive(Clone, Copy, PartialEq, Eq)]
+#[derive(Clone, Copy)]
 pub struct Phone {
     /// KASME.
     pub root: Kasme,

@@ -12,7 +12,7 @@ use nas_count::LIMIT;
 use rec_base::Dir;
 
 /// Why four octets are no Service Request that was made under a key.
-#[derive(Clone, Copy, Debug, PartialEq, Eq)]
+#[derive(Clone, Copy, Debug)]
 pub enum ServiceFault {
     /// The first octet, which this holds, is not C7 hex: security header type 12 and protocol discriminator 7.
     BadHeader(u8),

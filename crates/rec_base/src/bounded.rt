@@ -6,7 +6,7 @@ use arrayvec::ArrayVec;
 use std::marker::Model;
 
 /// A list of at most `N` octets, which lies in the value itself. A contract sees it as the list.
-#[derive(Clone, PartialEq, Eq, Debug, Drop)]
+#[derive(Clone, PartialEq, Eq, Drop)]
 pub struct Bounded<const N: usize> {
     octets: ArrayVec<u8, N>,
 }

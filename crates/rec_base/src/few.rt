@@ -7,7 +7,7 @@ use std::alloc::AllocError;
 use std::marker::Model;
 
 /// A list of at most `N` items, which lies in the value itself. A contract sees it as the list.
-#[derive(PartialEq, Eq, Debug, Drop)]
+#[derive(PartialEq, Eq, Drop)]
 pub struct Few<T, const N: usize> {
     items: ArrayVec<T, N>,
 }

@@ -1,7 +1,7 @@
 // The direction of a message, and one use of a key.
 
 /// DIRECTION, of one bit: 0 for uplink, 1 for downlink (TS 33.401 B.1.1 and B.2.1).
-#[derive(Clone, Copy, PartialEq, Eq, Debug)]
+#[derive(Clone, Copy, PartialEq, Eq)]
 pub enum Dir {
     /// From the phone.
     Up,
@@ -22,7 +22,7 @@ impl Default for Dir {
 
 /// One use of an algorithm key: what a ciphering or an integrity algorithm takes beside the text
 /// (TS 33.401 B.1.1 and B.2.1).
-#[derive(Clone, Copy, PartialEq, Eq, Debug, Default)]
+#[derive(Clone, Copy, PartialEq, Eq, Default)]
 pub struct Use {
     /// The whole algorithm key, of 32 octets (TS 33.401 A.7).
     pub key: [u8; 32],

@@ -1,7 +1,7 @@
 // How a KeNB came about.
 
 /// How an actor came by the key of a step (TS 33.401 7.2.8 and 7.2.9).
-#[derive(Clone, Copy, PartialEq, Eq, Debug)]
+#[derive(Clone, Copy)]
 pub enum Way {
     /// From KASME at initial context setup.
     Initial,

@@ -1,6 +1,6 @@
 ghost use Rattle.std.specs.Prelude.{◌≤◌, length};
 
-use crate::values::same;
+use crate::values::{alike_at, same};
 use alg_choice::{Algs, Caps, Eea, Priority};
 use annex_a_keys::Cell;
 use lte_events::{
@@ -78,20 +78,16 @@ fn station(id: u8) -> StationSetup {
 #[test]
 fn full_list_hands_the_item_back(rt: HostRuntime) {
     let mut stations: Few<StationSetup, 2> = Few::new();
-    same(&rt, stations.try_push(station(3)), Ok(()));
-    same(&rt, stations.try_push(station(5)), Ok(()));
-    same(&rt, stations.try_push(station(0)), Err(station(0)));
-    same(
-        &rt,
-        stations.as_slice(),
-        [station(3), station(5)].as_slice(),
-    );
-    same(&rt, &stations.clone().unwrap(), &stations);
+    assert!(rt; stations.try_push(station(3)).is_ok());
+    assert!(rt; stations.try_push(station(5)).is_ok());
+    assert!(rt; stations.try_push(station(0)) == Err(station(0)));
+    assert!(rt; stations.as_slice() == [station(3), station(5)].as_slice());
+    assert!(rt; stations.clone().unwrap() == stations);
     let mut more: Few<StationSetup, 3> = Few::new();
     more.push(station(1));
     more.append(stations.as_slice());
     let ids = [station(1), station(3), station(5)];
-    same(&rt, more.as_slice(), ids.as_slice());
+    assert!(rt; more.as_slice() == ids.as_slice());
 }
 
 #[test]
@@ -149,13 +145,19 @@ fn listed_events_are_read_back(rt: HostRuntime) {
     let list = Events::of(rt.alloc(), &events).expect(&rt, "memory");
     same(&rt, list.len(), events.len());
     for (number, event) in events.iter().enumerate() {
-        same(&rt, &list.at(number), event);
+        alike_at(&rt, number, &list.at(number), event);
     }
 }
 
 #[test]
 fn empty_reply_is_done(rt: HostRuntime) {
-    let reply = ActorOut::of(Answer::Done);
-    same(&rt, &reply, &ActorOut::default());
-    same(&rt, reply.derived.as_slice().len(), 0);
+    for reply in [ActorOut::of(Answer::Done), ActorOut::default()] {
+        assert!(rt; reply.answer == Answer::Done);
+        assert!(rt; reply.sent.is_none() && reply.tuple.is_none() && reply.opened.is_none());
+        same(&rt, reply.derived.as_slice().len(), 0);
+        assert!(rt; reply.received.is_none());
+        same(&rt, reply.used.as_slice().len(), 0);
+        assert!(rt; reply.accepted.is_none() && reply.note.is_none());
+        assert!(rt; !reply.alarm);
+    }
 }

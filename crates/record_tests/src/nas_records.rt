@@ -1,7 +1,7 @@
 use crate::values::same;
 use alg_choice::{Algs, Caps, Eea};
 use nas_rec::NasRecord;
-use rec_base::{RecFault, ShortText};
+use rec_base::RecFault;
 
 #[test]
 fn records_are_read_as_spelled_and_written_back(rt: HostRuntime) {
@@ -13,16 +13,34 @@ fn records_are_read_as_spelled_and_written_back(rt: HostRuntime) {
     let octets = [0x01, 6, 0x22, 0xa0, 0x20];
     let command = NasRecord::SecurityModeCommand { ksi: 6, algs, caps };
     same(&rt, command.write().as_slice(), octets.as_slice());
-    same(&rt, NasRecord::read(&octets), Ok(command));
+    assert!(rt;
+        matches!(
+            NasRecord::read(&octets),
+            Ok(NasRecord::SecurityModeCommand {
+                ksi: 6,
+                algs: Algs { eea: Eea::Eea2 },
+                caps: Caps {
+                    eea: 0xa0,
+                    eia: 0x20
+                }
+            })
+        )
+    );
     let reject = NasRecord::SecurityModeReject { cause: 23 };
     same(&rt, reject.write().as_slice(), [0x03, 0x17].as_slice());
-    same(&rt, NasRecord::read(&[0x03, 0x17]), Ok(reject));
-    same(
-        &rt,
-        NasRecord::read(&[0x02]),
-        Ok(NasRecord::SecurityModeComplete),
+    assert!(rt;
+        matches!(
+            NasRecord::read(&[0x03, 0x17]),
+            Ok(NasRecord::SecurityModeReject { cause: 23 })
+        )
     );
-    same(&rt, NasRecord::read(&[0x04]), Ok(NasRecord::ServiceRequest));
+    assert!(rt;
+        matches!(
+            NasRecord::read(&[0x02]),
+            Ok(NasRecord::SecurityModeComplete)
+        )
+    );
+    assert!(rt; matches!(NasRecord::read(&[0x04]), Ok(NasRecord::ServiceRequest)));
     same(
         &rt,
         NasRecord::ServiceRequest.write().as_slice(),
@@ -32,22 +50,16 @@ fn records_are_read_as_spelled_and_written_back(rt: HostRuntime) {
 
 #[test]
 fn text_has_up_to_200_octets(rt: HostRuntime) {
-    same(
-        &rt,
-        NasRecord::read(&[0x05]),
-        Ok(NasRecord::NasData(ShortText::new())),
-    );
-    let mut text = ShortText::new();
     let mut octets = [7u8; 202];
     octets[0] = 0x05;
-    for _ in 0..200 {
-        same(&rt, text.try_push(7), Ok(()));
+    match NasRecord::read(&octets[..1]) {
+        Ok(NasRecord::NasData(text)) => same(&rt, text.as_slice().len(), 0),
+        _ => panic!(rt; "no text of no octet"),
     }
-    same(
-        &rt,
-        NasRecord::read(&octets[..201]),
-        Ok(NasRecord::NasData(text)),
-    );
+    match NasRecord::read(&octets[..201]) {
+        Ok(NasRecord::NasData(text)) => same(&rt, text.as_slice(), &octets[1..201]),
+        _ => panic!(rt; "no text of 200 octets"),
+    }
     same(&rt, NasRecord::read(&octets).err(), Some(RecFault::Long));
 }
 

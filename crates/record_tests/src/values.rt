@@ -22,3 +22,15 @@ pub(crate) fn same_at<P: Debug + Drop, T: PartialEq + Debug + Drop>(
 {
     assert_eq!(rt; got, wanted, "at {place:?}");
 }
+
+// As `same_at`, for values that are not printed.
+pub(crate) fn alike_at<P: Debug + Drop, T: PartialEq + Drop>(
+    rt: &impl Abort,
+    place: P,
+    got: T,
+    wanted: T,
+)
+    ensures { IsTrue (T.eq got wanted) }
+{
+    assert!(rt; got == wanted, "at {place:?}");
+}

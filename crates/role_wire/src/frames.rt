@@ -11,7 +11,7 @@ pub type Frame = Bounded<4098>;
 pub const GREATEST_BODY: u16 = 4096;
 
 /// What an actor is told.
-#[derive(PartialEq, Eq, Debug, Drop)]
+#[derive(Drop)]
 pub enum FrameIn {
     /// What it starts with. The first frame of a session is one, and no later frame is.
     Setup(RoleSetup),
@@ -20,7 +20,7 @@ pub enum FrameIn {
 }
 
 /// What an actor starts with.
-#[derive(PartialEq, Eq, Debug, Drop)]
+#[derive(Drop)]
 pub enum RoleSetup {
     /// The phone: its capabilities.
     Phone(Caps),

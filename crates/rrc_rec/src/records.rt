@@ -7,7 +7,7 @@ use rec_base::{Octets, RecFault, ShortText};
 use rec_fields::{algs_octet, list_of, put_cell, put_u32};
 
 /// An RRC text: its kind, one octet, and then its fields in order.
-#[derive(PartialEq, Eq, Debug, Drop)]
+#[derive(Drop)]
 pub enum RrcRecord {
     /// 01, SecurityModeCommand (TS 36.331 5.3.4): 7 octets.
     SecurityModeCommand {

@@ -1,5 +1,5 @@
 /// How a report ends.
-#[derive(Clone, Copy, Debug, PartialEq, Eq)]
+#[derive(Clone, Copy)]
 pub enum Ending {
     /// After all events, with what it says of them as a whole.
     Done,

@@ -1,5 +1,5 @@
 /// Why a text was not written to its end.
-#[derive(Clone, Copy, Debug, Drop, PartialEq, Eq)]
+#[derive(Clone, Copy, Debug, Drop)]
 pub enum Unwritten {
     /// Std refused memory.
     Memory,

@@ -5,7 +5,7 @@ use std::alloc::{AllocError, AllocFailed};
 
 /// Why a text is no scenario: the first fault, in the order of the text's parts. A fault in a step
 /// names the step, counted from 0, and one before the steps none.
-#[derive(Clone, Copy, Debug, Drop, PartialEq, Eq)]
+#[derive(Clone, Copy, Debug, Drop)]
 pub enum ScenarioFault {
     /// Std refused memory. This says nothing of the text.
     Memory,

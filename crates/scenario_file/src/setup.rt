@@ -40,7 +40,7 @@ pub(crate) struct Network {
 
 // What a system starts with: the phone, the core and the stations; how many such phones; and the core of each
 // station by its number, which is 0 where there is no such station.
-#[derive(PartialEq, Eq, Drop)]
+#[derive(Drop)]
 pub(crate) struct Start {
     pub(crate) setup: Setup,
     pub(crate) phones: u16,

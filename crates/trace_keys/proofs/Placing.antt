@@ -1,15 +1,15 @@
 -- A lawful move sends where its place is, or nothing.
 use Rattle.std.proofs.Common.{◌≡◌, ℕ, Bool, true, false, Option, None, Some, List, refl}
-use Rattle.std.specs.Prelude.{slice_get, if◌then◌else◌, nat_eq, nat_lt}
+use Rattle.std.specs.Prelude.{slice_get, if◌then◌else◌, ◌&&◌, not, nat_eq, nat_lt}
 use Rattle.annex_a_keys.specs.Cell.{Place}
 use Rattle.key_model.specs.Reading.{Reading}
 use Rattle.nh_chain.specs.Station.{opened}
 use Rattle.trace_rules.specs.Rules.{Done}
 use Rattle.trace_keys.specs.declared.{moves.Where.Where, moves.Move.Move}
-use Rattle.trace_keys.specs.declared.moves.Where.TheVariants.{Setup, Change, Took, Over}
+use Rattle.trace_keys.specs.declared.moves.Where.TheVariants.{Setup, Change, Took, Request, Over}
 use Rattle.trace_keys.specs.declared.moves.Move.TheVariants.{Renew, Offer, Take, Switch, Ask, Prepare, Require, Arrive, Cancel, Refresh, Leave}
 use Rattle.trace_keys.specs.Net.{Target, Offer as OfferOf, Serving, Net, Sight}
-use Rattle.trace_keys.specs.Moved.{count_limit, is_fresh, renewed, offered, offers, begins, took, taken_on, prepared, arrived, cancelled, moved_in, if_connected, moved}
+use Rattle.trace_keys.specs.Moved.{count_limit, is_fresh, renewed, offered, offers, begins, took, taken_on, may_come, prepared, required, arrived, cancelled, moved_in, if_connected, moved}
 use Rattle.trace_keys.specs.Places.{place_in, place_by, place_of}
 
 abbrev pub where_of : {K : Type 0} → Option (Sight K) → Option Where
@@ -42,10 +42,6 @@ module _ {K C : Type 0} (r : Reading K C) where
   placed_took s None = tt
   placed_took s (Some o) = placed_if (nat_lt o.count count_limit) (taken_on r s o) (Some (Took s.station)) refl
 
-  none_or : (b : Bool) (done : Done (Net K C) (Sight K)) (at : Option Where) → where_of done.sent ≡ at → Placed (if b then None else Some done) at
-  none_or true done at e = tt
-  none_or false done at e = e
-
   placed_arrived : (net : Net K C) (s : Serving K C) (t : Option (Target K C)) → Placed (arrived net s t) None
   placed_arrived net s None = tt
   placed_arrived net s (Some t) = refl
@@ -60,9 +56,9 @@ module _ {K C : Type 0} (r : Reading K C) where
   placed_in kasmes net s Take = placed_took s s.offer
   placed_in kasmes net s Switch = refl
   placed_in kasmes net s (Ask what) = refl
-  placed_in kasmes net s (Prepare station cell) =
-      none_or (nat_eq station s.station) (prepared r net s (opened r s.key cell) station cell) (Some (Over s.station station)) refl
-  placed_in kasmes net s (Require station cell) = refl
+  placed_in kasmes net s (Prepare station cell goes) =
+      placed_if (not (nat_eq station s.station) && may_come goes s.target) (prepared r net s (opened r s.key cell) station cell goes) (Some (Over s.station station)) refl
+  placed_in kasmes net s (Require station cell goes) = placed_if (may_come goes s.target) (required r net s station cell goes) (Some (Request station)) refl
   placed_in kasmes net s Arrive = placed_arrived net s s.target
   placed_in kasmes net s Cancel = placed_cancelled net s s.target
   placed_in kasmes net s (Refresh cell) = refl

@@ -1,9 +1,10 @@
 -- What each move does, where it is lawful (TS 33.401 7.2.6, 7.2.8 and 7.2.9), in any reading of keys.
 use Rattle.std.specs.Prelude.{ℕ, ◌+◌, ◌^◌, Bool, true, false, ◌&&◌, nat_eq, nat_lt, not, if◌then◌else◌, Option, None, Some, List, slice_get}
+use Rattle.std.specs.Option.{is_some}
 use Rattle.annex_a_keys.specs.Cell.{Place}
 use Rattle.key_model.specs.{Reading.Reading, HandoverTable.NumberedKey, HandoverLines.star_line, HandoverLines.change_line}
 use Rattle.nh_chain.specs.Chain.{ChainState, begun, present_pair, stepped}
-use Rattle.nh_chain.specs.Station.{StationKey, Opened, initial_key, given_key, stored, opened, restored_if}
+use Rattle.nh_chain.specs.Station.{Opened, initial_key, given_key, stored, opened, restored_if}
 use Rattle.trace_rules.specs.Rules.{Done}
 use Rattle.trace_keys.specs.declared.{moves.Where.Where, moves.Move.Move, moves.Unanswered.Unanswered}
 use Rattle.trace_keys.specs.declared.moves.Where.TheVariants.{Setup, Change, Took, Answer, Asked, Request, Over}
@@ -119,29 +120,45 @@ abbrev pub asked : {K C : Type 0} → Reading K C → Net K C → Serving K C �
 asked r net s what =
     record { net = with_serving net (unanswered r s what); sent = Some (record { at = Asked s.station; pair = None }) }
 
+-- of a target that was prepared before and a new one, that to which the phone may come (TS 36.300 10.1.2.1)
+abbrev pub target_of : {K C : Type 0} → Bool → Option (Target K C) → Target K C → Option (Target K C)
+target_of true before new = Some new
+target_of false before new = before
+
+-- the phone comes to the new target, or there is another
+abbrev pub may_come : {K C : Type 0} → Bool → Option (Target K C) → Bool
+may_come true before = true
+may_come false before = is_some before
+
 -- a handover over X2 is prepared: of the stored pair, or else of the key in use (7.2.8.4.1, 7.2.8.4.2)
-abbrev pub prepared : {K C : Type 0} → Reading K C → Net K C → Serving K C → Opened K C → ℕ → Place → Done (Net K C) (Sight K)
-prepared r net s o station cell = record {
-  net = with_serving net (record s { key = o.key; target = Some (record { station = station; cell = cell; star = o.star; spent = o.spent }) });
+abbrev pub prepared : {K C : Type 0} → Reading K C → Net K C → Serving K C → Opened K C → ℕ → Place → Bool → Done (Net K C) (Sight K)
+prepared r net s o station cell goes = record {
+  net = with_serving net (record s {
+    key = o.key;
+    target = target_of goes s.target (record { station = station; cell = cell; star = o.star; spent = o.spent });
+  });
   sent = Some (sighted r (Over s.station station) o.star);
 }
 
 -- to another station: within one there is no X2
-abbrev pub prepared_at : {K C : Type 0} → Reading K C → Net K C → Serving K C → ℕ → Place → Option (Done (Net K C) (Sight K))
-prepared_at r net s station cell =
-    if nat_eq station s.station then None else Some (prepared r net s (opened r s.key cell) station cell)
+abbrev pub prepared_at : {K C : Type 0} → Reading K C → Net K C → Serving K C → ℕ → Place → Bool → Option (Done (Net K C) (Sight K))
+prepared_at r net s station cell goes =
+    if not (nat_eq station s.station) && may_come goes s.target then Some (prepared r net s (opened r s.key cell) station cell goes) else None
 
 -- a handover over S1 is prepared: the core steps its chain, and the target makes KeNB* of the pair (7.2.8.4.3)
-abbrev pub required : {K C : Type 0} → Reading K C → Net K C → Serving K C → ℕ → Place → Done (Net K C) (Sight K)
-required r net s station cell =
+abbrev pub required : {K C : Type 0} → Reading K C → Net K C → Serving K C → ℕ → Place → Bool → Done (Net K C) (Sight K)
+required r net s station cell goes =
     let pair = present_pair (stepped r s.core) in
     record {
       net = with_serving net (record s {
         core = stepped r s.core;
-        target = Some (record { station = station; cell = cell; star = star_line r pair cell.pci cell.earfcn; spent = None });
+        target = target_of goes s.target (record { station = station; cell = cell; star = star_line r pair cell.pci cell.earfcn; spent = None });
       });
       sent = Some (sighted r (Request station) pair);
     }
+
+abbrev pub required_at : {K C : Type 0} → Reading K C → Net K C → Serving K C → ℕ → Place → Bool → Option (Done (Net K C) (Sight K))
+required_at r net s station cell goes = if may_come goes s.target then Some (required r net s station cell goes) else None
 
 -- the phone comes to the target
 abbrev pub arrived : {K C : Type 0} → Net K C → Serving K C → Option (Target K C) → Option (Done (Net K C) (Sight K))
@@ -180,8 +197,8 @@ moved_in r kasmes net s (Offer kasme count early) = offered r (slice_get kasmes 
 moved_in r kasmes net s Take = took r s s.offer
 moved_in r kasmes net s Switch = Some (switched r net s)
 moved_in r kasmes net s (Ask what) = Some (asked r net s what)
-moved_in r kasmes net s (Prepare station cell) = prepared_at r net s station cell
-moved_in r kasmes net s (Require station cell) = Some (required r net s station cell)
+moved_in r kasmes net s (Prepare station cell goes) = prepared_at r net s station cell goes
+moved_in r kasmes net s (Require station cell goes) = required_at r net s station cell goes
 moved_in r kasmes net s Arrive = arrived net s s.target
 moved_in r kasmes net s Cancel = cancelled net s s.target
 moved_in r kasmes net s (Refresh cell) = Some (refreshed net s (opened r s.key cell) cell)

@@ -77,22 +77,37 @@ fn asked(net: &Net, s: &Serving, what: &Unanswered) -> Done
     }
 }
 
+// Of a target that was prepared before and a new one, that to which the phone may come.
+fn target_of(goes: bool, before: &Option<Target>, new: &Target) -> Option<Target>
+    ensures { result ≡ by.target_of goes before.now new.now }
+{
+    if goes { Some(*new) } else { *before }
+}
+
+// Whether the phone comes to the new target, or there is another.
+fn may_come(goes: bool, before: &Option<Target>) -> bool
+    ensures { result ≡ by.may_come goes before.now }
+{
+    if goes { true } else { before.is_some() }
+}
+
 // A handover over X2 is prepared.
-fn prepared(net: &Net, s: &Serving, station: u8, cell: &Cell) -> Done
-    ensures { result ≡ by.prepared octet_reading net.now s.now (opened octet_reading s.now.key cell.now) station cell.now }
+fn prepared(net: &Net, s: &Serving, station: u8, cell: &Cell, goes: bool) -> Done
+    ensures { result ≡ by.prepared octet_reading net.now s.now (opened octet_reading s.now.key cell.now) station cell.now goes }
 {
     let star = s.key.star(cell);
+    let target = Target {
+        station,
+        cell: *cell,
+        star,
+        spent: s.key.pair,
+    };
     let serving = Serving {
         core: s.core,
         station: s.station,
         cell: s.cell,
         key: s.key.spent(cell),
-        target: Some(Target {
-            station,
-            cell: *cell,
-            star,
-            spent: s.key.pair,
-        }),
+        target: target_of(goes, &s.target, &target),
         offer: s.offer,
     };
     Done {
@@ -105,33 +120,36 @@ fn prepared(net: &Net, s: &Serving, station: u8, cell: &Cell) -> Done
 }
 
 // The same, to another station.
-fn prepared_at(net: &Net, s: &Serving, station: u8, cell: &Cell) -> Option<Done>
-    ensures { result ≡ by.prepared_at octet_reading net.now s.now station cell.now }
+fn prepared_at(net: &Net, s: &Serving, station: u8, cell: &Cell, goes: bool) -> Option<Done>
+    ensures { result ≡ by.prepared_at octet_reading net.now s.now station cell.now goes }
 {
-    if station == s.station {
-        None
+    let other = station != s.station;
+    let may = may_come(goes, &s.target);
+    if other && may {
+        Some(prepared(net, s, station, cell, goes))
     } else {
-        Some(prepared(net, s, station, cell))
+        None
     }
 }
 
 // A handover over S1 is prepared.
-fn required(net: &Net, s: &Serving, station: u8, cell: &Cell) -> Done
-    ensures { result ≡ by.required octet_reading net.now s.now station cell.now }
+fn required(net: &Net, s: &Serving, station: u8, cell: &Cell, goes: bool) -> Done
+    ensures { result ≡ by.required octet_reading net.now s.now station cell.now goes }
 {
     let core = s.core.step();
     let pair = core.pair();
+    let target = Target {
+        station,
+        cell: *cell,
+        star: pair.star(cell),
+        spent: None,
+    };
     let serving = Serving {
         core,
         station: s.station,
         cell: s.cell,
         key: s.key,
-        target: Some(Target {
-            station,
-            cell: *cell,
-            star: pair.star(cell),
-            spent: None,
-        }),
+        target: target_of(goes, &s.target, &target),
         offer: s.offer,
     };
     Done {
@@ -140,6 +158,18 @@ fn required(net: &Net, s: &Serving, station: u8, cell: &Cell) -> Done
             at: Where::Request(station),
             pair: Some(pair),
         }),
+    }
+}
+
+// The same, where the phone comes there or to another target.
+fn required_at(net: &Net, s: &Serving, station: u8, cell: &Cell, goes: bool) -> Option<Done>
+    ensures { result ≡ by.required_at octet_reading net.now s.now station cell.now goes }
+{
+    let may = may_come(goes, &s.target);
+    if may {
+        Some(required(net, s, station, cell, goes))
+    } else {
+        None
     }
 }
 
@@ -390,8 +420,16 @@ fn moved_in(kasmes: &[Kasme], net: &Net, s: &Serving, by_move: &Move) -> Option<
         Move::Take => took(s),
         Move::Switch => Some(switched(net, s)),
         Move::Ask(what) => Some(asked(net, s, what)),
-        Move::Prepare(station, cell) => prepared_at(net, s, *station, cell),
-        Move::Require(station, cell) => Some(required(net, s, *station, cell)),
+        Move::Prepare {
+            station,
+            cell,
+            goes,
+        } => prepared_at(net, s, *station, cell, *goes),
+        Move::Require {
+            station,
+            cell,
+            goes,
+        } => required_at(net, s, *station, cell, *goes),
         Move::Arrive => arrived(net, s),
         Move::Cancel => cancelled(net, s),
         Move::Refresh(cell) => Some(refreshed(net, s, cell)),
@@ -443,8 +481,8 @@ fn place_in(s: &Serving, by_move: &Move) -> Option<Where>
         Move::Take => Some(Where::Took(s.station)),
         Move::Switch => Some(Where::Answer(s.station)),
         Move::Ask(_) => Some(Where::Asked(s.station)),
-        Move::Prepare(station, _) => Some(Where::Over(s.station, *station)),
-        Move::Require(station, _) => Some(Where::Request(*station)),
+        Move::Prepare { station, .. } => Some(Where::Over(s.station, *station)),
+        Move::Require { station, .. } => Some(Where::Request(*station)),
         Move::Arrive | Move::Cancel | Move::Refresh(_) | Move::Leave => None,
     }
 }

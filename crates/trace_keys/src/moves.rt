@@ -63,10 +63,24 @@ pub enum Move {
     Switch,
     /// A request to the core whose answer no tap has.
     Ask(Unanswered),
-    /// A handover over X2 is prepared.
-    Prepare(u8, Cell),
-    /// A handover over S1 is prepared.
-    Require(u8, Cell),
+    /// A handover over X2 is prepared, at a station and for a cell of it.
+    Prepare {
+        /// The station.
+        station: u8,
+        /// The cell.
+        cell: Cell,
+        /// Whether the phone may come there, and not to the target that was prepared before.
+        goes: bool,
+    },
+    /// The same over S1.
+    Require {
+        /// The station.
+        station: u8,
+        /// The cell.
+        cell: Cell,
+        /// Whether the phone may come there, and not to the target that was prepared before.
+        goes: bool,
+    },
     /// The phone comes to the target.
     Arrive,
     /// The handover is cancelled or refused.

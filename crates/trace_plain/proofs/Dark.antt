@@ -1,6 +1,6 @@
 -- A move that goes to a tap leaves nothing unseen, and one that goes elsewhere shows nothing here.
-use Rattle.std.proofs.Common.{◌≡◌, Bool, true, false, ℕ, Option, None, Some, List, [], ◌∷◌, refl, sym, ap, subst, ◌∙◌}
-use Rattle.std.specs.Prelude.{IsTrue, ◌&&◌, not, if◌then◌else◌, nat_eq}
+use Rattle.std.proofs.Common.{◌≡◌, Bool, true, false, ℕ, Option, None, Some, List, [], ◌∷◌, refl, sym, ap, ◌∙◌}
+use Rattle.std.specs.Prelude.{IsTrue, ◌&&◌, if◌then◌else◌, nat_eq}
 use Rattle.trace_rules.specs.{Rules.Done, Rules.is_unseen, Search.if_unseen, Search.if_sent, Search.if_shown}
 use Rattle.trace_keys.specs.declared.moves.Where.{Where}
 use Rattle.trace_keys.specs.declared.moves.Where.TheVariants.{Setup, Change, Took, Answer, Asked, Request, Over}
@@ -42,7 +42,7 @@ pub none_shown : {N : Type 0} (covered : List Where) (sight : Sight (List ℕ)) 
 none_shown covered sight None at is e = refl
 none_shown covered sight (Some done) at is e = none_sent covered sight done.net done.sent (ap (is_there sight) is ∙ e)
 
-one_where : (a b : Where) → same_where a b ≡ true → a ≡ b
+pub one_where : (a b : Where) → same_where a b ≡ true → a ≡ b
 one_where (Setup a) (Setup b) e = ap (λ n. Setup n) (num a b e)
 one_where (Change a) (Change b) e = ap (λ n. Change n) (num a b e)
 one_where (Took a) (Took b) e = ap (λ n. Took n) (num a b e)

@@ -1,3 +1,6 @@
 pub mod Once
 pub mod Dark
 pub mod Steps
+pub mod Counting
+pub mod Backward
+pub mod Leading

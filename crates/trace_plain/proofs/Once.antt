@@ -1,9 +1,9 @@
 -- Each net once: no net is lost, and none is new.
-use Rattle.std.proofs.Common.{◌≡◌, ℕ, zero, suc, ◌+◌, ◌<◌, Bool, true, false, List, [], ◌∷◌, ◌++◌, length, length-append, ◌≤◌, take, drop, get_or, flat_map, arith, ◌⊎◌, inl, inr, refl, sym, ap, subst, ◌∙◌, append_assoc, append-nil}
+use Rattle.std.proofs.Common.{◌≡◌, ℕ, ◌+◌, ◌<◌, Bool, true, false, List, [], ◌∷◌, ◌++◌, length, length-append, ◌≤◌, take, drop, get_or, flat_map, arith, ◌⊎◌, inl, inr, refl, sym, ap, subst, ◌∙◌, append_assoc, append-nil}
 use Rattle.std.proofs.{Math.Seq.take-append_seam, lemmas.List.drop_more}
 use Rattle.std.specs.{Prelude.if◌then◌else◌, Prelude.◌||◌, List.list_any}
 use Rattle.trace_rules.specs.Rules.{IsIn}
-use Rattle.trace_rules.proofs.Members.{Sub, Agree, in_left, in_right, in_either}
+use Rattle.trace_rules.proofs.Members.{Agree, in_left, in_right, in_either}
 use Rattle.trace_keys.proofs.OneNet.{clash}
 use Rattle.trace_plain.specs.Once.{added, once_from}
 

@@ -1,11 +1,11 @@
 -- The steps of the search, as the code makes them.
-use Rattle.std.proofs.Common.{◌≡◌, ℕ, suc, ◌+◌, ◌<◌, ◌≤◌, Bool, true, false, Option, List, [], ◌∷◌, ◌++◌, length, take, drop, get_or, inl, refl, sym, ap, subst, ◌∙◌, arith}
+use Rattle.std.proofs.Common.{◌≡◌, ℕ, suc, ◌+◌, ◌<◌, ◌≤◌, Bool, true, false, Option, List, [], ◌∷◌, length, take, drop, get_or, inl, refl, sym, ap, subst, ◌∙◌, arith}
 use Rattle.std.specs.Prelude.{flat_map, ◌&&◌}
 use Rattle.trace_rules.specs.{Rules.Done, Rules.IsIn, Rules.AreIn, History.History, Closed.IsFull, Closed.IsClosed}
 use Rattle.trace_rules.specs.Search.{hidden_from, shown_from, widened, possible}
-use Rattle.trace_rules.proofs.{Members.Sub, Members.Agree, Members.flat_map_sub}
+use Rattle.trace_rules.proofs.{Members.Agree, Members.flat_map_sub}
 use Rattle.trace_rules.proofs.Search.{history_found, witness}
-use Rattle.trace_rules.proofs.Widening.{Known, known_more, known_full, next_agree, next_closed, never}
+use Rattle.trace_rules.proofs.Widening.{Known, known_more, next_agree, next_closed, never}
 use Rattle.trace_plain.specs.{Once.once_from, Explained.ExplainedTo}
 use Rattle.trace_plain.proofs.Once.{once_agree, first_stays}
 

@@ -1,3 +1,5 @@
 pub mod Sights
 pub mod Once
+pub mod Kept
+pub mod Way
 pub mod Explained

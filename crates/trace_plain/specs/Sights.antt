@@ -1,5 +1,5 @@
 -- What a tap has, and which message it is.
-use Rattle.std.specs.Prelude.{ℕ, Bool, true, false, ◌&&◌, not, nat_eq, Option, None, Some, List}
+use Rattle.std.specs.Prelude.{ℕ, Bool, true, false, ◌&&◌, not, nat_eq, Option, None, Some, List, [], ◌∷◌}
 use Rattle.std.specs.List.{list_any}
 use Rattle.key_model.specs.HandoverTable.{NumberedKey}
 use Rattle.trace_keys.specs.declared.moves.Where.{Where}
@@ -42,3 +42,8 @@ is_dark covered (Some at) = not (has_tap covered at)
 abbrev pub is_there : Sight (List ℕ) → Option Where → Bool
 is_there sight None = false
 is_there sight (Some at) = same_where at sight.at
+
+-- what goes there may be the next of these
+abbrev pub may_be_next : List (Sight (List ℕ)) → Option Where → Bool
+may_be_next [] at = false
+may_be_next (sight ∷ rest) at = is_there sight at

@@ -4,6 +4,7 @@ ghost use Rattle.growth.specs.Growth.{WasRefused};
 ghost use Rattle.key_model.specs.Reading.{octet_reading};
 ghost use Rattle.trace_keys.specs.Net.{Net as ANet, Sight as ASight};
 ghost use Rattle.trace_keys.specs.Moved.{moved as moved_by};
+ghost use Rattle.trace_keys.specs.Same.{same_net as same_net_by};
 ghost use Rattle.trace_keys.specs.declared.moves.Move.{Move as AMove};
 ghost use Rattle.trace_keys.specs.declared.moves.Where.{Where as AWhere};
 ghost use Rattle.trace_rules.specs.Closed.{IsFull};
@@ -11,6 +12,7 @@ ghost use Rattle.trace_rules.specs.History.{History};
 ghost use Rattle.trace_rules.specs.Search.{shown_from, widened as widened_by};
 ghost use Rattle.trace_rules.proofs.Members.{Agree};
 ghost use Rattle.trace_plain.specs.Explained.{ExplainedTo};
+ghost use Rattle.trace_plain.specs.Kept.{most_nets, wider_once, shown_once, TooManyNets};
 ghost use Rattle.trace_plain.specs.Sights.{fits, has_tap, is_covered};
 
 use crate::unsearched::Unsearched;
@@ -39,6 +41,8 @@ fn advance(
     nets: &mut Vec<Net>,
 ) -> Result<bool, Unsearched>
     ensures agree { OnOk result (Agree nets.new.items (flat_map (shown_from (moved_by octet_reading kasmes.now) fits (is_covered covered.now) family.now sight.now) (widened_by (moved_by octet_reading kasmes.now) (is_covered covered.now) family.now bound nets.old.items))) }
+    ensures items { OnOk result (nets.new.items ≡ shown_once (moved_by octet_reading kasmes.now) fits (is_covered covered.now) family.now bound same_net_by sight.now nets.old.items) }
+    ensures many { result ≡ Err Unsearched.TooMany → most_nets < length (wider_once (moved_by octet_reading kasmes.now) (is_covered covered.now) family.now same_net_by bound 0 nets.old.items) }
     ensures full { IfOk result (λ full. full ≡ true → IsFull (moved_by octet_reading kasmes.now) (is_covered covered.now) family.now (widened_by (moved_by octet_reading kasmes.now) (is_covered covered.now) family.now bound nets.old.items)) }
     ensures memory { result ≡ Err Unsearched.Memory → WasRefused }
 {
@@ -74,6 +78,7 @@ pub fn explained(
     capture: &[Sight],
 ) -> Result<Found, Unsearched>
     ensures found { IfOk result (λ e. ExplainedTo (moved_by octet_reading kasmes.now) fits (is_covered covered.now) family.now bound start.now capture.now e.count e.closed) }
+    ensures many { result ≡ Err Unsearched.TooMany → TooManyNets (moved_by octet_reading kasmes.now) fits (is_covered covered.now) family.now bound same_net_by start.now capture.now }
     ensures memory { result ≡ Err Unsearched.Memory → WasRefused }
 {
     let mut nets = growth::from_slice(alloc, &[*start])?;

@@ -41,8 +41,8 @@ fn fits(sent: &Sight, seen: &Sight) -> bool
     at && pair
 }
 
-// Whether a tap is there.
-fn has_tap(covered: &[Where], at: &Where) -> bool
+/// Whether a tap is there.
+pub fn has_tap(covered: &[Where], at: &Where) -> bool
     ensures { result ≡ by.has_tap covered.now at.now }
 {
     for other in covered {

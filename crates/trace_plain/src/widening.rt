@@ -1,5 +1,5 @@
 // Nets behind one move, and behind unseen moves.
-ghost use Rattle.std.specs.Prelude.{◌≡◌, ◌∷◌, ◌++◌, ◌≤◌, true, [], drop, flat_map, length, IfOk, OnErr, OnOk, Err};
+ghost use Rattle.std.specs.Prelude.{◌≡◌, ◌∷◌, ◌++◌, ◌≤◌, ◌<◌, true, [], drop, flat_map, length, IfOk, OnErr, OnOk, Err};
 ghost use Rattle.std.specs.List.{list_any};
 ghost use Rattle.growth.specs.Growth.{WasRefused};
 ghost use Rattle.key_model.specs.Reading.{octet_reading};
@@ -9,6 +9,7 @@ ghost use Rattle.trace_rules.specs.Closed.{IsFull};
 ghost use Rattle.trace_rules.specs.Search.{if_unseen, if_shown, hidden_from, shown_from, widened as widened_by};
 ghost use Rattle.trace_rules.proofs.Members.{Agree};
 ghost use Rattle.trace_plain.specs.Once.{added, once_from};
+ghost use Rattle.trace_plain.specs.Kept.{most_nets, wider_once};
 ghost use Rattle.trace_plain.specs.Sights.{fits, is_covered};
 
 use crate::taps::{is_dark, is_there, is_unseen, shows};
@@ -199,6 +200,7 @@ fn add_hidden(
     all: &mut Vec<Net>,
 ) -> Result<(), Unsearched>
     ensures items { OnOk result (all.new.items ≡ once_from same_net_by all.old.items (flat_map (hidden_from (moved_by octet_reading kasmes.now) (is_covered covered.now) family.now) nets.now)) }
+    ensures many { result ≡ Err Unsearched.TooMany → most_nets < length (once_from same_net_by all.old.items (flat_map (hidden_from (moved_by octet_reading kasmes.now) (is_covered covered.now) family.now) nets.now)) }
     ensures memory { result ≡ Err Unsearched.Memory → WasRefused }
 {
     for net in nets {
@@ -222,6 +224,7 @@ fn widen(
 ) -> Result<(), Unsearched>
     requires { begun ≤ length all.old.items }
     ensures items { OnOk result (all.new.items ≡ once_from same_net_by all.old.items (flat_map (hidden_from (moved_by octet_reading kasmes.now) (is_covered covered.now) family.now) (drop begun all.old.items))) }
+    ensures many { result ≡ Err Unsearched.TooMany → most_nets < length (once_from same_net_by all.old.items (flat_map (hidden_from (moved_by octet_reading kasmes.now) (is_covered covered.now) family.now) (drop begun all.old.items))) }
     ensures memory { result ≡ Err Unsearched.Memory → WasRefused }
 {
     let fresh = growth::from_slice(alloc, &all.as_slice()[begun..])?;
@@ -238,6 +241,8 @@ pub(crate) fn widened(
     all: &mut Vec<Net>,
 ) -> Result<bool, Unsearched>
     ensures agree { OnOk result (Agree all.new.items (widened_by (moved_by octet_reading kasmes.now) (is_covered covered.now) family.now bound all.old.items)) }
+    ensures items { OnOk result (all.new.items ≡ wider_once (moved_by octet_reading kasmes.now) (is_covered covered.now) family.now same_net_by bound 0 all.old.items) }
+    ensures many { result ≡ Err Unsearched.TooMany → most_nets < length (wider_once (moved_by octet_reading kasmes.now) (is_covered covered.now) family.now same_net_by bound 0 all.old.items) }
     ensures full { IfOk result (λ full. full ≡ true → IsFull (moved_by octet_reading kasmes.now) (is_covered covered.now) family.now (widened_by (moved_by octet_reading kasmes.now) (is_covered covered.now) family.now bound all.old.items)) }
     ensures memory { result ≡ Err Unsearched.Memory → WasRefused }
 {

@@ -2,3 +2,4 @@ pub mod Rules
 pub mod History
 pub mod Search
 pub mod Closed
+pub mod Told

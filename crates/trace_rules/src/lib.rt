@@ -1,11 +1,12 @@
 //! Lawful histories and what they show, over any machine, and the search for them.
 #![tactic(auto)]
 
-ghost use Rattle.std.specs.Prelude.{◌≡◌, ℕ, Bool, IsTrue, Option, List, [], ◌∷◌, filter, length};
+ghost use Rattle.std.specs.Prelude.{◌≡◌, ℕ, Bool, true, IsTrue, Option, List, [], ◌∷◌, filter, length};
 ghost use Rattle.trace_rules.specs.Rules.{Done, AreIn, IsIn};
 ghost use Rattle.trace_rules.specs.History.{History};
 ghost use Rattle.trace_rules.specs.Search.{possible};
 ghost use Rattle.trace_rules.specs.Closed.{IsClosed};
+ghost use Rattle.trace_rules.specs.Told.{Told, moves_told, tells};
 
 /// What a history shows where fewer links are covered is what it shows, without what went over the others. So a capture that a
 /// lawful history explains is explained where links are missing, by the same moves, whichever links.
@@ -39,4 +40,11 @@ pub fn closed_needs_no_bound<N, M, S>()
         IsClosed moved fits covers family bound (start ∷ []) capture →
         possible moved fits covers family bound (start ∷ []) capture ≡ [] →
         (any : ℕ) (moves : List M) → AreIn moves family → ¬ History moved fits covers any any start moves capture }
+{}
+
+/// Moves that are told, and pass the test, are a lawful history that shows the capture.
+pub fn what_is_told_is_a_history<N, M, S>()
+    ensures { (moved : N → M → Option (Done N S)) (fits : S → S → Bool) (covers : S → Bool) (bound : ℕ) (start : N) (capture : List S) (told : List (Told M)) →
+        tells moved fits covers bound start capture told ≡ true →
+        History moved fits covers bound bound start (moves_told told) capture }
 {}

@@ -4,10 +4,10 @@ use Rattle.std.specs.{Str.bytes_eq, Option.option_map, Option.option_and_then}
 use Rattle.annex_a_keys.specs.Cell.{Place, greatest_pci, greatest_earfcn}
 use Rattle.key_model.specs.HandoverTable.{NumberedKey}
 use Rattle.text_lines.specs.Words.{number_of, hex_octets}
-use Rattle.trace_keys.specs.{declared.moves.Where.Where, Net.Sight}
+use Rattle.trace_keys.specs.{declared.moves.Where.Where}
 use Rattle.trace_keys.specs.declared.moves.Where.TheVariants.{Setup, Change, Took, Answer, Asked, Request, Over}
-use Rattle.trace_text.specs.declared.{entries.Site.Site, entries.Due.Due, entries.Entry.Entry}
-use Rattle.trace_text.specs.declared.entries.Entry.TheVariants.{Air, Bound, First, Kasme, Count, Cell, Covers, Seen}
+use Rattle.trace_text.specs.declared.{entries.Entry.Entry}
+use Rattle.trace_text.specs.declared.entries.Entry.TheVariants.{Air, Moves, Bound, First, Kasme, Count, Cell, Covers, Seen}
 
 -- a number below a limit
 abbrev pub below : ℕ → List ℕ → Option ℕ
@@ -57,7 +57,10 @@ first_of word = option_and_then (λ n. if n == 1 then Some (First false) else if
 
 -- the line of so many words
 unfoldable pub of_one : List ℕ → Option Entry
-of_one name = if bytes_eq name (codes "air") then Some Air else None
+of_one name =
+    if bytes_eq name (codes "air") then Some Air
+    else if bytes_eq name (codes "moves") then Some Moves
+    else None
 
 unfoldable pub of_two : List ℕ → List ℕ → Option Entry
 of_two name word =

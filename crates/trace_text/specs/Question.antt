@@ -5,10 +5,10 @@ use Rattle.trace_keys.specs.declared.moves.Unanswered.TheVariants.{Refused, Lost
 use Rattle.trace_keys.specs.declared.moves.Move.TheVariants.{Renew, Offer, Take, Switch, Ask, Prepare, Require, Arrive, Cancel, Refresh, Leave}
 use Rattle.trace_keys.specs.Net.{Sight}
 use Rattle.trace_text.specs.declared.{entries.Site.Site, entries.Due.Due, entries.Entry.Entry}
-use Rattle.trace_text.specs.declared.entries.Entry.TheVariants.{Air, Bound, First, Kasme, Count, Cell, Covers, Seen}
+use Rattle.trace_text.specs.declared.entries.Entry.TheVariants.{Air, Moves, Bound, First, Kasme, Count, Cell, Covers, Seen}
 
 -- the KASMEs, the cells, the COUNTs at which a KeNB may be made, whether a core may step at once, where taps are, and what they have; how
--- many moves may go unseen between two sightings, and whether moves over the air may
+-- many moves may go unseen between two sightings, whether moves over the air may, and whether the moves that explain are to be told
 pub record Question : Type 0 where
   pub kasmes : List (List ℕ)
   pub sites : List Site
@@ -18,14 +18,16 @@ pub record Question : Type 0 where
   pub capture : List (Sight (List ℕ))
   pub bound : ℕ
   pub air : Bool
+  pub moves : Bool
 
 -- a question of nothing
 abbrev pub nothing : Question
-nothing = record { kasmes = []; sites = []; dues = []; firsts = []; covered = []; capture = []; bound = 0; air = false }
+nothing = record { kasmes = []; sites = []; dues = []; firsts = []; covered = []; capture = []; bound = 0; air = false; moves = false }
 
 -- with one line more
 abbrev pub with_entry : Question → Entry → Question
 with_entry q Air = record q { air = true }
+with_entry q Moves = record q { moves = true }
 with_entry q (Bound bound) = record q { bound = bound }
 with_entry q (First early) = record q { firsts = q.firsts ++ early ∷ [] }
 with_entry q (Kasme key) = record q { kasmes = q.kasmes ++ key ∷ [] }
@@ -34,10 +36,11 @@ with_entry q (Cell site) = record q { sites = q.sites ++ site ∷ [] }
 with_entry q (Covers at) = record q { covered = q.covered ++ at ∷ [] }
 with_entry q (Seen sight) = record q { capture = q.capture ++ sight ∷ [] }
 
--- the moves of a cell: a handover to it, over X2 or S1, and over the air
+-- the moves of a cell: a handover to it, over X2 or S1, where the phone may come or another target stays; and over the air
 abbrev pub moves_to : Bool → Site → List Move
 moves_to air site =
-    Prepare site.station site.cell ∷ Require site.station site.cell ∷ (if air then Refresh site.cell ∷ [] else [])
+    Prepare site.station site.cell true ∷ Prepare site.station site.cell false ∷ Require site.station site.cell true ∷ Require site.station site.cell false
+    ∷ (if air then Refresh site.cell ∷ [] else [])
 
 -- a KeNB for a cell, which is taken into use or not
 abbrev pub renewals : Due → Bool → Site → List Move

@@ -24,6 +24,8 @@ pub struct Due {
 pub enum Entry {
     /// `air`: moves over the air may go unseen.
     Air,
+    /// `moves`: the moves that explain are to be told.
+    Moves,
     /// `bound`: so many moves may go unseen between two sightings.
     Bound(u32),
     /// `first`: whether a core may step its chain at once, so that the first NCC is 2.

@@ -13,12 +13,34 @@ fn push_moves_to(out: &mut Vec<Move>, air: bool, site: &Site) -> Result<(), Allo
     ensures items { OnOk result (out.new.items ≡ out.old.items ++ by.moves_to air site.now) }
     ensures refused { OnErr result WasRefused }
 {
-    push(out, Move::Prepare(site.station, site.cell))?;
-    push(out, Move::Require(site.station, site.cell))?;
+    push(out, over_x2(site, true))?;
+    push(out, over_x2(site, false))?;
+    push(out, over_s1(site, true))?;
+    push(out, over_s1(site, false))?;
     if air {
         push(out, Move::Refresh(site.cell))?;
     }
     Ok(())
+}
+
+fn over_x2(site: &Site, goes: bool) -> Move
+    ensures { result ≡ Move.Prepare site.now.station site.now.cell goes }
+{
+    Move::Prepare {
+        station: site.station,
+        cell: site.cell,
+        goes,
+    }
+}
+
+fn over_s1(site: &Site, goes: bool) -> Move
+    ensures { result ≡ Move.Require site.now.station site.now.cell goes }
+{
+    Move::Require {
+        station: site.station,
+        cell: site.cell,
+        goes,
+    }
 }
 
 // A KeNB for a cell, which is taken into use or not.

@@ -20,6 +20,7 @@ pub struct Question {
     pub(crate) capture: Vec<Sight>,
     pub(crate) bound: u32,
     pub(crate) air: bool,
+    pub(crate) moves: bool,
 }
 
 impl Model for Question {
@@ -36,6 +37,7 @@ impl Model for Question {
       capture = q.capture.items;
       bound = q.bound;
       air = q.air;
+      moves = q.moves;
     } };
 }
 
@@ -53,6 +55,7 @@ impl Question {
             capture: Vec::new(alloc),
             bound: 0,
             air: false,
+            moves: false,
         }
     }
 
@@ -84,6 +87,13 @@ impl Question {
         self.bound
     }
 
+    /// Whether the moves that explain are to be told.
+    pub fn moves(&self) -> bool
+        ensures { result ≡ self.now.moves }
+    {
+        self.moves
+    }
+
     // With one line more.
     pub(crate) fn add(&mut self, entry: &Entry) -> Result<(), AllocError>
         ensures value { OnOk result (self.new ≡ with_entry self.old entry.now) }
@@ -91,6 +101,7 @@ impl Question {
     {
         match entry {
             Entry::Air => self.air = true,
+            Entry::Moves => self.moves = true,
             Entry::Bound(bound) => self.bound = *bound,
             Entry::First(early) => push(&mut self.firsts, *early)?,
             Entry::Kasme(key) => push(&mut self.kasmes, *key)?,

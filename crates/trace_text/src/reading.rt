@@ -41,6 +41,9 @@ fn of_one(name: &[u8]) -> Option<Entry>
     if name == b"air".as_slice() {
         return Some(Entry::Air);
     }
+    if name == b"moves".as_slice() {
+        return Some(Entry::Moves);
+    }
     None
 }
 

@@ -9,9 +9,12 @@ use Rattle.items.specs.Items.{IsItemOf}
 use Rattle.item_faults.specs.{AtOnce.item_of, AtOnce.items_of, Changes.variant, Entries.most_steps, Laws.AreEntries, Laws.CanRun, Laws.most_items}
 use Rattle.item_faults.specs.{Laws.IsStep, Steps.entry_of, Steps.senders_of, declared.changes.Fault.Fault, declared.entries.Entry.Entry}
 use Rattle.item_faults.proofs.{Answered.are_entries, Answered.are_items, Keeps.variant_can_run}
-use Rattle.item_keys.specs.Items.{DifferFar, FarHere, PartsFar}
-use Rattle.item_keys.proofs.AtItems.{differ_far, parts_far}
-use Rattle.item_outcomes.specs.{Keys.keys_differ, Outcomes.outcomes, declared.judging.Outcome.Outcome}
+use Rattle.item_keys.specs.{Few.FewSteps, Items.DifferFar, Items.FarHere, Items.PartsFar, Items.TakesOne}
+use Rattle.item_keys.proofs.{AtItems.differ_far, AtItems.parts_far, AtItems.takes_made, FewKeep.few_keep}
+use Rattle.item_outcomes.specs.{Heals.heals_of, Heals.reconnects, Heals.restarts, Heals.serves_again, Heals.takes_one, Keys.keys_differ, Keys.parted, Outcomes.Verdict, Outcomes.verdict_of}
+use Rattle.item_outcomes.specs.{Packets.arrives, Packets.fate_of, Probe.anew_arrives, Probe.is_among, Probe.secured, Probe.secured_anew, Probe.text_anew}
+use Rattle.item_outcomes.specs.{declared.heals.Heals.Heals, declared.judging.Outcome.Outcome}
+use Rattle.item_outcomes.specs.declared.heals.Heals.TheVariants as heals
 use Rattle.item_probe.specs.{Acts.acts_of, Places.more_acts}
 use Rattle.item_probe.proofs.Happens.{acts_can, length-acts}
 use Rattle.item_runs.specs.{Coming.nothing, Course.Promises, Course.Seen, Course.Stands}
@@ -22,7 +25,7 @@ use Rattle.item_steps.specs.Steps.{steps_of}
 use Rattle.variant_runs.specs.Judged.{can_all_be, entries, judged, judged_beside, judged_with, own_names, run_with, standing_with}
 use Rattle.variant_runs.specs.Original.{Original, first_station, original_of, own_items, own_lines, own_run}
 use Rattle.variant_runs.proofs.OwnItems.{are_items as own_are_items, as_many, first_low}
-use Rattle.variant_keys.specs.{Probed.own_probed, Probed.variant_probed, Told.KeysAreTold, Told.ToldExactly, Told.tells_keys}
+use Rattle.variant_keys.specs.{Probed.own_probed, Probed.variant_probed, Told.HealsTold, Told.KeysAreTold, Told.ToldExactly, Told.tells_keys}
 use Rattle.variant_keys.proofs.{Kept.begins, Kept.going_goes, Outcomes.tells_so, Probing.probed_stands, Probing.serving_low}
 
 -- TESTS
@@ -62,22 +65,54 @@ exactly told usual here so differ = (only, each)
         ∙ so_both (is_some here.coming.over) (keys_differ usual.coming.told here.coming.told) (is_none here.coming.over h.0)
         (differ.1 h.1)
 
--- of items that go together, its outcomes are those of its run beside the scenario
-told_beside : (o : Original) (faults : List Fault) (list : List Entry) (told : List Outcome) → judged_with o faults list ≡ Some told
-    → told ≡ outcomes (own_names faults list) o.usual (standing_with o list)
+-- where no key parts nothing is told
+none_told : (told : List Outcome) (usual here : Seen) → ToldExactly usual here told → PartsFar here → parted here.coming.told ≡ [] → tells_keys told ≡ false
+none_told told usual here exact parts none = by (tells_keys told) refl
+  where
+    by : (b : Bool) → tells_keys told ≡ b → tells_keys told ≡ false
+    by false e = e
+    by true e =
+        let f = (exact.0 e).1 in
+        let among = (parts f.name).1 f.far in
+        let bad : false ≡ true = sym (ap (λ names. is_among names f.name) none) ∙ among in absurd cc
+
+-- of items that go together, what is told is that of its run beside the scenario
+told_beside : (o : Original) (faults : List Fault) (list : List Entry) (told : Verdict) → judged_with o faults list ≡ Some told
+    → told ≡ verdict_of (own_names faults list) o.usual (standing_with o list)
 told_beside o faults list told is = by (can_all_be o faults (standing_with o list)) is
   where
-    by : (b : Bool) → (if b then Some (outcomes (own_names faults list) o.usual (standing_with o list)) else None) ≡ Some told
-        → told ≡ outcomes (own_names faults list) o.usual (standing_with o list)
+    by : (b : Bool) → (if b then Some (verdict_of (own_names faults list) o.usual (standing_with o list)) else None) ≡ Some told
+        → told ≡ verdict_of (own_names faults list) o.usual (standing_with o list)
     by true e = cc
     by false e = absurd cc
 
-pub told_of : (o : Original) (faults : List Fault) (list : List Entry) (told : List Outcome)
+pub told_of : (o : Original) (faults : List Fault) (list : List Entry) (told : Verdict)
     → variant faults (entries o) ≡ Some list
     → judged o faults ≡ Some told
-    → told ≡ outcomes (own_names faults list) o.usual (standing_with o list)
+    → told ≡ verdict_of (own_names faults list) o.usual (standing_with o list)
 told_of o faults list told new is =
     told_beside o faults list told (ap (option_and_then (judged_with o faults)) (sym new) ∙ is)
+
+-- WHAT HEALS
+
+first_so : (a b : Bool) → (a && b) ≡ true → a ≡ true
+first_so true b e = refl
+first_so false b e = absurd cc
+
+heals_told : (s : Seen) → TakesOne s → HealsTold s (heals_of s.coming.told)
+heals_told s one = by (reconnects s.coming.told) refl (restarts s.coming.told) refl
+  where
+    by : (b : Bool) → reconnects s.coming.told ≡ b → (c : Bool) → restarts s.coming.told ≡ c
+        → HealsTold s (if b then heals.Reconnection else (if c then heals.Authentication else heals.Nothing))
+    by true e c f = one secured (first_so (takes_one s.coming.told secured) (serves_again s.coming.told) e)
+    by false e true f =
+        one secured_anew (first_so (takes_one s.coming.told secured_anew) (arrives (fate_of s.coming.told anew_arrives text_anew)) f)
+    by false e false f = tt
+
+-- where no coincidence ended it
+heals_if : (over : Bool) (h : Heals) (P : Heals → Type 0) → P h → IfSome (if over then None else Some h) P
+heals_if true h P p = tt
+heals_if false h P p = p
 
 -- OF A SCENARIO
 module _ (setup : Setup) (events : List Event) (is : IsScenario setup events) (few : length events ≤ most_steps)
@@ -127,9 +162,9 @@ module _ (setup : Setup) (events : List Event) (is : IsScenario setup events) (f
   few_entries : length (entries o) ≤ most_steps
   few_entries = let items = length-map o.steps (entry_of (length o.steps) o.steps) in omega (arith, items, steps_many, few)
 
-  module _ (faults : List Fault) (list : List Entry) (three : length faults ≤ 3) (new : variant faults (entries o) ≡ Some list) where
+  module _ (faults : List Fault) (list : List Entry) (so_few : length faults ≤ 8) (new : variant faults (entries o) ≡ Some list) where
     runs : CanRun (length acts) list
-    runs = subst (λ v. IfSome v (CanRun (length acts))) new (variant_can_run (length acts) faults (entries o) three own_entries few_entries)
+    runs = subst (λ v. IfSome v (CanRun (length acts))) new (variant_can_run (length acts) faults (entries o) so_few own_entries few_entries)
 
     variant_goes : Stands setup (run_with o list).coming.events (run_with o list).coming.told
         × (length (run_with o list).coming.events ≤ most_items * 9)
@@ -151,15 +186,30 @@ module _ (setup : Setup) (events : List Event) (is : IsScenario setup events) (f
         (probed_stands acts (length o.steps) o.usual.serving (run_with o list) is.can_start eight can
         (omega (arith, many, steps_many)) serves (omega (arith, short)) variant_goes.0)
 
-    exact : (told : List Outcome) → judged o faults ≡ Some told → ToldExactly (own_probed setup events) (variant_probed o list) told
+    exact : (told : Verdict) → judged o faults ≡ Some told → ToldExactly (own_probed setup events) (variant_probed o list) told.outcomes
     exact told judges =
-        exactly told (own_probed setup events) (variant_probed o list)
-        (ap tells_keys (told_of o faults list told new judges) ∙ tells_so (own_names faults list) o.usual (standing_with o list))
+        exactly told.outcomes (own_probed setup events) (variant_probed o list)
+        (ap (λ (v : Verdict). tells_keys v.outcomes) (told_of o faults list told new judges)
+        ∙ tells_so (own_names faults list) o.usual (standing_with o list))
         (differ_far (own_probed setup events) (variant_probed o list) (parts_far (own_probed setup events) own_promises)
         (parts_far (variant_probed o list) variant_promises))
+
+    healed : (told : Verdict) → judged o faults ≡ Some told → IfSome told.heals (HealsTold (variant_probed o list))
+    healed told judges =
+        subst (λ (v : Verdict). IfSome v.heals (HealsTold (variant_probed o list))) (sym (told_of o faults list told new judges))
+        (heals_if (standing_with o list).over (heals_of (standing_with o list).told) (HealsTold (variant_probed o list))
+        (heals_told (variant_probed o list) (takes_made (variant_probed o list) variant_promises)))
+
+    few_told : (told : Verdict) → judged o faults ≡ Some told → FewSteps (variant_probed o list) → tells_keys told.outcomes ≡ false
+    few_told told judges few =
+        none_told told.outcomes (own_probed setup events) (variant_probed o list) (exact told judges) (parts_far (variant_probed o list) variant_promises)
+        (few_keep (variant_probed o list) variant_promises few)
 
   pub keys_told : KeysAreTold setup events
   keys_told = record {
     own = parts_far (own_probed setup events) own_promises;
-    variants = λ faults list told three new judges. exact faults list three new told judges;
+    own_heals = heals_told (own_probed setup events) (takes_made (own_probed setup events) own_promises);
+    variants = λ faults list told three new judges. (exact faults list three new told judges, healed faults list three new told judges);
+    few = few_keep (own_probed setup events) own_promises;
+    few_told = λ faults list told three new judges. few_told faults list three new told judges;
   }

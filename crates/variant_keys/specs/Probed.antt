@@ -4,11 +4,11 @@ use Rattle.lte_events.specs.{declared.events.Event.Event, declared.setups.Setup.
 use Rattle.item_faults.specs.declared.entries.Entry.{Entry}
 use Rattle.item_probe.specs.Acts.{acts_of}
 use Rattle.item_runs.specs.{Coming.Coming, Course.Seen}
-use Rattle.item_standing.specs.Standing.{after_first, after_second, serving_of}
+use Rattle.item_standing.specs.Standing.{after_first, after_probe, serving_of}
 use Rattle.variant_runs.specs.{Judged.run_with, Original.Original, Original.first_station, Original.own_run}
 
 abbrev pub probed_by : List Event → ℕ → ℕ → Seen → Coming → Seen
-probed_by acts steps usual s c = record { setup = s.setup; coming = after_second acts steps (serving_of s.setup usual c.told) s.setup c }
+probed_by acts steps usual s c = record { setup = s.setup; coming = after_probe acts steps (serving_of s.setup usual c.told) s.setup c }
 
 -- the probe goes on behind a run, with these acts, behind a scenario of so many steps
 abbrev pub probed : List Event → ℕ → ℕ → Seen → Seen

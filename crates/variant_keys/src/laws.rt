@@ -1,4 +1,4 @@
-// Where keys differ, of a scenario and of its variants.
+// What is told of keys, of a scenario and of its variants.
 ghost use Rattle.std.specs.Prelude.{◌≡◌, ◌≤◌, length};
 ghost use Rattle.item_faults.specs.Entries.{most_steps};
 ghost use Rattle.lte_events.specs.Scenario.{IsScenario};
@@ -7,7 +7,7 @@ ghost use Rattle.variant_runs.specs.Original.{own_lines};
 
 use lte_events::{Events, Setup};
 
-/// What is told of keys that differ, of a scenario of a few steps that no coincidence ends, is exact.
+/// What is told of keys that differ, of a scenario of a few steps that no coincidence ends, is exact, and what heals leads to one key.
 pub fn keys_are_told(setup: &Setup, events: &Events)
     requires scenario { IsScenario setup.now events.now.items }
     requires few { length events.now.items ≤ most_steps }

@@ -6,7 +6,7 @@ use Rattle.item_faults.specs.{AtOnce.items_of, Changes.variant, Entries.most_ste
 use Rattle.item_faults.specs.Steps.{entries_of, senders_of, source_of, step_of, with_number}
 use Rattle.item_faults.specs.declared.changes.Kind.TheVariants as kind
 use Rattle.item_lines.specs.{Lines.line_of, Same.same_who, declared.lines.Told.Told}
-use Rattle.item_outcomes.specs.{Outcomes.outcomes, Standing.Standing, declared.judging.Outcome.Outcome}
+use Rattle.item_outcomes.specs.{Outcomes.Verdict, Outcomes.verdict_of, Standing.Standing}
 use Rattle.item_runs.specs.Course.{Seen}
 use Rattle.item_standing.specs.Standing.{standing_of}
 use Rattle.variant_runs.specs.Original.{Original, run_of}
@@ -68,11 +68,11 @@ abbrev pub can_all_be : Original → List Fault → Standing → Bool
 can_all_be o faults here = list_all (λ f. can_be_by o.usual.told here.told o.steps f.kind f.message) faults
 
 -- WHAT BECOMES OF IT: nothing is told where the faults do not go together, or where what is sent again was not sent
-abbrev pub judged_beside : Original → List Fault → List Entry → Standing → Option (List Outcome)
-judged_beside o faults list here = if can_all_be o faults here then Some (outcomes (own_names faults list) o.usual here) else None
+abbrev pub judged_beside : Original → List Fault → List Entry → Standing → Option Verdict
+judged_beside o faults list here = if can_all_be o faults here then Some (verdict_of (own_names faults list) o.usual here) else None
 
-abbrev pub judged_with : Original → List Fault → List Entry → Option (List Outcome)
+abbrev pub judged_with : Original → List Fault → List Entry → Option Verdict
 judged_with o faults list = judged_beside o faults list (standing_with o list)
 
-abbrev pub judged : Original → List Fault → Option (List Outcome)
+abbrev pub judged : Original → List Fault → Option Verdict
 judged o faults = option_and_then (judged_with o faults) (variant faults (entries o))

@@ -5,6 +5,7 @@ ghost use Rattle.lte_events.specs.Scenario.{IsScenario};
 ghost use Rattle.item_faults.specs.Entries.{most_steps};
 ghost use Rattle.item_faults.specs.Changes.{variant};
 ghost use Rattle.item_faults.specs.Laws.{CanRun};
+ghost use Rattle.item_outcomes.specs.Heals.{heals_of};
 ghost use Rattle.variant_runs.specs.Judged.{entries, judged, judged_beside, judged_with, standing_with};
 ghost use Rattle.variant_runs.specs.Original.{original_of, own_lines};
 ghost use Rattle.variant_runs.specs.Troubles.{troubles_of};
@@ -14,7 +15,7 @@ use crate::originals::{acts_of, entries_of, first_station, own_run, senders_of, 
 use crate::running::{own_names, run_with};
 use crate::troubles::troubles_of;
 use item_faults::{Entry, Fault, Step};
-use item_outcomes::{Outcome, Standing, Trouble};
+use item_outcomes::{Heals, Standing, Trouble, Verdict};
 use item_standing::standing_of;
 use lte_events::{Events, Setup};
 use lte_world::WorldFault;
@@ -83,15 +84,11 @@ impl Study {
 
     /// What becomes of the scenario with these faults. None where they do not go together, or where what is sent again was not sent.
     /// `Memory` where std refuses memory.
-    pub fn outcomes(
-        &self,
-        alloc: Global,
-        faults: &[Fault],
-    ) -> Result<Option<Vec<Outcome>>, WorldFault>
-        requires few { length faults.now ≤ 3 }
+    pub fn verdict(&self, alloc: Global, faults: &[Fault]) -> Result<Option<Verdict>, WorldFault>
+        requires few { length faults.now ≤ 8 }
         ensures memory { IsOkUnless result WorldFault.Memory }
         ensures refused { OnErr result WasRefused }
-        ensures judged { IfOk result (λ told. option_map (λ list. list.items) told ≡ judged self.now faults.now) }
+        ensures judged { IfOk result (λ told. told ≡ judged self.now faults.now) }
     {
         match self.variant(alloc, faults)? {
             Some(list) => self.judged_with(alloc, faults, list.as_slice()),
@@ -120,6 +117,13 @@ impl Study {
         self.usual.serving()
     }
 
+    /// What heals behind it.
+    pub fn heals(&self) -> Heals
+        ensures { result ≡ heals_of self.now.usual.told }
+    {
+        self.usual.heals()
+    }
+
     /// What is wrong in the scenario itself, without any fault. `Memory` where std refuses memory.
     pub fn troubles(&self, alloc: Global) -> Result<Vec<Trouble>, WorldFault>
         ensures memory { IsOkUnless result WorldFault.Memory }
@@ -134,7 +138,7 @@ impl Study {
 
     // The items with these faults.
     fn variant(&self, alloc: Global, faults: &[Fault]) -> Result<Option<Vec<Entry>>, WorldFault>
-        requires few { length faults.now ≤ 3 }
+        requires few { length faults.now ≤ 8 }
         ensures memory { IsOkUnless result WorldFault.Memory }
         ensures refused { OnErr result WasRefused }
         ensures items { IfOk result (λ new. option_map (λ list. list.items) new ≡ variant faults.now (entries self.now)) }
@@ -176,11 +180,11 @@ impl Study {
         alloc: Global,
         faults: &[Fault],
         list: &[Entry],
-    ) -> Result<Option<Vec<Outcome>>, WorldFault>
+    ) -> Result<Option<Verdict>, WorldFault>
         requires can_run { CanRun (length self.now.acts) list.now }
         ensures memory { IsOkUnless result WorldFault.Memory }
         ensures refused { OnErr result WasRefused }
-        ensures judged { IfOk result (λ told. option_map (λ list. list.items) told ≡ judged_with self.now faults.now list.now) }
+        ensures judged { IfOk result (λ told. told ≡ judged_with self.now faults.now list.now) }
     {
         let here = self.standing_with(alloc, list)?;
         self.judged_beside(alloc, faults, list, &here)
@@ -192,10 +196,10 @@ impl Study {
         faults: &[Fault],
         list: &[Entry],
         here: &Standing,
-    ) -> Result<Option<Vec<Outcome>>, WorldFault>
+    ) -> Result<Option<Verdict>, WorldFault>
         ensures memory { IsOkUnless result WorldFault.Memory }
         ensures refused { OnErr result WasRefused }
-        ensures judged { IfOk result (λ told. option_map (λ list. list.items) told ≡ judged_beside self.now faults.now list.now here.now) }
+        ensures judged { IfOk result (λ told. told ≡ judged_beside self.now faults.now list.now here.now) }
     {
         if !can_all_be(
             self.usual.told(),
@@ -206,7 +210,7 @@ impl Study {
             return Ok(None);
         }
         match own_names(alloc, faults, list) {
-            Ok(own) => match item_outcomes::outcomes(alloc, own.as_slice(), &self.usual, here) {
+            Ok(own) => match item_outcomes::verdict_of(alloc, own.as_slice(), &self.usual, here) {
                 Ok(told) => Ok(Some(told)),
                 Err(_) => Err(WorldFault::Memory),
             },

@@ -2,4 +2,5 @@ pub mod Joined
 pub mod Messages
 pub mod Faults
 pub mod Outcomes
+pub mod Healing
 pub mod Lines

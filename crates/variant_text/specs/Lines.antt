@@ -2,14 +2,17 @@
 use Rattle.std.specs.Prelude.{ℕ, nat_lt, if◌then◌else◌, List, ◌++◌, codes}
 use Rattle.std.specs.Fmt.{decimal}
 use Rattle.item_faults.specs.{declared.changes.Fault.Fault, declared.messages.Message.Message}
-use Rattle.item_outcomes.specs.{declared.judging.Outcome.Outcome, declared.troubles.Trouble.Trouble}
+use Rattle.item_outcomes.specs.{Outcomes.Verdict, declared.heals.Heals.Heals, declared.troubles.Trouble.Trouble}
 use Rattle.item_outcomes.specs.declared.troubles.Trouble.TheVariants as trouble
-use Rattle.variant_text.specs.{Faults.faults_text, Messages.message_name, Outcomes.outcomes_text}
+use Rattle.variant_text.specs.{Faults.faults_text, Healing.heals_name, Healing.heals_text, Messages.message_name, Outcomes.outcomes_text}
 
--- `scenario 27 16 serving 1`: how many steps and messages a scenario has, and the station that serves its phone behind them
-unfoldable pub scenario_line : ℕ → ℕ → ℕ → List ℕ
-scenario_line steps messages serving =
-    codes "scenario " ++ (decimal steps ++ (codes " " ++ (decimal messages ++ (codes " serving " ++ (decimal serving ++ codes "\n")))))
+-- `scenario 27 16 serving 1 heals reconnection`: how many steps and messages a scenario has, the station that serves its phone behind them,
+-- and what heals it
+unfoldable pub scenario_line : ℕ → ℕ → ℕ → Heals → List ℕ
+scenario_line steps messages serving heals =
+    codes "scenario "
+    ++ (decimal steps
+    ++ (codes " " ++ (decimal messages ++ (codes " serving " ++ (decimal serving ++ (codes " heals " ++ (heals_name heals ++ codes "\n")))))))
 
 -- What is wrong in the scenario itself: `keys differ 33`, the step at which its phone takes another key than the station there made, or
 -- `keys differ probe`, of the probe behind it; `stuck`; `packet lost 12`, the step that sends a text that comes and that nobody opens
@@ -28,9 +31,9 @@ trouble_line steps (trouble.PacketLost step) = lost_line step
 unfoldable pub message_line : ℕ → Message → List ℕ
 message_line step message = codes "message " ++ (decimal step ++ (codes " " ++ (message_name message ++ codes "\n")))
 
--- `late 9 12: stuck; not made`: a variant by its faults, and its outcomes, the worst first
-abbrev pub variant_line : List Fault → List Outcome → List ℕ
-variant_line faults outcomes = faults_text faults ++ (codes ": " ++ (outcomes_text outcomes ++ codes "\n"))
+-- `late 9 12: stuck; not made, heals authentication`: a variant by its faults, its outcomes, the worst first, and what heals it
+abbrev pub variant_line : List Fault → Verdict → List ℕ
+variant_line faults v = faults_text faults ++ (codes ": " ++ (outcomes_text v.outcomes ++ (heals_text v.heals ++ codes "\n")))
 
 -- `end 151`: how many variants there are
 unfoldable pub end_line : ℕ → List ℕ

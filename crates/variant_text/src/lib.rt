@@ -2,6 +2,7 @@
 #![tactic(auto)]
 
 mod faults;
+mod healing;
 mod joined;
 mod lines;
 mod messages;

@@ -4,26 +4,29 @@ ghost use Rattle.std.specs.String.{string_bytes};
 ghost use Rattle.variant_text.specs.Lines.{end_line, keys_line, lost_line, message_line, scenario_line, trouble_line, variant_line};
 
 use crate::faults::faults_text;
+use crate::healing::{add_heals, heals_name};
 use crate::messages::message_name;
 use crate::outcomes::outcomes_text;
 use item_faults::{Fault, Message};
-use item_outcomes::{Outcome, Trouble};
+use item_outcomes::{Heals, Trouble, Verdict};
 use std::alloc::{AllocError, Global};
 
-/// The first line: how many steps and messages a scenario has, and the station that serves its phone behind them.
+/// The first line: how many steps and messages a scenario has, the station that serves its phone behind them, and what heals it.
 #[tactic(auto, unfolding(crate::specs::Lines::scenario_line))]
 pub fn scenario_line(
     alloc: Global,
     steps: u32,
     messages: u32,
     serving: u8,
+    heals: Heals,
 ) -> Result<String, AllocError>
-    ensures text { IfOk result (λ text. string_bytes text ≡ scenario_line steps messages serving) }
+    ensures text { IfOk result (λ text. string_bytes text ≡ scenario_line steps messages serving heals) }
     ensures refused { OnErr result WasRefused }
 {
+    let heals = heals_name(heals);
     growth::format(
         alloc,
-        format_args!("scenario {steps} {messages} serving {serving}\n"),
+        format_args!("scenario {steps} {messages} serving {serving} heals {heals}\n"),
     )
 }
 
@@ -72,19 +75,20 @@ pub fn message_line(alloc: Global, step: u32, message: Message) -> Result<String
     growth::format(alloc, format_args!("message {step} {name}\n"))
 }
 
-/// The line of a variant: its faults, and its outcomes in this order.
+/// The line of a variant: its faults, its outcomes in this order, and what heals it.
 pub fn variant_line(
     alloc: Global,
     faults: &[Fault],
-    outcomes: &[Outcome],
+    verdict: &Verdict,
 ) -> Result<Vec<u8>, AllocError>
-    ensures text { IfOk result (λ text. text.items ≡ variant_line faults.now outcomes.now) }
+    ensures text { IfOk result (λ text. text.items ≡ variant_line faults.now verdict.now) }
     ensures refused { OnErr result WasRefused }
 {
     let mut text = faults_text(alloc, faults)?;
     growth::extend_from_slice(&mut text, b": ")?;
-    let told = outcomes_text(alloc, outcomes)?;
+    let told = outcomes_text(alloc, verdict.outcomes())?;
     growth::extend_from_slice(&mut text, told.as_slice())?;
+    add_heals(&mut text, verdict.heals())?;
     growth::extend_from_slice(&mut text, b"\n")?;
     Ok(text)
 }

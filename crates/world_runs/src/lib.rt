@@ -1,5 +1,5 @@
-//! Tests of the whole system: runs of a phone, two stations and the core event by event, with two cores, and driven
-//! against peers in memory. What they answer comes from an independent implementation.
+//! Tests of the whole system: a run of a phone, two stations and the core event by event, and one driven against peers
+//! in memory. What they answer comes from an independent implementation.
 #![tactic(auto)]
 
 #[cfg(test)]
@@ -7,6 +7,6 @@ mod driven;
 #[cfg(test)]
 mod kept;
 #[cfg(test)]
-mod relocations;
-#[cfg(test)]
 mod values;
+#[cfg(test)]
+mod worlds;

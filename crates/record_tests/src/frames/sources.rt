@@ -3,22 +3,32 @@ use crate::values::{same, same_at};
 use alg_choice::Caps;
 use edge_io::{MemSource, Role, SliceSource, read_fill};
 use role_wire::{FrameFault, FrameIn, RoleSetup, read_frame};
+use std::process::Abort;
 use std::test::Fail;
 
 // Two Setup frames of the phone.
 static TWICE: [u8; 10] = [0, 3, 0, 0xa0, 0x20, 0, 3, 0, 0xa0, 0x20];
 
-const SETUP: FrameIn = FrameIn::Setup(RoleSetup::Phone(Caps {
+const SETUP: Caps = Caps {
     eea: 0xa0,
     eia: 0x20,
-}));
+};
+
+// The capabilities of the Setup that was read, or why none was.
+fn caps_of(rt: &impl Abort, read: Result<FrameIn, FrameFault>) -> Result<Caps, FrameFault> {
+    match read {
+        Ok(FrameIn::Setup(RoleSetup::Phone(caps))) => Ok(caps),
+        Ok(_) => panic!(rt; "no Setup of the phone"),
+        Err(fault) => Err(fault),
+    }
+}
 
 #[test]
 fn an_input_ends_at_a_frames_edge_or_inside_a_frame(rt: HostRuntime) {
     for size in 0..11 {
         let mut src = SliceSource::new(&TWICE[..size]);
-        let first = read_frame(&mut src, Role::Phone, true);
-        let second = read_frame(&mut src, Role::Phone, true);
+        let first = caps_of(&rt, read_frame(&mut src, Role::Phone, true));
+        let second = caps_of(&rt, read_frame(&mut src, Role::Phone, true));
         let want = match size {
             0 => (Err(FrameFault::Ended), Err(FrameFault::Ended)),
             1..=4 => (Err(FrameFault::Truncated), Err(FrameFault::Ended)),
@@ -33,17 +43,12 @@ fn an_input_ends_at_a_frames_edge_or_inside_a_frame(rt: HostRuntime) {
 #[test]
 fn a_second_setup_is_no_frame(rt: HostRuntime) {
     let mut src = SliceSource::new(&TWICE);
-    same(&rt, read_frame(&mut src, Role::Phone, true), Ok(SETUP));
-    same(
-        &rt,
-        read_frame(&mut src, Role::Phone, false),
-        Err(FrameFault::BadBody(0)),
-    );
-    same(
-        &rt,
-        read_frame(&mut src, Role::Phone, false),
-        Err(FrameFault::Ended),
-    );
+    let first = caps_of(&rt, read_frame(&mut src, Role::Phone, true));
+    same(&rt, first, Ok(SETUP));
+    let second = read_frame(&mut src, Role::Phone, false).err();
+    same(&rt, second, Some(FrameFault::BadBody(0)));
+    let third = read_frame(&mut src, Role::Phone, false).err();
+    same(&rt, third, Some(FrameFault::Ended));
 }
 
 #[test]
@@ -54,15 +59,15 @@ fn a_length_ends_at_4096(rt: HostRuntime) {
     let mut src = SliceSource::new(&octets);
     same(
         &rt,
-        read_frame(&mut src, Role::Core, false),
-        Err(FrameFault::BadBody(1537)),
+        read_frame(&mut src, Role::Core, false).err(),
+        Some(FrameFault::BadBody(1537)),
     );
     octets[1] = 1;
     let mut src = SliceSource::new(&octets);
     same(
         &rt,
-        read_frame(&mut src, Role::Core, false),
-        Err(FrameFault::TooLong(4097)),
+        read_frame(&mut src, Role::Core, false).err(),
+        Some(FrameFault::TooLong(4097)),
     );
     // Nothing behind the length was read.
     let mut rest = [0u8; 4099];
@@ -75,7 +80,10 @@ fn texts_end_at_their_greatest_size(rt: HostRuntime) {
         (Role::Phone, 0x02, 1, 1536),
         (Role::Phone, 0x15, 1, 200),
         (Role::Phone, 0x13, 2, 1500),
+        (Role::Core, 0x02, 1, 1536),
         (Role::Core, 0x04, 1, 1536),
+        (Role::Core, 0x15, 1, 200),
+        (Role::Station(3), 0x04, 1, 1536),
         (Role::Station(3), 0x05, 1, 1536),
     ];
     for (role, kind, place, most) in table {
@@ -103,7 +111,8 @@ fn a_fault_in_mid_frame_is_answered(rt: HostRuntime) -> Result<(), Fail> {
         } else {
             Ok(SETUP)
         };
-        same_at(&rt, failing, read_frame(&mut src, Role::Phone, true), want);
+        let got = caps_of(&rt, read_frame(&mut src, Role::Phone, true));
+        same_at(&rt, failing, got, want);
     }
     Ok(())
 }

@@ -1,5 +1,5 @@
 use crate::scenarios::event_at;
-use crate::values::{same, same_at};
+use crate::values::{alike_at, same};
 use scenario_file::{generate, read};
 use std::test::Fail;
 
@@ -47,11 +47,11 @@ fn a_seed_gives_the_steps_of_its_draws(rt: HostRuntime) -> Result<(), Fail> {
     let whole = read(rt.alloc(), SEED_94.as_bytes())?;
     for n in [1, 7, 8, 9, 17, 25, 49, 50] {
         let scenario = generate(rt.alloc(), n, 94)?;
-        same(&rt, &scenario.setup, &whole.setup);
+        assert!(rt; scenario.setup == whole.setup);
         same(&rt, scenario.events.len(), n as usize);
         for number in 0..n as usize {
             let event = event_at(&scenario.events, number);
-            same_at(&rt, (n, number), event, event_at(&whole.events, number));
+            alike_at(&rt, (n, number), event, event_at(&whole.events, number));
         }
     }
     Ok(())

@@ -1,4 +1,4 @@
-use Rattle.std.proofs.Common.{◌≡◌, List, [], rules}
+use Rattle.std.proofs.Common.{◌≡◌, [], rules}
 use Rattle.std.specs.Prelude.{flat_map}
 use Rattle.key_model.specs.Reading.{octet_reading}
 use Rattle.trace_keys.specs.{Moved.moved, Same.same_net}

@@ -1,9 +1,10 @@
-use Rattle.std.proofs.Common.{◌≡◌, ◌<◌, ◌≤◌, ◌&&◌, Bool, true, false, List, [], ◌∷◌, length, get_or, refl, sym, subst, ap, ◌∙◌, arith, rules}
+use Rattle.std.proofs.Common.{◌≡◌, ◌<◌, ◌≤◌, ◌&&◌, [], ◌∷◌, length, sym, subst, arith, rules}
 use Rattle.key_model.specs.Reading.{octet_reading}
 use Rattle.trace_keys.specs.Moved.{moved}
-use Rattle.trace_rules.specs.Rules.{IsIn}
-use Rattle.trace_plain.specs.{Explained.ExplainedTo, Sights.fits, Sights.is_covered}
-use Rattle.trace_plain.proofs.Steps.{Before, Behind, advanced, begins, ends_at, ends_all, no_items}
+use Rattle.trace_keys.specs.Same.{same_net}
+use Rattle.trace_plain.specs.{Explained.ExplainedTo, Kept.shown_once, Sights.fits, Sights.is_covered}
+use Rattle.trace_plain.proofs.Counting.{kept_next}
+use Rattle.trace_plain.proofs.Steps.{advanced, begins, ends_at, ends_all, no_items}
 use Rattle.trace_plain.proofs.search.explained.Goals as goal
 
 pub loop-sight-init : goal.loop-sight-init
@@ -11,6 +12,7 @@ loop-sight-init c =
     let one : c.in_ok-nets.nets.items ≡ c.args.start.now ∷ [] = search rules in
     record {
       number = search rules;
+      kept = one;
       before = begins (moved octet_reading c.args.kasmes.now) fits (is_covered c.args.covered.now) c.args.family.now c.args.bound c.args.start.now c.args.capture.now
           c.in_ok-nets.nets.items one;
     }
@@ -42,7 +44,14 @@ loop-sight-preserved c =
     let shut : c.both-closed.result ≡ (c.loop-sight.closed && c.in_ok-full.full) = search rules in
     let behind = advanced moves fits covers c.args.family.now c.args.bound c.args.start.now c.args.capture.now i c.sight-item.result c.loop-sight.nets.items ends c.loop-sight.closed c.in_ok-full.full c.both-closed.result
     lt c.sight-item.is inv.before c.in_ok-full.ensures.agree c.in_ok-full.ensures.full shut in
-    record { number = omega (arith, inv.number); before = record { agree = behind.agree; some = some; shut = behind.shut } }
+    let on : ends ≡ shown_once moves fits covers c.args.family.now c.args.bound same_net c.sight-item.result c.loop-sight.nets.items = search rules in
+    record {
+      number = omega (arith, inv.number);
+      kept =
+          kept_next moves fits covers c.args.family.now same_net c.args.bound c.args.start.now c.args.capture.now i c.sight-item.result c.loop-sight.nets.items ends
+          lt c.sight-item.is inv.kept on;
+      before = record { agree = behind.agree; some = some; shut = behind.shut };
+    }
 
 pub returns-clause-found : goal.returns-clause-found
 returns-clause-found c =

@@ -1,4 +1,4 @@
-use Rattle.std.proofs.Common.{◌≡◌, false, List, [], ◌++◌, append-nil, ap, sym, ◌∙◌, rules}
+use Rattle.std.proofs.Common.{◌≡◌, false, ◌++◌, append-nil, ap, sym, ◌∙◌, rules}
 use Rattle.key_model.specs.Reading.{octet_reading}
 use Rattle.trace_keys.specs.{Moved.moved, Places.place_of}
 use Rattle.trace_keys.proofs.Placing.{placed}

@@ -1,0 +1,15 @@
+use Rattle.std.proofs.Common.{ℕ, [], ◌∷◌, ◌++◌, None, refl}
+use Rattle.key_model.specs.{Term.Term, Value.value_of, Chain.ncc_of, Reading.term_reading, Reading.octet_reading}
+use Rattle.key_model.proofs.ReadingFacts.{values_carry}
+use Rattle.trace_keys.specs.Net.{Net}
+use Rattle.trace_terms.proofs.Histories.{to_here}
+use Rattle.trace_order.proofs.Watching.{in_order, two_keys, never}
+use Rattle.trace_order.proofs.known_nhs_follow.Goals as goal
+
+pub returns : goal.returns
+returns c = λ kasmes fits covers family bound left kasme count moves capture sight last next before after exact tapped fam is brings first second differ h.
+    let net : Net Term ℕ = record { kasme = kasme; count = count; serving = None } in
+    let order =
+    in_order kasmes fits covers exact family tapped bound left net moves (capture ++ sight ∷ []) None fam tt
+    (to_here term_reading octet_reading value_of ncc_of values_carry kasmes fits covers bound left _ net moves (capture ++ sight ∷ []) refl h) in
+    never before after last next first second differ (two_keys capture sight None None last next tt is brings order)

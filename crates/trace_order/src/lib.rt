@@ -1,0 +1,42 @@
+//! The NH keys of one phone come in order, however many moves go unseen.
+#![tactic(auto)]
+
+mod known;
+mod never;
+
+ghost use Rattle.std.specs.Prelude.{◌≡◌, ℕ, Bool, List, [], ◌∷◌, ◌++◌, map, None, Some};
+ghost use Rattle.key_model.specs.Reading.{octet_reading};
+ghost use Rattle.key_model.specs.Term.{Term};
+ghost use Rattle.key_model.specs.Value.{value_of};
+ghost use Rattle.key_model.specs.HandoverTable.{NumberedKey};
+ghost use Rattle.trace_rules.specs.Rules.{AreIn};
+ghost use Rattle.trace_rules.specs.History.{History};
+ghost use Rattle.trace_keys.specs.Net.{Net, Sight};
+ghost use Rattle.trace_keys.specs.Moved.{moved};
+ghost use Rattle.trace_keys.specs.declared.moves.Move.{Move};
+ghost use Rattle.trace_order.specs.Order.{IsExact, AllBeginsSeen, InOrder, Follows, Coincidence, last_nh, nh_of};
+
+pub use known::{Known, MOST_NUMBER};
+pub use never::is_never;
+
+/// What a lawful history shows of NHs is in order, of whatever of these moves and however many of them go unseen, over the air too: if
+/// the KeNBs that begin a connection and the key changes that are taken are covered, each NH is of the chain of the one before, and
+/// further on.
+pub fn nhs_come_in_order()
+    ensures { (kasmes : List Term) (fits : Sight (List ℕ) → Sight (List ℕ) → Bool) (covers : Sight (List ℕ) → Bool) (family : List Move) (bound left kasme count : ℕ) (moves : List Move) (capture : List (Sight (List ℕ))) →
+        IsExact fits → AllBeginsSeen covers family → AreIn moves family →
+        History (moved octet_reading (map value_of kasmes)) fits covers bound left (record { kasme = kasme; count = count; serving = None }) moves capture →
+        InOrder None capture }
+{}
+
+/// So an NH of a known term, behind the last one of a known term that it does not follow, has no such history, of however many moves,
+/// but where two terms have one value.
+pub fn known_nhs_follow()
+    ensures { (kasmes : List Term) (fits : Sight (List ℕ) → Sight (List ℕ) → Bool) (covers : Sight (List ℕ) → Bool) (family : List Move) (bound left kasme count : ℕ) (moves : List Move)
+        (capture : List (Sight (List ℕ))) (sight : Sight (List ℕ)) (last next : NumberedKey (List ℕ) ℕ) (before after : Term) →
+        IsExact fits → AllBeginsSeen covers family → AreIn moves family →
+        last_nh None capture ≡ Some last → nh_of sight.at sight.pair ≡ Some next →
+        value_of before ≡ last.key → value_of after ≡ next.key → ¬ Follows before after →
+        History (moved octet_reading (map value_of kasmes)) fits covers bound left (record { kasme = kasme; count = count; serving = None }) moves (capture ++ sight ∷ []) →
+        Coincidence }
+{}
