@@ -1,5 +1,7 @@
 """The bodies that call std where no clause can see it: those that make evidence that memory was refused, and those of std's network and host. No clause says that std
 was asked for what was wanted, and that its answer was handed on: so each body is compared with a list."""
+from __future__ import annotations
+
 import pathlib
 from collections.abc import Iterator
 

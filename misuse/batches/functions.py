@@ -1,5 +1,7 @@
 """In which function a place of a source file stands. The file is laid out, so that a function ends where its closing brace stands
 right below its first column."""
+from __future__ import annotations
+
 import dataclasses
 import re
 

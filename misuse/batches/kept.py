@@ -1,4 +1,6 @@
 """What earlier runs on this machine refused, by the sums of all that they read. A sum names its entry, so that none goes stale."""
+from __future__ import annotations
+
 import functools
 import hashlib
 import json

@@ -32,12 +32,6 @@ def renewed(old: Rows, new: Rows, crates: set[str]) -> Rows:
 
 
 def differences(old: Rows, new: Rows, crates: set[str]) -> list[str]:
-    """How the rows that are kept of these crates differ from what was tried: each goal of a row must stay open, in its order from the
-    first, and more may. An edit that has no row yet differs from none."""
-    differ = [it for it, text in sorted(old.items()) if it[0] in crates and not f"{new.get(it, '')} ".startswith(f"{text} ")]
-    return [f"- {old[it]}" for it in differ] + [f"+ {new[it]}" for it in differ if it in new]
-
-
-def rowless(old: Rows, new: Rows) -> list[str]:
-    """The rows of edits that have none yet."""
-    return [f"+ {text}" for it, text in sorted(new.items()) if it not in old]
+    """How the rows that are kept of these crates differ from what was tried: each edit has a row, with all goals that it leaves open."""
+    lost = [text for it, text in sorted(old.items()) if it[0] in crates and new.get(it) != text]
+    return [f"- {text}" for text in lost] + [f"+ {text}" for it, text in sorted(new.items()) if old.get(it) != text]

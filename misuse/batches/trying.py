@@ -1,4 +1,6 @@
 """Tries the edits of crates: many in one check, and by themselves those of which that check does not tell."""
+from __future__ import annotations
+
 import concurrent.futures
 import dataclasses
 import os
