@@ -14,10 +14,11 @@ import platform
 import re
 import sys
 import time
-import tomllib
 import zipfile
 from pathlib import Path
 from typing import Any
+
+from lte_sec import document
 
 HERE = Path(__file__).resolve().parent
 LIBRARY = Path(os.environ.get("LTE_SEC_LIBRARY") or HERE.parent / "library/built/liblte_sec.so")
@@ -53,7 +54,7 @@ def _record(name: str, content: bytes) -> str:
 
 def _contents(about: str, tag: str, version: str) -> dict[str, bytes]:
     """The files of the wheel, each by its name."""
-    project = tomllib.loads((HERE / "pyproject.toml").read_text())["project"]
+    project = document.plain(document.read((HERE / "pyproject.toml").read_bytes()))["project"]
     files = {f"lte_sec/{path.name}": path.read_bytes() for part in PARTS for path in sorted((HERE / "lte_sec").glob(part))}
     files["lte_sec/words.txt"] = (HERE.parent / "launcher/words").read_bytes()
     files["lte_sec/liblte_sec.so"] = LIBRARY.read_bytes()

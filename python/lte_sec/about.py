@@ -2,7 +2,6 @@
 from __future__ import annotations
 
 import hashlib
-import importlib.metadata
 from collections.abc import Iterable
 from pathlib import Path
 
@@ -18,6 +17,8 @@ def version() -> str:
         return VERSION.read_text(encoding="ascii").strip()
     except (OSError, ValueError):
         pass
+    import importlib.metadata  # only of a wheel, as it takes as long to load as most of the package
+
     try:
         return importlib.metadata.version("lte_sec")
     except importlib.metadata.PackageNotFoundError:

@@ -1,4 +1,4 @@
-"""Tells an actor at a port of this machine the frames of a file, and compares its replies with those of the file.
+"""Tells an actor at a port of this machine the frames of a file: it compares its replies with those of the file.
 
     docs/cookbook/against PORT FRAMES
 

@@ -8,8 +8,10 @@ from itertools import groupby
 from typing import Any
 
 from .charted import Chart, with_numbers
+from .healing import Heals
 from .listed import Listed
-from .outcomes import GOES_ON, RANK, USUAL_BAD, limit
+from .outcomes import GOES_ON, NOT_MADE, RANK, USUAL_BAD, limit
+from .pairs import paired
 from .remarks import named, with_frames
 from .study import Variant
 from .variants import KINDS, Fault
@@ -33,6 +35,7 @@ class Answer:
     frames: dict[int, str] = field(default_factory=dict)  # of steps, where the scenario has them
     goal: dict[str, Any] | None = None  # of a search for an outcome: what was searched, and the size of the smallest sets
     itself: list[str] = field(default_factory=list)  # what is wrong in the scenario without any fault, as lte_variants says it
+    heals: Heals | None = None  # and what heals behind it
     chart: Chart | None = None  # its own course, where those of the variants are kept
 
     def sort(self) -> None:
@@ -66,8 +69,9 @@ def to_json(answer: Answer) -> dict[str, Any]:
         "part": f"{answer.part[0]}/{answer.part[1]}" if answer.part else None,
         "whole": answer.whole,
         "itself": [itself_json(line) for line in answer.itself],
+        "heals": answer.heals and answer.heals.to_json(),
         "messages": [{"step": int(step), "message": message, "frame": answer.frames.get(int(step))} for step, message in answer.messages.items()],
-        "variants": [variant_json(variant, answer) | ({"run": run, "gone": variant.gone} if chart else {}) for variant, run in zip(variants, runs)],
+        "variants": [variant_json(variant, answer) | ({"run": run, "gone": variant.gone} if chart else {}) for variant, run in paired(variants, runs)],
         "counts": {str(faults): {word: counts[word] for word in RANK if counts[word]} for faults, counts in sorted(answer.counts.items())},
         **({"goal": answer.goal} if answer.goal else {}),
         **charted,
@@ -91,7 +95,7 @@ def variant_json(variant: Variant, answer: Answer) -> dict[str, Any]:
         for fault in variant.faults
     ]
     outcomes = [{"is": word, "what": what, "limit": limit(variant, word, messages)} for word, what in variant.outcomes.items()]
-    return {"faults": faults, "outcomes": outcomes, "answers": variant.answers} | ({"by_run": variant.by_run} if variant.by_run else {})
+    return {"faults": faults, "outcomes": outcomes, "heals": variant.heals and variant.heals.to_json(), "answers": variant.answers} | ({"by_run": variant.by_run} if variant.by_run else {})
 
 
 def from_json(it: dict[str, Any]) -> Answer:
@@ -101,10 +105,10 @@ def from_json(it: dict[str, Any]) -> Answer:
     answer.frames = {each["step"]: each["frame"] for each in it["messages"] if each.get("frame")}
     answer.part = (int(numbers[0]), int(numbers[1])) if numbers else None
     answer.chart = Chart(it["name"], it["lanes"], it["base"]) if "base" in it else None
-    answer.itself = [itself_from(each) for each in it.get("itself", [])]
+    answer.itself, answer.heals = [itself_from(each) for each in it.get("itself", [])], Heals.from_json(it.get("heals"))
     for each in it["variants"]:
         faults = tuple(Fault(KINDS[KINDS.index(one["kind"])], str(one["step"]), str(one["after"]) if "after" in one else None) for one in each["faults"])
-        variant = Variant(faults, {one["is"]: one["what"] for one in each["outcomes"] if RANK[one["is"]] >= 0}, each["answers"], gone=each.get("gone", []), by_run=each.get("by_run", []))
+        variant = Variant(faults, {one["is"]: one["what"] for one in each["outcomes"] if RANK[one["is"]] >= 0}, each["answers"], gone=each.get("gone", []), by_run=each.get("by_run", []), heals=Heals.from_json(each.get("heals")))
         variant.run = [it["steps"][entry] if isinstance(entry, int) else entry for entry in each.get("run", [])]
         (answer.singles if len(faults) == 1 else answer.together).append(variant)
     answer.counts = {int(faults): Counter(counts) for faults, counts in it["counts"].items()}
@@ -114,7 +118,7 @@ def from_json(it: dict[str, Any]) -> Answer:
 def merged(parts: list[Answer]) -> Answer:
     """The whole of these parts, which are those of one."""
     first = parts[0]
-    whole = Answer(first.tried, first.messages, frames=first.frames, chart=first.chart, itself=first.itself)
+    whole = Answer(first.tried, first.messages, frames=first.frames, chart=first.chart, itself=first.itself, heals=first.heals)
     for part in parts:
         whole.singles += part.singles
         whole.together += part.together
@@ -129,7 +133,7 @@ def merged(parts: list[Answer]) -> Answer:
 def table(answer: Answer) -> Iterator[str]:
     """The lines: what is wrong in the scenario itself, a table of messages and faults, each outcome worse than `goes on`, and the counts."""
     if answer.itself:
-        yield f"without any fault: {'; '.join(of_itself(line, answer.frames) for line in answer.itself)}"
+        yield f"without any fault: {'; '.join(of_itself(line, answer.frames) for line in answer.itself)}{healed(answer.heals)}"
         yield ""
     kinds: list[str] = [kind for kind in KINDS if kind in answer.tried["kinds"]]
     cells = {place: list(variants) for place, variants in groupby(answer.singles, lambda it: (it.faults[0].item, it.faults[0].kind))}
@@ -168,17 +172,28 @@ def cell(variants: list[Variant]) -> str:
 
 
 def tellings(variants: list[Variant], answer: Answer, above: int = RANK[GOES_ON]) -> Iterator[str]:
-    """A line for variants that differ only in places, if they are worse than `goes on`, or than this rank."""
+    """A line for variants that differ only in places, if they are worse than `goes on`, or than this rank; where something is not made, with the messages
+    whose fault comes to the same, since one is the cause of the next."""
     messages, frames = answer.messages, answer.frames
     bad = [variant for variant in variants if variant.by_run or RANK[variant.worst] > above]
     told: list[tuple[Variant, list[list[Fault]]]] = [(variant, [[fault] for fault in variant.faults]) for variant in bad]
     for at in reversed(range(max((len(variant.faults) for variant in bad), default=0))):
         told = together(told, at)
-    for first, faults in told:
+    lines: dict[tuple[int | None, str], list[str]] = {}  # the messages of each line, by what it says behind them
+    for number, (first, faults) in enumerate(told):
         outcomes = "; ".join(outcome(first, word, answer) for word in first.outcomes)
         answers = f", from {with_frames(', '.join(first.answers), frames)}" if first.answers else ""
         others = f" (its own run: {'; '.join(first.by_run)})" if first.by_run else ""
-        yield f"{' and '.join(of_faults(each, messages, frames) for each in faults)}: {outcomes}{answers}{others}"
+        before = "".join(f"{of_faults(each, messages, frames)} and " for each in faults[:-1])
+        own = None if len(faults) == 1 and first.worst == NOT_MADE else number
+        key = own, f"{of_places(faults[-1], frames)}: {outcomes}{answers}{healed(first.heals)}{others}"
+        lines.setdefault(key, []).append(f"{before}{of_message(faults[-1][0], messages, frames)}")
+    yield from (f"{', '.join(found)} {said}" for (_, said), found in lines.items())
+
+
+def healed(heals: Heals | None) -> str:
+    """What heals, behind a line."""
+    return f"; heals: {heals}" if heals else ""
 
 
 def together(told: list[tuple[Variant, list[list[Fault]]]], at: int) -> list[tuple[Variant, list[list[Fault]]]]:
@@ -189,7 +204,7 @@ def together(told: list[tuple[Variant, list[list[Fault]]]], at: int) -> list[tup
             groups[variant.faults] = variant, faults
             continue
         others = tuple(tuple(each) for each in [*faults[:at], *faults[at + 1 :]])
-        key = (others, faults[at][0].item, faults[at][0].kind, tuple(variant.outcomes.items()), tuple(variant.answers), tuple(variant.by_run))
+        key = (others, faults[at][0].item, faults[at][0].kind, tuple(variant.outcomes.items()), tuple(variant.answers), tuple(variant.by_run), variant.heals)
         if key in groups:
             groups[key][1][at].extend(faults[at])
         else:
@@ -206,9 +221,17 @@ def outcome(variant: Variant, word: str, answer: Answer) -> str:
 
 def of_faults(faults: list[Fault], messages: dict[str, str], frames: dict[int, str]) -> str:
     """Faults of one message and kind, in words."""
-    first = faults[0]
-    after = f" after {ranges([int(fault.after or 0) for fault in faults], frames)}" if first.after is not None else ""
-    return f"{named(first.item, frames)} {messages[first.item]} {first.kind}{after}"
+    return f"{of_message(faults[0], messages, frames)} {of_places(faults, frames)}"
+
+
+def of_message(fault: Fault, messages: dict[str, str], frames: dict[int, str]) -> str:
+    return f"{named(fault.item, frames)} {messages[fault.item]}"
+
+
+def of_places(faults: list[Fault], frames: dict[int, str]) -> str:
+    """Their kind, and their places."""
+    after = f" after {ranges([int(fault.after or 0) for fault in faults], frames)}" if faults[0].after is not None else ""
+    return f"{faults[0].kind}{after}"
 
 
 def ranges(steps: list[int], frames: dict[int, str]) -> str:

@@ -1,4 +1,4 @@
-"""The messages of a scenario that a call of `what-if` asks for, by the steps that deliver them or by their names."""
+"""The messages that `what-if --messages` names: by the steps that deliver them or by their names."""
 from __future__ import annotations
 
 from collections.abc import Mapping

@@ -11,27 +11,26 @@ import sys
 from pathlib import Path
 
 from .inputs import of_input
-from .messages import StepLine
 from .remarks import frames_of
+from .run_report import StepLine, rows_of
 from .terms import TraceError
 
 REASONS = Path(__file__).resolve().parents[2] / "launcher" / "reasons"
 REFUSED = 3
-ROW = re.compile(r"row (\d+) \w+(?:\((\d+),?[\d,]*\))? ([0-9a-f]{64}) ")
 
 
-def frames_of_rows(report: str, frames: dict[int, str]) -> dict[str, str]:
+def frames_of_rows(report: str, frames: dict[int, str]) -> dict[int, str]:
     """The frame of each row of the ladder of a report: that of its key, else of the key above it."""
     lines = report.splitlines()
     first: dict[str, str] = {}
     for number, line in enumerate(map(StepLine.read, lines)):
         if line is not None and line.note is not None and number in frames:
             first.setdefault(line.note.key, frames[number])
-    found: dict[str, str] = {}
-    for row in filter(None, map(ROW.match, lines)):
-        frame = first.get(row[3], found.get(row[2] or "", ""))
+    found: dict[int, str] = {}
+    for row in rows_of(lines).values():
+        frame = first.get(row.key, "" if row.parent is None else found.get(row.parent, ""))
         if frame:
-            found[row[1]] = frame
+            found[row.number] = frame
     return found
 
 
@@ -45,7 +44,7 @@ def main(words: list[str]) -> int:
     rows = frames_of_rows(report.stdout.decode(), frames_of(octets.decode(errors="replace")))
     for line in audit.stdout.decode().splitlines():
         place = re.match(r"row (\d+) ", line)
-        print(line + (f" [f{rows[place[1]]}]" if place and place[1] in rows else ""))
+        print(line + (f" [f{rows[int(place[1])]}]" if place and int(place[1]) in rows else ""))
     sys.stdout.flush()
     if audit.returncode == REFUSED:
         subprocess.run([sys.executable, str(REASONS), "text", words[0], "audit"], input=octets)

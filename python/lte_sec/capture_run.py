@@ -1,4 +1,4 @@
-"""Runs a scenario with each actor served at a port, and leaves what was sent as texts for text2pcap.
+"""Runs a scenario with each actor served at a port: leaves what was sent as texts for text2pcap.
 
     docs/cookbook/capture SCENARIO FOLDER
 
@@ -16,19 +16,19 @@ import pathlib
 import socket
 import subprocess
 import sys
-import tomllib
 from collections.abc import Iterator
-from typing import Any, NoReturn
+from typing import Any, NoReturn, Union
 
 from . import frames, network
-from .ladders import rows_of
+from .run_report import rows_of
+from .scenarios import NoScenario, table_of
 
 TOP = pathlib.Path(__file__).resolve().parents[2]
 PROGRAM = TOP / "lte_sec"
 SECONDS = 60
 BEARERS = {name: octet for octet, name in frames.BEARERS.items()}
 INITIAL_CONTEXT = 0x20  # the first octet of that record on S1
-Name = str | int  # phone, core, or the number of a station
+Name = Union[str, int]  # phone, core, or the number of a station
 SentMessage = tuple[int, Name, bytes, bytes, bool]
 KEYED = {3: "RRC encryption", 4: "RRC integrity", 5: "user plane encryption"}  # algorithm types (TS 33.401 A.7)
 
@@ -171,7 +171,7 @@ def algorithm_keys(report: str) -> dict[str, dict[int, tuple[int, str]]]:
     keys: dict[str, dict[int, tuple[int, str]]] = {}
     for row in rows.values():
         if row.word == "alg" and row.parent is not None:
-            _, kind, identity = map(int, row.values)
+            _, kind, identity = row.values
             keys.setdefault(rows[row.parent].key, {})[kind] = (identity, row.key)
     return keys
 
@@ -209,9 +209,9 @@ def read_scenario(file: pathlib.Path, folder: pathlib.Path) -> tuple[dict[str, A
     except OSError as fault:
         wrong(2, f"{fault.filename}: {fault.strerror}")
     try:
-        return tomllib.loads(text.decode()), report
-    except ValueError as fault:
-        wrong(1, f"{file} is a scenario in TOML 1.1, and here it must be one in 1.0: {fault}")
+        return table_of(text), report
+    except NoScenario as fault:
+        wrong(1, f"{file}: {fault}")
 
 
 PREFERENCES = """\

@@ -6,6 +6,7 @@ from __future__ import annotations
 
 from dataclasses import dataclass, field
 
+from .causes import Why
 from .cells import Cell
 from .nas_steps import NasSteps, ReplayedKey
 from .recorded import KeySeen, Met
@@ -88,7 +89,7 @@ class ChainSteps(NasSteps):
     """What the run has of the core's chain, too."""
 
     link: ReplayedConnection | None = None
-    lost: str = ""  # why what the capture has of this connection is not replayed
+    lost: Why = ()  # why what the capture has of this connection is not replayed
     unanswered: list[tuple[Ask, int]] = field(default_factory=list)  # requests that the core got without an answer, with their numbers
 
     @property
@@ -122,7 +123,7 @@ class ChainSteps(NasSteps):
         """The request that an answer with this NH is for: the latest. Those before it reached the core as the number tells."""
         link = self.link
         assert link is not None
-        if key.reason == "late":
+        if key.is_late:
             return self.late(key)
         if not link.asks:
             return None

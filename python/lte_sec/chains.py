@@ -4,6 +4,7 @@ from __future__ import annotations
 from collections.abc import Iterator
 
 from . import reasons
+from .causes import Cause
 from .decoding import Message
 from .histories import CHAIN, UNKNOWN_KEY, Chain, History, Numbered, PhoneKeys
 from .kenbs import KenbJudge
@@ -12,9 +13,7 @@ from .state import Connection, Undecided
 from .terms import NONE, UP, Key, counted, numbered
 
 FAR = 6  # so many steps of the chain ahead of the phone the core is warned of; at eight they come apart
-LOST_FRAMES = "after frames that the capture lost, as SCTP's numbers tell"
-LOST_CHANGE = "after a key change that the trace lacks"
-NEW_KASME = "KeNB of a new KASME: a handover goes on from the KASME in use, until the key is changed within a cell (TS 33.401 7.2.10)"
+LOST_FRAMES, LOST_CHANGE = Cause.LOST_FRAMES.because(), Cause.LOST_CHANGE.because()
 FIRST = (2, 1)  # the number of the first NH that a core sends: 2 by TS 33.401 7.2.8.1.1 and 7.2.8.4.2, 1 of other cores
 
 ChainStep = tuple[Chain, Chain]  # the core's chain before and after
@@ -40,8 +39,8 @@ class ChainJudge(KenbJudge):
                 found.append(found[-1].step(self.derivations))
             yield found[number]
 
-    def nh(self, connection: Connection, message: Message) -> list[Numbered]:
-        """Judges NH and NCC, and keeps the histories that give them; answers the pairs that the receiver may have: as sent, then as wanted."""
+    def nh(self, connection: Connection, message: Message, station: str = "") -> list[Numbered]:
+        """Judges NH and NCC that are sent to a station, and keeps the histories that give them; answers the pairs that it may have: as sent, then as wanted."""
         assert message.nh is not None and message.ncc is not None
         tried = [(chain, after) for chain in connection.cores() for after in self.due(connection, chain)]
         matches = [step for step in tried if step[1].sync.value == message.nh]
@@ -51,7 +50,7 @@ class ChainJudge(KenbJudge):
         if matches:
             by_ncc = [step for step in tried if step[1].ncc == message.ncc and step[1].kasme == matches[0][1].kasme]
             return self.two_numbers(connection, message, matches[0], by_ncc[0]) if by_ncc else self.right_nh(connection, message, matches[:1])
-        made = self.overdue(connection, message) or self.nh_of_change(connection, message) or self.nh_of_elsewhere(connection, message)
+        made = self.overdue(connection, message, station) or self.nh_of_change(connection, message) or self.nh_of_elsewhere(connection, message)
         made = made or self.nh_of_lost(connection, message)
         return made or self.other_nh(connection, message, tried)
 
@@ -93,18 +92,18 @@ class ChainJudge(KenbJudge):
         self.moves.lost(connection)
         return [Numbered(Key(value, NONE), ncc)]
 
-    def overdue(self, connection: Connection, message: Message) -> list[Numbered] | None:
+    def overdue(self, connection: Connection, message: Message, station: str) -> list[Numbered] | None:
         """An answer that comes after the answer to a later request: its number was left out then."""
-        late = self.late(connection, message)
+        late = self.late(connection, message, station)
         if late is None:
             return None
-        connection.missed.discard(late.number)
-        self.judged(message, "NH", late.sync, late.sync, (message.ncc or 0, late.ncc), "late")
+        del connection.missed[late.number]
+        self.judged(message, "NH", late.sync, late.sync, (message.ncc or 0, late.ncc), Cause.LATE.because())
         return [Numbered(late.sync, message.ncc or 0)]
 
-    def late(self, connection: Connection, message: Message) -> Chain | None:
-        """The chain at the number of an answer that is overdue."""
-        chains = (self.numbered(connection, number) for number in sorted(connection.missed))
+    def late(self, connection: Connection, message: Message, station: str) -> Chain | None:
+        """The chain at the number of an answer that is overdue: it comes to the station that had its NH before."""
+        chains = (self.numbered(connection, number) for number, told in sorted(connection.missed.items()) if not station or told in ("", station))
         return next((chain for chain in chains if chain is not None and chain.sync.value == message.nh), None)
 
     def numbered(self, connection: Connection, number: int) -> Chain | None:
@@ -128,7 +127,7 @@ class ChainJudge(KenbJudge):
         if connection.side.pending is not None and connection.side.pending.kasme == kenb.kasme:
             self.book.complete(connection.side)
         self.used(connection)
-        connection.asked, connection.missed = 0, set()
+        connection.asked, connection.missed = 0, {}
         connection.keeps(histories)
 
     def nh_of_change(self, connection: Connection, message: Message) -> list[Numbered] | None:
@@ -169,9 +168,16 @@ class ChainJudge(KenbJudge):
             self.unjudged(message, "NH", NOT_GIVEN, found)
             connection.keeps(History(None, one.held) for one in connection.histories)
             return [Numbered(found, message.ncc)]
+        unknown_cores = [one for one in connection.histories if one.core is None]
+        if tried and unknown_cores:
+            self.unjudged(message, "NH", NOT_GIVEN, found)
+            connection.keeps(unknown_cores)
+            return [Numbered(found, message.ncc)]
         if not tried:
-            self.unjudged(message, "NH", "the trace does not show where the chain begins" if found.known else NOT_GIVEN, found)
-            connection.goes_on([Chain(found.kasme, found, number)] if number else [])
+            self.unjudged(message, "NH", Cause.CHAIN_NOT_SHOWN.because() if found.known else NOT_GIVEN, found)
+            self.begins_at(connection, found)
+            if not connection.cores() and number:
+                connection.goes_on([Chain(found.kasme, found, number)])
             return [Numbered(found, message.ncc)]
         # Several numbers may be due where requests have no answer. A key that nothing explains leaves NCC to tell.
         chains = [after for _, after in tried]
@@ -180,7 +186,7 @@ class ChainJudge(KenbJudge):
         kasmes = self.derivations.kasmes
         why = self.reason(found, lambda: (reasons.nh(found.value, kasmes[chain.kasme].value, sync.value) for chain in connection.cores() for sync in self.syncs(connection, chain)))
         if message.name == "HandoverRequest" and found.term.kind == "kenb" and found.kasme != wanted.kasme:
-            why = NEW_KASME
+            why = Cause.NEW_KASME.because()
         self.judged(message, "NH", found, wanted.sync, (message.ncc, wanted.ncc), why)
         self.decided(connection, wanted)
         connection.goes_on(self.sent_or_wanted(connection, found, number, wanted))
@@ -211,13 +217,14 @@ class ChainJudge(KenbJudge):
             if connection.asked < 2:
                 self.seen_firsts.setdefault(connection.mme, []).append(chain.number)
             before = min(first, chain.number) - 1
-        connection.missed |= set(range(before + 1, chain.number))
+        connection.missed = {**dict.fromkeys(range(before + 1, chain.number), ""), **connection.missed}
         self.judged(message, "NH", chain.sync, chain.sync, (message.ncc or 0, chain.ncc))
         connection.steps(steps)
+        self.moves.is_certain(connection)
         connection.asked = max(0, connection.asked - (chain.number - before))
         if connection.phone and chain.number - connection.phone.chain.number >= FAR:
             ahead = chain.number - connection.phone.chain.number
-            self.note(message.frame, f"warning: the core is {ahead} steps of the chain ahead of the phone; at eight they come apart")
+            self.note(message.frame, Cause.FAR_AHEAD.because(steps=ahead))
         pairs = [Numbered(chain.sync, message.ncc or 0)]
         return pairs if message.ncc == chain.ncc else [*pairs, Numbered(chain.sync, chain.ncc)]
 
@@ -230,7 +237,7 @@ class ChainJudge(KenbJudge):
         }
         likely = sorted((by_key, by_ncc), key=lambda step: FIRST.index(step[1].number) if step[1].number in FIRST else -1)
         self.lines.append(lines[likely[0][1].number])
-        connection.undecided = Undecided(lines[likely[0][1].number], lines[likely[1][1].number], likely[1][1].number)
+        connection.undecided = Undecided(len(self.lines) - 1, lines[likely[0][1].number], lines[likely[1][1].number], likely[1][1].number)
         connection.steps(likely)
         connection.asked = 0
         return [Numbered(key.sync, ncc), Numbered(key.sync, key.ncc), Numbered(other.sync, ncc)]
@@ -240,4 +247,4 @@ class ChainJudge(KenbJudge):
         undecided, connection.undecided = connection.undecided, None
         if undecided is not None and chain.number == undecided.number + 1 and not connection.cut:
             undecided.other.place = undecided.line.place
-            self.lines[next(place for place, line in enumerate(self.lines) if line is undecided.line)] = undecided.other
+            self.lines[undecided.at] = undecided.other

@@ -10,7 +10,8 @@ from dataclasses import dataclass, field
 from typing import Any, NamedTuple
 
 from .courses import Course
-from .messages import NAS_TEXT, Names, StepLine, nas_name
+from .messages import NAS_TEXT, Names, nas_name
+from .run_report import StepLine
 from .probe import PROBE
 from .scenarios import Scenario, Step
 from .trace_page import Json

@@ -37,19 +37,19 @@ def judge(given: list[str]) -> int:
 
 
 def answer(given: list[str]) -> int:
-    match given:
-        case ["--version"]:
-            print(version())
-        case ["--help" | "-h" | "help", *_]:
-            print("the words are:", *USAGE.values(), sep="\n    ")
-        case ["verdict", *rest]:
-            return judge(rest)
-        case [name, *_] if name in USAGE:
-            return words.main(given)
-        case [name, *_]:
-            raise TraceError(f"there is no word {name} here, but {', '.join(USAGE)}; the package seedspan has all words")
-        case _:
-            raise TraceError(f"a word is wanted: {', '.join(USAGE)}")
+    name, *rest = given or [""]
+    if name == "verdict":
+        return judge(rest)
+    if given == ["--version"]:
+        print(version())
+    elif name in words.USAGE and name in USAGE:
+        return words.main(given)
+    elif name in ("--help", "-h", "help"):
+        print("the words are:", *USAGE.values(), sep="\n    ")
+    elif name:
+        raise TraceError(f"there is no word {name} here, but {', '.join(USAGE)}; the package seedspan has all words")
+    else:
+        raise TraceError(f"a word is wanted: {', '.join(USAGE)}")
     return 0
 
 

@@ -1,18 +1,18 @@
 """The keys of a capture beside those of the run: same, another, or not replayed; and what the run refuses."""
 from __future__ import annotations
 
-import re
 from collections.abc import Iterator
 from dataclasses import dataclass, field
 from enum import Enum
 
+from .causes import Cause, Why, told
 from .courses import Course
+from .escaped import shown
 from .nas_steps import ReplayedKey
 from .report import DIFFERS
+from .run_report import behind_end, rows_of
 from .script import Script
 from .terms import NONE, Term, numbered
-
-ROW = re.compile(r"row \d+ (\w+)(?:\((\d+),([\d,]*)\))? ([0-9a-f]{64}) \S+")
 
 
 class ReplayVerdict(str, Enum):
@@ -36,8 +36,12 @@ class ComparedKey:
     run_term: str = ""
     run_ncc: int | None = None
     step: int | None = None
-    reason: str = ""
+    why: Why = ()
     follows: str = ""  # the frame of the difference that this one follows from
+
+    @property
+    def reason(self) -> str:
+        return shown(told(self.why))
 
     @property
     def text(self) -> str:
@@ -86,25 +90,21 @@ class RunKey:
 
 def run_keys(report: str) -> dict[str, RunKey]:
     """The derivations of the keys of a report, as lines tell those of traces."""
-    lines = report.splitlines()
-    rows = lines[next((place for place, line in enumerate(lines) if line.startswith("end ")), len(lines)) + 1:]
-    found: list[RunKey] = []
-    for line in rows:
-        row = ROW.fullmatch(line)
-        assert row is not None
-        form, first, more, key = row.groups()
-        above = found[int(first)] if first else None
-        if above is None:
-            found.append(RunKey(Term("root"), NONE, key))
-        elif form == "kenb":
-            begun = Term("kenb", (int(more),))
-            found.append(RunKey(begun, begun, above.root))
-        elif form == "nh":
-            sync = found[int(more)]
-            found.append(RunKey(Term("nh", (numbered(sync.term) + 1,)), sync.base, above.root))
+    rows, found = rows_of(behind_end(report)), dict[int, RunKey]()
+    for number, row in rows.items():
+        root = rows[row.root].key
+        if row.parent is None:
+            found[number] = RunKey(Term("root"), NONE, root)
+        elif row.word == "kenb":
+            begun = Term("kenb", row.values[1:])
+            found[number] = RunKey(begun, begun, root)
+        elif row.word == "nh":
+            sync = found[row.values[1]]
+            found[number] = RunKey(Term("nh", (numbered(sync.term) + 1,)), sync.base, root)
         else:
-            found.append(RunKey(Term(form, tuple(map(int, more.split(","))), above.term), above.base, above.root))
-    return {line.split()[3]: key for line, key in zip(rows, found)}
+            above = found[row.parent]
+            found[number] = RunKey(Term(row.word, row.values[1:], above.term), above.base, root)
+    return {rows[number].key: key for number, key in found.items()}
 
 
 def compared(script: Script, course: Course, rows: list[ReplayedKey], kasmes: dict[str, bytes]) -> Replayed:
@@ -127,11 +127,11 @@ def beside(row: ReplayedKey, course: Course, steps: dict[str, int], keys: dict[s
     key, met = row.key, row.met
     head = (met.frame, met.title, key.what)
     if not row.item:
-        return ComparedKey(*head, ReplayVerdict.NOT_REPLAYED, str(key.term), key.ncc, reason=row.reason)
+        return ComparedKey(*head, ReplayVerdict.NOT_REPLAYED, str(key.term), key.ncc, why=row.why)
     line = course.lines.get(row.item)
     if line is None or line.note is None:
-        why = f"the run refuses its step: {line.answer}" if line is not None else "the run does not come to it"
-        return ComparedKey(*head, ReplayVerdict.NOT_REPLAYED, str(key.term), key.ncc, step=steps.get(row.item), reason=why)
+        why = Cause.RUN_REFUSES.because(answer=line.answer) if line is not None else Cause.RUN_ENDED.because()
+        return ComparedKey(*head, ReplayVerdict.NOT_REPLAYED, str(key.term), key.ncc, step=steps.get(row.item), why=why)
     ncc, run = int(line.note.ncc), keys[line.note.key]
     if line.note.key == key.value.hex() and key.ncc in (None, ncc):
         return ComparedKey(*head, ReplayVerdict.SAME, str(key.term if key.term != NONE else run.term), key.ncc, str(run.term), ncc, steps[row.item])

@@ -4,6 +4,7 @@ from __future__ import annotations
 from dataclasses import replace
 
 from . import reasons
+from .causes import Cause, Why
 from .contexts import CIPHERED, PARTLY, EpsSecurityContext, Life, NasSide
 from .counts import WRAP, Effort, near
 from .terms import COMPUTED, NAS_ENCRYPTION, NAS_INTEGRITY, Derivations
@@ -39,6 +40,11 @@ class ContextBook:
     def unused(self) -> list[int]:
         """The places of the KASMEs that no message stood under so far."""
         return [kasme for kasme in self.kasmes() if kasme not in self.contexts]
+
+    @property
+    def tried(self) -> int:
+        """The MACs and KeNBs that far searches made so far."""
+        return sum(one.tried for one in (self.effort, self.cold, self.rare))
 
     # -- MACs and texts
 
@@ -84,8 +90,8 @@ class ContextBook:
             return None
         return next((count for count in near(context, direction, pdu[5]) if self.has_mac(context, direction, count, pdu)), None)
 
-    def accept(self, side: NasSide, context: EpsSecurityContext, direction: int, count: int, pdu: bytes, first: bool = False) -> str:
-        """Takes a message whose MAC is right; answers a remark, which begins with `COUNT` where a COUNT was used twice.
+    def accept(self, side: NasSide, context: EpsSecurityContext, direction: int, count: int, pdu: bytes, first: bool = False) -> Why:
+        """Takes a message whose MAC is right; answers a remark, or the fault where a COUNT was used twice.
 
         The same octets come again only at the newest COUNT, in their connection; a first message up also in another (TS 24.301 4.4.3.2).
         """
@@ -93,21 +99,21 @@ class ContextBook:
         context.seen[direction, count] = pdu, side
         if count >= least:
             context.next[direction] = count + 1
-            return "after messages that the trace lacks" if count >= least + WRAP else ""
+            return Cause.AFTER_LOST.because() if count >= least + WRAP else ()
         if before is None:
-            return "late"
+            return Cause.LATE.because()
         if before[0] != pdu:
-            return "COUNT used twice"
+            return Cause.COUNT_USED_TWICE.because()
         if first or count == least - 1 and before[1] is side:
-            return "sent again"
-        return f"COUNT used again: a replay, {f'{least - 1 - count} COUNTs behind' if before[1] is side else 'of another connection'}"
+            return Cause.SENT_AGAIN.because()
+        return Cause.REPLAY_BEHIND.because(behind=least - 1 - count) if before[1] is side else Cause.REPLAY_ELSEWHERE.because()
 
     def under(self, context: EpsSecurityContext, direction: int, count: int, pdu: bytes) -> EpsSecurityContext | None:
         """The context with the integrity algorithm under which the MAC of a message is right: its own first, then the others."""
         order = sorted(COMPUTED, key=lambda eia: eia != context.eia)
         return next((one for one in (replace(context, eia=eia) for eia in order) if self.has_mac(one, direction, count, pdu)), None)
 
-    def whose(self, context: EpsSecurityContext, direction: int, pdu: bytes, count: int) -> str:
+    def whose(self, context: EpsSecurityContext, direction: int, pdu: bytes, count: int) -> Why:
         """The mistake behind a wrong MAC, or nothing."""
         kasmes = self.derivations.kasmes
         others = ((one.name, one.value) for place, one in enumerate(kasmes) if place != context.kasme)

@@ -1,8 +1,9 @@
-"""EPS security contexts, what a connection has of them, and what is found of a NAS message (TS 24.301 4.4, 9.8)."""
+"""EPS security contexts: what a connection has of them, and what is found of a NAS message (TS 24.301 4.4, 9.8)."""
 from __future__ import annotations
 
 from dataclasses import dataclass, field
 
+from .causes import Reason, Why
 from .report import DIFFERS, Verdict
 from .terms import DOWN, UP
 
@@ -109,14 +110,14 @@ class NasSeen:
     wanted: str = ""
     kasme: int | None = None
     plain: bytes | None = None
-    note: str = ""
-    faults: list[str] = field(default_factory=list)
-    warning: str = ""
+    note: Why = ()
+    faults: list[Reason] = field(default_factory=list)
+    warning: Why = ()
     text_right: bool = False  # the text was ciphered, and reads as NAS
 
-    def blame(self, fault: str) -> None:
-        self.faults.append(fault)
-        self.verdict = DIFFERS
+    def blame(self, *faults: Reason) -> None:
+        self.faults += faults
+        self.verdict = DIFFERS if faults else self.verdict
 
     @property
     def name(self) -> str:

@@ -30,7 +30,7 @@ class Effort:
     """How many MACs and KeNBs the far searches of a trace may make together; each may take a part of what is left."""
 
     def __init__(self, left: int, part: int = 2):
-        self.left, self.part, self.reached = left, part, True
+        self.left, self.part, self.reached, self.tried = left, part, True, 0
 
     def find(self, places: list[Place], low: int, wrap: int, fits: Callable[[Place, int], bool]) -> tuple[Place, int] | None:
         """The first place (a KASME, or one with an algorithm) and COUNT with these low bits that fit, from the lowest COUNT on.
@@ -39,15 +39,15 @@ class Effort:
         """
         self.reached = True
         allowed = max(self.left // self.part, FEW * max(1, len(places)))
-        for count, place in self.tried(places, low, wrap):
+        for count, place in self.candidates(places, low, wrap):
             if allowed <= 0:
                 self.reached = False
                 return None
             allowed -= 1
-            self.left -= 1
+            self.left, self.tried = self.left - 1, self.tried + 1
             if fits(place, count):
                 return place, count
         return None
 
-    def tried(self, places: list[Place], low: int, wrap: int) -> Iterator[tuple[int, Place]]:
+    def candidates(self, places: list[Place], low: int, wrap: int) -> Iterator[tuple[int, Place]]:
         return ((count, place) for count in range(low, LIMIT, wrap) for place in places)

@@ -11,14 +11,14 @@ import subprocess
 from collections.abc import Mapping
 from dataclasses import dataclass
 
-from .messages import StepLine
+from .run_report import StepLine
 from .scenarios import Step, text, value
 
 GUESSES = 8  # so many runs take from a run all that seems sure; after that only what comes first
 DEEPEST = 8  # so many records that nobody expects are delivered one out of the other
 
 
-@dataclass(frozen=True, slots=True)
+@dataclass(frozen=True)
 class Item:
     """An act with its table, or the delivery of what the item `of` sent; and the item with which it moves."""
 
@@ -41,7 +41,7 @@ def delivery(name: str, of: str) -> Item:
     return Item(name, {"do": "deliver"}, "", of, of)
 
 
-@dataclass(slots=True)
+@dataclass
 class Course:
     """The items that happened in order, the line of each, the report, and the steps with which `run` prints it."""
 

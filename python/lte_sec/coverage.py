@@ -61,12 +61,12 @@ class Coverage:
     stations: dict[str, None] = field(default_factory=dict)  # all that the trace names, in order
     presupposed: set[tuple[str, str]] = field(default_factory=set)  # directions of S1 in which something was sent, as a message of the other shows
 
-    def s1_seen(self, station: str, way: str) -> None:
-        self.s1_counts[station, way] += 1
+    def s1_seen(self, station: str, way: str, number: int = 1) -> None:
+        self.s1_counts[station, way] += number
         self.stations.setdefault(station)
 
-    def x2_seen(self, source: str, target: str) -> None:
-        self.x2_counts[source, target] += 1
+    def x2_seen(self, source: str, target: str, number: int = 1) -> None:
+        self.x2_counts[source, target] += number
         self.stations.setdefault(source)
         self.stations.setdefault(target)
 
@@ -151,17 +151,25 @@ def presupposes(message: Message, way: str, is_switched: bool) -> bool:
     return message.name in ANSWERS or message.name == "UplinkNASTransport" and not is_switched
 
 
-def taken(messages: Iterable[tuple[Message, str, str, str]], covers: Iterable[str], lacks: Iterable[str]) -> Coverage:
-    """The coverage of a trace, from each message with its station (of X2 source and target) and its direction."""
+@dataclass(frozen=True)
+class LinkSeen:
+    """A link with the number of its messages: of S1 a station and a direction, of X2 source and target."""
+
+    kind: str
+    one: str
+    other: str
+    number: int
+    presupposes: bool = False  # a message of it shows that something was sent in the other direction
+
+
+def taken(links: Iterable[LinkSeen], covers: Iterable[str], lacks: Iterable[str]) -> Coverage:
+    """The coverage of a trace, from its links."""
     found = Coverage(covers=tuple(map(word, covers)), lacks=tuple(map(word, lacks)))
-    switched: set[tuple[str, int | None]] = set()  # identities that a path switch brought
-    for message, one, other, way in messages:
-        if message.link == "S1" and one:
-            found.s1_seen(one, way)
-            if message.name == "PathSwitchRequest":
-                switched.add((message.source, message.enb_id))
-            elif presupposes(message, way, (message.source, message.enb_id) in switched):
-                found.presupposed.add((one, UP if way == DOWN else DOWN))
-        elif message.link == "X2" and one and other:
-            found.x2_seen(one, other)
+    for link in links:
+        if link.kind == "S1" and link.one:
+            found.s1_seen(link.one, link.other, link.number)
+            if link.presupposes:
+                found.presupposed.add((link.one, UP if link.other == DOWN else DOWN))
+        elif link.kind == "X2" and link.one and link.other:
+            found.x2_seen(link.one, link.other, link.number)
     return found

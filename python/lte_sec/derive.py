@@ -35,15 +35,23 @@ class Calc:
     def __init__(self, words: list[str]):
         self.program = subprocess.Popen(words, stdin=subprocess.PIPE, stdout=subprocess.PIPE, stderr=subprocess.DEVNULL, text=True, encoding="ascii")
 
-    def told(self, *words: object) -> bytes:
+    def answer(self, *words: object) -> str:
+        """The answer to a line, without its line feed."""
         assert self.program.stdin is not None and self.program.stdout is not None
         line = " ".join((word.hex() or "-") if isinstance(word, bytes) else str(word) for word in words)
         try:
             self.program.stdin.write(line + "\n")
             self.program.stdin.flush()
-            return bytes.fromhex(self.program.stdout.readline().strip().removeprefix("-"))
-        except (OSError, ValueError):
+            return self.program.stdout.readline().strip()
+        except OSError:
             raise TraceError(f"calc does not answer a line {words[0]}") from None  # the line has keys
+
+    def told(self, *words: object) -> bytes:
+        """The octets that a line gives."""
+        try:
+            return bytes.fromhex(self.answer(*words).removeprefix("-"))
+        except ValueError:
+            raise TraceError(f"calc does not answer a line {words[0]}") from None
 
     def close(self) -> None:
         for pipe in (self.program.stdin, self.program.stdout):

@@ -7,8 +7,9 @@ from __future__ import annotations
 from dataclasses import dataclass, field
 
 from .escaped import shown
-from .report import RIGHT
-from .seen import Account, Value
+from .plain import EMM, MODE_COMMAND
+from .report import RIGHT, Line
+from .seen import Account
 from .terms import NAS_INTEGRITY, NONE, Derivations, Key, Term
 
 DEEPEST = 200  # KeNB*s one above the other that are followed; what lies deeper has no key above it here
@@ -57,13 +58,13 @@ class Keys:
             row.at.append(message)
         return number
 
-    def of_mac(self, value: Value, message: int) -> int | None:
+    def of_mac(self, value: Line, message: int) -> int | None:
         """The number of the key of a MAC."""
         nas = value.nas
-        if value.what != "MAC" or nas is None or nas.kasme < 0:
+        if value.kind != "MAC" or nas is None or nas.kasme < 0:
             return None
         identity = nas.eia
-        if identity is None and nas.name == "Security mode command" and value.plain and len(value.plain) > 2:
+        if identity is None and value.plain and value.plain[:2] == bytes([EMM, MODE_COMMAND]) and len(value.plain) > 2:
             identity = value.plain[2] & 7  # it tells its algorithms itself
         return self.at(self.derivations.algorithm(self.root(nas.kasme), NAS_INTEGRITY, identity), message) if identity else None
 

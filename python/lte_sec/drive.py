@@ -22,7 +22,8 @@ import threading
 import time
 from typing import IO
 
-from lte_sec import frames, mistakes, records, scenarios
+from lte_sec import scenarios
+from lte_sec.differences import Difference, difference_of, place_of, steps_of, with_mistake
 from lte_sec.ending import HEAD, READING, WRITING, InputFails, answers
 from lte_sec.options import Words, WrongWords
 from lte_sec.patient import TURN, Relays
@@ -40,7 +41,6 @@ OTHER = re.compile(rb"lte_sec: (phone|core|station [0-7]): (.*)\n")  # how an ac
 FAILED = re.compile(rb"lte_sec: (phone|core|station [0-7]): it gave no whole reply: .*\n")
 TOLD = re.compile(rb"lte_sec: (phone|core|station [0-7]): its reply differs\n")
 REST = re.compile(rb"lte_sec: (?:phone|core|station [0-7]): it had still to say ([0-9a-f]+)\n")
-DIFFERS = re.compile(rb"(setup|[0-9]+) differs ([0-9a-f]+) ([0-9a-f]+)\n")
 
 
 @dataclasses.dataclass
@@ -204,94 +204,6 @@ class Driven:
             os.killpg(self.process.pid, signal.SIGKILL)
 
 
-def place_of(step: int | None) -> str:
-    return "setup" if step is None else f"step {step}"
-
-
-INITIAL, CHAINED = (frames.WAYS.index(way) for way in ("initial", "chained"))
-STANDARD = "this core may send the pair of NCC 2 first, as TS 33.401 7.2.8.1.1 has it: then write first_ncc = 2 in [core]"
-
-
-def is_one_ahead(wanted: bytes, got: bytes) -> bool:
-    """Whether a core gave NCC 2 where NCC 1 is wanted, or derived one key more as a chain begins."""
-    try:
-        want, have = (frames.read_reply(frames.unframed(octets)) for octets in (wanted, got))
-    except frames.BadFrame:
-        return False
-    if not want.note or not have.note or want.note.way != have.note.way:
-        return False
-    if want.note.way == CHAINED:
-        return (want.note.ncc, have.note.ncc) == (1, 2)
-    return want.note.way == INITIAL and have.derived[:-1] == want.derived
-
-
-@dataclasses.dataclass(frozen=True)
-class Difference:
-    """A reply that differs: the step, None for the setup, the actor, and what differs, a line for each part."""
-
-    step: int | None
-    actor: str
-    told: list[str]
-
-    def lines(self) -> list[str]:
-        return [f"{place_of(self.step)}, {self.actor}: {part}" for part in self.told]
-
-
-def steps_of(scenario: bytes) -> list[scenarios.Step]:
-    try:
-        return scenarios.read(scenario).steps
-    except (scenarios.NoScenario, UnicodeDecodeError):
-        return []
-
-
-def commanded(steps: list[scenarios.Step], lines: list[bytes], place: int) -> list[int] | None:
-    """The cell of the handover command that this step delivers: that of the last handover that its station began."""
-    made = [number for number, line in enumerate(lines[:place]) if b" sent=" in line]
-    record = steps[place].get("record") if place < len(steps) else None
-    if not isinstance(record, int) or not -len(made) <= record < len(made):
-        return None
-    maker = steps[made[record]]
-    begun = [step for step, line in zip(steps[:made[record]], lines) if step["do"] in ("x2", "s1", "intra") and b" done" in line and step["station"] == maker.get("station")]
-    cell: list[int] | None = begun[-1]["cell"] if maker["do"] == "command" and begun else None
-    return cell
-
-
-def with_cell(found: Difference, steps: list[scenarios.Step], lines: list[bytes]) -> Difference:
-    """The difference, with the cell of a phone's KeNB*, which its reply does not tell."""
-    cell = commanded(steps, lines, found.step) if found.step is not None and found.actor == "phone" else None
-    if cell is None:
-        return found
-    return dataclasses.replace(found, told=[re.sub(r"^KeNB\*:", f"KeNB* for PCI {cell[0]}, EARFCN-DL {cell[1]}:", line) for line in found.told])
-
-
-def replies_of(line: bytes, rest: bytes) -> tuple[int | None, bytes, bytes] | None:
-    """The step, None for the setup, the wanted reply and the one that came, of a last line that tells them: the reply is read as far as its length says."""
-    form = DIFFERS.fullmatch(line)
-    if not form:
-        return None
-    wanted, got = bytes.fromhex(form[2].decode()), bytes.fromhex(form[3].decode())
-    if len(got) == 2:
-        got += rest[:int.from_bytes(got, "big")]
-    return None if form[1] == b"setup" else int(form[1]), wanted, got
-
-
-def difference_of(line: bytes, whose: bytes, rest: bytes) -> Difference | None:
-    """What the last line tells where a reply differs."""
-    replies = replies_of(line, rest)
-    if replies is None:
-        return None
-    step, wanted, got = replies
-    told = records.differences(wanted, got, whose.decode())
-    hint = [STANDARD] if whose == b"core" and is_one_ahead(wanted, got) else []
-    return Difference(step, whose.decode(), told + hint)
-
-
-def with_mistake(found: Difference, driven: Driven, program: str, scenario: bytes) -> Difference:
-    """The difference, with the mistake by which the first key that differs was made, or a MAC or a ciphered text."""
-    replies = replies_of(driven.last, driven.rest)
-    return dataclasses.replace(found, told=[*found.told, *mistakes.of_reply(program, scenario, *replies, found.actor)]) if replies else found
-
-
 def document(status: int, report: list[str], found: Difference | None, failed: dict[str, object] | None) -> dict[str, object]:
     """The document that --json prints: the status, the lines of the report, the reply that differs, and the actor that failed."""
     return {"version": VERSION, "status": status, "report": report, "differs": dataclasses.asdict(found) if found else None, "failed": failed}
@@ -379,8 +291,8 @@ def answered(run: Run) -> int:
     if driven.is_unwritten:
         return WRITING  # the launcher says so
     program = run.command[0]
-    found = difference_of(driven.last, driven.whose, driven.rest) if status == DIFFERS_AT else None
-    found = with_mistake(with_cell(found, steps_of(run.scenario), driven.lines), driven, program, run.scenario) if found else None
+    found = difference_of(driven.last, driven.whose, driven.rest, steps_of(run.scenario), driven.lines) if status == DIFFERS_AT else None
+    found = with_mistake(found, driven.last, driven.rest, program, run.scenario) if found else None
     for line in found.lines() if found else ():
         print(f"lte_sec: {line}", file=sys.stderr)
     if driven.report is not None:

@@ -1,4 +1,4 @@
-"""Pairs of NH and NCC that a handover within a station drops here and not in the standard, and what follows from that.
+"""Pairs of NH and NCC that a handover within a station drops here and not in the standard: with what follows from that.
 
 A context that a handover within a station begins has no pair and no outstanding request here. By TS 33.401 7.2.8.4.1 and 7.2.8.4.2 a
 pair that comes meanwhile or behind it is stored, and the next handover from there is vertical (docs/MACHINE.md, what the standard has otherwise).
@@ -8,7 +8,8 @@ from __future__ import annotations
 from dataclasses import dataclass
 
 from .courses import Course, Item
-from .messages import Names, NotedKey, StepLine
+from .messages import Names
+from .run_report import NotedKey, StepLine
 from .verdict import KenbChange as Told
 from .verdict import Report
 
@@ -18,7 +19,7 @@ ANEW = ("Initial Context Setup Request", "UE Context Modification Request", "X2 
 NUMBERS = 8  # of NCCs: a phone finds an NH that is fewer steps ahead
 
 
-@dataclass(slots=True)
+@dataclass
 class StandardContext:
     """What of a station's context the standard has otherwise. A pair is told by the key of its NH."""
 

@@ -1,4 +1,4 @@
-"""Names that come from a capture, a file or a word of a call, as they are shown: in one line, whatever characters they have."""
+"""Names from outside, in one line: those that come from a capture, a file or a word of a call, whatever characters they have."""
 from __future__ import annotations
 
 

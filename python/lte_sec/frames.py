@@ -6,6 +6,7 @@ from __future__ import annotations
 
 import dataclasses
 import struct
+from collections.abc import Sequence
 from typing import Any, BinaryIO
 
 BEARERS = {0x00: "nas", 0x01: "srb1", 0x02: "srb2", 0x81: "drb1", 0x82: "drb2", 0x83: "drb3", 0x84: "drb4"}
@@ -292,14 +293,14 @@ class Reply:
         part += b"\0" if self.note is None else bytes([1, self.note.ncc, self.note.way]) + self.note.key
         return framed(part + bytes([self.alarm]))
 
-    def parts(self) -> dict[str, str]:
-        """Its parts as texts, in order: those that it does not have are left out."""
+    def parts(self, names: Sequence[str] = ()) -> dict[str, str]:
+        """Its parts as texts, in order: those that it does not have are left out. `names` are those of what it derives."""
         found = {"answer": f"{self.answer} ({answer_text(self.answer, self.values)})"}
         if self.record is not None:
             found |= {"to": address_text(self.to), "record": self.record.hex()}
         if self.text is not None:
             found["text"] = self.text.hex()
-        found |= {f"derivation {place}": key.hex() for place, key in enumerate(self.derived)}
+        found |= {names[place] if place < len(names) else f"derivation {place}": key.hex() for place, key in enumerate(self.derived)}
         if self.note is not None:
             found |= {"ncc": str(self.note.ncc), "way": WAYS[self.note.way], "key": self.note.key.hex()}
         return found | ({"alarm": "1"} if self.alarm else {})
@@ -369,16 +370,16 @@ def read_reply(body: bytes) -> Reply:
     return reply
 
 
-def differences(wanted: bytes, got: bytes) -> list[str]:
-    """The differences of two replies: a line for each part, or one line if either is not a reply."""
+def differences(wanted: bytes, got: bytes, names: Sequence[str] = ()) -> list[str]:
+    """The differences of two replies: a line for each part, or one line if either is not a reply. `names` are those of what they derive."""
     if wanted == got:
         return []
     try:
-        have = read_reply(unframed(got)).parts()
+        have = read_reply(unframed(got)).parts(names)
     except BadFrame as bad:
         return [f"what came is not a reply, {bad}: {got.hex()}"]
     try:
-        want = read_reply(unframed(wanted)).parts()
+        want = read_reply(unframed(wanted)).parts(names)
     except BadFrame as bad:
         return [f"what is wanted is not a reply, {bad}: {wanted.hex()}"]
     return [f"{name}: wanted {want.get(name, 'none')}, got {have.get(name, 'none')}"

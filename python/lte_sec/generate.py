@@ -17,6 +17,7 @@ from . import drive, rows
 from .journeys import generated
 from .network import NoRecord
 from .options import Words, WrongWords
+from .pairs import paired
 from .played import Case, Commands, Result, play
 from .scenarios import Scenario, Step, setup_text, text, value
 from .suite import MOST_JOBS
@@ -88,7 +89,7 @@ class Generated:
         with concurrent.futures.ThreadPoolExecutor(self.options.jobs) as pool:
             tried = [pool.submit(self.first, generated(STEPS, seed)) for seed in self.options.seeds]
             try:
-                yield from ((seed, ran.result()) for seed, ran in zip(self.options.seeds, tried))
+                yield from ((seed, ran.result()) for seed, ran in paired(self.options.seeds, tried))
             finally:
                 self.commands.is_stopped = True
                 pool.shutdown(cancel_futures=True)

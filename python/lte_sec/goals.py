@@ -5,6 +5,7 @@ these messages and these kinds, with the faults put in by their order.
 """
 from __future__ import annotations
 
+import sys
 import time
 from collections import Counter
 from collections.abc import Iterator
@@ -12,12 +13,12 @@ from math import comb
 from typing import Any, NamedTuple
 
 from .answers import LINK, Answer, tellings
-from .listed import Lists
+from .listed import FEW_FAULTS, MOST_NAMED, Lists
 from .progress import Rate
 from .spread import Gathering, Share
 from .study import Study, Variant
 
-MOST_FAULTS, MANY = 3, 1_000_000
+MOST_FAULTS, USUAL_FAULTS, MANY, LONG = 8, 3, 1_000_000, 100_000
 
 
 class Goal(NamedTuple):
@@ -35,7 +36,8 @@ class Search(Gathering):
         super().__init__(study, lists, share)
         self.goal = goal
         self.searched = 0  # the greatest size of which each set was tried
-        self.choices = 0  # of the next size, where these are too many
+        self.choices = 0  # of the next size, where these are not tried
+        self.each = 0.0  # seconds for a choice of the size before
 
     def gather(self) -> None:
         try:
@@ -50,25 +52,30 @@ class Search(Gathering):
 
     def alone(self) -> int:
         """How many faults can happen alone."""
-        return self.answer.counts.get(1, Counter()).total()
+        return sum(self.answer.counts.get(1, Counter()).values())
 
     def is_long(self, faults: int) -> bool:
-        """Whether there are more sets of this size than are tried unasked."""
+        """Whether sets of this size are not tried: there are more than are tried unasked, or the program takes so many faults of named messages alone."""
         choices = comb(self.alone(), faults)
-        self.choices = choices if choices > MANY and not self.goal.goes_on else 0
+        is_wide = faults > FEW_FAULTS and not self.lists.is_narrow
+        self.choices = choices if choices and is_wide or choices > MANY and not self.goal.goes_on else 0
         return self.choices > 0
 
     def finds(self, faults: int) -> bool:
         """Tries each set of this size, and tells those that have the outcome."""
         kept = self.answer.singles if faults == 1 else self.answer.together
         counts = self.answer.counts.setdefault(faults, Counter())
-        rate = Rate(f"sets of {faults} faults", comb(self.alone(), faults))
+        choices, began = comb(self.alone(), faults), time.monotonic()
+        if choices > LONG:
+            print(f"lte_sec: up to {choices:,} sets of {faults} faults, which take about {lasting(choices * self.each)}", file=sys.stderr)
+        rate = Rate(f"sets of {faults} faults", choices)
         for variant in self.listed(faults, None):
             counts[variant.outcomes[0]] += 1
             if self.goal.outcome in variant.outcomes:
-                kept.append(Variant(variant.faults, dict.fromkeys(variant.outcomes, "")))
+                kept.append(Variant(variant.faults, dict.fromkeys(variant.outcomes, ""), heals=variant.heals))
             rate.one()
         self.searched = faults
+        self.each = (time.monotonic() - began) / max(1, comb(self.alone(), faults))
         self.tell_of(kept, 0)
         return bool(kept)
 
@@ -80,11 +87,11 @@ class Search(Gathering):
         }
 
     def warning(self) -> str:
-        """What is said where there were too many sets to try them unasked: how many, and how long they take."""
-        tried = sum(counts.total() for counts in self.answer.counts.values())
-        seconds = self.choices * (time.monotonic() - self.began) / max(1, tried)
+        """What is said where sets of a size were not tried: how many, and how long they take, or of how many messages they are taken."""
+        if self.searched >= FEW_FAULTS and not self.lists.is_narrow:
+            return f"sets of more than {FEW_FAULTS} faults are tried of {MOST_NAMED} messages at most; name them with --messages, or --up-to {FEW_FAULTS} leaves the sets out"
         return (
-            f"sets of {self.searched + 1} faults are some {self.choices:,}, which take about {lasting(seconds)} at the rate so far; --yes tries them, "
+            f"sets of {self.searched + 1} faults are some {self.choices:,}, which take about {lasting(self.choices * self.each)} at the rate so far; --yes tries them, "
             f"--messages and --kinds leave fewer, and --up-to {self.searched or 1} leaves them out"
         )
 
@@ -107,7 +114,7 @@ def table(answer: Answer) -> Iterator[str]:
     if any(" (here" in line for line in told):
         yield f"here: a limit of this profile and not of LTE, see {LINK}"
     kinds, number = ", ".join(answer.tried["kinds"]), len(answer.messages)
-    counts = ", ".join(f"{counts.total():,} of {faults}" for faults, counts in sorted(answer.counts.items()))
+    counts = ", ".join(f"{sum(counts.values()):,} of {faults}" for faults, counts in sorted(answer.counts.items()))
     yield f"searched: faults ({kinds}) of {number} message{'' if number == 1 else 's'}, put in by their order: {counts or 'nothing'}"
 
 

@@ -5,6 +5,7 @@ from __future__ import annotations
 from collections.abc import Iterator
 from dataclasses import dataclass, field
 
+from .causes import Cause
 from .cells import Cell, Cells
 from .chain_steps import ChainSteps, Open, above, nh, star
 from .escaped import shown
@@ -14,9 +15,6 @@ from .report import DIFFERS
 from .script import At
 from .terms import NONE, Term, numbered
 
-UNKNOWN_CELL = "the target cell is not known; name it with --cells"
-NOT_SHOWN = "a handover that the capture does not show"
-OTHER_CELLS = "a cell for re-establishment that is not known, or of the station itself"
 DEEPEST = 20  # steps within a station that a key may tell of
 
 
@@ -55,7 +53,7 @@ class HandoverSteps(ChainSteps):
             what = "the path switch" if link.open.kind == "X2" else "the Handover Notify"
             self.obeyed(self.script.assume(at.frame, f"{what} is not in the capture and is taken as the standard has it"))
         else:
-            self.lost = NOT_SHOWN
+            self.lost = Cause.HANDOVER_NOT_REPLAYED.because()
 
     def obeyed(self, at: At) -> None:
         """The phone obeys: the target has its Complete. After X2 the path switch asks the core, after S1 the Notify tells it."""
@@ -128,10 +126,10 @@ class HandoverSteps(ChainSteps):
         link, message = self.link, met.message
         cell = self.cell_of(message.eci)
         if link is None or self.lost:
-            return self.not_replayed(met, self.lost or "the capture does not show how its connection began")
+            return self.not_replayed(met, self.lost or Cause.NO_ORIGIN.because())
         if cell is None:
             self.cancel(at)
-            return self.not_replayed(met, UNKNOWN_CELL)
+            return self.not_replayed(met, Cause.REPLAY_CELL_UNKNOWN.because())
         begin = self.begin_x2(self.target(met), cell, set(link.pairs or link.uses), at, met.handover)
         self.row(met, begin)
 
@@ -149,7 +147,7 @@ class HandoverSteps(ChainSteps):
             cell = self.cell_of(one.eci) if one is not None else None
             station = self.station_of(one.eci) if one is not None else ""
             if link is None or self.lost or one is None or cell is None or station == link.station:
-                self.not_replayed(met, self.lost or OTHER_CELLS, key)
+                self.not_replayed(met, self.lost or Cause.CELLS_NOT_REPLAYED.because(), key)
                 continue
             assumed = self.script.assume(met.frame, "KeNB* of a cell for re-establishment is made by a handover to it that is cancelled")
             begin = self.begin_x2(station, cell, set(link.pairs or link.uses), assumed, None)
@@ -237,7 +235,7 @@ class HandoverSteps(ChainSteps):
         link, cell = self.link, self.cell_of(met.message.eci)
         assert link is not None
         if cell is None:
-            self.lost = UNKNOWN_CELL
+            self.lost = Cause.REPLAY_CELL_UNKNOWN.because()
             return
         assumed = self.script.assume(met.frame, f"a handover over X2 to {met.station} whose messages between the stations are not in the capture")
         self.cancel(assumed)
@@ -263,13 +261,13 @@ class HandoverSteps(ChainSteps):
         """The answer to a path switch."""
         link = self.link
         if link is None or self.lost or met.key is None:
-            return self.not_replayed(met, self.lost or "the capture does not show how its connection began")
+            return self.not_replayed(met, self.lost or Cause.NO_ORIGIN.because())
         asked = self.answered(met.key)
         if asked is None and link.came:
             asked = self.again(self.script.assume(met.frame, "the path switch is not in the capture and is taken as the standard has it"))
             link.told = numbered(met.key.term) or link.told + 1
         if asked is None:
-            return self.not_replayed(met, "no path switch of the run stands for it")
+            return self.not_replayed(met, Cause.NO_PATH_SWITCH.because())
         self.row(met, asked.got)
         link.unasked = None
         self.give(asked, at, {met.key.term} if met.key.term != NONE else {met.key.wanted})
@@ -282,7 +280,7 @@ class HandoverSteps(ChainSteps):
             return
         self.cancel(at)
         if cell is None:
-            self.lost = UNKNOWN_CELL
+            self.lost = Cause.REPLAY_CELL_UNKNOWN.because()
             return
         self.begin_s1(self.station_of(met.message.eci), self.came_to(met, cell), at)
 
@@ -299,9 +297,9 @@ class HandoverSteps(ChainSteps):
         link = self.link
         cell = self.cell_of(met.message.eci)
         if link is None or self.lost or met.key is None:
-            return self.not_replayed(met, self.lost or "the capture does not show how its connection began")
+            return self.not_replayed(met, self.lost or Cause.NO_ORIGIN.because())
         if cell is None:
-            return self.not_replayed(met, UNKNOWN_CELL)
+            return self.not_replayed(met, Cause.REPLAY_CELL_UNKNOWN.because())
         cell = self.came_to(met, cell)
         if link.open is None or link.open.kind != "S1" or link.open.cell != cell:
             assumed = self.script.assume(met.frame, "the Handover Required is not in the capture")
@@ -310,7 +308,7 @@ class HandoverSteps(ChainSteps):
         assert link.open is not None
         asked = self.answered(met.key)
         if asked is None:
-            return self.not_replayed(met, "no Handover Required of the run stands for it")
+            return self.not_replayed(met, Cause.NO_REQUIRED.because())
         self.row(met, asked.got)
         made = link.open
         made.handover, made.frame = met.handover, met.frame
@@ -343,7 +341,7 @@ class HandoverSteps(ChainSteps):
         made = link.open
         if made is None or made.kind != "S1":
             if met.station and met.station != link.station:
-                self.lost = NOT_SHOWN
+                self.lost = Cause.HANDOVER_NOT_REPLAYED.because()
             return
         if not made.given.items:
             self.requested(made, self.script.assume(met.frame, "the Handover Request is not in the capture"))

@@ -3,84 +3,28 @@ from __future__ import annotations
 
 from dataclasses import replace
 
-from .cells import Cells
+from .attempts import ANY_CORE, Attempts, Leg, PreparedAttempt
+from .coverage import UP as FROM_STATIONS
+from .causes import Cause
 from .decoding import Command, Message, title
 from .histories import Numbered
-from .judge import KeyJudge
 from .report import DIFFERS, RIGHT, Line, unknown_line
-from .service import ServiceBook
 from .state import Attempt, Connection
-from .terms import Derivations
 
 FROM_TARGET = ("HandoverRequestAcknowledge", "HandoverPreparationFailure", "UEContextRelease")  # of X2AP
 WAITING, NEAREST = 64, 1024  # commands that RRC may still show; connections in which a handover without a container is sought
-ANY_CORE = ""  # the end of a core that no message has told yet
 INTRA_LTE = 0  # TS 36.413 9.2.1.13
 
-Leg = tuple[str, int | None]
-PreparedAttempt = tuple[Connection, Attempt]
 
 
-class Handovers:
-    """What a trace has of handovers so far."""
-
-    derivations: Derivations
-    cells: Cells
-    judge: KeyJudge
-    book: ServiceBook
-    lines: list[Line]
-    connections: list[Connection]
-    legs: dict[Leg, Connection]  # by station's end of S1 and eNB-UE-S1AP-ID
-    mmes: dict[int, dict[str, Connection]]  # by MME-UE-S1AP-ID and core's end
-    gummeis: dict[tuple[int, int], str]  # core's ends by MME group and code
-
-    def __init__(self) -> None:
-        self.at = 0  # the place of the message that is read
-        self.owners: dict[int, Connection] = {}  # by the place of a message
-        self.handovers: dict[int, Attempt] = {}
-        self.sources: dict[bytes, list[Connection]] = {}  # that wait, by the container of a handover over S1
-        self.targets: dict[Leg, PreparedAttempt] = {}  # by core's end and the target's MME-UE-S1AP-ID
-        self.answers: dict[bytes, list[PreparedAttempt]] = {}  # by the container that comes back
-        self.x2: dict[tuple[str, str, int | None], PreparedAttempt] = {}
-        self.retrieved: dict[tuple[str, str, int | None], int | None] = {}  # cells that phones resume in, by the ends and the new station's identity
-        self.commands: list[PreparedAttempt] = []  # RRC may still show their command
-
-    def new(self, station: str, eci: int | None = None) -> Connection:
-        connection = Connection(eci=eci)
-        self.judge.moves.came(connection, station)
-        self.connections.append(connection)
-        return connection
-
-    def belongs(self, connection: Connection, attempt: Attempt | None = None) -> None:
-        """The message that is read is of this connection, and of this handover."""
-        self.owners[self.at] = connection
-        if attempt is not None:
-            self.handovers[self.at] = attempt
-
-    def arrived(self, connection: Connection, station: str, frame: str) -> None:
-        """The phone is at the target of a handover whose end the trace lacks, or where no handover that it shows leads to."""
-        if station == connection.station or not station:
-            return
-        there = [attempt for attempt in connection.open_attempts() if attempt.station == station]
-        if there:
-            self.judge.moved(connection, there[-1])
-            self.unasked(connection, there[-1])
-        elif connection.station:
-            self.judge.came_unseen(connection, frame, station)
-        else:
-            self.judge.moves.came(connection, station)
-
-    def unasked(self, connection: Connection, attempt: Attempt) -> None:
-        """A handover over X2 is done and the trace shows no path switch for it yet: the core was asked all the same."""
-        if attempt.kind == "X2":
-            connection.asked += 1
-            attempt.over = "unasked"
+class Handovers(Attempts):
+    """Judges handovers."""
 
     # -- over S1
 
     def handover_required(self, connection: Connection, message: Message, station: str, at_core: Leg) -> None:
         if message.kind not in (None, INTRA_LTE):
-            self.lines.append(unknown_line(message.frame, title(message), "handover", "to another radio technology, which is left out"))
+            self.judge.lines.append(unknown_line(message.frame, title(message), "handover", Cause.OTHER_TECHNOLOGY.because()))
             return
         connection.asked += 1
         connection.algorithms = message.algorithms or connection.algorithms
@@ -93,11 +37,11 @@ class Handovers:
         self.belongs(connection)
         if message.nh is None or message.ncc is None:
             return
-        pairs = self.forwarded(connection, message) if connection.forwarded else self.judge.nh(connection, message)
+        station = self.cells.addresses.get(end) or self.cells.station(message.eci)
+        pairs = self.forwarded(connection, message) if connection.forwarded else self.judge.nh(connection, message, station)
         connection.forwarded = []
         self.judge.capabilities(message, [connection.side.capabilities, connection.capabilities])
         connection.capabilities = message.capabilities or connection.capabilities
-        station = self.cells.addresses.get(end) or self.cells.station(message.eci)
         attempt = Attempt("S1", message.frame, station, message.eci, [], [pair.ncc for pair in pairs], self.judge.cell(message.eci))
         attempt.pairs = pairs
         attempt.capabilities = message.capabilities
@@ -111,8 +55,9 @@ class Handovers:
         found = self.sources.get(message.container or b"", [])
         if len(found) < 2:
             return next(iter(found), None)
-        chosen = next((one for one in found if self.is_due(one, message)), found[-1])
-        found.remove(chosen)
+        chosen = next((one for one in found if self.is_due(one, message)), found[-1] if len(found) <= WAITING else None)  # else not all were kept
+        if chosen is not None:
+            found.remove(chosen)
         return chosen
 
     def is_due(self, connection: Connection, message: Message) -> bool:
@@ -138,19 +83,20 @@ class Handovers:
 
     def handover_command(self, connection: Connection, message: Message, station: str, at_core: Leg) -> None:
         if message.kind not in (None, INTRA_LTE):
-            self.lines.append(unknown_line(message.frame, title(message), "command", "to another radio technology, which is left out"))
+            self.judge.lines.append(unknown_line(message.frame, title(message), "command", Cause.OTHER_TECHNOLOGY.because()))
             return
         opened = [attempt for attempt in connection.open_attempts() if attempt.kind == "S1"]
         answered = self.answers.get(message.container or b"", [])
         pair = next((one for one in reversed(answered) if one[0] is connection), answered[-1] if answered else (connection, opened[-1]) if opened else None)
         if pair is None:
+            self.asked_unseen(connection, station)
             if message.command is not None or message.container is not None:
-                self.lines.append(unknown_line(message.frame, title(message), "command", "the trace does not show its handover"))
+                self.judge.lines.append(unknown_line(message.frame, title(message), "command", Cause.HANDOVER_NOT_SHOWN.because()))
             return
         self.belongs(*pair)
         self.commanded(pair, message)
         if pair[1].command is None:
-            self.judge.undecoded(*pair, message, "its RRC message does not decode")
+            self.judge.undecoded(*pair, message, Cause.RRC_UNDECODED.because())
 
     def commanded(self, pair: PreparedAttempt, message: Message) -> None:
         """The command of a handover is seen: what it tells, and what the phone makes of it."""
@@ -180,6 +126,38 @@ class Handovers:
                 self.belongs(connection, attempt)
                 attempt.over = "cancelled"
 
+    # -- requests that the trace cannot show, as S1 up of their station is not covered: the core's answers tell of them
+
+    def asked_unseen(self, connection: Connection, station: str) -> bool:
+        """The core answers a request of this station: where that could not be seen, the chain may have stepped for it."""
+        is_unseen = not self.judge.coverage.s1(station, FROM_STATIONS)
+        if is_unseen and not any(attempt.kind == "S1" for attempt in connection.open_attempts()):
+            connection.asked += 1
+        return is_unseen
+
+    def refused(self, connection: Connection, message: Message, station: str, at_core: Leg) -> None:
+        """A path switch or a handover over S1 that is refused, or whose end is acknowledged."""
+        self.asked_unseen(connection, station)
+        if message.name == "HandoverPreparationFailure":
+            self.handover_cancelled(connection, message, station, at_core)
+
+    def switched(self, connection: Connection, message: Message, station: str, at_core: Leg) -> None:
+        """The answer to a path switch: without its request, and where no handover leads here, the phone came back from elsewhere."""
+        if not self.judge.coverage.s1(station, FROM_STATIONS) and station == connection.station:
+            unasked = next((one for one in reversed(connection.attempts) if one.over == "unasked" and one.station == station), None)
+            if unasked is not None:
+                unasked.over = "done"
+            elif connection.states() and not any(one.frame == message.frame for one in connection.attempts[-1:]):
+                connection.asked += 1
+                self.judge.came_back(connection, message.frame, connection.eci)
+        self.given(connection, message, station, at_core)
+
+    def resumed(self, connection: Connection, message: Message, station: str, at_core: Leg) -> None:
+        """The answer to a phone that comes back from suspension."""
+        if not self.judge.coverage.s1(station, FROM_STATIONS):
+            self.judge.resumed(connection, message)
+        self.given(connection, message, station, at_core)
+
     # -- between cores
 
     def mm_context(self, message: Message) -> None:
@@ -189,7 +167,7 @@ class Handovers:
         place = next((place for place, one in enumerate(self.derivations.kasmes) if one.value == context.kasme), None)
         known = [one for one in self.connections if one.side.current is not None and one.side.current.kasme == place]
         if place is None or not known:
-            self.lines.append(unknown_line(message.frame, title(message), "MM context", "no connection of the trace stands under its KASME"))
+            self.judge.lines.append(unknown_line(message.frame, title(message), "MM context", Cause.CONNECTION_NOT_SHOWN.because()))
             return
         connection = next((one for one in reversed(known) if one.asked), known[-1])
         self.belongs(connection)
@@ -201,22 +179,24 @@ class Handovers:
         if message.name == "ForwardRelocationRequest":
             connection.forwarded = self.judge.nh(connection, message)
         elif not any(chain.sync.value == stations.nh for chain in connection.cores()):
-            self.judge.unjudged(message, "NH", "only that of a Forward Relocation Request is the next of the chain")
+            self.judge.unjudged(message, "NH", Cause.NOT_NEXT.because())
 
     def mm_ksi(self, connection: Connection, message: Message, place: int) -> None:
         current, told = connection.side.current, message.mm.ksi if message.mm else None
         wanted = current.ksi if current else None
-        head, name = f"frame {message.frame} {title(message)} KASME", self.derivations.kasmes[place].name
+        name = self.derivations.name(place)
         if told is None or wanted is None or told == wanted:
-            self.lines.append(Line(message.frame, title(message), "KASME", RIGHT, f"{head} right: that of {name}" + (f", KSI {told}" if told is not None else ""), kasme=name))
+            said = Cause.KASME_RIGHT.because(name=name) if told is None else Cause.KASME_AND_KSI_RIGHT.because(name=name, ksi=told)
+            self.judge.lines.append(Line(message.frame, title(message), "KASME", RIGHT, said, kasme=name))
         else:
-            self.lines.append(Line(message.frame, title(message), "KASME", DIFFERS, f"{head} is that of {name}; KSI differs: is {told}, wanted {wanted}", str(told), str(wanted), kasme=name))
+            said = (Cause.KASME_IS.of(name=name), Cause.KSI_OF_CONTEXT.of(found=told, wanted=wanted))
+            self.judge.lines.append(Line(message.frame, title(message), "KASME", DIFFERS, said, found=str(told), wanted=str(wanted), wanted_hex=str(wanted), kasme=name))
 
     def forwarded(self, connection: Connection, message: Message) -> list[Numbered]:
         """The Handover Request of the next core has the NH and NCC that it was handed."""
         first = connection.forwarded[0]
         found = first.key if first.key.value == message.nh else self.judge.named(message.nh or b"", connection, [first.key])
-        self.judge.judged(message, "NH", found, first.key, (message.ncc or 0, first.ncc), "as the core before handed it on")
+        self.judge.judged(message, "NH", found, first.key, (message.ncc or 0, first.ncc), Cause.HANDED_ON.because())
         return connection.forwarded if found is first.key else [Numbered(found, message.ncc or 0), *connection.forwarded]
 
     # -- path switch
@@ -230,7 +210,7 @@ class Handovers:
         elif station != connection.station:
             attempt = self.judge.unseen(connection, station, message.eci)
             connection.attempts.append(attempt)
-            self.judge.note(message.frame, f"a handover to {station} without messages between the stations in the trace")
+            self.judge.note(message.frame, Cause.WITHOUT_X2.because(station=station))
             self.judge.moved(connection, attempt)
         elif last is not None and last.over == "unasked":
             self.judge.elsewhere(connection, last, message.eci)
@@ -251,7 +231,7 @@ class Handovers:
         if message.nh is None or message.ncc is None:
             connection.asked = max(0, connection.asked - 1)
             return
-        pairs = self.judge.nh(connection, message)
+        pairs = self.judge.nh(connection, message, station)
         if station == connection.station:
             self.judge.given(connection, pairs)
 
@@ -273,6 +253,7 @@ class Handovers:
             self.retrieved[message.target, message.source, message.new_x2] = message.eci
         elif message.name == "RetrieveUEContextResponse" and message.key is not None:
             message.eci = self.retrieved.get((*way, message.new_x2), message.eci)
+            self.messages[self.at] = message
             self.asked(message, way)
         elif message.name == "HandoverRequest" and message.key is not None:
             self.asked(message, way)
@@ -289,19 +270,19 @@ class Handovers:
         connection.attempts.append(attempt)
         self.belongs(connection, attempt)
         connection.algorithms = message.algorithms or connection.algorithms
-        self.x2[*way, message.old_x2] = (connection, attempt)
+        self.x2[(*way, message.old_x2)] = (connection, attempt)
 
     def x2_rest(self, message: Message, pair: PreparedAttempt | None) -> None:
         if pair is not None:
             self.belongs(*pair)
         if pair is None or pair[1].over:
             if message.command is not None:
-                self.lines.append(unknown_line(message.frame, title(message), "command", "the trace does not show its handover"))
+                self.judge.lines.append(unknown_line(message.frame, title(message), "command", Cause.HANDOVER_NOT_SHOWN.because()))
             return
         if message.name == "HandoverRequestAcknowledge":
             self.commanded(pair, message)
             if pair[1].command is None:
-                self.judge.undecoded(*pair, message, "its RRC message does not decode")
+                self.judge.undecoded(*pair, message, Cause.RRC_UNDECODED.because())
         elif message.name in ("HandoverPreparationFailure", "HandoverCancel"):
             pair[1].over = "cancelled"
         elif message.name == "UEContextRelease":
@@ -327,15 +308,18 @@ class Handovers:
         return connection
 
     def fitting(self, connections: list[Connection], message: Message) -> Connection:
-        """Of connections that have the same identity at several cores, the one whose KeNB* this is; else the last."""
+        """Of connections that have the same identity at several cores, the one whose KeNB* this is; else one whose chain is not known, or the last."""
         cell = self.judge.cell(message.eci)
         for connection in connections if cell else []:
             if cell and any(self.derivations.star(one.base().key, *cell).value == message.key for one in connection.states()):
                 return connection
         for connection in connections if cell else []:
+            if cell and any(self.derivations.star(chain.sync, *cell).value == message.key for chain, _ in self.judge.unseen_chains(connection, message.ncc or 0)):
+                return connection
+        for connection in connections if cell else []:
             if cell and connection.away and self.judge.moves.of_star(connection, message.key or b"", message.ncc or 0, cell):
                 return connection
-        return connections[-1]
+        return next((one for one in connections if not one.cores()), connections[-1])
 
     # -- over the air
 
@@ -366,4 +350,4 @@ class Handovers:
             if sites and len(others) == 1 and connection.states() and not told.key_change:
                 self.judge.within(connection, message, told, sites[0])
                 return self.belongs(connection, connection.attempts[-1])
-        self.lines.append(unknown_line(message.frame, "RRC", "command", "it is not clear which handover or phone it is of"))
+        self.judge.lines.append(unknown_line(message.frame, "RRC", "command", Cause.HANDOVER_NOT_CLEAR.because()))

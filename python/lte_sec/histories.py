@@ -18,7 +18,7 @@ MOST = 24  # histories of a connection
 UNKNOWN_KEY = Key(b"", NONE)
 
 
-@dataclass(frozen=True, slots=True)
+@dataclass(frozen=True)
 class Numbered:
     """A key, or an NH, and its NCC."""
 
@@ -26,7 +26,7 @@ class Numbered:
     ncc: int
 
 
-@dataclass(frozen=True, slots=True)
+@dataclass(frozen=True)
 class Chain:
     """The core's chain: its KASME, the last NH that was sent (the KeNB before that), and its number."""
 
@@ -45,7 +45,7 @@ class Chain:
         return self.number % CHAIN
 
 
-@dataclass(frozen=True, slots=True)
+@dataclass(frozen=True)
 class PhoneKeys:
     """The phone's key in use with its NCC, and its own chain. A key without octets is not known."""
 
@@ -68,7 +68,7 @@ class PhoneKeys:
         return replace(self, key=UNKNOWN_KEY, lost=True)
 
 
-@dataclass(frozen=True, slots=True)
+@dataclass(frozen=True)
 class Held:
     """What the serving station has: its key in use with its NCC, and the pair of NH and NCC that it has stored and not used."""
 
@@ -85,7 +85,7 @@ class Held:
         return bool(self.base().key.value)
 
 
-@dataclass(frozen=True, slots=True)
+@dataclass(frozen=True)
 class History:
     """What core, serving station and phone have. Without a core it is not known where the chain begins, without a phone not what it has."""
 

@@ -3,10 +3,10 @@ from __future__ import annotations
 
 from dataclasses import replace
 
+from .causes import Cause, Reason, Why
 from .cells import RANGES, Cell, Site, is_cell
 from .decoding import Command, Message, title
-from .histories import Held, History, Numbered, PhoneKeys, renewed
-from .moves import ANYWHERE
+from .histories import UNKNOWN_KEY, Held, History, Numbered, PhoneKeys, renewed
 from .prepared import PreparedJudge
 from .report import DIFFERS, RIGHT, UNKNOWN, Line, unknown_line
 from .stars import Made
@@ -26,10 +26,10 @@ class KeyJudge(PreparedJudge):
         phone, keys = self.kenb(connection, message)
         self.moves.sent.add(message.key or b"")
         self.sends(connection, message, keys[0])
-        connection.away, connection.certain, connection.cut = [], self.cells.now, False
+        connection.away, connection.certain, connection.cut = [], self.cells.now, ()
         self.moves.came(connection, connection.station)
         connection.keeps(self.begun(connection, keys, [Held(key) for key in keys], renewed(self.derivations, phone) if phone.known else None))
-        connection.asked, connection.missed, connection.left, connection.saved = 0, set(), {}, None
+        connection.asked, connection.missed, connection.left, connection.saved = 0, {}, {}, None
         connection.attempts, connection.parted, connection.undecided = [], False, None
         connection.keys.append((message.frame, connection.station, keys[0]))
         connection.side.established |= connection.side.trigger is not None and connection.side.trigger.sure
@@ -47,10 +47,10 @@ class KeyJudge(PreparedJudge):
         self.sends(connection, message, keys[0])
         connection.eci = connection.eci if connection.told_eci is None else connection.told_eci
         cell = self.cell(connection.eci)
-        connection.asked, connection.missed, connection.undecided = 0, set(), None
+        connection.asked, connection.missed, connection.undecided = 0, {}, None
         if cell is None:
             connection.keeps(self.begun(connection, keys, [Held()], None))
-            return self.unjudged(message, "key change", "the cell of the phone is not known; name it with --cells")
+            return self.unjudged(message, "key change", Cause.PHONE_CELL_UNKNOWN.because())
         held = [Held(self.derivations.star(key, *cell)) for key in keys]
         taken = renewed(self.derivations, phone, cell) if phone.known else None
         connection.keeps([*self.begun(connection, keys, held, taken), *(replace(one, is_old=True) for one in connection.saved)])
@@ -86,12 +86,13 @@ class KeyJudge(PreparedJudge):
         if found is None or not known or found in known:
             return
         parts = [f"{name} {is_:03b}, wanted {due:03b}" for name, is_, due in zip(ALGORITHMS, found, known[0]) if is_ != due]
-        shown = f"are {'; '.join(parts)} (bits for algorithms 1, 2, 3)"
         if not sure:
-            self.lines.append(unknown_line(message.frame, title(message), "capabilities", f"{shown}, of an earlier connection"))
+            self.lines.append(unknown_line(message.frame, title(message), "capabilities", Cause.CAPABILITIES_EARLIER.because(parts="; ".join(parts))))
             return
-        text = f"frame {message.frame} {title(message)} capabilities differ: {shown}"
-        self.lines.append(Line(message.frame, title(message), "capabilities", DIFFERS, text, f"{found[0]:03b} {found[1]:03b}", f"{known[0][0]:03b} {known[0][1]:03b}"))
+        is_handed_on = message.link == "X2" or message.name == "PathSwitchRequest"
+        said = (Cause.CAPABILITIES_HANDED_ON if is_handed_on else Cause.CAPABILITIES_TOLD).because(why=Cause.CAPABILITIES_ARE.because(parts="; ".join(parts)))
+        bits, due = (f"{of[0]:03b} {of[1]:03b}" for of in (found, known[0]))
+        self.lines.append(Line(message.frame, title(message), "capabilities", DIFFERS, said, found=bits, wanted=due, wanted_hex=due))
 
     # -- the command, and what the phone takes
 
@@ -105,30 +106,30 @@ class KeyJudge(PreparedJudge):
         is_none = cell is not None and not is_cell(*cell)
         if attempt.cell is None and not is_none:
             self.target_keys(attempt, cell)
-        faults = [f"NCC is {ncc}, wanted {attempt.nccs[0]}"] if ncc not in attempt.nccs and attempt.nccs else []
+        faults = [Cause.COMMAND_NCC.of(found=ncc, wanted=attempt.nccs[0])] if ncc not in attempt.nccs and attempt.nccs else []
         other = cell is not None and attempt.cell is not None and cell != attempt.cell
         elsewhere = other and attempt.kind == "S1" and cell in {(site.pci, site.earfcn) for site in self.cells.of(attempt.station)}
         if other and not elsewhere and cell is not None and attempt.cell is not None:
-            faults.append(f"cell is ({cell[0]},{cell[1]}), wanted ({attempt.cell[0]},{attempt.cell[1]})")
+            faults.append(Cause.COMMAND_CELL.of(pci=cell[0], earfcn=cell[1], wanted_pci=attempt.cell[0], wanted_earfcn=attempt.cell[1]))
         if is_none and cell is not None:
-            faults.append(f"({cell[0]},{cell[1]}) is no cell: {RANGES}")
+            faults.append(Cause.COMMAND_NO_CELL.of(pci=cell[0], earfcn=cell[1], ranges=RANGES))
         if told.key_change != attempt.change:
-            faults.append(f"keyChangeIndicator is {str(told.key_change).lower()}, wanted {str(attempt.change).lower()}")
+            faults.append(Cause.COMMAND_KEY_CHANGE.of(found=str(told.key_change).lower(), wanted=str(attempt.change).lower()))
         self.command_lines(attempt, message, told, faults, cell, elsewhere)
         attempt.heard = ncc, None if is_none else cell, told.key_change
 
-    def command_lines(self, attempt: Attempt, message: Message, told: Command, faults: list[str], cell: Cell | None, elsewhere: bool) -> None:
-        head = f"frame {message.frame} {title(message)} command"
+    def command_lines(self, attempt: Attempt, message: Message, told: Command, faults: list[Reason], cell: Cell | None, elsewhere: bool) -> None:
         ncc, wanted = str(told.ncc), str(attempt.nccs[0]) if attempt.nccs else ""
         if faults:
-            self.lines.append(Line(message.frame, title(message), "command", DIFFERS, f"{head} differs: " + "; ".join(faults), ncc, wanted, cell=cell))
+            said = Cause.COMMAND_DIFFERS.because(why=tuple(faults))
+            self.lines.append(Line(message.frame, title(message), "command", DIFFERS, said, found=ncc, wanted=wanted, wanted_hex=wanted, cell=cell))
         elif told.ncc is None:
-            self.lines.append(unknown_line(message.frame, title(message), "command", "its NCC does not decode"))
+            self.lines.append(unknown_line(message.frame, title(message), "command", Cause.NCC_UNDECODED.because()))
         elif message.link == "RRC":
-            text = f"{head} right: NCC {ncc}" + (f" cell ({cell[0]},{cell[1]})" if cell else "")
-            self.lines.append(Line(message.frame, title(message), "command", RIGHT, text, ncc, ncc, cell=cell))
+            said = Cause.COMMAND_RIGHT_IN_CELL.because(ncc=told.ncc, pci=cell[0], earfcn=cell[1]) if cell else Cause.COMMAND_RIGHT.because(ncc=told.ncc)
+            self.lines.append(Line(message.frame, title(message), "command", RIGHT, said, found=ncc, wanted=ncc, wanted_hex=ncc, cell=cell))
         if elsewhere and cell is not None:
-            attempt.doubt = f"the target answers for its cell ({cell[0]},{cell[1]})"
+            attempt.doubt = Cause.OTHER_CELL_ANSWERED.because(pci=cell[0], earfcn=cell[1])
             self.lines.append(unknown_line(message.frame, title(message), "cell of the command", attempt.doubt))
 
     def target_keys(self, attempt: Attempt, cell: Cell | None) -> None:
@@ -137,10 +138,10 @@ class KeyJudge(PreparedJudge):
         if cell is not None and not attempt.given:
             attempt.given = [Given(Held(self.derivations.star(pair.key, *cell), pair.ncc)) for pair in attempt.pairs]
 
-    def undecoded(self, connection: Connection, attempt: Attempt, message: Message, why: str) -> None:
+    def undecoded(self, connection: Connection, attempt: Attempt, message: Message, why: Why) -> None:
         """A command that does not decode: it is taken to tell what the target was given, and not judged."""
         self.lines.append(unknown_line(message.frame, title(message), "command", why))
-        attempt.doubt = attempt.doubt or "the command does not decode"
+        attempt.doubt = attempt.doubt or Cause.COMMAND_UNDECODED.because()
         self.agreement(connection, attempt)
 
     def phone_behind(self, connection: Connection, one: History, attempt: Attempt, held: Held) -> PhoneKeys | None:
@@ -160,29 +161,30 @@ class KeyJudge(PreparedJudge):
         attempt.told = True
         sent = attempt.given[0].held
         phones = [taken] if attempt.kind == "change" else [self.phone_behind(connection, one, attempt, sent) for one in connection.histories]
-        phone = next((one for one in phones if one is not None and one.key.value == sent.key.value), phones[0])
-        where = f"frame {attempt.frame} {'key change' if attempt.kind == 'change' else 'handover'} {'within' if attempt.kind in ('change', 'within') else 'to'} {attempt.station}"
+        unsure = next((one for one in phones if one is None or one.lost), phones[0])  # a phone that is not known may have the station's key
+        phone = next((one for one in phones if one is not None and one.key.value == sent.key.value), unsure)
+        move = {"change": "key change within", "within": "handover within"}.get(attempt.kind, "handover to")
         agree = phone is not None and phone.key.value == sent.key.value
         if phone is None or attempt.doubt or phone.lost and not agree:
-            text = f"{where}: phone and {attempt.station} not judged" + (f": {attempt.doubt}" if attempt.doubt else "")
-            self.agrees(Line(attempt.frame, "handover", "agreement", UNKNOWN, text, cell=attempt.cell, reason=attempt.doubt), sent.key)
+            said = (Cause.AGREEMENT_IN_DOUBT if attempt.doubt else Cause.AGREEMENT_NOT_JUDGED).because(move=move, station=attempt.station, why=attempt.doubt)
+            self.agrees(Line(attempt.frame, "handover", "agreement", UNKNOWN, said, remarks=attempt.doubt, subject="", cell=attempt.cell), sent.key)
         elif agree:
-            text = f"{where}: phone and {attempt.station} agree on {self.show(sent.key)}"
-            self.agrees(Line(attempt.frame, "handover", "agreement", RIGHT, text, cell=attempt.cell), sent.key, phone.key)
+            said = Cause.AGREE.because(move=move, station=attempt.station, key=self.show(sent.key))
+            self.agrees(Line(attempt.frame, "handover", "agreement", RIGHT, said, subject="", cell=attempt.cell), sent.key, phone.key)
             connection.parted = False
         else:
             self.apart(connection, attempt.frame, attempt.station, phone.key, sent.key, attempt.cell)
 
     def apart(self, connection: Connection, frame: str, name: str, phone: Key, station: Key, cell: tuple[int, int] | None = None) -> None:
-        how = "are still apart" if connection.parted else "come apart here"
-        text = f"frame {frame} phone and {name} {how}: the phone takes {self.show(phone, station)}, {name} has {self.derivations.form(station, phone)}{self.derivations.whose(station)}"
+        held = self.derivations.form(station, phone) + self.derivations.whose(station)
+        said = (Cause.STILL_APART if connection.parted else Cause.COME_APART).because(station=name, phone=self.show(phone, station), held=held)
         connection.parted = True
-        self.agrees(Line(frame, "handover", "agreement", DIFFERS, text, cell=cell), station, phone)
+        self.agrees(Line(frame, "handover", "agreement", DIFFERS, said, subject="", cell=cell), station, phone)
 
     def agrees(self, line: Line, station: Key, phone: Key | None = None) -> None:
         """Adds a line on agreement, with octets, KeNB and KASME of the station's key and the octets of the phone's."""
         line.found, line.hex, line.base, line.key = station.form, station.value.hex(), station.base, station
-        line.kasme = self.derivations.kasmes[station.kasme].name if station.kasme >= 0 else ""
+        line.kasme = self.derivations.name(station.kasme)
         if phone is not None:
             line.wanted, line.wanted_hex, line.wanted_key = phone.form, phone.value.hex(), phone
         self.lines.append(line)
@@ -197,6 +199,8 @@ class KeyJudge(PreparedJudge):
         connection.keeps(self.crossed(connection, attempt))
         connection.eci, connection.told_eci, connection.resumed = attempt.eci, None, False
         self.moves.came(connection, attempt.station)
+        if attempt.kind == "S1" and connection.cores():  # wherever the phone was before, the target goes on from the NH that it was sent
+            self.moves.is_certain(connection)
         if attempt.given:
             connection.keys.append((attempt.frame, attempt.station, attempt.given[0].held.key))
         for other in connection.open_attempts():
@@ -219,7 +223,7 @@ class KeyJudge(PreparedJudge):
             return
         cell = self.cell(eci)
         connection.eci = eci
-        self.note(attempt.frame, f"the phone came to another cell of {attempt.station} than was prepared: " + (f"({cell[0]},{cell[1]})" if cell else f"ECI {eci:07x}"))
+        self.note(attempt.frame, Cause.CAME_TO_OTHER_CELL.because(station=attempt.station, cell=f"({cell[0]},{cell[1]})" if cell else f"ECI {eci:07x}"))
         if cell is None:
             return connection.keeps(replace(one, held=Held(), phone=None) for one in connection.histories)
         connection.keeps([*self.came_there(attempt, cell), *(one.refreshed(self.derivations, cell) for one in connection.histories if one.held.known)])
@@ -227,15 +231,25 @@ class KeyJudge(PreparedJudge):
     def within(self, connection: Connection, message: Message, told: Command, site: Site) -> None:
         """A handover within a station, which only RRC shows (7.2.8.4.1)."""
         cell = (site.pci, site.earfcn)
-        if connection.away and told.ncc not in [one.base().ncc for one in connection.states()]:
-            found = self.moves.with_ncc(connection, told.ncc)
-            if found:
-                self.moves.takes(connection, found)
+        if told.ncc is not None and told.ncc not in [one.base().ncc for one in connection.states()]:
+            self.goes_on_to(connection, told.ncc)
         given = self.handed_on(connection, cell)
         attempt = Attempt("within", message.frame, connection.station, site.eci, given, [one.held.ncc for one in given], cell)
         connection.attempts.append(attempt)
         self.command(connection, attempt, message, told)
         self.moved(connection, attempt)
+
+    def goes_on_to(self, connection: Connection, ncc: int) -> None:
+        """The station has an NH of this NCC: from where the trace does not show S1, or from an answer that it lacks."""
+        found = self.moves.with_ncc(connection, ncc) if connection.away else []
+        if found:
+            return self.moves.takes(connection, found)
+        for chain, histories in self.unseen_chains(connection, ncc, by_key=False):
+            self.told_unseen(connection, chain)
+            return connection.keeps(histories)
+        if connection.asked and not connection.cores():  # the answer brought an NH of a chain that is not known
+            connection.asked = 0
+            connection.keeps(one.stores(Numbered(UNKNOWN_KEY, ncc)) for one in connection.histories)
 
     def handed_on(self, connection: Connection, cell: Cell) -> list[Given]:
         """What the target has, by each state of the source."""
@@ -255,14 +269,14 @@ class KeyJudge(PreparedJudge):
         self.moves.was_anywhere(connection)
         connection.eci, connection.told_eci, connection.resumed = None, None, False
         connection.keeps([one.away() for one in connection.histories])
-        self.note(frame, f"the phone is at {station} now: a handover that the trace does not show")
+        self.note(frame, Cause.AT_STATION.because(station=station))
 
     def came_back(self, connection: Connection, frame: str, eci: int | None) -> None:
         """A path switch where the phone is already: it was at another station, and the trace shows neither going nor coming."""
         self.moves.was_anywhere(connection)
         connection.eci, connection.told_eci = eci, None
         connection.keeps([one.away() for one in connection.histories])
-        self.note(frame, f"the phone comes to {connection.station} anew: it was at {ANYWHERE}")
+        self.note(frame, Cause.CAME_ANEW.because(station=connection.station))
 
     def asked(self, connection: Connection, message: Message, made: Made, station: str) -> Attempt:
         """A handover over X2 that a source asks for."""

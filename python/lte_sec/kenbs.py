@@ -2,18 +2,19 @@
 from __future__ import annotations
 
 from . import reasons
-from .contexts import Trigger
+from .causes import Cause, Why
+from .contexts import NasSide, Trigger
 from .coverage import UP as FROM_STATION
-from .decoding import Message, title
+from .decoding import Message
 from .histories import Chain, Held, History, PhoneKeys, merged
 from .keylines import KeyLines
 from .nas import LOST_MODE, NOT_GIVEN
+from .pairs import paired
 from .report import DIFFERS
 from .state import Connection
 from .terms import UP, Key, counted
 
 FEW = 4  # COUNTs of an uplink message by which a KeNB is made after a Security Mode exchange
-UNSEEN_UPLINK = "of an uplink message that the trace does not have"
 
 
 class KenbJudge(KeyLines):
@@ -42,7 +43,7 @@ class KenbJudge(KeyLines):
             return unseen, [unseen]
         free = self.kenb_of_elsewhere(connection, message.key) if match is None else None
         if free is not None:
-            self.judged(message, "KeNB", free, free, why=UNSEEN_UPLINK)
+            self.judged(message, "KeNB", free, free, why=Cause.UNSEEN_UPLINK.because())
             return free, [free]
         if match is not None and match.value in self.in_use:
             self.again_in_use(message, match)
@@ -57,11 +58,14 @@ class KenbJudge(KeyLines):
         why = self.not_due(connection, wanted)
         found = self.mistaken(message.key, [] if why else wanted) or self.named(message.key, connection, [] if why else wanted)
         self.used(connection)
+        mistake = () if why else self.kenb_reason(found, wanted)
+        if not why and not found.known and not mistake and self.lacks_uplink(connection):
+            why = Cause.FAR_UPLINK.because()
         if why:
             self.unjudged(message, "KeNB", why if found.known or wanted else NOT_GIVEN, found)
             connection.side.trigger = None if not found.known else connection.side.trigger
             return found, [found]
-        self.judged(message, "KeNB", found, wanted[0], why=self.kenb_reason(found, wanted))
+        self.judged(message, "KeNB", found, wanted[0], why=mistake)
         return wanted[0], [found, wanted[0]]
 
     def mistaken(self, value: bytes, wanted: list[Key]) -> Key | None:
@@ -69,18 +73,18 @@ class KenbJudge(KeyLines):
         tried = (self.derivations.kenb(key.kasme, other) for key in wanted for _, other in reasons.count_mistakes(counted(key.term)))
         return next((key for key in tried if key.value == value), None)
 
-    def kenb_reason(self, found: Key, wanted: list[Key]) -> str:
+    def kenb_reason(self, found: Key, wanted: list[Key]) -> Why:
         """The mistake of a KeNB: of its COUNT, or one that no derivation gives."""
         kasmes, counts = self.derivations.kasmes, [(one.kasme, counted(one.term)) for one in wanted]
         if found.term.kind == "kenb" and found.kasme == wanted[0].kasme:
-            return next((name for name, other in reasons.count_mistakes(counts[0][1]) if other == counted(found.term)), "")
+            return next(((one,) for one, other in reasons.count_mistakes(counts[0][1]) if other == counted(found.term)), ())
         return self.reason(found, lambda: (reasons.kenb(found.value, kasmes[kasme].value, count) for kasme, count in counts))
 
     def again_in_use(self, message: Message, key: Key) -> None:
         """A KeNB that was in use before: each has a fresh COUNT (TS 33.401 7.2.6.2), unless the first was refused or never taken."""
         line = self.line_of(message, "KeNB", key, key)
-        why = f"in use before, from frame {self.in_use[key.value]} on"
-        line.verdict, line.reason, line.text = DIFFERS, why, f"frame {message.frame} {title(message)} KeNB differs: is {line.found}{self.derivations.whose(key)}, {why}"
+        line.verdict, line.remarks = DIFFERS, Cause.IN_USE_BEFORE.because(frame=self.in_use[key.value])
+        line.said = Cause.KEY_COMES_AGAIN.because(what="KeNB", found=f"{line.found}{self.derivations.whose(key)}", why=line.remarks)
         self.lines.append(line)
 
     def comes_into_use(self, connection: Connection) -> None:
@@ -104,38 +108,47 @@ class KenbJudge(KeyLines):
 
     def kenb_of_elsewhere(self, connection: Connection, value: bytes) -> Key | None:
         """A KeNB of an uplink message that the trace does not show, since it has not that direction of the station's S1."""
-        if self.coverage.s1(connection.station, FROM_STATION) and not connection.away:
+        if not self.lacks_uplink(connection):
             return None
         found = self.moves.of_kenb(connection, value)
         if found is None and not connection.based:
             other = self.named(value, connection, [])
             found = other if other.term.kind == "kenb" and self.moves.may_be_made(other.kasme, counted(other.term)) else None
         if found is not None:
-            context = self.book.contexts.setdefault(found.kasme, self.book.context(found.kasme, guessed=True))
-            self.book.follows(connection.side.current, context)
-            connection.side.current, connection.side.pending, connection.side.away = context, None, False
+            self.in_use_under(connection.side, found.kasme)
         return found
+
+    def lacks_uplink(self, connection: Connection) -> bool:
+        """Whether the trace may lack the uplink message that brought a KeNB."""
+        return bool(connection.away) or not self.coverage.s1(connection.station, FROM_STATION)
+
+    def in_use_under(self, side: NasSide, kasme: int) -> None:
+        """A KASME is in use, as a KeNB shows whose message the trace does not have. The phone may have taken its last Command or refused it."""
+        pending = side.pending if side.pending is not None and side.pending.kasme == kasme else None
+        context = self.book.contexts.setdefault(kasme, pending or self.book.context(kasme, guessed=True))
+        self.book.follows(side.current, context)
+        side.current, side.pending, side.away = context, None if context is pending else pending, False
 
     def used(self, connection: Connection) -> None:
         if connection.side.trigger is not None:
             connection.side.trigger.used = True
 
-    def not_due(self, connection: Connection, wanted: list[Key]) -> str:
+    def not_due(self, connection: Connection, wanted: list[Key]) -> Why:
         """Why a KeNB cannot be judged, or nothing."""
         side = connection.side
         if side.pending is not None and not side.pending.given or side.trigger is not None and not side.trigger.context.given:
             return NOT_GIVEN
         if not wanted:
-            return "the trace does not show the message that brought the connection"
+            return Cause.TRIGGER_NOT_SHOWN.because()
         unseen = side.authenticated or side.trigger is not None and side.trigger.used and side.pending is None
         if unseen and self.licensed(connection):
-            return "the trace lacks the Security Mode exchange before it"
-        return ""
+            return Cause.MODE_NOT_SHOWN.because()
+        return ()
 
     def kenb_of_unseen(self, connection: Connection, value: bytes) -> Key | None:
         """The KeNB of a new KASME whose Security Mode exchange the trace lacks: it is made at one of the first COUNTs."""
         side = connection.side
-        for kasme in self.book.unused() if self.licensed(connection) else []:
+        for kasme in self.book.unused() if self.licensed_here(connection) else []:
             for count in range(FEW):
                 if self.derivations.calls.kenb(self.derivations.kasmes[kasme].value, count) == value:
                     context = self.book.context(kasme, guessed=True)
@@ -156,5 +169,5 @@ class KenbJudge(KeyLines):
         """The histories behind a KeNB that was one of these, and what the station makes of each: core and station go on from the same one,
         or from two where the message alone was wrong."""
         chains: dict[int, list[Chain | None]] = {place: [*self.chains(connection, key)] or [None] for place, key in enumerate(keys)}
-        same = [History(chain, one, phone) for begun, one in zip(chains.values(), held) for chain in begun]
+        same = [History(chain, one, phone) for begun, one in paired(chains.values(), held) for chain in begun]
         return merged([*same, *(History(chain, one, phone) for begun in chains.values() for chain in begun for one in held)])

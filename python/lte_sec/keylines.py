@@ -1,14 +1,18 @@
 """Lines on keys: what a key is and what it was to be, with the search for a derivation and the reason of a mistake."""
 from __future__ import annotations
 
-from bisect import bisect_right
+import itertools
 from collections.abc import Callable, Iterator
 
+from .causes import Cause, Why
 from .cells import Cell, Cells
+from .clauses import of_key
 from .coverage import DOWN, Coverage
 from .decoding import Command, Message, title
+from .kept_lines import KeptLines
 from .moves import Moves
-from .report import Line, key_line, note_line, unknown_line
+from . import report
+from .report import DIFFERS, RIGHT, Line, note_line, unknown_line
 from .search import DerivationSearch
 from .service import ServiceBook
 from .state import Connection
@@ -24,13 +28,13 @@ class KeyLines:
     def __init__(self, book: ServiceBook, cells: Cells, search: DerivationSearch, firsts: dict[str, int], coverage: Coverage):
         self.book, self.cells, self.search, self.firsts, self.coverage = book, cells, search, firsts, coverage
         self.moves = Moves(book, cells, coverage)
-        self.replies: dict[int, Command] = {}  # what the target of a handover over X2 answers, by its request
+        self.reply: Callable[[int], Command | None] = lambda place: None  # what the target of a handover over X2 answers, by the place of its request
         self.in_use: dict[bytes, str] = {}  # KeNBs that stations took, with the frame of each
         self.last_sent: dict[int, Connection] = {}  # by KASME, the connection of the last KeNB
         self.gaps: list[tuple[int, int]] = []  # places between which the capture lost frames
         self.reasoned = 0  # keys for which a reason was sought
         self.derivations = book.derivations
-        self.lines: list[Line] = []
+        self.lines = KeptLines()
         self.seen_firsts: dict[str, list[int]] = {}
 
     # -- what may have passed unseen
@@ -41,15 +45,19 @@ class KeyLines:
         S1 down of the station is not covered; the phone is or was where S1 is not; the trace shows nothing of the connection before, which may have
         begun before it or at any station; or the capture lost frames since the last line that is right.
         """
+        return connection.proved is None and not self.coverage.whole or self.licensed_here(connection)
+
+    def licensed_here(self, connection: Connection) -> bool:
+        """The same for an exchange since the first message of the connection, where the trace shows that."""
         if connection.away or connection.side.away or not self.coverage.s1(connection.station, DOWN):
             return True
-        if connection.proved is None and (not connection.side.initial or not self.coverage.whole):
+        if connection.proved is None and not connection.side.initial:
             return True
         return self.lost_frames(-1 if connection.proved is None else connection.proved)
 
     def lost_frames(self, since: int) -> bool:
         """Whether the capture lost frames behind a place, as SCTP's numbers tell."""
-        behind = self.gaps[bisect_right(self.gaps, since, key=lambda gap: gap[1]):]
+        behind = itertools.takewhile(lambda gap: gap[1] > since, reversed(self.gaps))
         return any(begin < self.cells.now for begin, _ in behind)
 
     # -- keys
@@ -63,8 +71,8 @@ class KeyLines:
         keys += [key for _, _, key in connection.keys[-8:]]
         bases = [self.derivations.kenb(key.kasme, counted(key.term.base())) for key in keys if counted(key.term.base()) >= 0 and key.kasme >= 0]
         context = connection.side.current
-        own = [(context.kasme, context.next[UP])] if context else []
-        others = [(one.kasme, one.next[UP]) for one in list(self.book.contexts.values())[-OTHERS:]]
+        own = [(context.kasme, context.next[UP])] if context and context.given else []
+        others = [(one.kasme, one.next[UP]) for one in list(self.book.contexts.values())[-OTHERS:] if one.given]
         others += [(kasme, context.next[UP]) for kasme in range(len(self.derivations.kasmes))[:OTHERS] if context]
         near = dict.fromkeys((kasme, max(0, count - back)) for kasme, count in [*own, *others] for back in range(4))
         return [*keys, *bases, *(self.derivations.kenb(*one) for one in near)]
@@ -74,44 +82,46 @@ class KeyLines:
         found = self.search.find(value, [*more, *self.at_hand(connection)], cell[0] if cell else None, bool(more))
         return found or Key(value, NONE)
 
-    def reason(self, found: Key, tries: Callable[[], Iterator[str]]) -> str:
+    def reason(self, found: Key, tries: Callable[[], Iterator[Why]]) -> Why:
         """The mistake that gives a key which no derivation gives, as far as the reasons of a trace go."""
         if found.known or self.reasoned >= REASONS:
-            return ""
+            return ()
         self.reasoned += 1
-        return next(filter(None, tries()), "")
+        return next(filter(None, tries()), ())
 
     def show(self, key: Key, beside: Key | None = None) -> str:
         return self.derivations.shown(key, beside)
 
-    def judged(self, message: Message, what: str, found: Key, wanted: Key, ncc: tuple[int, int] | None = None, why: str = "", cell: Cell | None = None) -> Line:
-        line = self.line_of(message, what, found, wanted, ncc, why)
+    def judged(self, message: Message, kind: str, found: Key, wanted: Key, ncc: tuple[int, int] | None = None, why: Why = (), cell: Cell | None = None, of: str = "") -> Line:
+        line = self.line_of(message, kind, found, wanted, ncc, why, of)
         line.cell = cell
         self.lines.append(line)
         return line
 
-    def line_of(self, message: Message, what: str, found: Key, wanted: Key, ncc: tuple[int, int] | None = None, why: str = "") -> Line:
+    def line_of(self, message: Message, kind: str, found: Key, wanted: Key, ncc: tuple[int, int] | None = None, why: Why = (), of: str = "") -> Line:
+        """The line of a key; `of` says for which cell a message prepares it."""
         differs = found.value != wanted.value
-        shown = self.show(found, wanted if differs else None), self.derivations.form(wanted, found) + self.derivations.whose(wanted)
+        forms = self.show(found, wanted if differs else None), self.derivations.form(wanted, found) + self.derivations.whose(wanted)
         if differs and not found.known and wanted.value:
-            why = "; ".join([*([why] if why else []), f"got {found.value.hex()}, wanted {wanted.value.hex()}"])
-        line = key_line(message.frame, title(message), what, *shown, differs, ncc, why)
-        line.found, line.wanted, line.base, line.hex = found.form, wanted.form, found.base, found.value.hex()
-        line.wanted_hex, line.key, line.wanted_key = wanted.value.hex(), found, wanted
-        line.kasme = self.derivations.kasmes[found.kasme].name if found.kasme >= 0 else ""
+            why = (*why, Cause.OCTETS.of(got=found.value.hex(), wanted=wanted.value.hex()))
+        said = report.of_key(f"{kind} {of}".rstrip(), *forms, differs, ncc, of_key(message, kind, of != "", why))
+        verdict = DIFFERS if differs or ncc is not None and ncc[0] != ncc[1] else RIGHT
+        line = Line(message.frame, title(message), kind, verdict, said, remarks=why, of=of, found=found.form, wanted=wanted.form, base=found.base, kasme=self.derivations.name(found.kasme))
+        line.hex, line.wanted_hex, line.key, line.wanted_key = found.value.hex(), wanted.value.hex(), found, wanted
+        line.ncc, line.wanted_ncc = ncc or (None, None)
         return line
 
-    def unjudged(self, message: Message, what: str, why: str, found: Key | None = None) -> None:
-        line = unknown_line(message.frame, title(message), what, why, self.show(found) if found and found.known else "")
+    def unjudged(self, message: Message, kind: str, why: Why, found: Key | None = None) -> None:
+        line = unknown_line(message.frame, title(message), kind, why, self.show(found) if found and found.known else "")
         line.hex, line.key = found.value.hex() if found else "", found
+        line.found = ""
         if found is not None and found.known:
-            line.found, line.base = found.form, found.base
-            line.kasme = self.derivations.kasmes[found.kasme].name if found.kasme >= 0 else ""
+            line.found, line.base, line.kasme = found.form, found.base, self.derivations.name(found.kasme)
         self.lines.append(line)
 
     def cell(self, eci: int | None) -> Cell | None:
         site = self.cells.at(eci) if eci is not None else None
         return (site.pci, site.earfcn) if site else None
 
-    def note(self, frame: str, text: str) -> None:
-        self.lines.append(note_line(frame, text))
+    def note(self, frame: str, why: Why) -> None:
+        self.lines.append(note_line(frame, why))

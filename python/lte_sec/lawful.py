@@ -8,29 +8,37 @@ from __future__ import annotations
 
 import os
 import subprocess
-from collections.abc import Iterator
+from collections.abc import Iterable, Iterator
 from dataclasses import dataclass, field, replace
 from pathlib import Path
 
+from .causes import Cause, Why, has
 from .coverage import DOWN, UP
-from .report import DIFFERS, NOTE, UNKNOWN, unknown_line
-from .seen import Account, Seen, Value
+from .report import DIFFERS, KEYS, UNKNOWN, Line, unknown_line
+from .seen import Account, Seen
 from .terms import counted
 from .trace import Trace
 
-KEYS = ("KeNB", "KeNB*", "NH")
-BOUND, FAR_BOUND = 2, 6  # unseen moves between two messages: with moves over the air, and without
+BOUNDS, FAR_BOUND = (2, 1), 6  # unseen moves between two messages: with moves over the air, fewer where the search is given up; and without
 ASKS = 64  # of a phone: each leaves out one message that no history gives
 COUNTS = 40  # that are tried behind the last one where a station's messages to the core are not covered
 MOST = 256  # stations, or KASMEs
 SECONDS = 60.0  # for one question
 VARIABLE = "LTE_SEC_TRACE"  # `proved` or `unproved`, and the path of the program: the launcher says it
 NOT_BUILT = "blames of keys are not confirmed by proof: the program lte_trace is not built (./lte_sec --prove builds it)"
-NOT_FOUND = "a lawful history gives it, which lte_trace found and the judge did not"
-WITHOUT_X2 = "without messages between the stations"
+OUT_OF_ORDER = "out-of-order"  # said of a message whose NH is not further on in its chain than the last one
+MOST_TOLD = 8  # moves of such a history that are told
 ANSWERED = {"PathSwitchRequestAcknowledge": "PathSwitchRequest", "UEContextSuspendResponse": "UEContextSuspendRequest", "UEContextResumeResponse": "UEContextResumeRequest", "HandoverRequest": "HandoverRequired"}
 TAKEN = "UEContextModificationResponse"
 REQUESTS = tuple(ANSWERED.values())
+PLAIN = {
+    "take": "the key change taken",
+    "switch": "a path switch",
+    "ask": "a request to the core whose answer is",
+    "arrive": "the arrival at the target",
+    "cancel": "the handover cancelled",
+    "leave": "the end of the connection",
+}
 
 
 @dataclass(frozen=True)
@@ -39,6 +47,8 @@ class Found:
 
     explained: int
     closed: bool
+    moves: tuple[str, ...] = ()  # of that history, if they were asked for
+    never: bool = False  # no number of unseen moves gives one more, over the air neither: its NH is not further on in its chain than the last one
 
 
 @dataclass(frozen=True)
@@ -54,8 +64,9 @@ class Program:
             ran = subprocess.run([self.path], input=question, capture_output=True, text=True, timeout=SECONDS, check=False)
         except (OSError, subprocess.TimeoutExpired):
             return None
-        words = ran.stdout.split()
-        return Found(int(words[1]), words[-1] == "closed") if ran.returncode == 0 and words[:1] == ["explained"] else None
+        first, *moves = ran.stdout.splitlines() or [""]
+        words = first.split()
+        return Found(int(words[1]), "closed" in words, tuple(moves), OUT_OF_ORDER in words) if ran.returncode == 0 and words[:1] == ["explained"] else None
 
 
 def program() -> Program | None:
@@ -71,7 +82,7 @@ class Sighting:
     at: str
     key: str = ""
     seen: Seen | None = None
-    value: Value | None = None  # that is blamed
+    value: Line | None = None  # that is blamed
     passed: bool = False  # its key is not looked at
 
     @property
@@ -89,11 +100,11 @@ class Numbering:
         return self.found.setdefault(name, len(self.found))
 
 
-def is_blamed(value: Value) -> bool:
+def is_blamed(value: Line) -> bool:
     """Whether a line says that a key, or its NCC, is another than any lawful history gives. A KeNB of another COUNT is not asked for: NAS tells its
     COUNT, which the program does not see."""
-    is_of_count = value.what == "KeNB" and value.term.startswith("kenb(")
-    return value.verdict == DIFFERS and value.what in KEYS and not is_of_count and (value.got != value.wanted or value.ncc != value.wanted_ncc)
+    is_of_count = value.what == "KeNB" and value.key is not None and value.key.term.kind == "kenb"
+    return value.verdict == DIFFERS and value.what in KEYS and not is_of_count and (value.hex != value.wanted_hex or value.ncc != value.wanted_ncc)
 
 
 def key_of(one: Seen) -> str:
@@ -110,6 +121,7 @@ class Phone:
         self.trace, self.messages = trace, messages
         self.numbers = Numbering()
         self.kasmes: dict[int, int] = {}
+        self.bound = BOUNDS[0]
         self.sightings = [*self.all()]
 
     def all(self) -> Iterator[Sighting]:
@@ -200,17 +212,58 @@ class Phone:
                 yield from (f"covers {what} {number}" for what in ("setup", "change", "answer", "request"))
             if coverage.s1(name, UP):
                 yield from (f"covers {what} {number}" for what in ("took", "asked"))
-        if not any(value.verdict == NOTE and WITHOUT_X2 in value.text for one in self.messages for value in one.values):
+        if not any(has(value.said, Cause.WITHOUT_X2) for one in self.messages for value in one.values):
             yield from (f"covers over {found[one]} {found[other]}" for one in found for other in found if one != other and coverage.x2(one, other))
 
     def fits(self) -> bool:
         """Whether the program takes a question of so many stations and KASMEs."""
         return len(self.numbers.found) <= MOST and len({kasme for kasme, _ in self.counts()}) <= MOST
 
-    def question(self, bound: int, air: bool, upto: int | None = None) -> str:
+    def ask(self, taken: Program, told: bool = False) -> Found | None:
+        """The answer to the question of all messages, with as many unseen moves as it can be searched with."""
+        for bound in BOUNDS[BOUNDS.index(self.bound) :] if self.fits() else ():
+            self.bound = bound
+            answer = taken.ask(self.question(bound, True, told=told))
+            if answer is not None:
+                return answer
+        return None
+
+    def question(self, bound: int, air: bool, upto: int | None = None, told: bool = False) -> str:
         self.kasmes = {}
-        head = [*self.moves(), *self.taps(), f"bound {bound}", *(["air"] if air else [])]
+        head = [*self.moves(), *self.taps(), f"bound {bound}", *(["air"] if air else []), *(["moves"] if told else [])]
         return "\n".join([*head, *(one.line for one in self.sightings[:upto])]) + "\n"
+
+
+    # -- the answer
+
+    def spelled(self, move: str) -> str:
+        """A move of a history, in words."""
+        name, *choices = move.split()
+        stations = {str(number): station for station, number in self.numbers.found.items()}
+        if name == "renew":
+            return f"a KeNB of COUNT {choices[1]} at {stations.get(choices[3], '?')}" + (", refused" if choices[-1] == "refused" else "")
+        if name == "offer":
+            return f"a key change of COUNT {choices[1]}"
+        if name == "refresh":
+            return f"KeNB* within the station for cell {choices[0]}/{choices[1]}"
+        if name in ("prepare", "require"):
+            link = "X2" if name == "prepare" else "S1"
+            return f"a handover over {link} prepared at {stations.get(choices[0], '?')}" + (", besides another" if choices[-1] == "besides" else "")
+        return " ".join([PLAIN.get(name, name), *choices])
+
+    def grounds(self, moves: Iterable[str]) -> Iterator[Why]:
+        """What each message rests on, in order: the unseen moves of its connection up to it."""
+        unseen: list[str] = []
+        for line in moves:
+            seen, _, move = line.partition(" ")
+            if move.startswith("renew "):
+                unseen = []
+            if seen == "unseen":
+                unseen.append(self.spelled(move))
+                continue
+            few = unseen[-MOST_TOLD:]
+            more = f"{len(unseen) - len(few)} more and " if len(few) < len(unseen) else ""
+            yield Cause.HISTORY_WITH_UNSEEN.because(moves=more + ", ".join(few)) if few else Cause.HISTORY_WITHOUT_UNSEEN.because()
 
 
 @dataclass
@@ -218,18 +271,24 @@ class Verdicts:
     """What became of the blames of a trace, by the identity of their values."""
 
     confirmed: dict[int, bool] = field(default_factory=dict)  # whether no number of unseen moves on links gives it
-    explained: set[int] = field(default_factory=set)
+    bounds: dict[int, int] = field(default_factory=dict)  # within how many unseen moves it is confirmed
+    explained: dict[int, Why] = field(default_factory=dict)  # what the history rests on that gives it
+    never: set[int] = field(default_factory=set)  # those that no history of any length gives, with moves over the air too
     open: int = 0
 
     def head(self, is_proved: bool) -> Iterator[str]:
         """What the head of a report says of its blames."""
         how = "by proof" if is_proved else "by lte_trace, which was built without proof"
-        closed = sum(self.confirmed.values())
-        if self.confirmed:
-            yield (
-                f"blames of keys confirmed {how}: {len(self.confirmed)}; no lawful history of these cells and COUNTs with at most {BOUND} unseen moves between two messages gives them"
-                + (f", and for {closed} none without moves over the air, however many go unseen" if closed else "")
-            )
+        for bound in BOUNDS:
+            found = [one for one in self.confirmed if self.bounds[one] == bound]
+            closed = sum(self.confirmed[one] for one in found)
+            never = sum(one in self.never for one in found)
+            if found:
+                yield (
+                    f"blames of keys confirmed {how}: {len(found)}; no lawful history of these cells and COUNTs with at most {bound} unseen move{'s' if bound > 1 else ''} between two messages gives them"
+                    + (f", and for {closed} none without moves over the air, however many go unseen" if closed else "")
+                    + (f", and for {never} none of any length, with moves over the air too" if never else "")
+                )
         if self.explained:
             yield f"blames of keys withdrawn: {len(self.explained)}; lte_trace finds a lawful history"
         if self.open:
@@ -244,33 +303,49 @@ def asked(phone: Phone, taken: Program, verdicts: Verdicts) -> None:
     blamed = [one for one in phone.sightings if one.value is not None]
     waiting: dict[int, bool] = {}  # blames that no history explains, until it is seen that one has the message with another key
     for _ in range(ASKS):
-        answer = taken.ask(phone.question(BOUND, True)) if phone.fits() else None
+        answer = phone.ask(taken)
         at = answer.explained if answer is not None else 0
         if answer is not None and (at >= len(phone.sightings) or not phone.sightings[at].passed):
             verdicts.confirmed.update(waiting)
+            verdicts.bounds.update(dict.fromkeys(waiting, phone.bound))
             waiting = {}
         if answer is not None and at >= len(phone.sightings):
-            verdicts.explained.update(id(one.value) for one in blamed if id(one.value) not in verdicts.confirmed)
+            verdicts.explained.update((id(value), why) for value, why in told(phone, taken) if id(value) not in verdicts.confirmed)
             return
         first = phone.sightings[at]
         if answer is None or first.passed or not first.key:
             break
         if first.value is not None:
+            if answer.never:
+                verdicts.never.add(id(first.value))
             near = taken.ask(phone.question(FAR_BOUND, False, at + 1))
             waiting[id(first.value)] = near is not None and near.closed and near.explained == at
         first.passed = True
     verdicts.open += sum(id(one.value) not in verdicts.confirmed for one in blamed)
 
 
-def withdrawn(one: Seen, value: Value) -> Value:
+def told(phone: Phone, taken: Program) -> Iterator[tuple[Line, Why]]:
+    """The blames of a phone whose messages a history gives, and what it rests on."""
+    if not any(one.value is not None and not one.passed for one in phone.sightings):
+        return
+    answer = phone.ask(taken, told=True)
+    grounds = [*phone.grounds(answer.moves)] if answer is not None else []
+    for place, one in enumerate(phone.sightings):
+        if one.value is not None:
+            yield one.value, grounds[place] if place < len(grounds) else Cause.HISTORY_FOUND.because()
+
+
+def withdrawn(value: Line, why: Why) -> Line:
     """A blame that a lawful history explains."""
-    line = unknown_line(one.frame, one.title, value.what, NOT_FOUND, value.term)
-    return replace(value, verdict=UNKNOWN, text=line.text, reason=NOT_FOUND, clause="")
+    line = unknown_line(value.frame, value.message, value.kind, why, value.found, value.of)
+    return replace(value, verdict=UNKNOWN, said=line.said, faults=(), remarks=why, doubt=())
 
 
 def confirmed(trace: Trace, taken: Program | None = None) -> Account:
     """What was seen of a trace, with its blames asked for."""
     seen, taken = trace.seen, taken or program()
+    if not seen.verdicts()[DIFFERS]:
+        return seen
     phones: dict[int, list[Seen]] = {}
     for one in seen.messages:
         if one.phone is not None:
@@ -283,5 +358,5 @@ def confirmed(trace: Trace, taken: Program | None = None) -> Account:
     verdicts = Verdicts()
     for messages in to_ask:
         asked(Phone(trace, messages), taken, verdicts)
-    found = tuple(replace(one, values=tuple(withdrawn(one, value) if id(value) in verdicts.explained else value for value in one.values)) for one in seen.messages)
-    return replace(seen, messages=found, head=(*seen.head, *verdicts.head(taken.is_proved)))
+    found = tuple(replace(one, values=tuple(withdrawn(value, verdicts.explained[id(value)]) if id(value) in verdicts.explained else value for value in one.values)) for one in seen.messages)
+    return replace(seen, messages=found, told=None, head=(*seen.head, *verdicts.head(taken.is_proved)))

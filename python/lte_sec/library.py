@@ -46,9 +46,9 @@ def kasme(ck: bytes, ik: bytes, plmn: bytes, sqn_xor_ak: bytes) -> bytes:
 
 
 def kenb(kasme: bytes, count: int) -> bytes:
-    """KeNB from KASME at an uplink NAS COUNT (A.3)."""
+    """KeNB from KASME at an uplink NAS COUNT, of 24 bits (A.3)."""
     out = ctypes.create_string_buffer(32)
-    calls.ltesec_kenb(checked_key(kasme), checked_number(count), out)
+    raises(calls.ltesec_kenb(checked_key(kasme), checked_number(count), out))
     return out.raw
 
 

@@ -5,10 +5,12 @@ read here as it stands; which way a message went is told by its type, or by its 
 """
 from __future__ import annotations
 
+from collections import Counter
 from collections.abc import Iterable, Iterator, Sequence
 from dataclasses import replace
 
 from .decoding import Message, fresh
+from .kept import Kept, Messages
 from .terms import COMPUTED, DOWN, NAS_INTEGRITY, UP, Derivations, TraceError
 
 RAW, CUT, ALONE = "raw", "cut", "NAS"  # links: of a frame that is not decoded, of the end of a capture that was cut, of a message of NAS alone
@@ -52,8 +54,11 @@ def preferences(words: Sequence[str]) -> list[str]:
     return [part for number, protocol in protocols(words).items() if protocol != NAS for part in ("-o", f"uat:user_dlts:{preference(number, protocol)}")]
 
 
-def decoded(messages: list[Message], words: Sequence[str], derivations: Derivations) -> list[Message]:
+def decoded(messages: Messages, words: Sequence[str], derivations: Derivations) -> Messages:
     """The messages, with those of NAS alone in the place of their frames; a fault where nothing but frames of an unknown link type is there."""
+    links = messages.links if isinstance(messages, Kept) else Counter(message.link for message in messages)
+    if not links[RAW] and (links["S1"] or not links["RRC"]):
+        return messages
     raw = {int(message.name) for message in messages if message.link == RAW}
     told = protocols(words)
     unknown = sorted(number for number in raw if told.get(number) != NAS)
@@ -61,13 +66,13 @@ def decoded(messages: list[Message], words: Sequence[str], derivations: Derivati
         number = unknown[0]
         usual = USUAL.get(number, "s1ap")
         raise TraceError(f"the capture has link type {number}, of which nothing tells what it is: --dlt {number}={usual} decodes it, or in Wireshark the line {preference(number, usual)} of its table user_dlts")
-    ways, has_s1 = Ways(derivations), any(message.link == "S1" for message in messages)
-    found: list[Message] = []
+    ways, has_s1, found = Ways(derivations), links["S1"] > 0, Kept()
     for message in messages:
         if message.link != RAW:
             found.append(message)
         if message.link == RAW and told.get(int(message.name)) == NAS or message.link == "RRC" and not has_s1:
-            found += [ways.alone(message, pdu) for pdu in message.nas]
+            for pdu in message.nas:
+                found.append(ways.alone(message, pdu))
     return found
 
 

@@ -1,7 +1,8 @@
-"""The variants of a scenario and what becomes of each, as the proved program `lte_variants` lists them.
+"""Variants and outcomes as the proved program `lte_variants` lists them.
 
-It writes `scenario STEPS MESSAGES serving STATION`, a line for each thing that is wrong in the scenario itself, as `keys differ 33`, a line
-`message STEP KIND` for each message, a line for each variant, as `late 9 12, lost 14: stuck; not made`, and `end VARIANTS`. Variants are numbered in one order, of which a share takes each N-th.
+It writes `scenario STEPS MESSAGES serving STATION heals HEALS`, a line for each thing that is wrong in the scenario itself, as `keys differ 33`, a line
+`message STEP KIND` for each message, a line for each variant, as `late 9 12, lost 14: stuck; not made, heals authentication`, and `end VARIANTS`. Variants are
+numbered in one order, of which a share takes each N-th.
 """
 from __future__ import annotations
 
@@ -14,10 +15,11 @@ from functools import lru_cache
 from typing import NamedTuple
 
 from .courses import ProgramFails
+from .healing import Heals
 from .variants import KINDS, Fault
 
-CHOICES = {1: "one", 2: "pairs", 3: "triples"}
 MOST_STEPS, TOO_MANY = 2_000, 11
+MOST_NAMED, FEW_FAULTS = 8, 5  # so many messages the program takes by name, and so many faults of all messages
 
 
 class TooManySteps(Exception):
@@ -25,10 +27,11 @@ class TooManySteps(Exception):
 
 
 class Listed(NamedTuple):
-    """A variant: its faults and its outcomes, the worst first."""
+    """A variant: its faults, its outcomes, the worst first, and what heals it, where that is told."""
 
     faults: tuple[Fault, ...]
     outcomes: tuple[str, ...]
+    heals: Heals | None = None
 
 
 @lru_cache(maxsize=None)
@@ -42,10 +45,16 @@ def outcomes_of(text: str) -> tuple[str, ...]:
     return tuple(text.split("; "))
 
 
+@lru_cache(maxsize=None)
+def heals_of(text: str) -> Heals | None:
+    return Heals.listed(text) if text else None
+
+
 def variant_of(line: str) -> Listed:
     """The variant of a line."""
-    faults, _, outcomes = line.partition(": ")
-    return Listed(tuple(map(fault_of, faults.split(", "))), outcomes_of(outcomes))
+    faults, _, told = line.partition(": ")
+    outcomes, _, heals = told.partition(", heals ")
+    return Listed(tuple(map(fault_of, faults.split(", "))), outcomes_of(outcomes), heals_of(heals))
 
 
 @lru_cache(maxsize=None)
@@ -63,10 +72,12 @@ class Lists:
 
     def __init__(self, program: str, scenario: bytes, kinds: tuple[str, ...], packets: bool, named: tuple[str, ...] = ()):
         self.program, self.named = program, named
-        self.options = [*kinds, *(["--packets"] if packets else [])]
+        self.is_narrow = 0 < len(named) <= MOST_NAMED
+        self.options = [*kinds, *(["--packets"] if packets else []), *(["of", *sorted(named, key=int)] if self.is_narrow else [])]
         self.file = os.memfd_create("scenario")
         os.pwrite(self.file, scenario, 0)
         self.serving: int | None = None
+        self.heals: Heals | None = None  # what heals the scenario itself
         self.messages: dict[str, str] = {}
         self.itself: list[str] = []  # what is wrong in the scenario itself
         self.count = 0  # of variants that were listed
@@ -82,7 +93,7 @@ class Lists:
 
     def share(self, faults: int, number: int, of: int) -> Iterator[Listed]:
         """The variants of a share."""
-        words = [self.program, CHOICES[faults], f"{number}/{of}", *self.options]
+        words = [self.program, "sets", str(faults), f"{number}/{of}", *self.options]
         with open(f"/proc/self/fd/{self.file}", "rb") as scenario, subprocess.Popen(words, stdin=scenario, stdout=subprocess.PIPE, text=True) as process:
             assert process.stdout
             try:
@@ -106,7 +117,8 @@ class Lists:
                 if not self.named or step in self.named:
                     self.messages[step] = name
             elif word == "scenario":
-                self.serving = int(rest.split(" ")[-1])
+                _, _, _, serving, _, heals = rest.split(" ")
+                self.serving, self.heals = int(serving), heals_of(heals)
             elif word in ("keys", "stuck", "packet"):
                 if text not in self.itself:
                     self.itself.append(text)

@@ -4,18 +4,19 @@ from __future__ import annotations
 
 from .answers import Answer
 from .outcomes import WORDS
+from .pairs import paired
 from .picture import MONO, Picture
 from .remarks import named
 from .study import Variant
 from .variants import KINDS
 
 # Of each outcome its letter and its colour.
-LOOKS = dict(zip(WORDS, (
+LOOKS = dict(paired(WORDS, (
     ("=", "#eef1f4"), ("+", "#c9eef0"), ("~", "#dde3ea"), ("c", "#d9e8c4"), ("p", "#f3f0b5"), ("w", "#ffe08a"), ("m", "#ffc98a"), ("h", "#f9b27c"),
     ("r", "#e3d9f7"), ("n", "#cbb8ee"), ("o", "#f6b8d8"), ("x", "#f08f80"), ("s", "#e0604f"), ("K", "#b3261e"), ("!", "#7b8794"),
 )))
 # Of each outcome what it means, in a few words; docs/WHATIF.md defines it.
-MEANS = dict(zip(WORDS, (
+MEANS = dict(paired(WORDS, (
     "Each line is as in the scenario, but those of the fault itself.", "User packets pass here, and not in the scenario.", "A line differs, and nothing worse comes of it.",
     "A station that does not serve the phone still has its context.", "A text that arrives in the scenario does not arrive here.", "A key is horizontal that is vertical in the scenario, or more stations can derive it.",
     "The phone does not come by a key that it has in the scenario.", "The next handover or its path switch fails.", "The core has the phone at another station than the one that serves it.",

@@ -1,9 +1,10 @@
-"""The page of the variants of a scenario, made of the document that `what-if --json` prints. It has no key: keys have numbers."""
+"""The page of the variants of a scenario: made of the document that `what-if --json` prints. It has no key: keys have numbers."""
 from __future__ import annotations
 
 from collections.abc import Iterator
 
 from .escaped import shown
+from .healing import Heals
 from .matrix import LOOKS, MEANS
 from .outcomes import GOES_ON, RANK, WORDS
 from .trace_page import GLYPHS, Json
@@ -38,7 +39,7 @@ def row(variant: Json, texts: Texts, places: dict[str, int], base: list[Json]) -
     outcomes = [[places[one["is"]], texts.put(one["what"]), None if one["limit"] is None else texts.put(one["limit"])] for one in variant["outcomes"]]
     names = {step["f"]: step["m"] for step in base if "note" not in step}
     found = {"id": name_of(variant), "kind": fault["kind"], "step": str(fault["step"]), "o": outcomes, "ans": [texts.put(one) for one in variant["answers"]], "run": variant["run"],
-             "gone": [texts.put(f"step {name} {names.get(name, '')}") for name in variant["gone"]]}
+             "heals": variant.get("heals") and texts.put(str(Heals.from_json(variant["heals"]))), "gone": [texts.put(f"step {name} {names.get(name, '')}") for name in variant["gone"]]}
     return found | ({"after": str(fault["after"])} if "after" in fault else {})
 
 

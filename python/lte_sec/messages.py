@@ -1,20 +1,13 @@
-"""The lines of a report of `run`, and the messages that its steps send.
+"""The names of the messages that the steps of a report of `run` send.
 
 A report does not say what a record is, so a message has its name, in words of S1AP, X2AP, RRC and NAS, by what made its sender
 send it.
 """
 from __future__ import annotations
 
-import re
-from functools import lru_cache
-from dataclasses import dataclass
-
 from .contexts import NAMES as NAMES_OF_NAS
+from .run_report import StepLine
 
-LINE = re.compile(r"(\d+) (both|phone|core(?: \d)?|world|station \d) (\w+)(.*)")
-SENT = re.compile(r" sent=(\d+):(\w+)")
-NOTE = re.compile(r" ncc=(\d) way=(\w+) key=([0-9a-f]{64})")
-TEXT = re.compile(r" text=([0-9a-f]*)")
 
 # What is sent, by who sends it and what made it: an act, or the message that came.
 NAMES = {
@@ -53,42 +46,6 @@ def nas_name(text: str) -> str:
     """What a NAS text is, by its type, where it is one of EMM (TS 24.301 9.8)."""
     octets = bytes.fromhex(text)
     return NAMES_OF_NAS.get(octets[1], NAS_TEXT) if len(octets) > 1 and octets[0] == EMM else NAS_TEXT
-
-
-@dataclass(frozen=True, slots=True)
-class NotedKey:
-    """A key that an actor came by, or tells: its octets, how it was come by, and its NCC."""
-
-    key: str
-    way: str
-    ncc: str
-
-
-@dataclass(frozen=True, slots=True)
-class StepLine:
-    """A line of a report: who took the step, the answer, the record sent and its kind, the note and the text."""
-
-    who: str
-    answer: str
-    sent: int | None
-    kind: str
-    note: NotedKey | None
-    text: str | None
-    alarm: bool
-
-    @staticmethod
-    @lru_cache(maxsize=1 << 16)  # most lines of a variant are those of another
-    def read(line: str) -> StepLine | None:
-        """The line of a step, or None where it is another one."""
-        found = LINE.match(line)
-        if not found:
-            return None
-        _, who, answer, rest = found.groups()
-        sent, note, text = SENT.search(rest), NOTE.search(rest), TEXT.search(rest)
-        return StepLine(
-            who, answer, int(sent[1]) if sent else None, sent[2] if sent else "", NotedKey(note[3], note[2], note[1]) if note else None,
-            text[1] if text else None, rest.endswith(" alarm"),
-        )
 
 
 class Names:

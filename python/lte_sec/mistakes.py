@@ -5,10 +5,13 @@ import subprocess
 from collections.abc import Iterator
 
 from lte_sec import frames, reasons, records, scenarios, unsealed
+from lte_sec.causes import Cause, Why
 from lte_sec.derive import Calc, proved_calls
-from lte_sec.ladders import LadderRow, rows_of
+from lte_sec.ladders import kind_of
 from lte_sec.network import NoRecord
 from lte_sec.peers import PeerFault
+from lte_sec.pdu_reasons import PartsWrong
+from lte_sec.run_report import LadderRow, rows_of
 from lte_sec.terms import TraceError
 
 STARRED = ("kenb", "nh", "star")  # rows of keys that a KeNB* is made of
@@ -20,10 +23,10 @@ def rows_by_run(program: str, scenario: bytes) -> dict[int, LadderRow]:
     return {row.number: row for row in rows_of(ran.stdout.decode(errors="replace").splitlines()).values()} if ran.returncode == 0 else {}
 
 
-def of_key(rows: dict[int, LadderRow], row: LadderRow, value: bytes) -> str:
+def of_key(rows: dict[int, LadderRow], row: LadderRow, value: bytes) -> Why:
     """The mistake by which these octets stand in the place of this row's key, or nothing."""
     above = bytes.fromhex(rows[row.parent].key) if row.parent is not None else b""
-    numbers = [int(number) for number in row.values[1:]]
+    numbers = row.values[1:]
     if row.word == "kenb":
         return reasons.kenb(value, above, numbers[0])
     if row.word == "nh":
@@ -31,20 +34,20 @@ def of_key(rows: dict[int, LadderRow], row: LadderRow, value: bytes) -> str:
     if row.word == "alg":
         found = reasons.algorithm(value, above, numbers[0], numbers[1])
     else:
-        found = reasons.star(value, above, numbers[0], numbers[1]) if row.word == "star" else ""
-    return found or next((told for told, made in of_another(rows, row) if made == value), "")
+        found = reasons.star(value, above, numbers[0], numbers[1]) if row.word == "star" else ()
+    return found or next((why for why, made in of_another(rows, row) if made == value), ())
 
 
-def of_another(rows: dict[int, LadderRow], row: LadderRow) -> Iterator[tuple[str, bytes]]:
+def of_another(rows: dict[int, LadderRow], row: LadderRow) -> Iterator[tuple[Why, bytes]]:
     """The same derivation of another key of the run; of a KeNB* also with another PCI or EARFCN-DL of the run."""
     stars = [one.values[1:] for one in rows.values() if one.word == "star"]
     inputs = list(dict.fromkeys((pci, earfcn) for pci, _ in stars for _, earfcn in stars)) if row.word == "star" else [(row.values[1], row.values[2])]
     for key in rows.values():
         above = bytes.fromhex(key.key)
-        made_of = [f"it is made of {key.kind}, row {key.number}, not of row {row.parent}"] if key.number != row.parent else []
+        made_of = Cause.MADE_OF.because(kind=kind_of(key), found=key.number, wanted=row.parent) if key.number != row.parent else ()
         for first, second in inputs if key.word in STARRED else ():
-            given = [f"it is for PCI {first}, EARFCN-DL {second}"] if [first, second] != row.values[1:] else []
-            yield "; ".join([*made_of, *given]), derived(row.word, above, int(first), int(second))
+            given = Cause.FOR_CELL.because(pci=first, earfcn=second) if (first, second) != row.values[1:] else ()
+            yield made_of + given, derived(row.word, above, first, second)
 
 
 def derived(word: str, above: bytes, first: int, second: int) -> bytes:
@@ -54,7 +57,7 @@ def derived(word: str, above: bytes, first: int, second: int) -> bytes:
     return reasons.kdf(above, reasons.STAR, first.to_bytes(2, "big"), second.to_bytes(2 if second < reasons.SMALLER else 3, "big"))
 
 
-def of_reply(program: str, scenario: bytes, step: int | None, wanted: bytes, got: bytes, actor: str) -> list[str]:
+def of_reply(program: str, scenario: bytes, step: int | None, wanted: bytes, got: bytes, actor: str) -> list[PartsWrong]:
     """The mistake of the first key of a reply that differs, or else of its record or its refusal: what stands behind a key is made of it."""
     try:
         want, have = (frames.read_reply(frames.unframed(octets)) for octets in (wanted, got))
@@ -65,19 +68,19 @@ def of_reply(program: str, scenario: bytes, step: int | None, wanted: bytes, got
     return of_keys(rows, want, have, actor.split()[0]) if is_of_key else of_message(program, scenario, rows, step, want, have, actor)
 
 
-def of_keys(rows: dict[int, LadderRow], want: frames.Reply, have: frames.Reply, role: str) -> list[str]:
+def of_keys(rows: dict[int, LadderRow], want: frames.Reply, have: frames.Reply, role: str) -> list[PartsWrong]:
     """The mistake of the first key that differs, by the name of that key."""
     names = records.derivation_names(role, want)
     by_key = {row.key: row for row in rows.values()}
     for place, (key, value) in enumerate(zip(want.derived, have.derived)):
         row = by_key.get(key.hex())
         if key != value:
-            found = of_key(rows, row, value) if row else ""
-            return [f"{names[place] if place < len(names) else 'key'}: {found}"] if found else []
+            found = of_key(rows, row, value) if row else ()
+            return [PartsWrong((names[place] if place < len(names) else "key",), found)] if found else []
     return []
 
 
-def of_message(program: str, scenario: bytes, rows: dict[int, LadderRow], step: int | None, want: frames.Reply, have: frames.Reply, actor: str) -> list[str]:
+def of_message(program: str, scenario: bytes, rows: dict[int, LadderRow], step: int | None, want: frames.Reply, have: frames.Reply, actor: str) -> list[PartsWrong]:
     """The mistake of a record, or of a refusal for its MAC."""
     if step is None or not rows or not unsealed.is_protected(want, have):
         return []

@@ -3,6 +3,7 @@ from __future__ import annotations
 
 from dataclasses import replace
 
+from .causes import Cause, Reason, Why
 from .contexts import COMMAND, COMPLETE, FOREIGN, EpsSecurityContext, NasSeen, NasSide
 from .nas import AHEAD, Later, NasBook, is_protected
 from .plain import EMM, MODE_COMMAND, NO_KEY, capability_fault, of_octets, replayed
@@ -43,13 +44,13 @@ class ModeBook(NasBook):
         """A Command with which a KASME begins; its COUNT is one of the first (TS 24.301 4.4.3.1)."""
         begins = side.fresh or side.current is not None and side.current.given
         if begins and seen.count is not None and seen.count > FIRST_COUNTS:
-            seen.blame(f"COUNT differs: is {seen.count}, where a KASME begins at 0")
+            seen.blame(Cause.COUNT_NOT_RESET.of(found=seen.count))
         return seen
 
     def wrong_command(self, side: NasSide, pdu: bytes, fresh: list[EpsSecurityContext], ksi: int | None, later: Later) -> NasSeen:
         """A Command under no KASME that was given, unless what follows it stands under one."""
         context = next((one for one in fresh if self.evidence(side, one, later)), None)
-        side.authenticated = False
+        side.authenticated, side.offered = False, None  # whatever KASME it brings, it used the authentication
         if context is None:
             side.pending = EpsSecurityContext(FOREIGN, fresh[0].eea if fresh else 2, fresh[0].eia if fresh else 2, ksi)
             return self.nothing(DOWN, pdu)
@@ -87,45 +88,43 @@ class ModeBook(NasBook):
     def commanded(self, side: NasSide, context: EpsSecurityContext, plain: bytes, seen: NasSeen) -> None:
         """What a Security Mode Command says beside its COUNT: algorithms, KSI and replayed capabilities."""
         back = replayed(plain)
-        for fault in (capability_fault(side, plain), *algorithm_faults(side, context), ksi_fault(side, plain[3] & 7 if len(plain) > 3 else None)):
-            if fault:
-                seen.blame(fault)
+        seen.blame(*capability_fault(side, plain), *algorithm_faults(side, context), *ksi_fault(side, plain[3] & 7 if len(plain) > 3 else None))
         if back is not None and (side.capabilities is None or capability_fault(side, plain)):  # the core goes on from what it took
             side.capabilities = of_octets(back)
         secured, side.authenticated, side.offered = side.established or side.authenticated, False, None
         if context.eia == 0 and not side.emergency:
             if secured and side.initial:  # else its first message may have asked for an emergency
-                seen.blame("EIA0 in a secured connection without emergency, which TS 33.401 5.1.4.2 does not allow")
+                seen.blame(Cause.EIA0_IN_USE.of())
             else:
-                seen.warning = "EIA0 outside an emergency call, which TS 33.401 5.1.4.2 does not allow"
+                seen.warning = Cause.EIA0_OUTSIDE.because()
 
-    def completed(self, side: NasSide, context: EpsSecurityContext, count: int) -> list[str]:
+    def completed(self, side: NasSide, context: EpsSecurityContext, count: int) -> list[Reason]:
         """What is wrong with a Complete: it stands under the context that its Command brought, at one of its first COUNTs (5.4.3.3)."""
         brought, commands, begins = side.pending, side.commands, side.fresh
         side.commands, side.fresh = 0, False
         if brought is not None and brought.given and context.kasme != brought.kasme:
-            return ["Security mode complete under the KASME before, where the Command brought another"]
+            return [Cause.COMPLETE_OF_OTHER_KASME.of()]
         if brought is not None and brought.given and context.eia != brought.eia and not side.hidden:
-            return [f"Security mode complete under EIA{context.eia}, where the Command brought EIA{brought.eia}"]
+            return [Cause.COMPLETE_OF_OTHER_EIA.of(found=context.eia, wanted=brought.eia)]
         begins |= side.current is not None and side.current.given and side.current.kasme != context.kasme
         if brought is context and begins and 0 < commands <= count and not context.resumed:
-            return [f"COUNT differs: is {count}, where a KASME begins at 0"]
+            return [Cause.COUNT_NOT_RESET.of(found=count)]
         return []
 
 
-def algorithm_faults(side: NasSide, context: EpsSecurityContext) -> list[str]:
+def algorithm_faults(side: NasSide, context: EpsSecurityContext) -> list[Reason]:
     """Algorithms that the phone did not say it has (TS 33.401 7.2.4.4)."""
     told = side.told
     if told is None or len(told) < 2:
         return []
     chosen = ((context.eea, "EEA", told[0]), (context.eia, "EIA", told[1]))
-    return [f"{name}{identity} is commanded, which the phone does not have" for identity, name, octet in chosen if identity and not octet >> 7 - identity & 1]
+    return [Cause.ALGORITHM_LACKS.of(name=name, identity=identity) for identity, name, octet in chosen if identity and not octet >> 7 - identity & 1]
 
 
-def ksi_fault(side: NasSide, ksi: int | None) -> str:
+def ksi_fault(side: NasSide, ksi: int | None) -> Why:
     """A KSI that no context has, or another than that of the authentication before (TS 24.301 5.4.3.2, 9.9.3.21)."""
     if ksi == NO_KEY:
-        return "KSI differs: is 7, which means that there is no key"
+        return Cause.KSI_OF_NO_KEY.because()
     if ksi is not None and side.offered is not None and ksi != side.offered:
-        return f"KSI differs: is {ksi}, wanted {side.offered}, that of the Authentication Request"
-    return ""
+        return Cause.KSI_OF_COMMAND.because(found=ksi, wanted=side.offered)
+    return ()

@@ -8,9 +8,10 @@ from __future__ import annotations
 from collections.abc import Callable, Iterator
 from dataclasses import replace
 
+from .causes import Cause, Why
 from .cells import Cell, Cells
 from .contexts import EpsSecurityContext
-from .coverage import Coverage
+from .coverage import DOWN, Coverage
 from .histories import CHAIN, UNKNOWN_KEY, Chain, Held, History, Numbered, PhoneKeys, renewed
 from .service import ServiceBook
 from .state import Connection
@@ -32,9 +33,9 @@ class Moves:
     # -- where the phone was
 
     def came(self, connection: Connection, station: str) -> None:
-        """The phone is at a station: where S1 of that is not covered, what happens there is not seen. Nothing else sets where a phone is."""
+        """The phone is at a station: where S1 down of that is not covered, what the core gives it is not seen. Nothing else sets where a phone is."""
         connection.station = station
-        if station and not self.coverage.s1(station):
+        if station and not self.coverage.s1(station, DOWN):
             self.was_at(connection, station)
 
     def was_anywhere(self, connection: Connection) -> None:
@@ -45,12 +46,12 @@ class Moves:
         connection.based = False
         connection.away += [station] if station not in connection.away else []
 
-    def why(self, connection: Connection) -> str:
+    def why(self, connection: Connection) -> Why:
         """The condition under which a value that no history gives may be right."""
-        return f"the phone was at {' and '.join(connection.away[-2:])}, whose S1 the trace does not have" if connection.away != [ANYWHERE] else f"the phone was at {ANYWHERE}"
+        return Cause.WAS_ANYWHERE.because() if connection.away == [ANYWHERE] else Cause.WAS_AT.because(stations=" and ".join(connection.away[-2:]))
 
-    def remark(self, connection: Connection) -> str:
-        return f"lawful where {self.why(connection)}"
+    def remark(self, connection: Connection) -> Why:
+        return Cause.LAWFUL_WHERE.because(why=self.why(connection))
 
     # -- moves
 
@@ -158,15 +159,23 @@ class Moves:
         """A KeNB of an uplink message that the trace does not show: of any COUNT near, never one that was sent before."""
         return next((one for one in self.renewals(connection) if one.value == key), None)
 
-    def reachable(self, connection: Connection, key: Key, ncc: int) -> bool:
-        """Whether links that the trace does not cover may have brought this derivation, however many steps that takes: it goes on from a chain of the
-        connection, or from a KeNB that was not sent before. What is tried has bounds, and this has none."""
-        count, number, pairs = counted(key.term.base()), numbered(key.term), self.cells.pairs()
-        if count < 0 or key.kasme < 0 or ncc != number % CHAIN or any(cell not in pairs for cell in key.term.cells()):
+    def reachable(self, connection: Connection, key: Key, ncc: int, cell: Cell | None = None) -> bool:
+        """Whether links that the trace does not cover may have brought this NH, or this KeNB* for a cell, however many steps that takes: it goes on from
+        a chain of the connection, or from a KeNB that was not sent before. What is tried has bounds, and this has none."""
+        count, number, cells = counted(key.term.base()), numbered(key.term), key.term.cells()
+        if key.term.kind != ("nh" if cell is None else "star") or cell is not None and cells[0] != cell:
+            return False
+        if count < 0 or key.kasme < 0 or ncc != number % CHAIN or not set(cells[1:]) <= self.unseen_cells(connection):
             return False
         if any(chain.kasme == key.kasme and chain.sync.term.base() == key.term.base() and number > chain.number for chain in connection.cores()):
             return True
         return not connection.based and self.may_be_made(key.kasme, count)
+
+    def unseen_cells(self, connection: Connection) -> set[Cell]:
+        """The cells in which the phone may have been: those of stations where it was, and of those whose S1 is not covered."""
+        was_at = {connection.station, *connection.left}
+        stations = {station for station in map(self.cells.station, self.cells.sites) if station in was_at or not self.coverage.s1(station, DOWN)}
+        return {(site.pci, site.earfcn) for site in self.cells.every() if self.cells.station(site.eci) in stations}
 
     def may_be_made(self, kasme: int, count: int) -> bool:
         """Whether a KeNB may be made at this COUNT: it is not behind those that were used, and was not sent before."""
@@ -174,14 +183,20 @@ class Moves:
         return (context is None or count >= context.next[UPLINK] - AROUND) and self.derivations.kenb(kasme, count).value not in self.sent
 
     def takes(self, connection: Connection, histories: list[History]) -> None:
-        """The connection goes on from these histories."""
-        connection.asked, connection.missed, connection.undecided = 0, set(), None
+        """The connection goes on from these histories; the KeNB that they begin at was made then."""
+        connection.asked, connection.missed, connection.undecided = 0, {}, None
+        self.sent |= {self.derivations.kenb(one.core.kasme, count).value for one in histories if one.core is not None for count in [counted(one.core.sync.term.base())] if count >= 0}
         connection.keeps([replace(one, phone=one.phone or connection.phone) for one in histories])
-        connection.away = [station for station in connection.away if station == connection.station and not self.coverage.s1(station)]
+        self.is_certain(connection)
         connection.parted = False
+
+    def is_certain(self, connection: Connection) -> None:
+        """The core's chain is certain again, wherever the phone was before; what the phone did there with NAS stays open."""
+        connection.side.away |= bool(connection.away)
+        connection.away = [station for station in connection.away if station == connection.station and not self.coverage.s1(station, DOWN)]
 
     def lost(self, connection: Connection) -> None:
         """No history gives a value, and one under a KASME that was not given might: from here on nothing is known."""
-        connection.asked, connection.missed, connection.undecided = 0, set(), None
+        connection.asked, connection.missed, connection.undecided = 0, {}, None
         connection.keeps(History(None, one.held) for one in connection.histories)
         connection.side.away = True

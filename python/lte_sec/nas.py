@@ -9,27 +9,32 @@ import re
 from collections.abc import Callable, Iterable
 from dataclasses import replace
 
+from .causes import FAULT, Cause, Reason, Why, every
 from .context_book import ContextBook
 from .contexts import CIPHERED, COMMAND, COMPLETE, FOREIGN, PARTLY, PLAIN, SERVICE_REQUEST, EpsSecurityContext, NasSeen, NasSide, Trigger
 from .counts import WRAP, estimate
 from .plain import EMM, ESM, MODE_COMMAND, learn, plain_verdict
 from .report import DIFFERS, RIGHT, UNKNOWN
 from .terms import COMPUTED, DOWN, UP
-from .texts import NEVER_CIPHERED, OTHER_CIPHER, is_nas, text_fault
+from .texts import NEVER_CIPHERED, is_nas, text_fault
 
 GUTI = re.compile(rb"\x0b\xf6.{6}(.{4})", re.DOTALL)  # TS 24.301 9.9.3.12, with its length
 WITH_GUTI = (b"\x07\x42", b"\x07\x49", b"\x07\x50")
 HEADERS = {0x5D: COMMAND, 0x5E: COMPLETE}  # the header types that these messages have (TS 24.301 5.4.3)
+HEADER_FAULTS = {COMMAND: Cause.HEADER_OF_COMMAND, COMPLETE: Cause.HEADER_OF_COMPLETE}  # where another is
 CONTROL_SERVICE = 0x4D  # Control Plane Service Request, whose text is ciphered in part
 PATIENCE = 3  # messages of a connection for which a beginning before the trace is sought
 AHEAD = 16  # messages of a connection that are looked at for a KASME
+OTHERS = 16  # contexts of other KASMEs in which a message is sought
 NEW = 16  # COUNTs of a context whose Security Mode exchange a trace lacks
-NOT_GIVEN = "no KASME that was given fits"
-AWAY = "the phone was where the trace has no S1, and may have come by a KASME that was not given"
-LOST_MODE = "after a Security Mode exchange that the trace lacks"
+NOT_GIVEN, LOST_MODE = Cause.NOT_GIVEN.because(), Cause.LOST_MODE.because()
 
 # What comes later in the same connection: NAS messages with their directions, and KeNBs.
 Later = Callable[[], Iterable["tuple[int, bytes] | bytes"]]
+
+
+def is_fault(why: Why) -> bool:
+    return any(one.cause.severity is FAULT for one in why)
 
 
 def is_protected(pdu: bytes) -> bool:
@@ -45,18 +50,18 @@ class NasBook(ContextBook):
         """What is found of a message, or None of one that may be plain."""
         side.messages += 1
         if len(pdu) < 2:
-            return NasSeen(direction, PLAIN, UNKNOWN, note="shorter than a NAS message")
+            return NasSeen(direction, PLAIN, UNKNOWN, note=Cause.NO_NAS.because())
         header, discriminator = pdu[0] >> 4, pdu[0] & 15
         if discriminator == ESM:
             return self.plain(side, direction, pdu, None)
         if discriminator != EMM:
-            return NasSeen(direction, header, UNKNOWN, note=f"its protocol discriminator is {discriminator}, neither of EMM nor of ESM")
+            return NasSeen(direction, header, UNKNOWN, note=Cause.DISCRIMINATOR.because(found=discriminator))
         if header == PLAIN:
             return self.plain(side, direction, pdu, pdu[1])
         if header >= SERVICE_REQUEST:
             return self.service_request(side, pdu, later)
         if len(pdu) < 7:
-            return NasSeen(direction, header, DIFFERS, pdu[1:5].hex(), faults=["shorter than a protected message"])
+            return NasSeen(direction, header, DIFFERS, pdu[1:5].hex(), faults=[Cause.TOO_SHORT.of()])
         seen = self.command(side, pdu, later) if header == COMMAND and direction == DOWN else self.protected(side, direction, pdu, later)
         self.reserved(seen)
         return seen
@@ -70,12 +75,12 @@ class NasBook(ContextBook):
     def commanded(self, side: NasSide, context: EpsSecurityContext, plain: bytes, seen: NasSeen) -> None:
         raise NotImplementedError
 
-    def completed(self, side: NasSide, context: EpsSecurityContext, count: int) -> list[str]:
+    def completed(self, side: NasSide, context: EpsSecurityContext, count: int) -> list[Reason]:
         raise NotImplementedError
 
     def reserved(self, seen: NasSeen) -> None:
         if PARTLY < seen.header < SERVICE_REQUEST:
-            seen.faults = [f"header type differs: is {seen.header}, which TS 24.301 9.3.1 reserves"]
+            seen.faults = [Cause.HEADER_RESERVED.of(found=seen.header)]
             seen.verdict = DIFFERS
 
     def plain(self, side: NasSide, direction: int, pdu: bytes, kind: int | None) -> NasSeen | None:
@@ -84,24 +89,25 @@ class NasBook(ContextBook):
             learn(side, direction, pdu)
             return None
         verdict, why = found
-        return NasSeen(direction, PLAIN, verdict, plain=pdu, note=why if verdict == UNKNOWN else "", faults=[why] if verdict == DIFFERS else [])
+        return NasSeen(direction, PLAIN, verdict, plain=pdu, note=why if verdict == UNKNOWN else (), faults=[*why] if verdict == DIFFERS else [])
 
-    def found(self, side: NasSide, context: EpsSecurityContext, direction: int, pdu: bytes, count: int, note: str = "") -> NasSeen:
+    def found(self, side: NasSide, context: EpsSecurityContext, direction: int, pdu: bytes, count: int, note: Why = ()) -> NasSeen:
         """The finding for a message whose MAC is right under a context and COUNT."""
         header, is_first = pdu[0] >> 4, direction == UP and side.initial and side.messages == 1
         note = self.accept(side, context, direction, count, pdu, is_first) or note
         fault, plain = text_fault(self.derivations, context, direction, count, pdu, self.text(context, direction, count, pdu))
-        if side.hidden and OTHER_CIPHER in fault:  # an unseen exchange may have changed it
-            context.eea, fault = int(fault[-1]), ""
+        other = next((one.value("eea") for one in every(fault) if one.cause is Cause.CIPHERED_BY_EEA), None)
+        if side.hidden and isinstance(other, int):  # an unseen exchange may have changed it
+            context.eea, fault = other, ()
         seen = NasSeen(direction, header, RIGHT, pdu[1:5].hex(), count, "", context.kasme if context.given else None, plain or None, note)
         seen.text_right = not fault and header in CIPHERED and context.eea in COMPUTED and not context.guessed and bool(plain)
-        if note.startswith("COUNT"):
-            seen.note, seen.faults = "", [note]
+        if is_fault(note):
+            seen.note, seen.faults = (), [*note]
         wanted = self.header_wanted(side, context, direction, pdu, plain, is_first)
-        seen.faults += [f"header type differs: is {header}, wanted {wanted}"] if wanted != header else []
-        seen.faults += [fault] if fault else []
+        seen.faults += [HEADER_FAULTS.get(wanted, Cause.HEADER_DIFFERS).of(found=header, wanted=wanted)] if wanted != header else []
+        seen.faults += fault
         if context.kasme in side.rejected and not side.hidden:
-            seen.faults.append("under a context that the phone refused")
+            seen.faults.append(Cause.CONTEXT_REFUSED.of())
         if plain:
             self.learn(side, context, direction, plain)
         if plain and len(plain) > 1 and plain[:2] == bytes([EMM, MODE_COMMAND]):
@@ -130,18 +136,18 @@ class NasBook(ContextBook):
             for tmsi in GUTI.findall(plain):
                 self.knows(int.from_bytes(tmsi, "big"), context.kasme)
 
-    def refused(self, context: EpsSecurityContext, direction: int, pdu: bytes, count: int, note: str = "") -> NasSeen:
+    def refused(self, context: EpsSecurityContext, direction: int, pdu: bytes, count: int, note: Why = ()) -> NasSeen:
         """The finding for a message whose MAC is wrong at the COUNT that its receiver takes."""
         header = pdu[0] >> 4
         if not self.judged(context):
             context.next[direction] = max(context.next[direction], count + 1)
-            note = f"128-EIA{context.eia} is not computed here" if context.given else NOT_GIVEN
+            note = Cause.EIA_NOT_COMPUTED.because(eia=context.eia) if context.given else NOT_GIVEN
             return NasSeen(direction, header, UNKNOWN, pdu[1:5].hex(), count if context.given else None, "", context.kasme if context.given else None, self.text(context, direction, count, pdu), note)
         wanted = self.mac(context, direction, count, pdu[5:]).hex()
         kasme = context.kasme if context.given else None
         return NasSeen(direction, header, DIFFERS, pdu[1:5].hex(), count, wanted, kasme, self.text(context, direction, count, pdu), note)
 
-    def nothing(self, direction: int, pdu: bytes, why: str = NOT_GIVEN) -> NasSeen:
+    def nothing(self, direction: int, pdu: bytes, why: Why = NOT_GIVEN) -> NasSeen:
         return NasSeen(direction, pdu[0] >> 4, UNKNOWN, pdu[1:5].hex(), note=why)
 
     # -- all others
@@ -162,8 +168,7 @@ class NasBook(ContextBook):
                 faults = self.completed(side, context, count) if complete else []
                 self.takes(side, context, complete, direction, (count,), True)
                 seen = self.settled(side, context, direction, pdu, count)
-                for fault in faults:
-                    seen.blame(fault)
+                seen.blame(*faults)
                 return seen
         if not held:
             return self.without(side, direction, pdu, complete, later)
@@ -194,7 +199,7 @@ class NasBook(ContextBook):
 
         return due if 1 + faults(due) <= (before is not None) + faults(count) else None
 
-    def settled(self, side: NasSide, context: EpsSecurityContext, direction: int, pdu: bytes, count: int, note: str = "") -> NasSeen:
+    def settled(self, side: NasSide, context: EpsSecurityContext, direction: int, pdu: bytes, count: int, note: Why = ()) -> NasSeen:
         """The finding for a right message, which may establish the secure exchange (TS 24.301 4.4.2.3)."""
         seen = self.found(side, context, direction, pdu, count, note)
         if direction == DOWN or pdu[0] >> 4 == COMPLETE:
@@ -236,7 +241,7 @@ class NasBook(ContextBook):
         self.contexts[context.kasme] = context
         side.trigger = Trigger(context, (count,) if complete else tuple(range(count if direction == UP else NEW)) or (0,), complete)
         side.established = True
-        return self.settled(side, context, direction, pdu, count, "" if complete else LOST_MODE)
+        return self.settled(side, context, direction, pdu, count, () if complete else LOST_MODE)
 
     def other_algorithms(self, held: list[EpsSecurityContext], direction: int, pdu: bytes) -> tuple[EpsSecurityContext, int] | None:
         """A context in use under other algorithms, which an exchange brought that the trace does not show, and the COUNT of a message under it."""
@@ -256,19 +261,26 @@ class NasBook(ContextBook):
                 return self.renewed(side, *fresh, direction, pdu)
             if side.pending is not None and not side.pending.given:
                 return self.nothing(direction, pdu)
-            far = self.effort.find([context.kasme], pdu[5], WRAP, lambda _, tried: self.has_mac(context, direction, tried, pdu))
+            is_others = any(self.opens(one, direction, pdu) is not None for one in self.others(held))  # 32 bits say whose it is: no far COUNT is sought
+            far = None if is_others else self.effort.find([context.kasme], pdu[5], WRAP, lambda _, tried: self.has_mac(context, direction, tried, pdu))
             if far is not None:
                 self.takes(side, context, complete, direction, (far[1],), True)
                 return self.settled(side, context, direction, pdu, far[1])
             if side.away:
                 return self.came_back(side, context, direction, pdu)
-            if not other and (side.authenticated or failing == {UP, DOWN}):
+            alone = complete and side.pending is None  # its Command, which the trace lacks, may have brought a KASME that was not given
+            if not other and (alone or side.authenticated or failing == {UP, DOWN}):
                 self.leaves(side, context)
                 return self.nothing(direction, pdu)
-            if not self.effort.reached:
-                return self.nothing(direction, pdu, "its COUNT is not near the last one, and the search for it was ended")
+            if not is_others and not self.effort.reached:
+                return self.nothing(direction, pdu, Cause.COUNT_FAR.because())
         self.takes(side, context, complete, direction, (count,), False)
         return self.refused(context, direction, pdu, count, self.whose(context, direction, pdu, count))
+
+    def others(self, held: list[EpsSecurityContext]) -> list[EpsSecurityContext]:
+        """The contexts of other KASMEs: of those that were in use last, and of some that were not."""
+        found = [*list(self.contexts.values())[-OTHERS:], *(self.context(kasme) for kasme in self.unused()[:OTHERS])]
+        return [one for one in found if one.given and all(one.kasme != context.kasme for context in held)]
 
     def came_back(self, side: NasSide, context: EpsSecurityContext, direction: int, pdu: bytes) -> NasSeen:
         """A message of a phone that was where the trace shows nothing: it may stand under another KASME by now."""
@@ -278,7 +290,7 @@ class NasBook(ContextBook):
             if count is not None:
                 return self.renewed(side, other, count, direction, pdu)
         self.leaves(side, context)
-        return self.nothing(direction, pdu, AWAY)
+        return self.nothing(direction, pdu, Cause.WAS_AWAY.because())
 
     def leaves(self, side: NasSide, context: EpsSecurityContext) -> None:
         """The connection goes on under a KASME that was not given, until one that is known is in use again."""

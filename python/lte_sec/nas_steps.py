@@ -8,6 +8,7 @@ from __future__ import annotations
 from collections.abc import Callable
 from dataclasses import dataclass, field
 
+from .causes import Why
 from .contexts import COMMAND, COMPLETE, SERVICE_REQUEST
 from .plain import replayed
 from .recorded import CapturedNas, KeySeen, Met
@@ -17,7 +18,6 @@ AT_ONCE = 250  # COUNTs that are skipped before a text: at 256 the receiver's es
 FARTHEST = 300_000  # COUNTs that are skipped at the most
 LONGEST = 200  # octets of a text
 NO_KSI = 7
-UNREPLAYED_AGAIN = "a KASME that comes back into use, which the profile does not have"
 
 
 @dataclass
@@ -27,7 +27,7 @@ class ReplayedKey:
     met: Met
     key: KeySeen
     item: str = ""
-    reason: str = ""
+    why: Why = ()
 
 
 @dataclass
@@ -67,10 +67,10 @@ class NasSteps:
     def end(self, at: At) -> None:
         raise NotImplementedError
 
-    def not_replayed(self, met: Met, reason: str, key: KeySeen | None = None) -> None:
+    def not_replayed(self, met: Met, why: Why, key: KeySeen | None = None) -> None:
         seen = key or met.key
         if seen is not None:
-            self.rows.append(ReplayedKey(met, seen, "", reason))
+            self.rows.append(ReplayedKey(met, seen, "", why))
 
     # -- messages
 

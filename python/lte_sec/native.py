@@ -93,7 +93,7 @@ TAKES: dict[str, list[Any]] = {
     "drb_open_at": [POINTER(DrbState), c_uint32, *OPEN],
     "reach": [POINTER(PhoneState), c_uint32, c_uint32, c_uint32, POINTER(ReachedState)],
 }
-NOTHING = ("kasme", "kenb", "nh")
+NOTHING = ("kasme", "nh")
 VERSION = 2  # of the calls and structs, as `lte_sec.h` has it
 
 

@@ -6,10 +6,11 @@ from __future__ import annotations
 
 from dataclasses import dataclass
 from pathlib import Path
-from typing import ClassVar, Self
+from typing import ClassVar, TypeVar
 
 from .terms import TraceError
 
+AnyWords = TypeVar("AnyWords", bound="Words")
 HERE = Path(__file__).resolve().parent
 COPY, TABLE = HERE / "words.txt", HERE.parents[1] / "launcher" / "words"
 
@@ -42,7 +43,7 @@ class Words:
     others: list[str]
 
     @classmethod
-    def read(cls, word: str, words: list[str]) -> Self:
+    def read(cls: type[AnyWords], word: str, words: list[str]) -> AnyWords:
         """Reads options and other words in any order; a value stands in the same word behind `=`, or is the next word."""
         known = options_of(word)
         options, others, rest = {option: list[str]() for option in known}, list[str](), iter(words)

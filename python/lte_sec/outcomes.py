@@ -1,15 +1,15 @@
-"""What becomes of phone, stations and core in a variant, compared with the scenario itself. docs/WHATIF.md defines each word."""
+"""What becomes of phone, stations and core in a variant: compared with the scenario itself. docs/WHATIF.md defines each word."""
 from __future__ import annotations
 
-import re
 from collections.abc import Iterator
-from dataclasses import dataclass
 from typing import Protocol
 
 from . import probe
 from .courses import Course, Item
 from .dropped import Dropped
-from .messages import Names, StepLine
+from .messages import Names
+from .pairs import paired
+from .run_report import StepLine, behind_end, rows_of
 from .probe import named
 from .scenarios import Scenario
 from .variants import Fault
@@ -23,21 +23,10 @@ WORDS = (
 RANK = {word: rank for rank, word in enumerate(WORDS)}
 GOES_ON, KEYS_DIFFER = "goes on", "keys differ"
 USUAL_BAD = KEYS_DIFFER
+NOT_MADE = "not made"
 NOT_TOLD = "at which handover the report does not tell"
 HERE = " (here)"  # behind what an outcome is about, where the standard has it otherwise
 WAITS = " (7.2.10)"  # and where it is not there if each security procedure of the core waits for the one before
-ROW = re.compile(r"row \d+ (\w+)(?:\((\d+),([\d,]+)\))? ([0-9a-f]{64}) (\S+)")
-
-
-@dataclass(frozen=True, slots=True)
-class HeldKey:
-    """A key: its octets, its form, the row above it, the row or cell behind that, and its holders."""
-
-    key: str
-    form: str
-    parent: int | None
-    more: str
-    holders: frozenset[str]
 
 
 class Standing:
@@ -46,7 +35,8 @@ class Standing:
     def __init__(self, scenario: Scenario, course: Course, serving: int):
         self.course, self.lines, self.serving = course, course.lines, serving
         self.scenario = scenario
-        self.rows, self.by_key = rows_of(course.report)
+        self.rows = rows_of(behind_end(course.report))
+        self.by_key = {row.key: number for number, row in self.rows.items()}
         self.up = self.opens("up arrives", probe.UP)
         self.down = self.opens(f"down {serving} arrives", probe.DOWN)
         self.again = self.opens("again arrives", probe.AGAIN)
@@ -108,15 +98,14 @@ class Standing:
         while number is not None:
             row = self.rows[number]
             found |= {holder for holder in row.holders if holder.startswith("S")}
-            number = None if row.form != "star" or by_standard and row.key in self.dropped.instead else row.parent
+            number = None if row.word != "star" or by_standard and row.key in self.dropped.instead else row.parent
         return found
 
     def station_of(self, key: str, item: Item) -> int | None:
         """The station for which the phone has this key, by which it came at this item: that of its cell, or that which set up security."""
         row = self.rows[self.by_key[key]]
-        if row.form == "star":
-            pci, earfcn = row.more.split(",")
-            return self.scenario.cells.get((int(pci), int(earfcn)))
+        if row.word == "star":
+            return self.scenario.cells.get((row.values[1], row.values[2]))
         return int(self.lines[item.of].who[8:]) if item.of is not None else None
 
     def made(self) -> dict[str, str]:
@@ -125,7 +114,7 @@ class Standing:
         for item in self.course.items:
             line = self.lines[item.name]
             if line.who == "phone" and line.note and not item.name.startswith(probe.PROBE):
-                is_star = self.rows[self.by_key[line.note.key]].form == "star"
+                is_star = self.rows[self.by_key[line.note.key]].word == "star"
                 found[item.name] = "connection" if not is_star else "key change" if line.note.way == "initial" else "handover"
         return found
 
@@ -136,19 +125,6 @@ def different(course: Course, dropped: Dropped) -> dict[str, tuple[str, bool]]:
     told, names = read(course.report), list(course.lines)
     found = {names[item.last]: (str(item), not dropped.brings(item, told)) for item in items(told) if item.outcome is Outcome.DIFFER}
     return found | ({"": ("phone and station have different keys of a connection", True)} if connected(told) is False else {})
-
-
-def rows_of(report: str) -> tuple[list[HeldKey], dict[str, int]]:
-    """The ladder of a report, and the row of each key."""
-    rows: list[HeldKey] = []
-    keys: dict[str, int] = {}
-    for line in report[report.find("\nend ") :].splitlines():
-        found = ROW.fullmatch(line)
-        if found:
-            form, parent, more, key, holders = found.groups()
-            keys[key] = len(rows)
-            rows.append(HeldKey(key, form, int(parent) if parent else None, more or "", frozenset(holders.split(","))))
-    return rows, keys
 
 
 def signature(line: StepLine | None) -> tuple[str, str, str | None, str | None] | None:
@@ -189,7 +165,7 @@ class Comparison:
             yield "no handover", said(here, refused[0])
         if here.passes and here.view != here.serving and usual.view == usual.serving:
             yield "misrouted", f"the core has {at(here.view)}, the phone station {here.serving}"
-        if any(before and not now for before, now in zip(usual.nas, here.nas)) or (usual.again and here.again is not True):
+        if any(before and not now for before, now in paired(usual.nas, here.nas)) or (usual.again and here.again is not True):
             for name, before, now in zip(("no NAS text up", "no NAS text down", "no service"), [*usual.nas, usual.again], [*here.nas, here.again]):
                 if before and not now:
                     yield "NAS apart", name
@@ -236,7 +212,7 @@ class Comparison:
         made = here.made()
         for name, what in usual.made().items():
             if name not in made:
-                yield "not made", f"{what} of step {name}"
+                yield NOT_MADE, f"{what} of step {name}"
 
 
 def joined(parts: list[str]) -> str:

@@ -415,13 +415,14 @@
       const it = page.variants[place], worst = page.outcomes[it.o[0][0]];
       const outcomes = it.o.map(([outcome, what, limit]) => make('div', { class: 'line' }, make('p', {}, cell(page.outcomes[outcome]), ' ', make('b', {}, page.outcomes[outcome].word), page.texts[what] ? ` ${page.texts[what]}` : ''),
         limit === null ? null : make('p', { class: 'dim' }, `a limit of this profile, not of LTE: ${page.texts[limit]}`), make('p', { class: 'dim' }, page.outcomes[outcome].means)));
+      const heals = it.heals === null ? null : make('p', {}, 'heals: ', make('b', {}, page.texts[it.heals]));
       const answers = it.ans.length ? [make('h3', {}, 'refused here and not in the scenario'), it.ans.map(one => make('p', {}, page.texts[one]))] : [];
       const steps = it.run.flatMap(one => Array.isArray(one) ? Array.from({ length: one[1] - one[0] + 1 }, (_, each) => ({ ...page.base[one[0] + each], v: 'none' })) : page.steps[one]);
       const geometry = across((narrow() ? window.innerWidth : Math.min(620, window.innerWidth * 0.55)) - 34, [...lanes.keys()]), room = make('div', { class: 'run', role: 'list', 'aria-label': 'the run of this variant' });
       room.append(...steps.map(step => put(row(step, geometry, { role: 'listitem' }, 'step'), {}, [])));
       const heads = geometry.list ? null : draw('svg', { width: geometry.width, height: 28 }, [...geometry.at].map(([lane, x]) => draw('text', { class: 'lane', x, y: 18, 'text-anchor': 'middle' }, laneName(lane))));
       const gone = it.gone.length ? make('p', { class: 'dim' }, `falls away: ${it.gone.map(one => page.texts[one]).join(', ')}`) : null;
-      return [make('h2', {}, this.named(it)), make('p', {}, 'worst outcome: ', make('b', {}, worst.word)), outcomes, answers, steps.length ? [make('h3', {}, 'its own run'), make('p', { class: 'dim' }, marks.map(mark => `${mark.glyph} ${mark.word}`).join('; ')), gone, heads, room] : null];
+      return [make('h2', {}, this.named(it)), make('p', {}, 'worst outcome: ', make('b', {}, worst.word)), heals, outcomes, answers, steps.length ? [make('h3', {}, 'its own run'), make('p', { class: 'dim' }, marks.map(mark => `${mark.glyph} ${mark.word}`).join('; ')), gone, heads, room] : null];
     }
   }
 

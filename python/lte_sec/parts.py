@@ -1,4 +1,4 @@
-"""The parts of one answer of `what-if`, from the files that were written of each, and what is wrong with them, by the names of the files."""
+"""The parts of one answer of `what-if` as files: what they have, and what is wrong with them, by the names of the files."""
 from __future__ import annotations
 
 import json

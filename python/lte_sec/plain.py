@@ -1,6 +1,7 @@
 """NAS messages without protection, and what they tell: which may be plain (TS 24.301 4.4.4), and what a phone says it can do."""
 from __future__ import annotations
 
+from .causes import Cause, Why
 from .contexts import NasSide
 from .report import DIFFERS, UNKNOWN, Verdict
 from .terms import DOWN, UP
@@ -19,19 +20,19 @@ MAY_BE_PLAIN = {
 }
 # accept and complete of Attach, Tracking Area Update, GUTI reallocation and Security Mode, and its command (8.2, 4.4.5)
 ALWAYS_PROTECTED = frozenset((0x42, 0x43, 0x49, 0x4A, 0x4F, 0x50, 0x51, 0x5D, 0x5E))
-CLAUSES = {DOWN: "TS 24.301 4.4.4.2", UP: "TS 24.301 4.4.4.3"}
 WITHOUT_VALUE = (0x80, 0xF0)  # information elements of one octet, type and value in its halves
 
 
-def plain_verdict(side: NasSide, direction: int, kind: int | None) -> tuple[Verdict, str] | None:
+def plain_verdict(side: NasSide, direction: int, kind: int | None) -> tuple[Verdict, Why] | None:
     """What is found of a plain message, and why; None where it may be plain. `kind` is the type of an EMM message, None of others."""
+    is_up = direction == UP
     if side.established:
-        return DIFFERS, f"plain behind security, which {CLAUSES[direction]} does not allow"
+        return DIFFERS, (Cause.PLAIN_UP if is_up else Cause.PLAIN_DOWN).because()
     if kind in ALWAYS_PROTECTED:
-        return DIFFERS, f"plain, which {CLAUSES[direction]} does not allow this message"
+        return DIFFERS, (Cause.NEVER_PLAIN_UP if is_up else Cause.NEVER_PLAIN_DOWN).because()
     if side.completed:
-        return UNKNOWN, "plain behind a Security Mode exchange that could not be judged"
-    return None if kind in MAY_BE_PLAIN[direction] else (UNKNOWN, f"plain, so that {CLAUSES[direction]} lets its receiver drop it")
+        return UNKNOWN, Cause.PLAIN_BEHIND_UNJUDGED.because()
+    return None if kind in MAY_BE_PLAIN[direction] else (UNKNOWN, (Cause.PLAIN_MAY_DROP_UP if is_up else Cause.PLAIN_MAY_DROP_DOWN).because())
 
 
 def learn(side: NasSide, direction: int, text: bytes) -> None:
@@ -87,12 +88,12 @@ def of_octets(octets: bytes) -> tuple[int, int]:
     return (octets[0] >> 4 & 7, octets[1] >> 4 & 7)
 
 
-def capability_fault(side: NasSide, text: bytes) -> str:
+def capability_fault(side: NasSide, text: bytes) -> Why:
     """How the replayed capabilities differ from those that the phone told (TS 33.401 7.2.4.4, TS 24.301 5.4.3.2), or nothing."""
     told, back = side.told, replayed(text)
     if told is None or back is None:
-        return ""
+        return ()
     size = min(len(told), len(back))
     masks = b"\xff\xff\xff\x7f"[:size]  # bit 8 behind UIA is UCS2 in the phone's own (9.9.3.34)
     is_, wanted = (bytes(octet & mask for octet, mask in zip(octets, masks)) for octets in (back, told))
-    return "" if is_ == wanted else f"replayed capabilities differ: are {is_.hex()}, wanted {wanted.hex()}"
+    return () if is_ == wanted else Cause.CAPABILITIES_REPLAYED.because(found=is_.hex(), wanted=wanted.hex())

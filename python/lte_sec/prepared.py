@@ -2,6 +2,7 @@
 from __future__ import annotations
 
 from . import reasons
+from .causes import Cause
 from .cells import Cell
 from .decoding import Message, Reestablishment, title
 from .report import DIFFERS, RIGHT, Line, unknown_line
@@ -21,8 +22,8 @@ class PreparedJudge(StarJudge):
             cell = self.cell(one.eci)
             name = f"for ({cell[0]},{cell[1]})" if cell else f"for ECI {one.eci:07x}"
             if cell is None or made is not None and (not made.bases or made.doubt):
-                why = "the cell is not known; name it with --cells" if cell is None else "the key that it is made from is not judged"
-                self.lines += [unknown_line(message.frame, title(message), f"{what} {name}", why) for what in ("KeNB*", "short MAC")]
+                why = (Cause.CELL_UNKNOWN if cell is None else Cause.BASE_NOT_JUDGED).because()
+                self.lines.extend(unknown_line(message.frame, title(message), kind, why, of=name) for kind in ("KeNB*", "short MAC"))
                 continue
             if made is not None:
                 self.prepared_key(connection, message, one, made, cell, name)
@@ -33,25 +34,25 @@ class PreparedJudge(StarJudge):
         match = next((key for key in wanted if key.value == one.key), None)
         found = match or self.named(one.key, connection, [base.key for base in made.bases], cell)
         why = self.reason(found, lambda: (reasons.star(found.value, base.key.value, *cell) for base in made.bases[:BASES]))
-        self.judged(message, f"KeNB* {name}", found, match or wanted[0], why=why, cell=cell)
+        self.judged(message, "KeNB*", found, match or wanted[0], why=why, cell=cell, of=name)
 
     def short_mac(self, connection: Connection, message: Message, one: Reestablishment, name: str) -> None:
         algorithms = message.algorithms or connection.algorithms
         source = self.cell(message.source_eci)
         pci = source[0] if source else message.source_pci
         keys = list(dict.fromkeys(held.key for held in connection.states() if held.key.value))
-        why = ""
+        why = None
         if algorithms is None or algorithms[1] not in COMPUTED:
-            why = "the algorithm is not told, or not computed here"
+            why = Cause.ALGORITHM_NOT_TOLD
         elif pci is None or message.rnti is None or not keys:
-            why = "the source cell, the C-RNTI or the key in use is not known"
+            why = Cause.INPUTS_UNKNOWN
         if why or pci is None or message.rnti is None or algorithms is None:
-            self.lines.append(unknown_line(message.frame, title(message), f"short MAC {name}", why))
+            self.lines.append(unknown_line(message.frame, title(message), "short MAC", (why or Cause.INPUTS_UNKNOWN).because(), of=name))
             return
         macs = [self.computed_short_mac(key, algorithms[1], one.eci, pci, message.rnti) for key in keys]
-        right, head = one.short_mac in macs, f"frame {message.frame} {title(message)} short MAC {name} "
-        text = f"right: {one.short_mac.hex()}" if right else f"differs: is {one.short_mac.hex()}, wanted {macs[0].hex()}"
-        self.lines.append(Line(message.frame, title(message), f"short MAC {name}", RIGHT if right else DIFFERS, head + text, one.short_mac.hex(), macs[0].hex()))
+        right, found, wanted = one.short_mac in macs, one.short_mac.hex(), macs[0].hex()
+        said = Cause.KEY_RIGHT.because(what=f"short MAC {name}", found=found) if right else Cause.SHORT_MAC_WRONG.because(what=f"short MAC {name}", found=found, wanted=wanted)
+        self.lines.append(Line(message.frame, title(message), "short MAC", RIGHT if right else DIFFERS, said, of=name, found=found, wanted=wanted, hex=found, wanted_hex=wanted))
 
     def computed_short_mac(self, key: Key, eia: int, eci: int, pci: int, rnti: bytes) -> bytes:
         """shortMAC-I over VarShortMAC-Input: cell identity (28 bits), PCI (9) of the source, C-RNTI (16), filled to seven octets (TS 36.331 5.3.7.4)."""

@@ -6,12 +6,12 @@ import time
 from collections.abc import Iterable, Iterator
 from typing import TypeVar
 
-Thing = TypeVar("Thing")
+Unit = TypeVar("Unit")
 SECONDS = 10.0
 LOOK = 256  # items between two looks at the clock
 
 
-def told(items: Iterable[Thing], what: str, of: int = 0) -> Iterator[Thing]:
+def told(items: Iterable[Unit], what: str, of: int = 0) -> Iterator[Unit]:
     """The items as they come; how many of them are done is told."""
     last = time.monotonic()
     for number, item in enumerate(items):

@@ -5,8 +5,9 @@ from collections.abc import Iterator
 from dataclasses import dataclass
 
 from lte_sec import frames
-from lte_sec.ladders import LadderRow
-from lte_sec.reasons import Ciphered, Pdu, ProtectedNas, cipher, key_of, macs
+from lte_sec.pdu_reasons import Pdu
+from lte_sec.reasons import Ciphered, ProtectedNas, cipher, key_of, macs
+from lte_sec.run_report import LadderRow
 from lte_sec.scenarios import Step
 from lte_sec.terms import NAS_ENCRYPTION, NAS_INTEGRITY, RRC_ENCRYPTION, UP_ENCRYPTION, Calls
 
@@ -37,8 +38,8 @@ class BearerHistory:
     def above(self, type: int) -> Iterator[tuple[bytes, int]]:
         """The keys that keys of this type were made of, the newest first, each with the identity of its algorithm."""
         for row in reversed(list(self.rows.values())):
-            if row.word == "alg" and row.values[1] == str(type) and row.parent is not None:
-                yield bytes.fromhex(self.rows[row.parent].key), int(row.values[2])
+            if row.word == "alg" and row.values[1] == type and row.parent is not None:
+                yield bytes.fromhex(self.rows[row.parent].key), row.values[2]
 
     @property
     def number(self) -> int:

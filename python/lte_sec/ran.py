@@ -6,7 +6,6 @@
 from __future__ import annotations
 
 import json
-import re
 import subprocess
 import sys
 from collections.abc import Iterator
@@ -16,8 +15,9 @@ from . import pages
 from .charted import lanes_of, name_of, stage, steps_of
 from .escaped import shown
 from .inputs import MOST_MADE, of_file, of_input
-from .ladders import CLAUSES, names_of, rows_of, title_of
+from .ladders import CLAUSES, held_by, inputs_of, kind_of, names_of, title_of
 from .options import Words
+from .run_report import rows_of
 from .remarks import frames_of
 from .scenarios import NoScenario, read
 from .terms import TraceError
@@ -27,7 +27,6 @@ from .verdict import NOT_MADE, NoReport, Outcome, judged
 VERSION = 1  # of the document
 REASONS = Path(__file__).resolve().parents[2] / "launcher" / "reasons"
 REFUSED, ENDED = 3, 7
-END = re.compile(r"end \d+ \d+ \d+")
 MARKS = {
     "bad": ("step with different keys", "steps with different keys", "different keys"), "unk": ("step refused", "steps refused", "refused"),
     "ok": ("step done", "steps done", "done"), "none": ("record never delivered", "records never delivered", "never delivered"),
@@ -52,7 +51,7 @@ def document(report: str, octets: bytes, usual: str) -> Json:
     ended = next((line for line in lines[len(steps):] if " coincidence " in line), None)
     return {
         "version": VERSION, "name": shown(name_of(text, usual)), "lanes": lanes, "steps": told, "verdicts": verdicts(report), "coincidence": ended, "status": 0 if ended is None else ENDED,
-        "keys": [{"hex": row.key, "name": row.kind, "form": f"row {row.number}", "title": title_of(row, row.chain) if row.word != "alg" else row.kind, "from": row.above, "by": CLAUSES.get(row.word, ""), "in": row.given, "who": row.held_by}
+        "keys": [{"hex": row.key, "name": kind_of(row), "form": f"row {row.number}", "title": title_of(row, row.chain) if row.word != "alg" else kind_of(row), "from": row.above, "by": CLAUSES.get(row.word, ""), "in": inputs_of(row), "who": held_by(row)}
                  for row in rows.values()],
     }
 

@@ -1,58 +1,19 @@
-"""A whole trace: what it tells of cells, and what is judged of its messages."""
+"""A whole trace, read in the order and by the clock that fit it best."""
 from __future__ import annotations
 
-import time
-from collections.abc import Iterable
+import copy
 from dataclasses import dataclass, replace
 
-from .cells import RANGES, Cells, Site, is_cell
-from .coverage import taken
-from .decoding import Message, title
-from .grounds import Grounds
-from .handed import kasmes_in
-from .report import Line, note_line
-from .rereading import read_again
-from .stations import Stations
-from .taps import on_one_clock, without_second_taps
+from .cells import Cells
+from .coverage import UP, taken
+from .grounds import Grounds, Groundwork
+from .handed import Handed
+from .kept import Messages
+from .report import DIFFERS, Line
+from .rereading import OTHERWISE, read_again
+from .taps import Courses, SecondTaps, courses, on_one_clock, without_these
 from .terms import Derivations
 from .trace import Trace
-
-
-LAST = 1 << 62  # behind all places of a trace
-
-
-def learn(cells: Cells, messages: Iterable[Message]) -> list[Line]:
-    """Takes in the cells that a trace tells: X2 Setup first, and of the others what the commands to go there say. A line for each that is
-    none."""
-    cells.now = LAST
-    faults: list[Line] = []
-    asked: dict[object, int] = {}
-    said: list[tuple[int, Message]] = []
-    for place, message in enumerate(messages):
-        for site in message.sites:
-            known = cells.at(site.eci)
-            if not is_cell(site.pci, site.earfcn):
-                faults.append(note_line(message.frame, f"{title(message)} tells of cell {site.eci:07x} ({site.pci},{site.earfcn}), which is none: {RANGES}"))
-            elif known is None or site.up is None or known.up is None or (known.pci, known.earfcn) == (site.pci, site.earfcn) or site.eci in cells.given:
-                cells.learn(site)
-            else:  # a station says that a cell of its own is another now
-                cells.changed(site, place)
-        eci = None
-        if message.link == "X2" and message.name == "HandoverRequest" and message.eci is not None:
-            asked[message.source, message.target, message.old_x2] = message.eci
-        elif message.link == "X2" and message.name == "HandoverRequestAcknowledge":
-            eci = asked.get((message.target, message.source, message.old_x2))
-        elif message.name == "HandoverRequired" and message.eci is not None:
-            asked[message.source, message.enb_id] = message.eci
-        elif message.name == "HandoverCommand":
-            eci = asked.get((message.target, message.enb_id))
-        if eci is not None:
-            said.append((eci, message))
-    for eci, message in said:
-        told = message.command
-        if eci not in cells.sites and told is not None and told.pci is not None and told.earfcn is not None and is_cell(told.pci, told.earfcn):
-            cells.learn(Site(eci, told.pci, told.earfcn))
-    return faults
 
 
 @dataclass(frozen=True)
@@ -63,25 +24,64 @@ class Said:
     lacks: tuple[str, ...] = ()
 
 
-def check(derivations: Derivations, cells: Cells, messages: list[Message], budget: int | None = None, said: Said = Said()) -> Trace:
-    """Reads a trace. Which NH a core sends first is seen in the whole trace: where both are, the more frequent one is wanted. Then what other choices may
-    explain is read again."""
-    messages, taps = without_second_taps(messages)
-    messages, clock = on_one_clock(messages)
-    faults = learn(cells, messages)
-    found, notes = kasmes_in(messages, derivations.kasmes)
-    derivations.kasmes += found
+def check(derivations: Derivations, cells: Cells, messages: Messages, budget: int | None = None, said: Said = Said()) -> Trace:
+    """Reads a trace. Where something differs and S1 does not tell the order of X2, it is read again by the clock that the answers of the core offer."""
+    before, work = copy.deepcopy(cells), Groundwork(cells, messages)
+    second, handed, found = SecondTaps(messages), Handed(derivations.kasmes), Courses()
+    for place, message in enumerate(messages):
+        second.take(place, message)
+        handed.take(message)
+        found.take(message)
+        work.take(place, message)
+    whole = messages
+    messages, taps = without_these(messages, second.left())
+    found = found if messages is whole else courses(messages)
+    derivations.kasmes += handed.found
     budget = derivations.calls.budget if budget is None else budget
-    stations = Stations(cells, messages)
-    coverage = taken(stations.links(), said.covers, said.lacks)
-    head = [note for note in (taps, clock) if note]
-    grounds, begun = Grounds(messages, derivations, cells, {}, budget, stations, coverage), time.process_time()
-    trace = Trace(grounds)
-    trace.read([*faults, *notes])
-    took, seen = time.process_time() - begun, trace.judge.seen_firsts
-    if any(len(set(numbers)) > 1 for numbers in seen.values()):
-        firsts = {mme: 1 if numbers.count(1) > numbers.count(2) else 2 for mme, numbers in seen.items()}
-        trace = Trace(replace(grounds, firsts=firsts))
-        trace.read([*faults, *notes])
-    trace.tell([*head, *read_again(trace, took)])
+    premises = Premises(derivations, budget, said, handed.lines)
+    moved, clock = on_one_clock(messages, found)
+    work = work if moved is whole else groundwork(copy.deepcopy(before), moved)
+    trace = premises.read(work, [note for note in (taps, clock) if note])
+    if not clock and faults(trace) and not all(trace.coverage.s1(station, UP) for station in trace.coverage.stations):
+        moved, clock = on_one_clock(messages)
+        other = premises.read(groundwork(before, moved), [*([taps] if taps else []), f"{OTHERWISE}: {clock}"]) if clock else trace
+        trace = min(trace, other, key=faults)
     return trace
+
+
+def groundwork(cells: Cells, messages: Messages) -> Groundwork:
+    """What is learnt of messages before any is judged."""
+    work = Groundwork(cells, messages)
+    for place, message in enumerate(messages):
+        work.take(place, message)
+    return work
+
+
+def faults(trace: Trace) -> int:
+    return trace.count(DIFFERS)
+
+
+@dataclass(frozen=True)
+class Premises:
+    """What readings of a trace have in common, in whatever order its messages are."""
+
+    derivations: Derivations
+    budget: int
+    said: Said
+    notes: list[Line]
+
+    def read(self, work: Groundwork, head: list[str]) -> Trace:
+        """Reads messages in their order. Which NH a core sends first is seen in the whole trace: where both are, the more frequent one is wanted. Then
+        what other choices may explain is read again."""
+        notes = [*work.done(), *self.notes]
+        coverage = taken(work.stations.links(), self.said.covers, self.said.lacks)
+        grounds = Grounds(work, self.derivations, {}, self.budget, coverage)
+        trace = Trace(grounds)
+        trace.read(notes)
+        seen = trace.judge.seen_firsts
+        if any(len(set(numbers)) > 1 for numbers in seen.values()):
+            firsts = {mme: 1 if numbers.count(1) > numbers.count(2) else 2 for mme, numbers in seen.items()}
+            trace = Trace(replace(grounds, firsts=firsts))
+            trace.read(notes)
+        trace.tell([*head, *read_again(trace)])
+        return trace

@@ -3,16 +3,17 @@ from __future__ import annotations
 
 from dataclasses import dataclass, field
 
+from .causes import Cause, Why, has
 from .cells import Cells
 from .contexts import PLAIN
 from .decoding import Message
 from .escaped import shown
-from .report import UNKNOWN, Verdict
-from .seen import Seen, Value
+from .report import UNKNOWN, Line, Verdict
+from .seen import Seen
 from .terms import NONE, Term
 from .trace import Trace
 
-AGAIN = ("sent again", "COUNT used twice")
+AGAIN = (Cause.SENT_AGAIN, Cause.COUNT_USED_TWICE)
 KEYS = ("KeNB", "KeNB*", "NH", "key")
 
 
@@ -42,7 +43,12 @@ class KeySeen:
     base: Term  # the KeNB of its chain
     kasme: str
     verdict: Verdict
-    reason: str
+    why: Why
+
+    @property
+    def is_late(self) -> bool:
+        """Whether its answer came after that to a later request."""
+        return has(self.why, Cause.LATE)
 
 
 @dataclass
@@ -71,21 +77,21 @@ class RecordedTrace:
     kasmes: dict[str, bytes]
 
 
-def nas_of(value: Value) -> CapturedNas | None:
+def nas_of(value: Line) -> CapturedNas | None:
     """The NAS message of a value, where it stands under a KASME that was given and does not come again."""
     part = value.nas
-    if part is None or part.header == PLAIN or value.count is None or not value.kasme or any(word in value.reason for word in AGAIN):
+    if part is None or part.header == PLAIN or value.count is None or not value.kasme or has(value.reasons, *AGAIN):
         return None
-    right = value.verdict != UNKNOWN and value.wanted in ("", value.got)
+    right = value.verdict != UNKNOWN and value.wanted_hex in ("", value.hex)
     return CapturedNas(part.is_up, part.header, value.count, value.kasme, value.plain, right, part.name)
 
 
-def key_of(value: Value, message: Message) -> KeySeen:
-    octets = bytes.fromhex(value.got) if value.got else message.key or message.nh or b""
+def key_of(value: Line, message: Message) -> KeySeen:
+    octets = bytes.fromhex(value.hex) if value.hex else message.key or message.nh or b""
     term = value.key.term if value.key is not None else NONE
     wanted = value.wanted_key.term if value.wanted_key is not None else term
     base = term.base() or term
-    return KeySeen(value.what, octets, message.ncc, term.told(), wanted.told(), base.told(), value.kasme, value.verdict, value.reason)
+    return KeySeen(value.what, octets, message.ncc, term.told(), wanted.told(), base.told(), value.kasme, value.verdict, value.reasons)
 
 
 def met_of(place: int, seen: Seen, begun: set[int], cells: Cells) -> Met:
@@ -99,10 +105,10 @@ def met_of(place: int, seen: Seen, begun: set[int], cells: Cells) -> Met:
             break
         if value.what in KEYS and met.key is None:
             met.key = key_of(value, message)
-        elif value.what.startswith("KeNB* for "):
+        elif value.kind == "KeNB*" and value.of:
             met.more.append(key_of(value, message))
     if message.link == "RRC" and seen.handover is not None and seen.handover not in begun:
-        met.within = next((value.cell for value in seen.values if value.what == "command"), None)
+        met.within = next((value.cell for value in seen.values if value.kind == "command"), None)
     return met
 
 

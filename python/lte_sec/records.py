@@ -1,8 +1,8 @@
-"""Records by their fields (docs/FRAMES.md, Records), named as S1AP, X2AP, NAS and RRC name them, and what differs between two."""
+"""Records by their fields (docs/FRAMES.md, Records) and what differs between two: named as S1AP, X2AP, NAS and RRC name them."""
 from __future__ import annotations
 
 import dataclasses
-import re
+from collections.abc import Sequence
 
 from lte_sec import frames
 
@@ -150,29 +150,25 @@ DERIVED: dict[tuple[str, str, int], list[str]] = {
 }
 
 
-def derivation_names(role: str, reply: frames.Reply) -> list[str]:
-    """What each derivation of a reply makes, KeNB* with its cell where the record names it; nothing where a step derives otherwise."""
+def derivation_names(role: str, reply: frames.Reply, known: Sequence[int] | None = None) -> list[str]:
+    """What each derivation of a reply makes, KeNB* with its cell where the record names it or where it is known; nothing where a step derives otherwise."""
     way, count = frames.WAYS[reply.note.way] if reply.note else "", len(reply.derived)
     names = DERIVED.get((role, way, count), [])
     if role == "phone" and way == "vertical" and count > 4:
         names = [f"NH {place} of {count - 4}" for place in range(1, count - 3)] + ["KeNB*", *RADIO_KEYS]
     record = read(reply.to, reply.record) if reply.record is not None else None
-    cell = record.fields.get("cell") if record else None
-    return [f"{name} for PCI {cell.replace(',', ', EARFCN-DL ')}" if name == "KeNB*" and cell else name for name in names]
+    told = record.fields.get("cell") if record else None
+    cell = told.split(",") if told else known
+    return [f"{name} for PCI {cell[0]}, EARFCN-DL {cell[1]}" if name == "KeNB*" and cell else name for name in names]
 
 
-def named(told: list[str], wanted: frames.Reply, got: frames.Reply, role: str) -> list[str]:
-    """The lines of derivations, each by what it makes."""
-    names = derivation_names(role, max(wanted, got, key=lambda reply: len(reply.derived)))
-    return [re.sub("^derivation ([0-9]+):", lambda it: f"{names[int(it[1])]}:" if int(it[1]) < len(names) else it[0], line) for line in told]
-
-
-def differences(wanted: bytes, got: bytes, actor: str = "") -> list[str]:
-    """The differences of two replies: first what differs in the record, in words, then a line for each part, in hex; derivations by name where the actor is known."""
-    told = frames.differences(wanted, got)
+def differences(wanted: bytes, got: bytes, actor: str = "", cell: Sequence[int] | None = None) -> list[str]:
+    """The differences of two replies: first what differs in the record, in words, then a line for each part, in hex; derivations by name where the actor is
+    known. `cell` is that of a phone's KeNB*, which its reply does not tell."""
     try:
         want, have = (frames.read_reply(frames.unframed(octets)) for octets in (wanted, got))
     except frames.BadFrame:
-        return told
+        return frames.differences(wanted, got)
+    names = derivation_names(actor.split(" ")[0], max(want, have, key=lambda reply: len(reply.derived)), cell)
     words = in_words(want, have)
-    return ([words] if words else []) + named(told, want, have, actor.split(" ")[0])
+    return ([words] if words else []) + frames.differences(wanted, got, names)

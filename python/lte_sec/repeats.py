@@ -17,6 +17,7 @@ FIELDS = ("pdcp-lte.ueid", "pdcp-lte.security-config.bearer", "pdcp-lte.security
 WAYS = {"uplink": "0", "up": "0", "ul": "0", "downlink": "1", "down": "1", "dl": "1"}
 NUMBER = 10  # the most digits of a number: what is longer is a key
 COUNTS = 1 << 32
+VERSION = 1  # of the document that --json prints
 LONGEST, MOST = 65_536, 4_000_000  # characters of a line, and uses, that are read
 
 UsedCount = tuple[str, str, str, int]
@@ -24,15 +25,29 @@ UsedCount = tuple[str, str, str, int]
 
 @dataclass
 class Repeats:
-    """What was found: the line that says which use came twice, or nothing; PDUs without security context; lines that are not clear."""
+    """What was found: the use that came twice, if one did, and its lines; PDUs without security context; lines that are not clear."""
 
-    text: str = ""
+    use: UsedCount | None = None
+    lines: tuple[int, int] = (0, 0)
     passed: int = 0
     unclear: list[int] = field(default_factory=list)
 
     @property
     def status(self) -> int:
-        return 1 if self.text else 3 if self.unclear else 0
+        return 1 if self.use else 3 if self.unclear else 0
+
+    @property
+    def text(self) -> str:
+        """Which use came twice, or nothing."""
+        if self.use is None:
+            return ""
+        key, bearer, direction, count = self.use
+        return f"lines {self.lines[0]} and {self.lines[1]}: key {key}, bearer {bearer}, direction {direction}, COUNT {count} are used twice"
+
+    def document(self) -> dict[str, object]:
+        """What `repeats --json` prints."""
+        use = dict(zip(("key", "bearer", "direction", "count"), self.use)) | {"lines": list(self.lines)} if self.use else None
+        return {"version": VERSION, "repeat": use, "without_security_context": self.passed, "not_judged": self.unclear, "status": self.status}
 
     def __str__(self) -> str:
         more = [f"{self.passed} PDU{'s' if self.passed > 1 else ''} without security context passed over"] if self.passed else []
@@ -110,7 +125,6 @@ def first_repeat(lines: Iterable[str]) -> Repeats:
         if before is None:
             seen[use] = (place, octets)
         elif not (octets and octets == before[1]):
-            key, bearer, direction, count = use
-            result.text = f"lines {before[0]} and {place}: key {key}, bearer {bearer}, direction {direction}, COUNT {count} are used twice"
+            result.use, result.lines = use, (before[0], place)
             break
     return result

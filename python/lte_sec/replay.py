@@ -8,7 +8,7 @@ from pathlib import Path
 
 from .compared import ComparedKey, ReplayVerdict, compared
 from .courses import ProgramFails
-from .nas import NOT_GIVEN
+from .causes import Cause
 from .phones import CapturedPhone, first_ncc, phones_of
 from .recorded import Met, RecordedTrace, record
 from .script import CELLS, STATIONS, Script
@@ -19,7 +19,6 @@ from .words import TraceWords, noted, traced
 
 FAILS, STOPPED = 6, 130
 USUAL_CAPS = "a020"  # EEA0, 128-EEA2 and 128-EIA2, which the profile has
-NO_CONNECTION = "it belongs to no connection of a phone that is known"
 
 
 def walked(found: RecordedTrace, phone: CapturedPhone, met: list[Met], texts: bool, whole: str) -> tuple[Steps, int | None]:
@@ -39,7 +38,7 @@ def scenarios_of(found: RecordedTrace, phone: CapturedPhone, texts: bool) -> lis
         if full is not None:
             cut = steps.cut or full
             if cut == 0:
-                steps.not_replayed(met[0], "its stations and cells do not go into one scenario")
+                steps.not_replayed(met[0], Cause.NOT_ONE_SCENARIO.because())
                 done[-1].rows += steps.rows if done else []
                 met = met[1:]
                 continue
@@ -72,8 +71,8 @@ def replayed(program: str, found: RecordedTrace, captures: list[str], texts: boo
             answer.parts.append(Part(str(number) if len(scenarios) == 1 else f"{number}.{place}", phone.kasmes, done))
     for met in others:
         if met.key is not None:
-            why = NO_CONNECTION if met.connection is None else NOT_GIVEN
-            answer.others.append(ComparedKey(met.frame, met.title, met.key.what, ReplayVerdict.NOT_REPLAYED, str(met.key.term), met.key.ncc, reason=why))
+            why = Cause.OF_NO_PHONE if met.connection is None else Cause.NOT_GIVEN
+            answer.others.append(ComparedKey(met.frame, met.title, met.key.what, ReplayVerdict.NOT_REPLAYED, str(met.key.term), met.key.ncc, why=why.because()))
     return answer
 
 

@@ -1,14 +1,15 @@
 """The search for another reading of a trace: of all that take the offers differently, the one with the fewest differences counts.
 
 What differs in the first reading and behind an offer is read again with that offer, best first, as far as the bounds go: so many readings of
-the messages concerned, and so much time of a trace. Where a bound was reached, what differs behind the first offer is not judged.
+the messages concerned, and so many steps of a trace. Where a bound was reached, what differs behind the first offer is not judged. A step is a
+message that is read, so that no clock decides what is told.
 """
 from __future__ import annotations
 
-import time
 from collections.abc import Callable, Hashable, Iterator
 from dataclasses import dataclass
 
+from .causes import Cause
 from .choices import Groups, Offer, Tape
 from .coverage import listed
 from .report import DIFFERS, RIGHT, UNKNOWN, Line, withdrawn
@@ -17,8 +18,8 @@ from .trace import Trace
 
 READINGS = 48  # of the messages of phones that share identities
 NEAREST = 8  # offers before a difference that are tried
-TIMES, LEAST = 4.0, 2.0  # all readings again take so many times the first one, or so many seconds
-ENDED = "right or wrong by whose messages these are, which the trace does not show; the search for that was ended"
+TIMES, LEAST = 4, 8_000  # all readings again take so many steps for each message of the trace, or so many steps
+OTHERWISE = "read otherwise than at first sight, as less differs so"
 
 
 @dataclass
@@ -112,20 +113,25 @@ def reading(trace: Trace, places: set[int]) -> Reading:
 class Rereading:
     """Reads again what other choices may explain, and tells of it."""
 
-    def __init__(self, trace: Trace, took: float):
-        self.trace, self.until = trace, time.process_time() + max(LEAST, TIMES * took)
+    def __init__(self, trace: Trace):
+        self.trace, self.left = trace, max(LEAST, TIMES * len(trace.messages))
         self.taken: list[tuple[int, Offer]] = []
         self.withdrawn = 0
 
     def may_go_on(self) -> bool:
-        return time.process_time() < self.until
+        return self.left > 0
 
     def all(self) -> None:
         """Each group of messages in which something differs behind an offer."""
-        if not self.trace.choices.met or not any(line.verdict == DIFFERS for line in self.trace.lines):
+        met = {place for place, _ in self.trace.choices.met}
+        if not met or not self.trace.count(DIFFERS):
             return
+        self.trace.judge.lines.hold()
+        differing = {line.place for line in self.trace.lines if line.verdict == DIFFERS and line.place is not None}
         found, common = groups(self.trace)
         for places in found:
+            if places.isdisjoint(met) or places.isdisjoint(differing):
+                continue
             first = reading(self.trace, places)
             if first.offers and first.differing() and min(first.offers)[0] <= max(first.differing()):
                 self.group(first, places, common)
@@ -135,6 +141,7 @@ class Rereading:
 
         def again(tape: Tape, most: int) -> Reading:
             traces[tape] = self.trace.other(places | common, tape, most)
+            self.left -= traces[tape].steps
             return reading(traces[tape], places)
 
         chosen, whole = best(first, again, self.may_go_on)
@@ -145,7 +152,7 @@ class Rereading:
             behind = min(chosen.offers)[0]
             for line in chosen.lines:
                 if line.verdict == DIFFERS and line.place is not None and line.place >= behind:
-                    withdrawn(line, ENDED)
+                    withdrawn(line, Cause.SEARCH_ENDED.because())
                     self.withdrawn += 1
 
     def head(self) -> Iterator[str]:
@@ -153,13 +160,13 @@ class Rereading:
         for offer in Offer:
             frames = [self.trace.messages[place].frame for place, one in sorted(self.taken) if one is offer]
             if frames:
-                yield f"read otherwise than at first sight, as less differs so: {offer.value}, at frame{'s' if len(frames) > 1 else ''} {listed(frames)}"
+                yield f"{OTHERWISE}: {offer.value}, at frame{'s' if len(frames) > 1 else ''} {listed(frames)}"
         if self.withdrawn:
             yield f"the search for other readings was ended: {self.withdrawn} that differ are not judged for that reason"
 
 
-def read_again(trace: Trace, took: float) -> list[str]:
-    """Reads again what differs and other choices may explain, as far as the time goes that follows from that of the first reading; the notes on it."""
-    found = Rereading(trace, took)
+def read_again(trace: Trace) -> list[str]:
+    """Reads again what differs and other choices may explain, as far as the steps go that its messages give; the notes on it."""
+    found = Rereading(trace)
     found.all()
     return list(found.head())

@@ -1,4 +1,4 @@
-"""An answer of `what-if` that is kept as it comes in, part by part, in a file from which a later call goes on.
+"""An answer of `what-if` that is kept in a file: part by part as it comes in, and a later call goes on from there.
 
 The file has a line for each part that is done, as `--json` prints it, on one line. A line that was cut is that of a part which is tried again.
 """
@@ -18,7 +18,7 @@ from .options import WrongWords
 PARTS, SECONDS = 64, 10.0
 
 
-class Kept:
+class KeptAnswer:
     """The parts that a file has."""
 
     def __init__(self, file: Path):
@@ -49,7 +49,7 @@ class Kept:
         os.fsync(self.out.fileno())
 
 
-def gathered(kept: Kept, gather: Callable[[tuple[int, int]], Answer], nothing: Answer) -> Answer:
+def gathered(kept: KeptAnswer, gather: Callable[[tuple[int, int]], Answer], nothing: Answer) -> Answer:
     """The whole: the parts that the file has, and the others, which are gathered and put there. What there is where it is interrupted."""
     last, whole = time.monotonic(), True
     try:
@@ -71,5 +71,5 @@ def gathered(kept: Kept, gather: Callable[[tuple[int, int]], Answer], nothing: A
     return answer
 
 
-def missing(kept: Kept) -> Iterator[int]:
+def missing(kept: KeptAnswer) -> Iterator[int]:
     return (number for number in range(1, PARTS + 1) if number not in kept.parts)

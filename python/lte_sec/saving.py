@@ -4,6 +4,7 @@ from __future__ import annotations
 from pathlib import Path
 
 from .courses import Course
+from .pairs import paired
 from .probe import PROBE
 from .scenarios import setup_text
 from .study import Study, Variant, shown
@@ -22,7 +23,7 @@ def lines(study: Study, variant: Variant, course: Course) -> list[str]:
     messages = study.original.messages
     faults = " and ".join(f"{fault} ({messages[fault.item]})" for fault in variant.faults)
     head = [f"# {faults}: {', '.join(variant.outcomes)}.", *(f"# {word}: {what}" for word, what in variant.outcomes.items() if what)]
-    steps = [f"  {table}, # {comment(item.name, messages)}" for item, table in zip(course.items, course.steps)]
+    steps = [f"  {table}, # {comment(item.name, messages)}" for item, table in paired(course.items, course.steps)]
     return [*head, setup_text(study.scenario.setup).rstrip(), "step = [", *steps, "]"]
 
 

@@ -1,15 +1,11 @@
 """Scenarios of `run` as values, and written as texts again."""
 from __future__ import annotations
 
-import importlib.util
 import json
 import sys
-import tomllib
 from dataclasses import dataclass
-from pathlib import Path
 from typing import Any
 
-READER = Path(__file__).resolve().parents[2] / "launcher" / "document.py"
 Step = dict[str, Any]
 
 
@@ -36,34 +32,29 @@ class Scenario:
 
 
 def read(octets: bytes) -> Scenario:
-    """A scenario that the program takes, which reads TOML 1.1. Python reads 1.0, and the launcher's own reader the rest."""
-    try:
-        document = tomllib.loads(octets.decode())
-    except (ValueError, RecursionError) as fault:
-        document = by_launcher(octets, str(fault))
-    return Scenario({name: value for name, value in document.items() if name != "step"}, document.get("step", []))
+    """A scenario that the program takes."""
+    table = table_of(octets)
+    return Scenario({name: value for name, value in table.items() if name != "step"}, table.get("step", []))
 
 
-def by_launcher(octets: bytes, fault: str) -> dict[str, Any]:
-    """The document, by the reader that the launcher has for its reasons."""
-    spec = importlib.util.spec_from_file_location("launcher_document", READER)
-    if spec is None or spec.loader is None or not READER.exists():
-        raise NoScenario(f"this is no document of TOML 1.0: {fault}")
-    reader = importlib.util.module_from_spec(spec)
-    sys.modules[spec.name] = reader
-    spec.loader.exec_module(reader)
+def table_of(octets: bytes) -> dict[str, Any]:
+    """The document by Python's own reader, which is fast; by that of this package where Python has none, and of what is new in TOML 1.1."""
+    if sys.version_info >= (3, 11):
+        import tomllib
+
+        try:
+            return tomllib.loads(octets.decode())
+        except (ValueError, RecursionError):
+            pass
+    from . import document  # which few scenarios need
+
     try:
-        document: dict[str, Any] = plain(reader.read(octets))
-    except reader.Fault as wrong:
+        table: dict[str, Any] = document.plain(document.read(octets))
+    except document.TextFault as wrong:
         raise NoScenario(f"this is no document: {wrong}") from None
-    return document
-
-
-def plain(it: Any) -> Any:
-    """A value of that reader without its place."""
-    if isinstance(it.is_, dict):
-        return {name: plain(each) for name, each in it.is_.items()}
-    return [plain(each) for each in it.is_] if isinstance(it.is_, list) else it.is_
+    except document.TooManyValues:
+        raise NoScenario(f"this document has more than {document.MOST_VALUES:,} values") from None
+    return table
 
 
 def value(it: Any) -> str:

@@ -48,7 +48,10 @@ class DerivationSearch:
         self.derivations, self.cells = derivations, cells
         self.counts, self.depth, self.deep = counts, depth, deep
         self.budget, self.idle = Budget(budget), Budget(budget // 4)
+        self.tried = 0  # derivations so far
+        self._found: dict[bytes, Key] = {}  # by their octets
         self._chains: dict[tuple[int, bytes], list[Key]] = {}
+        self._vain: dict[tuple[bytes, frozenset[Cell]], tuple[set[bytes], set[bytes]]] = {}  # by octets and cells, the keys that were tried near, and the firsts of them
 
     # -- candidates
 
@@ -113,15 +116,15 @@ class DerivationSearch:
                     sync = self.derivations.next_nh(kasme, sync)
                     yield sync
 
-    def near(self, keys: list[Key]) -> Iterator[Key]:
-        """What the keys at hand give."""
+    def near(self, keys: list[Key], likely: list[Key]) -> Iterator[Key]:
+        """What the keys at hand give, and the likely ones of them one step further."""
         chains = [nh for key in keys if key.term.kind == "kenb" for nh in self.chain(key.kasme, key)]
         yield from keys
         yield from chains
         yield from self.stars(keys, 1)
         yield from self.syncs(keys)
         yield from self.stars(chains, 1)
-        firsts = list(self.stars(keys[:FEW], 1))
+        firsts = list(self.stars(likely, 1))
         yield from self.stars(firsts, 1)
         yield from self.syncs(firsts)
 
@@ -146,23 +149,39 @@ class DerivationSearch:
     def find(self, value: bytes, at_hand: Iterable[Key], target: int | None = None, judged: bool = True) -> Key | None:
         """The first derivation that gives these octets, or None; `target` is the PCI that a KeNB* is for.
 
-        Keys that are not judged, as those of phones without their KASME, have a budget of their own.
+        Keys that are not judged, as those of phones without their KASME, have a budget of their own. What was found once is known to each
+        further reading of a trace, whose budget may be spent by then.
         """
         keys = list({key.value: key for key in at_hand if key.known}.values())
-        found = next((key for key in keys if key.value == value), None)
+        found = next((key for key in keys if key.value == value), None) or self._found.get(value)
         if found is not None:
             return found
         if not judged:
-            return self.sought(value, itertools.chain(self.near(keys), self.far(keys)), self.idle)
-        found = next((key for key in self.near(keys) if key.value == value), None)
-        return found or self.sought(value, itertools.chain(self.swept(keys, target), self.far(keys)), self.budget)
+            found = self.sought(value, itertools.chain(self.near(keys, keys[:FEW]), self.far(keys)), self.idle)
+        else:
+            found = self.sought_near(value, keys) or self.sought(value, itertools.chain(self.swept(keys, target), self.far(keys)), self.budget)
+        if found is not None:
+            self._found[value] = found
+        return found
 
-    def sought(self, value: bytes, candidates: Iterable[Key], budget: Budget) -> Key | None:
+    def sought_near(self, value: bytes, keys: list[Key]) -> Key | None:
+        """The first that is the key of what the keys at hand give: each is tried once in the cells that are known, though a trace is read again and again."""
+        if len(self._vain) > KEPT:
+            self._vain.clear()
+        tried, further = self._vain.setdefault((value, frozenset(self.cells.pairs())), (set(), set()))
+        found = self.sought(value, self.near([key for key in keys if key.value not in tried], [key for key in keys[:FEW] if key.value not in further]))
+        tried |= {key.value for key in keys}
+        further |= {key.value for key in keys[:FEW]}
+        return found
+
+    def sought(self, value: bytes, candidates: Iterable[Key], budget: Budget | None = None) -> Key | None:
         """The first of these that is the key, as far as the budget goes."""
         for key in candidates:
-            if budget.left <= 0:
+            if budget is not None and budget.left <= 0:
                 return None
-            budget.left -= 1
+            if budget is not None:
+                budget.left -= 1
+            self.tried += 1
             if key.value == value:
                 return key
         return None

@@ -5,14 +5,17 @@ built on it; all texts in it are shown in one line each (`escaped`).
 """
 from __future__ import annotations
 
-from collections.abc import Iterable, Iterator, Mapping
+from collections import Counter
+from collections.abc import Callable, Iterable, Iterator, Mapping, Sequence
 from dataclasses import dataclass, field
+from functools import cached_property
+from typing import TypeVar, overload
 
-from .clauses import clause
 from .decoding import Message, title
 from .escaped import shown
-from .report import NOTE, RIGHT, Line, NasPart, Verdict
-from .terms import Derivations, Key
+from .kept_lines import LinesInOrder
+from .report import NOTE, RIGHT, Line, Verdict
+from .terms import Derivations
 
 UP, DOWN = "up", "down"
 
@@ -36,32 +39,6 @@ class End:
 
 
 @dataclass(frozen=True)
-class Value:
-    """One value of a message: the derivation that gives it and the one that was wanted, got and wanted in hex, and the verdict."""
-
-    what: str  # KeNB, KeNB*, NH, MAC, command, agreement, capabilities ..
-    verdict: Verdict
-    text: str  # the line
-    term: str = ""
-    wanted_term: str = ""
-    got: str = ""
-    wanted: str = ""
-    base: str = ""
-    kasme: str = ""
-    ncc: int | None = None
-    wanted_ncc: int | None = None
-    count: int | None = None
-    plain: bytes | None = None
-    cell: tuple[int, int] | None = None
-    reason: str = ""
-    nas: NasPart | None = None
-    message: str = ""  # as lines name it
-    key: Key | None = field(default=None, repr=False)
-    wanted_key: Key | None = field(default=None, repr=False)
-    clause: str = ""  # of the standard, which forbids what differs
-
-
-@dataclass(frozen=True)
 class Seen:
     """One message of a trace. Connection, handover and phone are numbers from 1, None where it belongs to none."""
 
@@ -74,7 +51,7 @@ class Seen:
     connection: int | None
     handover: int | None
     phone: int | None
-    values: tuple[Value, ...]
+    values: tuple[Line, ...]
     decoded: Message = field(repr=False)
 
     @property
@@ -96,29 +73,56 @@ class Use:
     eia: int | None = None
 
 
+Thing = TypeVar("Thing")
+
+
+class Late(Sequence[Thing]):
+    """A list that is made where something of it is asked for: most reports need no more than the lines."""
+
+    def __init__(self, make: Callable[[], Iterable[Thing]]):
+        self.make = make
+
+    @cached_property
+    def all(self) -> tuple[Thing, ...]:
+        return tuple(self.make())
+
+    def __len__(self) -> int:
+        return len(self.all)
+
+    def __iter__(self) -> Iterator[Thing]:
+        return iter(self.all)
+
+    @overload
+    def __getitem__(self, place: int) -> Thing: ...
+
+    @overload
+    def __getitem__(self, place: slice) -> Sequence[Thing]: ...
+
+    def __getitem__(self, place: int | slice) -> Thing | Sequence[Thing]:
+        return self.all[place]
+
+
 @dataclass(frozen=True)
 class Account:
     """All that was seen of a trace. `head` says what the whole trace has and has not; it stands before all frames."""
 
-    messages: tuple[Seen, ...]
+    messages: Sequence[Seen]
     head: tuple[str, ...] = ()
     derivations: Derivations | None = field(default=None, repr=False)
-    uses: tuple[Use, ...] = ()  # the keys of stations, connection by connection
+    uses: Sequence[Use] = ()  # the keys of stations, connection by connection
+    told: LinesInOrder | None = field(default=None, repr=False)  # the values, where they are those of the reading
 
-    def values(self) -> Iterator[tuple[Seen, Value]]:
+    def values(self) -> Iterator[tuple[Seen, Line]]:
         """Each value with its message, in the order of the lines."""
         return ((message, value) for message in self.messages for value in message.values)
 
+    def lines(self) -> Iterator[Line]:
+        """Each value, in the order of the lines."""
+        return iter(self.told) if self.told is not None else (value for _, value in self.values())
 
-def value_of(line: Line) -> Value:
-    """What a line of the judge says of a value."""
-    is_key = bool(line.hex)
-    got = line.hex or ("" if line.what in ("command", "capabilities", "KASME") else line.found)
-    return Value(
-        line.what, line.verdict, shown(line.text), shown(line.found), shown(line.wanted), got, line.wanted_hex if is_key else line.wanted, line.base,
-        shown(line.kasme), line.ncc, line.wanted_ncc, line.count, line.plain, line.cell, shown(line.reason), line.nas, shown(line.message),
-        line.key, line.wanted_key, clause(line),
-    )
+    def verdicts(self) -> Counter[Verdict]:
+        """How many values have each verdict."""
+        return Counter(line.verdict for line in self.lines()) if self.told is None else self.told.verdicts()
 
 
 @dataclass(frozen=True)
@@ -155,26 +159,28 @@ def link_of(message: Message, names: Mapping[str, str], is_up: bool) -> Link:
     return Link("S1", source, target, UP) if is_up else Link("S1", target, source, DOWN)
 
 
-def account(messages: list[Message], lines: list[Line], membership: Membership, names: Mapping[str, str], up: Iterable[str], head: Iterable[str] = (), derivations: Derivations | None = None, uses: Iterable[Use] = ()) -> Account:
-    """The list of what was seen; `names` are those of stations by address, `up` the messages of S1 that a station sends."""
-    first = {message.frame: place for place, message in reversed(list(enumerate(messages)))}
-    placed = [(first.get(line.frame, 0) if line.place is None else line.place, line) for line in lines]
-    values: dict[int, list[Value]] = {}
+def account(messages: Sequence[Message], told: LinesInOrder, membership: Callable[[], Membership], names: Mapping[str, str], up: Iterable[str], head: Iterable[str], derivations: Derivations, uses: Callable[[], Iterable[Use]]) -> Account:
+    """The list of what was seen, of lines in the order of their places; `names` are those of stations by address, `up` the messages of S1 that a station sends."""
+    late = Late(lambda: all_seen(messages, list(told.placed()), membership(), names, frozenset(up)))
+    return Account(late, tuple(map(shown, head)), derivations, Late(uses), told)
+
+
+def all_seen(messages: Sequence[Message], placed: list[tuple[int, Line]], membership: Membership, names: Mapping[str, str], up: frozenset[str]) -> Iterator[Seen]:
+    """Each message with its values."""
+    values: dict[int, list[Line]] = {}
     for place, line in placed:
-        values.setdefault(place, []).append(value_of(line))
-    phone, from_station = phones(placed, membership), frozenset(up)
-    found = []
+        values.setdefault(place, []).append(line)
+    phone = phones(placed, membership)
     for place, one in enumerate(messages):
         connection, handover = membership.connections.get(place), membership.handovers.get(place)
         source, target = (End(shown(names.get(end) or end), shown(end)) for end in (one.source, one.target))
-        found.append(Seen(
-            shown(one.frame), one.time, shown(one.name), link_of(one, names, one.name in from_station), source, target,
+        yield Seen(
+            shown(one.frame), one.time, shown(one.name), link_of(one, names, one.name in up), source, target,
             None if connection is None else connection + 1, None if handover is None else handover + 1,
             None if connection is None else phone.get(connection), tuple(values.get(place, ())), one,
-        ))
-    return Account(tuple(found), tuple(map(shown, head)), derivations, tuple(uses))
+        )
 
 
 def judged_anything(seen: Account) -> bool:
     """Whether there was anything to judge."""
-    return any(value.verdict != NOTE for _, value in seen.values())
+    return any(number for verdict, number in seen.verdicts().items() if verdict != NOTE)

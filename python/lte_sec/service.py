@@ -8,13 +8,15 @@ from __future__ import annotations
 from collections.abc import Callable, Iterable
 from dataclasses import dataclass, replace
 
+from .causes import Cause
 from .contexts import FOREIGN, EpsSecurityContext, Life, NasSeen, NasSide, Trigger
 from .counts import SHORT_WRAP, near
 from .modes import ModeBook
-from .nas import LOST_MODE, NEW, NOT_GIVEN, Later
+from .nas import LOST_MODE, NEW, NOT_GIVEN, Later, is_fault
 from .report import DIFFERS, RIGHT, UNKNOWN
 from .terms import COMPUTED, DOWN, UP
 
+BESIDE = 2  # COUNTs before and behind that of a request whose KeNB is sought
 SIZE = 4  # octets of a Service Request
 REJECT = b"\x07\x4e"  # a plain Service Reject
 
@@ -39,8 +41,9 @@ class ServiceBook(ModeBook):
         header, told = pdu[0] >> 4, pdu[2:4].hex()
         if len(pdu) != SIZE:
             held = side.current is not None and side.current.given
-            why = f"a Service Request has {SIZE} octets, and this message {len(pdu)}"
-            return NasSeen(UP, header, DIFFERS if held else UNKNOWN, told, note="" if held else why, faults=[why] if held else [])
+            if held:
+                return NasSeen(UP, header, DIFFERS, told, faults=[Cause.SIZE_OF_REQUEST.of(wanted=SIZE, found=len(pdu))])
+            return NasSeen(UP, header, UNKNOWN, told, note=Cause.SIZE_NOT_OF_REQUEST.because(wanted=SIZE, found=len(pdu)))
         owner = self.owner(side, pdu, later)
         if owner is None:
             return NasSeen(UP, header, UNKNOWN, told, plain=pdu, note=NOT_GIVEN)
@@ -48,24 +51,24 @@ class ServiceBook(ModeBook):
 
     def served(self, side: NasSide, pdu: bytes, owner: Owner) -> NasSeen:
         """The finding for a request whose context is known."""
-        changed = self.changed(owner, pdu) if side.hidden else None
-        context, ksi, note = changed or owner.context, pdu[1] >> 5, LOST_MODE if changed else ""
+        began = owner.context.guessed and not owner.context.seen  # before the trace, which does not show under which algorithms
+        changed = self.changed(owner, pdu) if side.hidden or began else None
+        context, ksi, note = changed or owner.context, pdu[1] >> 5, LOST_MODE if changed else ()
         wanted, side.current = self.short_mac(context, owner.count, pdu) if self.judged(context) else b"", context
         right = wanted == pdu[2:4]
         self.contexts[context.kasme], self.lives[context.kasme] = context, context.life
         if side.tmsi is not None:
             self.knows(side.tmsi, context.kasme)
         side.trigger = Trigger(context, (owner.count,), right)
-        note = (self.accept(side, context, UP, owner.count, pdu, True) or note) if right else ""
+        note = (self.accept(side, context, UP, owner.count, pdu, True) or note) if right else ()
         seen = NasSeen(UP, pdu[0] >> 4, RIGHT if right else DIFFERS, pdu[2:4].hex(), owner.count, wanted.hex(), context.kasme, pdu, note)
         if not self.judged(context):
-            seen.verdict, seen.note = UNKNOWN, f"128-EIA{context.eia} is not computed here"
+            seen.verdict, seen.note = UNKNOWN, Cause.EIA_NOT_COMPUTED.because(eia=context.eia)
         elif context.ksi is not None and context.ksi != ksi and right:
-            seen.faults.append(f"KSI differs: is {ksi}, wanted {context.ksi}")
-            seen.verdict = DIFFERS
-        if note.startswith("COUNT"):
-            seen.note, seen.verdict = "", DIFFERS
-            seen.faults.append(note)
+            seen.blame(Cause.KSI_DIFFERS.of(found=ksi, wanted=context.ksi))
+        if is_fault(note):
+            seen.note = ()
+            seen.blame(*note)
         context.ksi = ksi if context.ksi is None else context.ksi
         return seen
 
@@ -151,7 +154,14 @@ class ServiceBook(ModeBook):
         """A request of a context that began before the trace, by the KeNB that it brings."""
         unused = self.unused()
         found = self.cold.find(unused, low, SHORT_WRAP, self.kenb_is(key)) if unused else None
-        return None if found is None else self.explained(Owner(self.begun_at(found[0], found[1]), found[1], True), pdu, low, [])
+        return self.began_beside(pdu, low, key) if found is None else self.explained(Owner(self.begun_at(found[0], found[1]), found[1], True), pdu, low, [])
+
+    def began_beside(self, pdu: bytes, low: int, key: bytes) -> Owner | None:
+        """The same where KeNB is of a COUNT beside that of the request, and the short MAC is right at this."""
+        beside, is_key = [count for count in range(low - BESIDE, low + BESIDE + 1) if count >= 0], self.kenb_is(key)
+        found = next((self.begun_at(kasme, low) for kasme in self.unused()[:NEW] for count in beside if is_key(kasme, count)), None)
+        right = None if found is None else self.right_near(found, pdu, low)
+        return Owner(found, right) if found is not None and right is not None else None
 
     def begun_at(self, kasme: int, count: int) -> EpsSecurityContext:
         return EpsSecurityContext(kasme, life=Life({UP: count, DOWN: 0}), guessed=True)

@@ -1,7 +1,9 @@
-"""The variants of a scenario as the program lists them, and those that are told run again, spread over processes and shares over machines."""
+"""Variants spread over processes, and shares over machines: as the program lists them, and those that are told run again."""
 from __future__ import annotations
 
+import ctypes
 import multiprocessing
+import os
 import signal
 import time
 from collections import Counter
@@ -21,6 +23,7 @@ from .study import Study, Tried, Variant
 from .variants import Fault
 
 MANY_AT_ONCE = 32
+PR_SET_PDEATHSIG = 1  # of prctl(2): the signal that a process gets where the one that began it ends
 Some = TypeVar("Some")
 More = TypeVar("More")
 
@@ -43,7 +46,7 @@ class Work:
     def __init__(self, study: Study, share: Share):
         self.study, self.share = study, share
         self.has_all = share.folder is not None or study.charts is not None
-        self.by_outcomes: dict[tuple[str, ...], Tried] = {}  # the last that was tried with these outcomes
+        self.by_outcomes: dict[tuple[Any, ...], Tried] = {}  # the last that was tried with these outcomes, and with these places and outcomes
 
     def told(self, variants: list[Variant]) -> tuple[list[Variant], int]:
         """Variants of one message and kind, or one of several faults, with what is told of them, and how many runs that took."""
@@ -58,6 +61,7 @@ class Work:
                 continue
             if near and last and self.is_alike(near, last, variant):
                 found.append(self.study.alike(variant.faults, near))
+                found[-1].heals = near.variant.heals
             else:
                 near = self.tried(variant, near)
                 found.append(near.variant)
@@ -65,17 +69,19 @@ class Work:
         return found, self.study.runs.count - before
 
     def is_alike(self, before: Tried, last: Fault, variant: Variant) -> bool:
-        if self.share.folder or list(before.variant.outcomes) != list(variant.outcomes):
+        if self.share.folder or list(before.variant.outcomes) != list(variant.outcomes) or healed_by(before.variant) != healed_by(variant):
             return False
         return self.study.is_alike(last, variant.faults[0], before.course)
 
     def tried(self, variant: Variant, near: Tried | None) -> Tried:
         """The variant as its run has it, with the outcomes that the program lists, saved where it is to be."""
         outcomes = tuple(variant.outcomes)
+        placed = (*((fault.kind, fault.after or fault.item) for fault in variant.faults), outcomes)
         if near is None or tuple(near.variant.outcomes) != outcomes:
-            near = self.by_outcomes.get(outcomes, near)
-        tried = self.by_outcomes[outcomes] = self.study.tried(variant.faults, near)
+            near = self.by_outcomes.get(placed) or self.by_outcomes.get(outcomes, near)
+        tried = self.by_outcomes[outcomes] = self.by_outcomes[placed] = self.study.tried(variant.faults, near)
         take_listed(tried.variant, list(variant.outcomes))
+        tried.variant.heals = self.study.healed(variant.heals, tried)
         if self.share.folder:
             save(self.share.folder, self.study, tried.variant, tried.course)
         return tried
@@ -96,6 +102,11 @@ def take_listed(variant: Variant, listed: list[str]) -> None:
     variant.outcomes = {word: found.get(word, NOT_TOLD if word == KEYS_DIFFER else "") for word in listed}
 
 
+def healed_by(variant: Variant) -> str | None:
+    """By what it heals."""
+    return variant.heals.by if variant.heals else None
+
+
 def others(outcomes: Iterable[str]) -> list[str]:
     """Those that are told beside `keys differ`."""
     return [word for word in outcomes if word not in (KEYS_DIFFER, "same", GOES_ON)]
@@ -104,10 +115,13 @@ def others(outcomes: Iterable[str]) -> list[str]:
 work: Work | None = None
 
 
-def quiet() -> None:
-    """A process leaves ctrl-C to the one that began it, and ends where that one ends it, whatever it did at a signal itself."""
+def quiet(parent: int) -> None:
+    """A process leaves ctrl-C to the one that began it, and ends where that one ends it or ends itself, whatever it did at a signal itself."""
     signal.signal(signal.SIGINT, signal.SIG_IGN)
     signal.signal(signal.SIGTERM, signal.SIG_DFL)
+    ctypes.CDLL(None).prctl(PR_SET_PDEATHSIG, signal.SIGTERM)
+    if os.getppid() != parent:  # it has ended before
+        os._exit(0)
 
 
 def told(variants: list[Variant]) -> tuple[list[Variant], int]:
@@ -121,12 +135,17 @@ def judged(variant: Listed) -> tuple[Listed, int]:
 
 
 def spread(jobs: int, function: Callable[[Some], More], things: Iterable[Some]) -> Iterator[More]:
-    """What a function makes of these things, by so many processes, in their order."""
-    if jobs == 1:
+    """What a function makes of these things, by so many processes, in their order; by this one alone where they cannot be begun, as in a root without
+    /dev/shm, which has the semaphores between them."""
+    try:
+        pool = multiprocessing.get_context("fork").Pool(jobs, quiet, (os.getpid(),)) if jobs > 1 else None
+    except (ImportError, OSError):
+        pool = None
+    if pool is None:
         yield from map(function, things)
         return
     rest = iter(things)
-    with multiprocessing.get_context("fork").Pool(jobs, quiet) as pool:
+    with pool:
         while chunk := list(islice(rest, MANY_AT_ONCE * jobs)):
             yield from pool.imap(function, chunk)
 
@@ -166,13 +185,13 @@ class Gathering:
         except KeyboardInterrupt:
             self.answer.whole = False
         self.answer.messages |= self.study.names(self.lists.messages, self.lists.serving)
-        self.answer.itself = list(self.lists.itself)
+        self.answer.itself, self.answer.heals = list(self.lists.itself), self.study.own_healed(self.lists.heals)
         self.answer.sort()
 
     def take(self, faults: int) -> None:
         """The variants of so many faults; where more are tried at once each part needs them all, and tells its share."""
         if self.share.part and faults < self.share.faults and not self.has_fewer:
-            self.outcomes |= self.listed(faults, None)
+            self.outcomes |= {each.faults: each.outcomes for each in self.listed(faults, None)}
         kept = self.answer.singles if faults == 1 else self.answer.together
         counts = Counter[str]() if faults == 1 else self.answer.counts.setdefault(faults, Counter())
         at = len(kept)
@@ -186,7 +205,7 @@ class Gathering:
             if self.share.lines:
                 print(line(variant), flush=True)
             if faults == 1 or self.is_new(variant):
-                kept.append(Variant(variant.faults, dict.fromkeys(variant.outcomes, "")))
+                kept.append(Variant(variant.faults, dict.fromkeys(variant.outcomes, ""), heals=variant.heals))
             rate.one()
         if work and (work.has_all or not self.share.lines):
             self.tell_of(kept, at)
@@ -222,6 +241,6 @@ class Gathering:
 
     def cost(self) -> str:
         """What it took, in words."""
-        many = sum(counts.total() for counts in self.answer.counts.values())
+        many = sum(sum(counts.values()) for counts in self.answer.counts.values())
         jobs = f"{self.share.jobs} process{'' if self.share.jobs == 1 else 'es'}"
         return f"{many:,} variants, and {self.runs:,} runs for what is told of them, in {time.monotonic() - self.began:.1f} s, by {jobs}"

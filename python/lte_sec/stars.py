@@ -9,16 +9,19 @@ from collections.abc import Iterator
 from dataclasses import dataclass, field, replace
 
 from . import reasons
+from .causes import Cause, Why
 from .cells import Cell, is_cell
 from .chains import LOST_CHANGE, ChainJudge
 from .decoding import Message
 from .histories import CHAIN, Chain, Held, History, Numbered, PhoneKeys, renewed
+from .moves import ANYWHERE
+from .nas import NOT_GIVEN
 from .state import Attempt, Connection, Given
 from .terms import Key, unknown
 
 BASES = 4  # keys for which a mistake is sought
 MANY, MIXED, WIDE = 16, 6, 1024  # refreshes that are tried: so many in turn, in so many cells, through so many ways of them
-LOST_ANSWER = "its NH came in an answer that the trace lacks"
+LOST_ANSWER = Cause.LOST_ANSWER.because()
 
 
 @dataclass
@@ -27,7 +30,7 @@ class Made:
 
     given: list[Given]
     bases: list[Numbered] = field(default_factory=list)
-    doubt: str = ""  # why it is not known whether it is right
+    doubt: Why = ()  # why it is not known whether it is right
 
 
 class StarJudge(ChainJudge):
@@ -45,7 +48,7 @@ class StarJudge(ChainJudge):
         connection.eci = eci
         if connection.resumed:
             return
-        self.note(message.frame, f"the phone is in another cell of {connection.station} now: a handover within it that the trace does not show")
+        self.note(message.frame, Cause.IN_OTHER_CELL.because(station=connection.station))
         moved = [one.refreshed(self.derivations, cell) for one in connection.histories if one.held.known]
         last = connection.attempts[-1] if connection.attempts else None
         came = self.came_there(last, cell) if last is not None and last.station == connection.station else []
@@ -72,18 +75,18 @@ class StarJudge(ChainJudge):
         first = next((one for one in wanted if not unknown(one.key.term)), wanted[0])
         if not connection.cores() and connection.asked and ncc != first.ncc:
             found = self.named(message.key, connection, [])
-            self.unjudged(message, "KeNB*", "its NH may have come in an answer that the trace lacks, and the trace does not show where the chain begins", found)
+            self.unjudged(message, "KeNB*", Cause.NH_NOT_SHOWN.because(), found)
             self.begins_at(connection, found)
-            return Made([Given(Held(found, ncc))], doubt="the KeNB* is not judged")
+            return Made([Given(Held(found, ncc))], doubt=Cause.STAR_NOT_JUDGED.because())
         made = self.star_of_changed_cell(connection, message, bases) or self.star_of_elsewhere(connection, message, cell) or self.star_of_unseen(connection, message, cell)
-        made = made or self.star_of_refreshed(connection, message, first, cell) or self.star_of_nobody(connection, message, bases)
+        made = made or self.star_of_refreshed(connection, message, first, cell) or self.star_of_nobody(connection, message, bases, cell)
         return made or self.star_of_foreign(connection, message, bases) or self.other_star(connection, message, bases, first, cell)
 
     def star_of_nothing(self, connection: Connection, message: Message, bases: list[Numbered]) -> Made:
         """A KeNB* of a source whose key is not known, or for a cell that is not."""
         found = self.named(message.key or b"", connection, [])
-        why = "the trace does not show the key in use" if not bases else "the target cell is not known; name it with --cells"
-        self.unjudged(message, "KeNB*", why if found.known or bases else "no KASME that was given fits", found)
+        why = (Cause.TARGET_CELL_UNKNOWN if bases else Cause.KEY_NOT_SHOWN).because()
+        self.unjudged(message, "KeNB*", why if found.known or bases else NOT_GIVEN, found)
         self.begins_at(connection, found)
         return Made([Given(Held(found, message.ncc or 0))], doubt=why)
 
@@ -99,12 +102,12 @@ class StarJudge(ChainJudge):
         connection.keeps(histories)
         return Made([Given(Held(made, ncc))], [connection.histories[0].held.base()])
 
-    def star_of_nobody(self, connection: Connection, message: Message, bases: list[Numbered]) -> Made | None:
+    def star_of_nobody(self, connection: Connection, message: Message, bases: list[Numbered], cell: Cell) -> Made | None:
         """A KeNB* that no course gives which was tried of a phone without S1: one under a KASME that was not given may, or one with more steps."""
         if not connection.away:
             return None
         found = self.named(message.key or b"", connection, [base.key for base in bases])
-        if found.known and not self.moves.reachable(connection, found, message.ncc or 0):
+        if found.known and not self.moves.reachable(connection, found, message.ncc or 0, cell):
             return None
         why = self.moves.why(connection)
         self.unjudged(message, "KeNB*", why, found)
@@ -113,7 +116,7 @@ class StarJudge(ChainJudge):
 
     def star_of_changed_cell(self, connection: Connection, message: Message, bases: list[Numbered]) -> Made | None:
         """A KeNB* for another PCI of the target cell than is known, which the target's own answer has too: the cell has changed."""
-        told, site = self.replies.get(id(message)), self.cells.at(message.eci) if message.eci is not None else None
+        told, site = self.reply(self.cells.now), self.cells.at(message.eci) if message.eci is not None else None
         if told is None or site is None or told.pci is None or told.pci in self.cells.pcis() or site.eci in self.cells.given:
             return None
         now = replace(site, pci=told.pci, earfcn=told.earfcn if told.earfcn is not None else site.earfcn)
@@ -121,19 +124,19 @@ class StarJudge(ChainJudge):
             made = self.derivations.star(base.key, now.pci, now.earfcn)
             if made.value == message.key:
                 self.cells.changed(now, self.cells.now)
-                self.judged(message, "KeNB*", made, made, (message.ncc or 0, base.ncc), f"the cell has PCI {now.pci} now, as the target answers", (now.pci, now.earfcn))
+                self.judged(message, "KeNB*", made, made, (message.ncc or 0, base.ncc), Cause.PCI_IS_NEW.because(pci=now.pci), (now.pci, now.earfcn))
                 return self.made_by(connection, [one for one in connection.histories if one.held.base() == base], made, message.ncc or 0)
         return None
 
-    def star_of_unknown_pci(self, message: Message, found: Key, bases: list[Numbered], cell: Cell) -> str:
+    def star_of_unknown_pci(self, message: Message, found: Key, bases: list[Numbered], cell: Cell) -> Why:
         """Why a KeNB* for a PCI of no known cell may be right: the target may have told its source of it where the trace does not show X2."""
         made_for = found.term.cells()[:1] if found.term.kind == "star" else []
         lawful = any(found.term.above == base.key.term and base.ncc == message.ncc for base in bases)
         target = self.cells.station(message.eci)
         told = self.coverage.x2(target, self.cells.station(message.source_eci) or self.cells.addresses.get(message.source, ""))
         if not lawful or told or not made_for or made_for[0][0] in self.cells.pcis() or made_for[0][1] != cell[1]:
-            return ""
-        return f"right if the cell has PCI {made_for[0][0]} now: the trace does not have X2 from {target}"
+            return ()
+        return Cause.PCI_MAY_BE_NEW.because(pci=made_for[0][0], station=target)
 
     def star_of_elsewhere(self, connection: Connection, message: Message, cell: Cell) -> Made | None:
         """A KeNB* of a phone that was where the trace has no S1."""
@@ -150,25 +153,32 @@ class StarJudge(ChainJudge):
 
     # -- where the trace lacks one half
 
-    def unseen_chains(self, connection: Connection, ncc: int) -> Iterator[tuple[Chain, list[History]]]:
-        """The chains with this NCC that the source may have been told in answers that the trace lacks, and the histories behind each: no
-        station makes an NH itself."""
-        for number in sorted(connection.missed):
-            late = self.numbered(connection, number)
+    def unseen_chains(self, connection: Connection, ncc: int, by_key: bool = True) -> Iterator[tuple[Chain, list[History]]]:
+        """The chains with this NCC that the source may have been told in answers that the trace lacks, and the histories behind each: no station makes
+        an NH itself. Where the trace shows no request for it, a whole exchange is missing, which needs a link that is not covered or lost frames, and a
+        key that proves it."""
+        for number, told in sorted(connection.missed.items()):
+            late = self.numbered(connection, number) if told in ("", connection.station) else None
             if late is not None and late.ncc == ncc:
                 yield late, [one.stores(Numbered(late.sync, ncc)) for one in connection.histories]
+        is_free = by_key and self.told_elsewhere(connection)
         for begun in connection.cores():
-            chain = begun
-            for _ in range(CHAIN):
+            chain, asked = begun, self.numbers(connection, begun) if connection.asked else []
+            for number in range(1, CHAIN + 1):
                 chain = chain.step(self.derivations)
-                if chain.ncc == ncc:
+                if chain.ncc == ncc and (is_free or number in asked):
                     yield chain, [replace(one.stores(Numbered(chain.sync, ncc)), core=chain) for one in connection.histories if one.core == begun]
+
+    def told_elsewhere(self, connection: Connection) -> bool:
+        """Whether a whole exchange may have told the serving station an NH: its S1 is not covered in both directions, the capture lost frames, or the
+        trace does not show where the phone was. Elsewhere the core tells another station."""
+        return not self.coverage.s1(connection.station) or ANYWHERE in connection.away or self.lost_frames(connection.certain)
 
     def told_unseen(self, connection: Connection, chain: Chain) -> None:
         """The source was told this NH, in an answer that may come yet: X2 and S1 may be captured in another order than they were sent."""
         if chain.number not in connection.missed:
             connection.asked = 0
-        connection.missed.add(chain.number)
+        connection.missed[chain.number] = connection.station
 
     def star_of_unseen(self, connection: Connection, message: Message, cell: Cell) -> Made | None:
         """A KeNB* from an NH that the source was to get, in an answer that the trace lacks, or after a key change that it lacks."""
@@ -198,7 +208,7 @@ class StarJudge(ChainJudge):
         begun = not message.ncc and all(base.ncc for base in bases)
         if connection.phone is not None and not begun and not self.is_foreign(connection):
             return None
-        found, why = self.named(message.key or b"", connection, []), "the trace may lack a key change to a KASME that was not given"
+        found, why = self.named(message.key or b"", connection, []), Cause.FOREIGN_CHANGE.because()
         if begun and connection.phone is not None and found.known:
             return None
         self.unjudged(message, "KeNB*", why, found)
@@ -232,7 +242,7 @@ class StarJudge(ChainJudge):
     def star_of_refreshed(self, connection: Connection, message: Message, wanted: Numbered, cell: Cell) -> Made | None:
         """A KeNB* that is right if the phone was refreshed in its cell before; nothing on S1 and X2 tells."""
         ncc = message.ncc or 0
-        starts: list[tuple[list[History], Chain | None, str]] = [(connection.histories, None, "")]
+        starts: list[tuple[list[History], Chain | None, Why]] = [(connection.histories, None, ())]
         if all(one.base().ncc != ncc for one in connection.states()):
             starts += [(histories, chain, LOST_ANSWER) for chain, histories in self.unseen_chains(connection, ncc)]
         for kenb in self.unseen_changes(connection):
@@ -258,16 +268,17 @@ class StarJudge(ChainJudge):
             if one.held == held:
                 yield one
 
-    def refreshed_star(self, connection: Connection, message: Message, wanted: Numbered, one: History, path: list[Cell], made: Key, also: str) -> Made:
+    def refreshed_star(self, connection: Connection, message: Message, wanted: Numbered, one: History, path: list[Cell], made: Key, also: Why) -> Made:
         """The line of a KeNB* that is right if the phone was refreshed; NCC is judged all the same."""
-        times = f" ({len(path)} times)" if len(path) > 1 else ""
-        cells = " ".join(f"({pci},{earfcn})" for pci, earfcn in path)
-        how = f"refreshed in its cell before{times}" if set(path) == {path[-1]} else f"in the cells {cells} before"
-        why, ncc = f"right if the phone was {how}" + (f"; {also}" if also else ""), message.ncc or 0
+        if set(path) != {path[-1]}:
+            how = Cause.IF_IN_CELLS.of(cells=" ".join(f"({pci},{earfcn})" for pci, earfcn in path))
+        else:
+            how = Cause.IF_REFRESHED_OFTEN.of(times=len(path)) if len(path) > 1 else Cause.IF_REFRESHED.of()
+        why, ncc = (how, *also), message.ncc or 0
         if ncc != one.held.ncc:
             self.judged(message, "KeNB*", made, made, (ncc, one.held.ncc), why)
         else:
-            self.unjudged(message, "KeNB*", f"{why}; else wanted {self.show(wanted.key, made)}", made)
+            self.unjudged(message, "KeNB*", (*why, Cause.ELSE_WANTED.of(wanted=self.show(wanted.key, made))), made)
         return Made([Given(Held(made, ncc))], [one.held.base()], why)
 
     # -- what no history gives

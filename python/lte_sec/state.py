@@ -4,6 +4,7 @@ from __future__ import annotations
 from collections.abc import Iterable
 from dataclasses import dataclass, field, replace
 
+from .causes import Cause, Why
 from .cells import Cell
 from .contexts import NasSide
 from .decoding import Command
@@ -14,7 +15,7 @@ from .terms import Key
 MANY_ATTEMPTS, FEW_ATTEMPTS = 64, 16  # of a connection: from so many on so many are kept
 
 
-@dataclass(frozen=True, slots=True)
+@dataclass(frozen=True)
 class Given:
     """What the target of a handover may have, and the state of the source that gives it; None where any may."""
 
@@ -42,7 +43,7 @@ class Attempt:
     over: str = ""  # how it ended
     bases: list[Numbered] = field(default_factory=list)  # what the target's KeNB* was made from
     before: list[History] = field(default_factory=list)  # the histories when the phone came to the target
-    doubt: str = ""  # why it is not known whether phone and target have one key
+    doubt: Why = ()  # why it is not known whether phone and target have one key
     capabilities: tuple[int, int] | None = None  # of the phone, as the target was told them
 
 
@@ -50,6 +51,7 @@ class Attempt:
 class Undecided:
     """A line of an NH and an NCC of two numbers: either may be the fault, and the next answer tells which."""
 
+    at: int  # its number among the lines
     line: Line
     other: Line  # how the line reads if the chain goes on from `number`
     number: int
@@ -68,12 +70,12 @@ class Connection:
     histories: list[History] = field(default_factory=lambda: [History()])  # the likeliest first, never none
     left: dict[str, list[Held]] = field(default_factory=dict)  # what stations had that the phone left: the search looks there
     asked: int = 0  # requests to step the chain that have no answer yet
-    missed: set[int] = field(default_factory=set)  # numbers of NH whose answers come late, if at all
+    missed: dict[int, str] = field(default_factory=dict)  # numbers of NH whose answers come late, if at all, each with its station where that is known
     attempts: list[Attempt] = field(default_factory=list)
     saved: list[History] | None = None  # before a key change that may fail
     algorithms: tuple[int, int] | None = None
     based: bool = False  # a key tells at which KeNB the chain begins, and the phone was at no station without S1 since: only the core's number is in doubt
-    cut: bool = False  # there were more histories than are kept, since the last KeNB of a connection
+    cut: Why = ()  # what was more than is kept, since the last KeNB of a connection
     parted: bool = False  # phone and station have come apart
     undecided: Undecided | None = None
     certain: int = 0  # the place in the trace of the last KeNB or NH that was right
@@ -102,7 +104,7 @@ class Connection:
     def keeps(self, found: Iterable[History]) -> None:
         """These histories are left, as many as are kept."""
         distinct = list(dict.fromkeys(found))
-        self.cut |= len(distinct) > MOST
+        self.cut = self.cut or (Cause.MANY_HISTORIES.because(most=MOST) if len(distinct) > MOST else ())
         self.histories = merged(distinct)
 
     def steps(self, steps: list[tuple[Chain, Chain]]) -> None:
@@ -122,5 +124,7 @@ class Connection:
     def open_attempts(self) -> list[Attempt]:
         """The attempts that are not over; old ones that are go, so that a long connection takes no longer than many short ones."""
         if len(self.attempts) > MANY_ATTEMPTS:
-            self.attempts = [attempt for attempt in self.attempts[:-FEW_ATTEMPTS] if not attempt.over][-FEW_ATTEMPTS:] + self.attempts[-FEW_ATTEMPTS:]
+            old = [attempt for attempt in self.attempts[:-FEW_ATTEMPTS] if not attempt.over]
+            self.cut = self.cut or (Cause.MANY_HANDOVERS.because(most=FEW_ATTEMPTS) if len(old) > FEW_ATTEMPTS else ())
+            self.attempts = old[-FEW_ATTEMPTS:] + self.attempts[-FEW_ATTEMPTS:]
         return [attempt for attempt in self.attempts if not attempt.over]

@@ -1,38 +1,24 @@
 """The messages of a phone as the steps of a scenario: its connections, key changes and handovers, in the order of the capture."""
 from __future__ import annotations
 
-from collections.abc import Callable, Iterator
-from dataclasses import dataclass, field
+from collections.abc import Callable
+from dataclasses import dataclass
 
+from .causes import Cause, Why
 from .cells import Cell
-from .chain_steps import ReplayedConnection, above, kenb, nh, star
-from .handover_steps import HandoverSteps
+from .chain_steps import ReplayedConnection, above, kenb, nh
+from .connection_steps import ConnectionSteps, due, without
 from .nas import NOT_GIVEN
-from .nas_steps import UNREPLAYED_AGAIN
 from .recorded import KeySeen, Met
 from .report import DIFFERS, RIGHT
 from .script import At, Full
 from .terms import NONE, Term, counted, numbered
 
-FAR = 200  # messages of a connection that are looked at behind one
 TELLS_CELL = ("InitialUEMessage", "UplinkNASTransport", "PathSwitchRequest", "HandoverNotify")
 SHOWS_STATION = ("UplinkNASTransport", "HandoverRequired", "PathSwitchRequestAcknowledge", "UEContextReleaseRequest")
-SUSPENDED = "suspension and resumption, which the profile does not have"
-NO_ORIGIN = "the capture does not show how its connection began"
-ON_THE_FLY = "a new KeNB from the KASME in use on the fly, which the profile does not have"
-REFUSED_CHANGE = "a key change that the station refuses, which the profile's core does not take back"
-MADE_UP = "a KASME that is made up"
+MADE_UP, ZEROS = "a KASME that is made up", bytes(32)
 
 StepHandler = Callable[["Steps", Met, At], None]
-
-
-def due(key: KeySeen | None) -> tuple[str, int] | None:
-    """The KASME and COUNT of the KeNB that was due, where the KASME is told."""
-    if key is None:
-        return None
-    differs = key.verdict == DIFFERS
-    count = counted(key.wanted if differs else key.term)
-    return None if count < 0 else ("" if differs else key.kasme, count)
 
 
 def triggers_of(met: list[Met]) -> set[tuple[str, int]]:
@@ -49,15 +35,10 @@ def triggers_of(met: list[Met]) -> set[tuple[str, int]]:
 
 
 @dataclass
-class Steps(HandoverSteps):
+class Steps(ConnectionSteps):
     """Walks through the messages of a phone."""
 
-    met: list[Met] = field(default_factory=list)
-    place: int = 0
     cut: int = 0  # the last place at which another scenario may begin
-    told_cells: dict[int, Cell] = field(default_factory=dict)  # of each connection the phone's cell
-    told_stations: dict[int, str] = field(default_factory=dict)
-    begun: set[int] = field(default_factory=set)  # connections whose beginning is dealt with
 
     def walk(self) -> int | None:
         """Writes the steps of all messages, or as far as the scenario has room: the place of the first message that it has none for."""
@@ -85,7 +66,7 @@ class Steps(HandoverSteps):
         self.takes_cell(met)
         if met.connection not in self.begun:
             self.begins(met)
-        if message.name in SHOWS_STATION and message.link == "S1" and self.is_of(met) and (met.key is None or met.key.reason != "late"):
+        if message.name in SHOWS_STATION and message.link == "S1" and self.is_of(met) and (met.key is None or not met.key.is_late):
             self.comes_to(met.station, at)
         if message.link == "X2" and message.name in ("HandoverRequest", "RetrieveUEContextResponse") and self.is_of(met):
             self.comes_to(met.station, at)
@@ -93,170 +74,16 @@ class Steps(HandoverSteps):
         if handler is not None:
             handler(self, met, at)
         elif met.key is not None:
-            self.not_replayed(met, self.lost or "no step is for a key of this message")
+            self.not_replayed(met, self.lost or Cause.NO_STEP_FOR_KEY.because())
         if met.message.link != "X2":
             self.for_reestablishment(met, at)
         self.nas(met)
-
-    def is_of(self, met: Met) -> bool:
-        return self.link is not None and self.link.connection == met.connection
 
     def takes_cell(self, met: Met) -> None:
         message, number = met.message, met.connection
         cell = self.cell_of(message.eci)
         if number is not None and message.link == "S1" and message.name in TELLS_CELL and cell is not None:
             self.told_cells[number], self.told_stations[number] = cell, met.station
-
-    def after(self, met: Met) -> Iterator[Met]:
-        seen = 0
-        for one in self.met[self.place + 1:]:
-            if one.connection == met.connection and one is not met:
-                seen += 1
-                yield one
-            if seen == FAR:
-                return
-
-    # -- connections
-
-    def end(self, at: At) -> None:
-        """The connection ends: the core's release, and the phone leaves."""
-        self.close_asks()
-        if self.link is not None:
-            self.link = None
-            self.script.deliver(self.script.act({"do": "release"}, at), at, False)
-            self.script.act({"do": "idle"}, at)
-        self.lost, self.unanswered = "", []
-        if self.held is not None:
-            self.release_held(at, False)
-
-    def setup(self, met: Met, at: At) -> None:
-        """Initial Context Setup Request: its KeNB tells KASME and COUNT."""
-        if met.key is None:
-            return
-        told = due(met.key)
-        if told is None:
-            self.end(at)
-            self.lost = NOT_GIVEN if met.key.term == NONE else met.key.reason or NO_ORIGIN
-            return self.not_replayed(met, self.lost)
-        kasme = told[0] or (self.context.kasme if self.context is not None else met.key.kasme)
-        if self.link is not None:
-            self.end(at)
-        if not self.asked_for(kasme, told[1], met):
-            return self.not_replayed(met, self.lost)
-        self.lost = ""
-        self.connects(met, at, kasme, told[1])
-
-    def asked_for(self, kasme: str, count: int, met: Met) -> bool:
-        """Whether the core is to make KeNB at this COUNT, if need be by a request that the capture lacks."""
-        if not self.has(kasme, met):
-            self.lost = UNREPLAYED_AGAIN if kasme in self.used else NOT_GIVEN
-            return False
-        if self.trigger == (kasme, count):
-            return True
-        at = self.script.assume(met.frame, f"the message with uplink COUNT {count} that brought the connection is not in {self.whole}, or its MAC is wrong")
-        if not self.service(count, at):
-            self.lost = f"its COUNT {count} has passed in the run"
-            return False
-        return True
-
-    def connects(self, met: Met, at: At, kasme: str, count: int) -> None:
-        assert met.connection is not None
-        station = met.station or "the station"
-        cell = self.known_cell(met.connection, station, met.frame)
-        item = self.script.act({"do": "connect", "cell": self.script.cell(station, cell)}, at)
-        self.row(met, item)
-        self.trigger, base = None, kenb(count)
-        uses = {base} | ({met.key.term} if met.key is not None else set())
-        self.link = ReplayedConnection(met.connection, station, cell, base, kasme, uses)
-        self.begun.add(met.connection)
-        command = self.script.deliver(item, at)
-        if not any(one.message.name == "InitialContextSetupFailure" for one in self.answers(met)):
-            self.script.deliver(self.script.deliver(command, at), at, False)
-
-    def answers(self, met: Met) -> Iterator[Met]:
-        """What comes after a request up to the next one of its kind."""
-        for one in self.after(met):
-            if one.message.name == met.message.name:
-                return
-            yield one
-
-    def known_cell(self, connection: int, station: str, frame: str) -> Cell:
-        """The phone's cell at a station; a cell that no key needs is made up."""
-        if connection in self.told_cells and self.told_stations.get(connection) in ("", station):
-            return self.told_cells[connection]
-        sites = self.sites(station)
-        if sites:
-            return sites[0]
-        if self.script.stations.get(station):
-            return self.script.stations[station][0]
-        cell = self.script.made_up(station)
-        self.script.assume(frame, f"the cell of {station} is not known; ({cell[0]},{cell[1]}) stands for it, and no key of a line needs it")
-        return cell
-
-    def released(self, met: Met, at: At) -> None:
-        """A release at the station that serves; at the source of a handover over S1 it ends no connection."""
-        link = self.link
-        if link is None or not self.is_of(met) or met.station and met.station != link.station:
-            return
-        made = link.open
-        if made is not None and made.kind == "S1" and made.acked:
-            return
-        self.end(at)
-
-    # -- key changes
-
-    def changes(self, met: Met, at: At) -> None:
-        """UE Context Modification with a key: the station makes KeNB* of it for the phone's cell (TS 33.401 7.2.9.2)."""
-        link, told = self.link, due(met.key)
-        if met.key is None:
-            return
-        if link is None or self.lost or told is None:
-            self.lost = self.lost or (NO_ORIGIN if told else NOT_GIVEN)
-            return self.not_replayed(met, self.lost)
-        if any(one.message.name == "UEContextModificationFailure" for one in self.answers(met)):
-            return self.not_replayed(met, REFUSED_CHANGE)
-        kasme = told[0] or (self.context.kasme if self.context is not None else "")
-        if kasme == link.kasme or told[1] != 0 or not self.has(kasme, met) or self.held is None:
-            self.lost = ON_THE_FLY if kasme == link.kasme or told[1] else UNREPLAYED_AGAIN
-            return self.not_replayed(met, self.lost)
-        cell = self.told_cells.get(link.connection or 0)
-        if cell is not None and cell != link.cell and cell in self.own(link.station) and self.told_stations.get(link.connection or 0) == link.station:
-            self.step_within(cell, self.script.assume(met.frame, f"the phone is in cell ({cell[0]},{cell[1]}) of {link.station}, to which S1 and X2 show no handover"))
-        self.row(met, self.change(at))
-        if link.cell in self.script.invented:
-            self.lost = f"the cell of {link.station} in which the key changed is not known; name it with --cells"
-
-    def change(self, at: At) -> str:
-        """The key change, with all that waits for it; answers the item with which the core makes KeNB."""
-        link = self.link
-        assert link is not None and self.context is not None
-        self.cancel(at)
-        self.close_asks()
-        waiting, self.held = self.held or [], None
-        item = self.completed(at, True)
-        self.script.deliver(self.script.deliver(self.script.deliver(item, at), at), at, False)
-        self.trigger = None
-        link.base, link.kasme = kenb(0), self.context.kasme
-        link.uses, link.pairs, link.told = {star(link.base, link.cell)}, set(), 0
-        self.unanswered = []
-        for each in waiting:
-            each()
-        return item
-
-    def change_now(self, at: At) -> None:
-        """A key change that nothing of the capture shows."""
-        if self.link is None:
-            self.release_held(at, False)
-        else:
-            self.change(self.script.assume(at.frame, "the key change to the KASME in use for NAS is not in the capture before this"))
-
-    def changed_unseen(self, met: Met) -> None:
-        """A key under the KASME of NAS, where the capture shows no key change to it."""
-        key, link = met.key, self.link
-        if key is None or link is None or self.lost or key.verdict == DIFFERS or not key.kasme or key.kasme == link.kasme:
-            return
-        if self.has(key.kasme, met) and self.held is not None:
-            self.change_now(At(met.frame, met.title))
 
     # -- a connection that began before the capture
 
@@ -278,39 +105,41 @@ class Steps(HandoverSteps):
     def first_key(self, met: Met) -> Met | None:
         return next((one for one in [met, *self.after(met)] if one.key is not None), None)
 
-    def begun_before(self, met: Met, first: Met, key: KeySeen, at: At) -> str:
+    def begun_before(self, met: Met, first: Met, key: KeySeen, at: At) -> Why:
         """Makes the connection as it stands before the first key; answers why it cannot."""
         count, kasme = counted(key.base), key.kasme
         if first.message.name == "UEContextModificationRequest":
             return self.begun_before_change(met, first, at)
         if key.term == NONE or count < 0 or not kasme or key.verdict == DIFFERS:
-            return NOT_GIVEN if key.term == NONE else NO_ORIGIN
+            return NOT_GIVEN if key.term == NONE else Cause.NO_ORIGIN.because()
         is_answer = first.message.name == "PathSwitchRequestAcknowledge"
         station = self.served_by(met, first)
         rest, within = self.origin(key.term, station) if key.what == "KeNB*" else (key.term, [])
         number = numbered(rest)
         if rest.kind != "nh" and rest != key.base:
-            return "a chain whose first key is a KeNB* of a KeNB*"
+            return Cause.STAR_OF_STAR.because()
         handovers = max(0, number - self.script.first_ncc + (1 if key.what == "KeNB*" else 0)) if number else 0
         shows = any(one.message.name == "PathSwitchRequest" for one in self.between(met, first))
         if is_answer and not shows:
             handovers += 1
         if number and number < self.script.first_ncc:
-            return "a number of NH that a core of this scenario does not send"
+            return Cause.NUMBER_NOT_SENT.because()
         if not self.asked_for(kasme, count, met):
             return self.lost
         self.chain_of(met, station, kasme, count, handovers, at, is_answer and not shows)
-        return ""
+        return ()
 
-    def begun_before_change(self, met: Met, first: Met, at: At) -> str:
+    def begun_before_change(self, met: Met, first: Met, at: At) -> Why:
         """Makes a connection under the KASME before a key change; no key of a line depends on it, so that it may be made up."""
         new = first.key.kasme if first.key is not None else ""
-        kasme = next((one.kasme for before in self.between(met, first) for one in before.nas if one.is_right and one.kasme not in (new, *self.used)), MADE_UP)
-        self.kasmes.setdefault(MADE_UP, bytes(32))
+        kasme = next((one.kasme for before in self.between(met, first) for one in before.nas if one.is_right and one.kasme not in (new, *self.used)), "")
+        if not kasme:
+            kasme = without(MADE_UP, [name for name, value in self.kasmes.items() if value != ZEROS])
+            self.kasmes[kasme] = ZEROS
         if not self.asked_for(kasme, 0, met):
             return self.lost
-        self.chain_of(met, met.station or "the station", kasme, 0, 0, at, False)
-        return ""
+        self.chain_of(met, met.station or self.nameless("the station"), kasme, 0, 0, at, False)
+        return ()
 
     def between(self, met: Met, first: Met) -> list[Met]:
         found: list[Met] = []
@@ -325,9 +154,9 @@ class Steps(HandoverSteps):
         if met.message.name == "PathSwitchRequest" or not met.station:
             others = [self.station_of(site.eci) for site in self.cells.sites.values()]
             source = self.station_of(first.message.source_eci) if first.message.source_eci is not None else ""
-            return source or next((name for name in others if name != met.station), "a station before")
+            return source or next((name for name in others if name != met.station), "") or self.nameless("a station before")
         if met.message.name == "HandoverRequest" and met.message.link == "S1":
-            return self.station_of(met.message.source_eci) or "a station before"
+            return self.station_of(met.message.source_eci) or self.nameless("a station before")
         return met.station
 
     def origin(self, term: Term, station: str) -> tuple[Term, list[Cell]]:
@@ -343,7 +172,7 @@ class Steps(HandoverSteps):
     def chain_of(self, met: Met, station: str, kasme: str, count: int, handovers: int, at: At, is_open: bool) -> None:
         """A connection at a COUNT, and so many handovers over X2 with their path switches, that end at a station."""
         assert met.connection is not None and self.context is not None
-        other = next((name for name in [self.station_of(site.eci) for site in self.cells.sites.values()] if name != station), "another station")
+        other = next((name for name in [self.station_of(site.eci) for site in self.cells.sites.values()] if name != station), "") or self.nameless("another station")
         ways = [station if (handovers - turn) % 2 == 0 else other for turn in range(handovers + 1)]
         cells = {name: self.known_cell(met.connection, name, met.frame) for name in dict.fromkeys(ways)}
         item = self.script.act({"do": "connect", "cell": self.script.cell(ways[0], cells[ways[0]])}, at)
@@ -365,8 +194,8 @@ class Steps(HandoverSteps):
     # -- what the profile does not have
 
     def suspended(self, met: Met, at: At) -> None:
-        self.lost = SUSPENDED
-        self.not_replayed(met, SUSPENDED)
+        self.lost = Cause.SUSPENSION.because()
+        self.not_replayed(met, Cause.SUSPENSION.because())
 
     def needs_link(self, met: Met) -> None:
         """A key of a connection whose Initial Context Setup Request the capture lacks."""

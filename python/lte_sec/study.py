@@ -8,6 +8,7 @@ from typing import Any
 
 from .charted import Charts
 from .courses import Course, Item, ProgramFails, Runs, act, delivery
+from .healing import Heals
 from .messages import NAS_TEXT
 from .outcomes import GOES_ON, RANK, WAITS, Comparison, Standing
 from .probe import PROBE, Prober
@@ -20,7 +21,7 @@ MOST_ANSWERS = 3
 MOST_WAITS = 4  # so many steps of a variant wait, one after the other
 
 
-@dataclass(slots=True)
+@dataclass
 class Variant:
     """A variant: its faults, its outcomes with what they are about, the worst first, and the answers that lead to them. One that was not
     run has no more than its outcomes."""
@@ -31,13 +32,14 @@ class Variant:
     run: list[Any] = field(default_factory=list)  # of one fault: its course beside the scenario's, and what falls away
     gone: list[str] = field(default_factory=list)
     by_run: list[str] = field(default_factory=list)  # the outcomes of its own run, where the program lists others
+    heals: Heals | None = None  # what heals it, where that is told
 
     @property
     def worst(self) -> str:
         return next(iter(self.outcomes))
 
 
-@dataclass(slots=True)
+@dataclass
 class Tried:
     """A variant that was run: its course, the station that serves the phone, and its refusals, once they are asked for."""
 
@@ -88,6 +90,20 @@ class Study:
         own = own_items(items, self.faults.of) | {fault.item for fault in faults if fault.kind == "lost"}
         outcomes = Comparison(self.standing, standing, own).outcomes()
         return Tried(self.told(faults, self.marked(outcomes, items, course, own), course), course, serving)
+
+    def healed(self, heals: Heals | None, tried: Tried) -> Heals | None:
+        """What heals a variant that was run; where nothing does, with the reason."""
+        return self.with_reason(heals, self.faults.put_all(tried.variant.faults) or [], tried.course, tried.serving)
+
+    def own_healed(self, heals: Heals | None) -> Heals | None:
+        """What heals the scenario itself; where nothing does, with the reason."""
+        return self.with_reason(heals, self.original.items, self.course, self.serving)
+
+    def with_reason(self, heals: Heals | None, items: list[Item], course: Course, serving: int) -> Heals | None:
+        """The same with the reason, by a run of its own behind these items and the probe, where nothing heals and this station serves."""
+        if heals is None or heals.by:
+            return heals
+        return Heals(None, self.prober.refusal(items, self.usual, course.sends(), serving))
 
     def marked(self, outcomes: dict[str, str], items: list[Item], course: Course, own: set[str]) -> dict[str, str]:
         """The outcomes, with a mark on those that are not there where each security procedure of the core waits for the one that it crosses."""

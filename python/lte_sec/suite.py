@@ -16,6 +16,7 @@ import time
 from lte_sec import allowed, drive, junit, pages, rows, scenarios, suite_page, suite_report
 from lte_sec.network import steps_of
 from lte_sec.options import Words, WrongWords
+from lte_sec.pairs import paired
 from lte_sec.played import Case, Commands, Played, play
 from lte_sec.terms import TraceError
 from lte_sec.trace_page import Json
@@ -112,7 +113,7 @@ def played(cases: list[Case], commands: Commands, options: SuiteOptions) -> list
 def cut(cases: list[Case], runs: list[Played], table: rows.Table) -> list[Case]:
     """A case for each row: the scenario that comes to it soonest, up to it, without the steps that changed nothing."""
     best: dict[rows.Visit, tuple[Case, list[int]]] = {}
-    for case, run in zip(cases, runs):
+    for case, run in paired(cases, runs):
         for result in run.results:
             last = result.step or 0
             needed = [place for place in range(last) if place in run.busy] + [last]

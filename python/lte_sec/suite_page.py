@@ -1,4 +1,4 @@
-"""The page of `drive --suite --html`, and its JUnit XML, both made of the document that `--json` prints."""
+"""The page of `drive --suite --html`, and its JUnit XML: both made of the document that `--json` prints."""
 from __future__ import annotations
 
 import json

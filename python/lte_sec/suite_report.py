@@ -12,6 +12,7 @@ from typing import Iterable, NamedTuple
 
 from . import about
 from .allowed import Allowed, group_of
+from .pairs import paired
 from .played import Played, Result
 from .rows import Row, Table, Visit
 from .trace_page import Json
@@ -145,7 +146,7 @@ def document(entries: list[Json], runs: list[Played], names: list[str], ran: Ran
     return {
         "version": VERSION, "status": status_of(counts), "made": {"by": "lte_sec", "version": about.version(), "proved": ran.proved}, "command": ran.words, "began": ran.began,
         "seconds": round(ran.seconds, 3), "environment": environment(), "counts": counts, "clauses": by_clause(entries),
-        "scenarios": [{"name": name, "seconds": round(run.seconds, 3)} for name, run in zip(names, runs)], "rows": entries,
+        "scenarios": [{"name": name, "seconds": round(run.seconds, 3)} for name, run in paired(names, runs)], "rows": entries,
     }
 
 

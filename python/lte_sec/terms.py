@@ -7,9 +7,12 @@
 """
 from __future__ import annotations
 
+import itertools
 from collections.abc import Callable, Iterable
 from dataclasses import dataclass, field
 from typing import Protocol
+
+from .escaped import shown
 
 DOWN, UP = 1, 0
 NAS_ENCRYPTION, NAS_INTEGRITY, RRC_ENCRYPTION, RRC_INTEGRITY, UP_ENCRYPTION = 1, 2, 3, 4, 5  # TS 33.401 A.7
@@ -38,7 +41,7 @@ class Calls(Protocol):
     def eia3(self, key: bytes, count: int, bearer: int, direction: int, text: bytes) -> bytes: ...
 
 
-@dataclass(frozen=True, slots=True, eq=False)
+@dataclass(frozen=True, eq=False)
 class Term:
     """A derivation as a tree: its kind, its numbers, and the key that it is made from. Above an NH stands the KeNB of its chain.
 
@@ -129,7 +132,7 @@ def unknown(term: Term) -> bool:
     return term == NONE
 
 
-@dataclass(frozen=True, slots=True)
+@dataclass(frozen=True)
 class Key:
     """A key and its derivation; `kasme` is the place of its KASME among those given. The same octets are the same key."""
 
@@ -202,6 +205,10 @@ class Derivations:
             self._nas_keys[kasme, type, identity] = found
         return found
 
+    def name(self, kasme: int) -> str:
+        """The name of a KASME as it is shown; nothing of none."""
+        return shown(self.kasmes[kasme].name) if kasme >= 0 else ""
+
     def shown(self, key: Key, beside: Key | None = None) -> str:
         """The form of a key, with its base where it is another than that of the key beside it, and its KASME among several."""
         same = beside is not None and beside.kasme == key.kasme
@@ -245,12 +252,20 @@ def kasme_fault(word: str) -> str:
     return f"a KASME has {DIGITS} hex digits, and this word has {len(bare)}: {word}"
 
 
+def name_apart(name: str, names: Iterable[str]) -> str:
+    """A name for a KASME, with a number where one of these is shown alike."""
+    taken = set(map(shown, names))
+    return next(one for one in itertools.chain([name], (f"{name} ({number})" for number in itertools.count(2))) if shown(one) not in taken)
+
+
 def kasmes_of(words: Iterable[str]) -> list[Kasme]:
-    """KASMEs from words: 64 hex digits each, or a name, `=` and 64 hex digits."""
-    found: list[Kasme] = []
+    """KASMEs from words: 64 hex digits each, or a name, `=` and 64 hex digits. Each has a name of its own."""
+    words, found = list(words), list[Kasme]()
+    given = [word.rpartition("=")[0] for word in words]
     for word in words:
         name, _, digits = word.rpartition("=")
         if not is_kasme(word):
             raise TraceError(kasme_fault(word) or f"a KASME has {DIGITS} hex digits, with NAME= before them or not: {word}")
-        found.append(Kasme(name or f"KASME {len(found) + 1}", bytes.fromhex(digits)))
+        names = [one.name for one in found]
+        found.append(Kasme(name_apart(name, names) if name else name_apart(f"KASME {len(found) + 1}", [*names, *given]), bytes.fromhex(digits)))
     return found

@@ -1,6 +1,7 @@
-"""Whether octets read as a NAS message, and so whether a ciphered text was ciphered as it must be (TS 24.301 4.4.5, 9.2, 9.8)."""
+"""Whether octets read as a NAS message: so whether a ciphered text was ciphered as it must be (TS 24.301 4.4.5, 9.2, 9.8)."""
 from __future__ import annotations
 
+from .causes import Cause, Why
 from .contexts import CIPHERED, NAMES, EpsSecurityContext
 from .plain import ATTACH_REQUEST, EMM, ESM, TRACKING_REQUEST
 from .reasons import ProtectedNas
@@ -12,7 +13,6 @@ ESM_TYPES = frozenset((
 ))
 LEAST_BEARER = 5  # of an EPS bearer; 0 is none (TS 24.007 11.2.3.1.5)
 NEVER_CIPHERED = (ATTACH_REQUEST, TRACKING_REQUEST)  # 4.4.5
-OTHER_CIPHER = "it is ciphered by 128-EEA"
 
 
 def is_emm(text: bytes) -> bool:
@@ -26,10 +26,10 @@ def is_nas(text: bytes) -> bool:
     return is_emm(text)
 
 
-def text_fault(derivations: Derivations, context: EpsSecurityContext, direction: int, count: int, pdu: bytes, plain: bytes | None) -> tuple[str, bytes]:
+def text_fault(derivations: Derivations, context: EpsSecurityContext, direction: int, count: int, pdu: bytes, plain: bytes | None) -> tuple[Why, bytes]:
     """How the text of a message with a right MAC differs from what it must be, or nothing; and the text as it was meant."""
     if pdu[0] >> 4 not in CIPHERED or plain is None or is_nas(plain) or not context.given or context.guessed:
-        return "", plain or b""
+        return (), plain or b""
     nas = ProtectedNas(derivations.kasmes[context.kasme].value, context.eea, context.eia, direction, count, pdu)
-    name, meant = mistake(derivations.calls, nas, is_nas) if context.eia in COMPUTED else ("", b"")
-    return f"text differs: {name or 'it is no NAS message'}", meant or plain
+    why, meant = mistake(derivations.calls, nas, is_nas) if context.eia in COMPUTED else ((), b"")
+    return Cause.TEXT_DIFFERS.because(why=why or Cause.NO_NAS_TEXT.because()), meant or plain

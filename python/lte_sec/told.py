@@ -5,6 +5,7 @@ from collections.abc import Iterator
 from dataclasses import dataclass, field
 
 from .compared import ComparedKey, ReplayVerdict, Replayed
+from .pairs import paired
 
 VERSION = 1  # of the document that --json prints; it changes where a field goes or changes its meaning
 WORDS = {ReplayVerdict.SAME: "same", ReplayVerdict.DIFFERS: "differ", ReplayVerdict.NOT_REPLAYED: "not replayed"}
@@ -87,7 +88,7 @@ def scenario_of(answer: ReplayedCapture, part: Part) -> str:
         *(f"# assumed: frame {at.frame}: {at.text}" for at in script.assumed), "", script.setup().rstrip(), "step = [",
     ]
     before = ""
-    for item, step in zip(course.items, course.steps):
+    for item, step in paired(course.items, course.steps):
         remark = str(script.at[item.name])
         if remark != before:
             lines.append(f"  # {remark}")

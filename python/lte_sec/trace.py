@@ -4,7 +4,8 @@ from __future__ import annotations
 from bisect import bisect_right
 from collections.abc import Callable, Iterable, Iterator
 
-from .captures import UNREADABLE
+from .layers import UNREADABLE
+from .causes import Cause, Why
 from .choices import Choices, Offer, Tape
 from .contexts import PLAIN, NasSeen
 from .coverage import DOWN as FROM_CORE
@@ -12,12 +13,13 @@ from .coverage import UP as FROM_STATIONS
 from .decoding import Message, title
 from .escaped import shown
 from .grounds import Grounds, within, without
-from .handovers import ANY_CORE, WAITING, Handovers, Leg
-from .histories import MOST
+from .attempts import ANY_CORE, Leg
+from .handovers import WAITING, Handovers
 from .progress import told
 from .judge import KeyJudge
+from .kept_lines import LinesInOrder
 from .link_types import ALONE, CUT
-from .report import DIFFERS, RIGHT, UNKNOWN, Line, NasPart, note_line, unknown_line, withdrawn
+from .report import DIFFERS, KEYS, RIGHT, UNKNOWN, Line, NasPart, Verdict, note_line, unknown_line, withdrawn
 from .seen import Account, Membership, Use, account
 from .service import ServiceBook
 from .stations import FROM_STATION, TELLS_CELL, station_end
@@ -29,10 +31,9 @@ SERVED = (  # only the station that serves the phone has these
     "UplinkNASTransport", "HandoverRequired", "PathSwitchRequestAcknowledge", "UEContextSuspendRequest", "UEContextSuspendResponse",
     "UEContextResumeRequest", "UEContextResumeResponse",
 )
-KEYS = ("KeNB", "KeNB*", "NH")
 RESTARTS = ("S1SetupRequest", "S1SetupResponse", "Reset", "ResetAcknowledge")
 JUDGED = (*KEYS, "command", "agreement")  # by histories
-MANY = f"there were more than {MOST} lawful histories, and not all were kept"
+TRIES = 16  # keys or MACs that are tried weigh as much as a message that is read
 EMERGENCY = 0  # an RRC Establishment Cause
 
 Handler = Callable[["Trace", Connection, Message, str, Leg], None]
@@ -48,37 +49,47 @@ class Trace(Handovers):
         self.cells, self.derivations = grounds.cells, grounds.derivations
         self.book = ServiceBook(self.derivations, 10 * grounds.budget)
         self.judge = KeyJudge(self.book, self.cells, grounds.search, grounds.firsts, self.coverage)
-        self.judge.replies, self.judge.gaps = grounds.replies, grounds.gaps
-        self.lines = self.judge.lines
+        self.judge.reply, self.judge.gaps = grounds.reply, grounds.index.gaps.found
+        self.by_frame: LinesInOrder | None = None  # the lines, once they are told
         self.legs = {}
         self.mmes = {}
         self.connections = []
         self.restarts: dict[str, int] = {}  # by station's end, the place where its S1 last began anew
+        self.steps = 0  # that the reading took: messages, and what was tried beside them
         self.seen = Account(())
 
     # -- reading
 
     def read(self, notes: list[Line]) -> None:
         """Reads all messages."""
-        self.lines += notes
+        self.judge.lines.extend(notes)
         self.read_at(told(range(len(self.messages)), "judged", len(self.messages)))
 
     def read_at(self, places: Iterable[int], most: int | None = None) -> None:
         """Reads the messages at these places, until more lines differ than this."""
-        differing = 0
+        differing, tried = 0, self.tried
         for place in places:
             message = self.messages[place]
-            before, self.at, self.cells.now = len(self.lines), place, place
+            before, self.at, self.cells.now = len(self.judge.lines), place, place
             self.one(message, place)
             self.left_over(message, before)
             self.weigh(place, before)
-            for line in self.lines[before:]:
+            for line in self.judge.lines.since(before):
                 line.place = place if line.frame == message.frame else self.grounds.first.get(line.frame)
-            if place in self.owners and any(line.verdict == RIGHT for line in self.lines[before:]):
+            if place in self.owners and any(line.verdict == RIGHT for line in self.judge.lines.since(before)):
                 self.owners[place].proved = place
-            differing += sum(line.verdict == DIFFERS for line in self.lines[before:])
+            differing += sum(line.verdict == DIFFERS for line in self.judge.lines.since(before))
+            self.steps += 1
+            if most is None:
+                self.judge.lines.settle(self.grounds.first.get)
             if most is not None and differing > most:
-                return
+                break
+        self.steps += (self.tried - tried) // TRIES
+
+    @property
+    def tried(self) -> int:
+        """The keys and MACs that searches made so far."""
+        return self.book.tried + self.grounds.search.tried
 
     def other(self, places: set[int], taken: Tape, most: int) -> Trace:
         """The messages at these places read with other choices, until more lines differ than this."""
@@ -89,18 +100,25 @@ class Trace(Handovers):
     def goes_on_from(self, other: Trace, places: set[int]) -> None:
         """What another reading found of these messages takes the place of what this one found."""
         gone = {id(one) for place, one in self.owners.items() if place in places}
-        self.lines[:] = [*(line for line in self.lines if line.place not in places), *(line for line in other.lines if line.place in places)]
+        self.judge.lines.put([*(line for line in self.lines if line.place not in places), *(line for line in other.lines if line.place in places)])
         self.connections = [*(one for one in self.connections if id(one) not in gone), *other.connections]
         self.owners = {**without(self.owners, places), **within(other.owners, places)}
         self.handovers = {**without(self.handovers, places), **within(other.handovers, places)}
 
     def tell(self, head: list[str]) -> None:
         """Makes the list of what was seen."""
-        self.lines.sort(key=lambda line: self.grounds.first.get(line.frame, 0))
-        for line in self.lines:
-            line.time = self.messages[self.grounds.first[line.frame]].time if line.frame in self.grounds.first else None
-        head = [*self.coverage.head(), *head]
-        self.seen = account(self.messages, self.lines, self.membership(), self.stations.cores | self.cells.addresses, FROM_STATION, head, self.derivations, self.uses())
+        self.by_frame, by_place = self.judge.lines.sort(self.grounds.first.get)
+        names, head = self.stations.cores | self.cells.addresses, [*self.coverage.head(), *head]
+        self.seen = account(self.messages, by_place, self.membership, names, FROM_STATION, head, self.derivations, self.uses)
+
+    @property
+    def lines(self) -> list[Line]:
+        """The lines so far, in the end in the order of the frames."""
+        return list(self.judge.lines) if self.by_frame is None else list(self.by_frame)
+
+    def count(self, verdict: Verdict) -> int:
+        """How many lines have a verdict."""
+        return self.judge.lines.count(verdict)
 
     def membership(self) -> Membership:
         """The numbers of the connection and the handover of each message."""
@@ -118,16 +136,12 @@ class Trace(Handovers):
                 yield Use(number, shown(frame), shown(station), shown(self.derivations.shown(key)), key.value, eea, eia)
 
     def weigh(self, place: int, before: int) -> None:
-        """Decides of the lines of a message whether what no history gives is blamed: the only place that does, for keys, commands and agreement."""
-        for line in self.lines[before:]:
-            if line.verdict == DIFFERS and line.what in JUDGED and place in self.owners:
-                doubt = self.doubt(self.owners[place])
-                if doubt:
-                    withdrawn(line, doubt)
-
-    def doubt(self, connection: Connection) -> str:
-        """Why a history that was not tried may give what none of the others gives, or nothing."""
-        return MANY if connection.cut else ""
+        """Decides of the lines of a message whether what no history gives is blamed: the only place that does, for keys, commands and agreement. Where
+        not all was kept, a history that was not tried may give it."""
+        cut = self.owners[place].cut if place in self.owners else ()
+        for line in self.judge.lines.since(before):
+            if cut and line.verdict == DIFFERS and line.what in JUDGED:
+                withdrawn(line, cut)
 
     def one(self, message: Message, place: int) -> None:
         if message.link == "S1":
@@ -139,9 +153,9 @@ class Trace(Handovers):
         elif message.link == ALONE:
             self.nas_alone(message, place)
         elif message.link == UNREADABLE:
-            self.lines.append(unknown_line(message.frame, "message", "of this frame", message.name))
+            self.judge.lines.append(unknown_line(message.frame, "message", "of this frame", Cause.UNREADABLE.because(said=message.name)))
         elif message.link == CUT:
-            self.lines.append(unknown_line(message.frame, "capture", "behind this frame", message.name))
+            self.judge.lines.append(unknown_line(message.frame, "capture", "behind this frame", Cause.UNREADABLE.because(said=message.name)))
         elif message.command is not None:
             self.rrc(message, message.command)
 
@@ -154,13 +168,13 @@ class Trace(Handovers):
     def left_over(self, message: Message, before: int) -> None:
         """Lines for keys that no rule here judges."""
         for name, _ in message.secrets:
-            self.lines.append(unknown_line(message.frame, title(message), name, "keys of secondary stations are left out"))
-        if message.link in ("S1", "X2") and (message.key or message.nh) and not any(line.what in KEYS for line in self.lines[before:]):
-            self.lines.append(unknown_line(message.frame, title(message), "key", "no rule here is for keys of this message"))
+            self.judge.lines.append(unknown_line(message.frame, title(message), name, Cause.SECONDARY_STATION.because()))
+        if message.link in ("S1", "X2") and (message.key or message.nh) and not any(line.what in KEYS for line in self.judge.lines.since(before)):
+            self.judge.lines.append(unknown_line(message.frame, title(message), "key", Cause.NO_RULE.because()))
 
     def later(self, message: Message, place: int) -> Iterator[tuple[int, bytes] | bytes]:
         """What comes after a message in the same connection at the same station: NAS messages and KeNBs."""
-        places = self.grounds.by_leg.get((station_end(message), message.enb_id), [])
+        places = self.grounds.index.by_leg.get((station_end(message), message.enb_id), ())
         for after in places[bisect_right(places, place):]:
             one = self.messages[after]
             if one.name == "InitialUEMessage":
@@ -175,7 +189,7 @@ class Trace(Handovers):
     def s1(self, message: Message, place: int) -> None:
         end = station_end(message)
         core = message.target if end == message.source else message.source
-        station = self.stations.at(place)
+        station = self.stations.at(place, message)
         if message.name in RESTARTS:
             self.restarts[end] = place
         if message.name == "Reset":
@@ -199,7 +213,7 @@ class Trace(Handovers):
 
     def is_late(self, connection: Connection, message: Message, station: str) -> bool:
         """Whether an answer comes to a station that the phone has left since: its NH is overdue, and says nothing of where the phone is."""
-        return station != connection.station and station in connection.left and message.nh is not None and self.judge.late(connection, message) is not None
+        return station != connection.station and station in connection.left and message.nh is not None and self.judge.late(connection, message, station) is not None
 
     def connection(self, message: Message, station: str, leg: Leg, at_core: Leg) -> Connection | None:
         """The connection that a message belongs to."""
@@ -247,30 +261,22 @@ class Trace(Handovers):
         for pdu in message.nas:
             seen = self.book.judge(connection.side, direction, pdu, lambda: self.later(message, place))
             if seen is not None:
-                self.lines.append(self.nas_line(message, seen))
+                if seen.verdict == RIGHT and seen.kasme is not None:  # the context in use is certain again
+                    connection.side.away = bool(connection.away)
+                self.judge.lines.append(self.nas_line(message, seen))
                 if seen.warning:
-                    self.lines.append(note_line(message.frame, f"warning: {seen.warning}"))
+                    self.judge.lines.append(note_line(message.frame, seen.warning))
 
     def nas_line(self, message: Message, seen: NasSeen) -> Line:
-        way = "up" if seen.direction == UP else "down"
-        head = f"frame {message.frame} NAS {way}" + (f" COUNT {seen.count}" if seen.count is not None else "") + f" header {seen.header} "
-        wrong = seen.verdict == DIFFERS and bool(seen.wanted) and seen.wanted != seen.mac
-        right = "MAC right, text right" if seen.text_right else "MAC right"
-        mac = f"MAC wrong: is {seen.mac}, wanted {seen.wanted}" if wrong else right if seen.count is not None else "MAC not judged"
-        if seen.header == PLAIN:
-            mac = "not judged" if seen.verdict == UNKNOWN else "differs"
-        elif seen.verdict == UNKNOWN:
-            mac = "MAC not judged"
-        elif seen.verdict == DIFFERS and seen.count is None:
-            mac = "differs"
-        text = head + "; ".join([mac, *seen.faults]) + (f" ({seen.note})" if seen.note else "")
-        text += f" {seen.name}" if seen.name else ""
-        kasme = self.derivations.kasmes[seen.kasme].name if seen.kasme is not None else ""
-        text += f" of {kasme}" if kasme and len(self.derivations.kasmes) > 1 else ""
-        reason = "; ".join([*seen.faults, *([seen.note] if seen.note else [])])
+        subject = f"NAS {'up' if seen.direction == UP else 'down'}" + (f" COUNT {seen.count}" if seen.count is not None else "") + f" header {seen.header}"
+        kasme = "" if seen.kasme is None else self.derivations.name(seen.kasme)
+        behind = " ".join(filter(None, [seen.name, f"of {kasme}" if kasme and len(self.derivations.kasmes) > 1 else ""]))
         context = self.book.contexts.get(seen.kasme) if seen.kasme is not None else None
         part = NasPart(seen.direction == UP, seen.header, seen.name, *((context.ksi, context.eea, context.eia) if context else (None, None, None)), -1 if seen.kasme is None else seen.kasme)
-        return Line(message.frame, "NAS", "MAC", seen.verdict, text, seen.mac, seen.wanted, kasme=kasme, count=seen.count, plain=seen.plain, reason=reason, nas=part)
+        return Line(
+            message.frame, "NAS", "MAC", seen.verdict, of_mac(seen), tuple(seen.faults), seen.note, subject=subject, behind=behind, found=seen.mac, wanted=seen.wanted,
+            hex=seen.mac, wanted_hex=seen.wanted, kasme=kasme, count=seen.count, plain=seen.plain, nas=part,
+        )
 
     def context_setup(self, connection: Connection, message: Message, station: str, at_core: Leg) -> None:
         self.told_capabilities(connection, message)
@@ -326,6 +332,21 @@ class Trace(Handovers):
             del self.legs[leg]
 
 
+def of_mac(seen: NasSeen) -> Why:
+    """What is said of the MAC of a NAS message."""
+    if seen.header == PLAIN:
+        return (Cause.NAS_NOT_JUDGED if seen.verdict == UNKNOWN else Cause.NAS_DIFFERS).because()
+    if seen.verdict == UNKNOWN:
+        return Cause.MAC_NOT_JUDGED.because()
+    if seen.verdict == DIFFERS and seen.count is None:
+        return Cause.NAS_DIFFERS.because()
+    if seen.verdict == DIFFERS and seen.wanted and seen.wanted != seen.mac:
+        return Cause.MAC_WRONG.because(found=seen.mac, wanted=seen.wanted)
+    if seen.count is None:
+        return Cause.MAC_NOT_JUDGED.because()
+    return (Cause.MAC_AND_TEXT_RIGHT if seen.text_right else Cause.MAC_RIGHT).because()
+
+
 HANDLERS: dict[str, Handler] = {
     "InitialContextSetupRequest": Trace.context_setup,
     "InitialContextSetupResponse": Trace.set_up,
@@ -341,11 +362,13 @@ HANDLERS: dict[str, Handler] = {
     "HandoverNotify": Trace.handover_notify,
     "HandoverFailure": Trace.handover_failure,
     "HandoverCancel": Trace.handover_cancelled,
-    "HandoverPreparationFailure": Trace.handover_cancelled,
+    "HandoverCancelAcknowledge": Trace.refused,
+    "HandoverPreparationFailure": Trace.refused,
+    "PathSwitchRequestFailure": Trace.refused,
     "PathSwitchRequest": Trace.path_switch,
-    "PathSwitchRequestAcknowledge": Trace.given,
+    "PathSwitchRequestAcknowledge": Trace.switched,
     "UEContextSuspendRequest": Trace.suspend,
     "UEContextSuspendResponse": Trace.given,
     "UEContextResumeRequest": Trace.resume,
-    "UEContextResumeResponse": Trace.given,
+    "UEContextResumeResponse": Trace.resumed,
 }

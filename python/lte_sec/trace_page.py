@@ -1,4 +1,4 @@
-"""The page of a trace that is judged, made of the document that --json prints."""
+"""The page of a trace that is judged: made of the document that --json prints."""
 from __future__ import annotations
 
 from collections.abc import Iterator

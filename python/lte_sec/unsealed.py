@@ -3,11 +3,12 @@ from __future__ import annotations
 
 import dataclasses
 
-from lte_sec import frames, protected, reasons
-from lte_sec.ladders import LadderRow
+from lte_sec import frames, pdu_reasons, protected, reasons
 from lte_sec.network import Network, Told
 from lte_sec.peers import Peer
 from lte_sec.protected import BearerHistory
+from lte_sec.pdu_reasons import PartsWrong
+from lte_sec.run_report import LadderRow
 from lte_sec.scenarios import Scenario
 from lte_sec.terms import RRC_ENCRYPTION, RRC_INTEGRITY, Calls
 
@@ -67,7 +68,7 @@ class ActorStep:
         return BearerHistory(self.rows, self.scenario.steps[: self.place + 1], direction, bearer)
 
 
-def mistakes(calls: Calls, step: ActorStep, wanted: frames.Reply, got: frames.Reply) -> list[str]:
+def mistakes(calls: Calls, step: ActorStep, wanted: frames.Reply, got: frames.Reply) -> list[PartsWrong]:
     """The mistake by which a message that was sent is another, or one that came is refused or opened to another text."""
     if not is_protected(wanted, got):
         return []
@@ -93,7 +94,7 @@ def bearer_of(reply: frames.Reply) -> str:
     return "nas" if words[1] == "nas" else words[-1].removeprefix("bearer=") if "bearer=" in words[-1] else ""
 
 
-def sent(calls: Calls, step: ActorStep, wanted: frames.Reply, record: bytes) -> list[str]:
+def sent(calls: Calls, step: ActorStep, wanted: frames.Reply, record: bytes) -> list[PartsWrong]:
     """Of a record that an actor sent in place of the wanted one."""
     bearer, direction = bearer_of(wanted), int(step.role != "phone")
     assert wanted.record is not None
@@ -101,63 +102,63 @@ def sent(calls: Calls, step: ActorStep, wanted: frames.Reply, record: bytes) -> 
         return sent_nas(calls, protected.nas(calls, step.course(direction, bearer), wanted.record), record)
     if bearer.startswith("srb"):
         it = protected.srb(calls, step.course(direction, bearer), wanted.record)
-        found = reasons.pdu(calls, dataclasses.replace(it, octets=record), it.opened(calls)[:-4]) if it else ""
-        return [found] if found else []
+        found = pdu_reasons.pdu(calls, dataclasses.replace(it, octets=record), it.opened(calls)[:-4]) if it else PartsWrong()
+        return [found] if found.why else []
     return sent_packet(calls, step, direction, bearer, wanted.record, record) if bearer else []
 
 
-def sent_nas(calls: Calls, it: reasons.ProtectedNas | None, record: bytes) -> list[str]:
+def sent_nas(calls: Calls, it: reasons.ProtectedNas | None, record: bytes) -> list[PartsWrong]:
     if it is None or len(record) < 6:
         return []
     plain, own = reasons.deciphered(calls, it), dataclasses.replace(it, pdu=record)
-    of_text = reasons.ciphering(calls, own.ciphered(), 8, lambda text: text == plain) if record[6:] != it.pdu[6:] else ""
+    of_text = reasons.ciphering(calls, own.ciphered(), 8, lambda text: text == plain) if record[6:] != it.pdu[6:] else ()
     of_mac = reasons.mac(calls, own)
-    return [f"{name}: {why}" for name, why in (("text", of_text if reasons.is_sure(of_text, plain) else ""), ("MAC", of_mac)) if why]
+    return [PartsWrong((name,), why) for name, why in (("text", of_text if reasons.is_sure(of_text, plain) else ()), ("MAC", of_mac)) if why]
 
 
-def sent_packet(calls: Calls, step: ActorStep, direction: int, bearer: str, wanted: bytes, record: bytes) -> list[str]:
+def sent_packet(calls: Calls, step: ActorStep, direction: int, bearer: str, wanted: bytes, record: bytes) -> list[PartsWrong]:
     act = step.scenario.steps[step.place]
     packet = bytes.fromhex(act["text"]) if act["do"] == "user" else b""
     it = protected.drb(calls, step.course(direction, bearer), wanted, packet)
-    why = reasons.ciphering(calls, dataclasses.replace(it, body=record[2:]), 12, lambda plain: plain == packet) if it else ""
-    return [f"packet: {why}"] if reasons.is_sure(why, packet) else []
+    why = reasons.ciphering(calls, dataclasses.replace(it, body=record[2:]), 12, lambda plain: plain == packet) if it else ()
+    return [PartsWrong(("packet",), why)] if reasons.is_sure(why, packet) else []
 
 
 def came(step: ActorStep) -> tuple[str, bytes]:
     """The bearer and the octets of the message that came to the actor; nothing where none did over NAS or the air."""
     body = step.body()
-    told = frames.read_input(step.role, False, body) if body else None
-    if told is None or told.name not in ("Nas", "Air"):
+    given = frames.read_input(step.role, False, body) if body else None
+    if given is None or given.name not in ("Nas", "Air"):
         return "", b""
-    octets = told.fields["pdu"]
+    octets = given.fields["pdu"]
     assert isinstance(octets, bytes)
-    return frames.BEARERS[int(str(told.fields["bearer"]))] if told.name == "Air" else "nas", octets
+    return frames.BEARERS[int(str(given.fields["bearer"]))] if given.name == "Air" else "nas", octets
 
 
-def opened(calls: Calls, step: ActorStep, wanted: bytes, got: bytes) -> list[str]:
+def opened(calls: Calls, step: ActorStep, wanted: bytes, got: bytes) -> list[PartsWrong]:
     """Of a packet that is right, and that an actor deciphers otherwise."""
     bearer, octets = came(step)
     it = protected.drb(calls, step.course(int(step.role == "phone"), bearer), octets, wanted) if bearer.startswith("drb") else None
-    why = reasons.ciphering(calls, it, 12, lambda plain: plain == got) if it else ""
-    return [f"text: {why.replace('ciphered', 'deciphered', 1)}"] if reasons.is_sure(why, got) else []
+    why = reasons.ciphering(calls, it, 12, lambda plain: plain == got, "deciphered") if it else ()
+    return [PartsWrong(("text",), why)] if reasons.is_sure(why, got) else []
 
 
-def refused(calls: Calls, step: ActorStep, computed: bytes, received: bytes) -> list[str]:
+def refused(calls: Calls, step: ActorStep, computed: bytes, received: bytes) -> list[PartsWrong]:
     """Of a message that is right, and whose MAC an actor computes or deciphers otherwise."""
     (bearer, octets), direction = came(step), int(step.role == "phone")
     if bearer == "nas":
         nas = protected.nas(calls, step.course(direction, bearer), octets)
-        why = reasons.mac(calls, dataclasses.replace(nas, pdu=octets[:1] + computed + octets[5:])) if nas else ""
-        return [f"the MAC that it wants: {why}"] if why else []
+        why = reasons.mac(calls, dataclasses.replace(nas, pdu=octets[:1] + computed + octets[5:])) if nas else ()
+        return [PartsWrong(("the MAC that it wants",), why)] if why else []
     it = protected.srb(calls, step.course(direction, bearer), octets) if bearer.startswith("srb") else None
     return refused_srb(calls, it, computed, received) if it else []
 
 
-def refused_srb(calls: Calls, it: reasons.Pdu, computed: bytes, received: bytes) -> list[str]:
+def refused_srb(calls: Calls, it: pdu_reasons.Pdu, computed: bytes, received: bytes) -> list[PartsWrong]:
     plain = it.opened(calls)
     if plain[-4:] != received:
-        why = reasons.ciphering(calls, it.ciphered(), 5, lambda other: other[-4:] == received)
-        return [f"text: {why.replace('ciphered', 'deciphered', 1)}"] if why else []
+        why = reasons.ciphering(calls, it.ciphered(), 5, lambda other: other[-4:] == received, "deciphered")
+        return [PartsWrong(("text",), why)] if why else []
     whole, key = (calls.algorithm_key(it.above, type, identity) for type, identity in ((RRC_INTEGRITY, it.eia), (RRC_ENCRYPTION, it.eea)))
-    why = reasons.srb(calls, computed, reasons.Srb(whole, key, it.eia, it.direction, it.count, it.bearer, it.octets[:1] + plain[:-4], it.eea))
-    return [f"the MAC-I that it wants: {why}"] if why else []
+    why = pdu_reasons.srb(calls, computed, pdu_reasons.Srb(whole, key, it.eia, it.direction, it.count, it.bearer, it.octets[:1] + plain[:-4], it.eea))
+    return [PartsWrong(("the MAC-I that it wants",), why)] if why else []

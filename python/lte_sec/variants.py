@@ -5,7 +5,8 @@ from collections.abc import Iterator, Mapping
 from dataclasses import dataclass
 
 from .courses import Item, Runs, act, delivery
-from .messages import Names, StepLine, nas_name
+from .messages import Names, nas_name
+from .run_report import StepLine
 from .scenarios import Scenario, Step, value
 
 KINDS = ("lost", "late", "twice", "again")
@@ -15,7 +16,7 @@ COMMANDED = ("X2 Handover Request Acknowledge", "Handover Command")
 CONNECTED = ("Service Request", "NAS Security Mode Complete")
 
 
-@dataclass(frozen=True, slots=True)
+@dataclass(frozen=True)
 class Fault:
     """A fault of one message: its kind, the item that delivers the message, and for `late` and `twice` the item after which it comes."""
 

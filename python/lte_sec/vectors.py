@@ -12,6 +12,7 @@ import subprocess
 from collections.abc import Callable, Iterator
 
 from .derive import TOP
+from .pairs import paired
 from .terms import TraceError
 
 VERSION, MOST, USUAL, SEEDS = 1, 100_000, 1000, 2**32
@@ -231,7 +232,7 @@ def made(cases: list[DrawnCase]) -> list[DrawnCase]:
     """The cases with their messages, which calc protects, and which are spoilt after that."""
     sealed = [case for case in cases if case.seal]
     pdus = answers([line_of(*case.seal) for case in sealed if case.seal])
-    for case, pdu in zip(sealed, pdus):
+    for case, pdu in paired(sealed, pdus):
         case.fields = case.fields | {"pdu": case.spoil(bytes.fromhex(pdu)).hex()}
     return cases
 

@@ -7,7 +7,6 @@ from __future__ import annotations
 
 import dataclasses
 import enum
-import functools
 import json
 import re
 import sys
@@ -16,15 +15,12 @@ from collections.abc import Iterator
 from .inputs import MOST_MADE, of_file, of_input
 from .options import Words
 from .remarks import frames_of, with_frames
+from .run_report import LadderRow, NoRow, StepLine, form_of, rows_of
 from .scenarios import NoScenario
 from .scenarios import read as read_scenario
 from .terms import TraceError
 from .waiting import remarks_of
 
-STEP = re.compile(r"(\d+) (both|phone|core(?: [01])?|world|station ([0-7])) (\w+)(.*)")
-SENT = re.compile(r" sent=\d+:(\w+)")
-NOTE = re.compile(r" ncc=\d way=(\w+) key=([0-9a-f]{64})")
-ROW = re.compile(r"row (\d+) (\w+)(?:\((\d+),?([\d,]*)\))? ([0-9a-f]{64}) (\S+)")
 VERSION = 1  # of the document that --json prints
 
 
@@ -48,75 +44,37 @@ class Outcome(enum.Enum):
 NOT_MADE = (Outcome.NOT_PREPARED, Outcome.NOT_COMMANDED, Outcome.NOT_OBEYED, Outcome.NOT_TAKEN)
 
 
-@dataclasses.dataclass(frozen=True)
-class ChainedKey:
-    """A row of the ladder: its place, its form, the rows of its root and of the key above it, the step of its chain that it comes from,
-    its cell if it has one, and the row with which its chain begins."""
-
-    place: int
-    form: str
-    root: int
-    above: int
-    chain: int
-    cell: str
-    first: int
-    is_nas_of_phone: bool = False  # a NAS key that the phone made, as it does when it takes a NAS context
-
-
-@dataclasses.dataclass(frozen=True)
-class ReportedStep:
-    """A line of the report: who answered, the class of the record sent, and of a key that was come by or told the way and the octets."""
-
-    number: int
-    station: int | None  # None for phone, core and world
-    who: str
-    is_done: bool
-    sent: str | None
-    way: str | None
-    key: str
-
-
 @dataclasses.dataclass
 class Report:
-    steps: list[ReportedStep]
-    rows: dict[str, ChainedKey]
+    steps: list[StepLine]
+    rows: dict[str, LadderRow]
 
-    def notes(self) -> list[ReportedStep]:
+    def notes(self) -> list[StepLine]:
         """The steps at which an actor came by a key, or tells it."""
         return [step for step in self.steps if step.way]
 
-    def row(self, step: ReportedStep) -> ChainedKey:
+    def row(self, step: StepLine) -> LadderRow:
         return self.rows[step.key]
 
 
-def rows_of(lines: list[str]) -> dict[str, ChainedKey]:
+def rows_by_key(lines: list[str]) -> dict[str, LadderRow]:
     """The rows by their keys."""
-    rows: list[ChainedKey] = []
-    keys: dict[str, ChainedKey] = {}
-    for line in lines:
-        found = ROW.fullmatch(line)
-        if not found or int(found[1]) != len(rows):
+    for place, line in enumerate(lines):
+        form = form_of(line)
+        if form is None or form[0] != place:
             raise NoReport(f"'{line[:40]}' is not a row of its ladder of keys")
-        _, form, parent, more, key, holders = found.groups()
-        above = rows[int(parent)] if parent else None
-        root = above.root if above else len(rows)
-        chain = rows[int(more)].chain + 1 if form == "nh" else above.chain if above and form == "star" else 0
-        first = rows[int(more)].first if form == "nh" else above.first if above and form == "star" else len(rows)
-        is_nas = form == "alg" and more[0] in "12" and "P" in holders.split(",")
-        rows.append(ChainedKey(len(rows), form, root, int(parent or len(rows)), chain, more if form == "star" else "", first, is_nas))
-        keys[key] = rows[-1]
-    return keys
+    try:
+        return {row.key: row for row in rows_of(lines).values()}
+    except NoRow as fault:
+        raise NoReport(str(fault)) from None
 
 
-@functools.lru_cache(maxsize=1 << 16)  # most lines of a variant of what-if are those of another
-def step_of(number: int, line: str) -> ReportedStep:
+def step_of(number: int, line: str) -> StepLine:
     """The line of the step of this number."""
-    found = STEP.fullmatch(line)
-    if not found or int(found[1]) != number:
+    found = StepLine.read(line)
+    if found is None or found.number != number:
         raise NoReport(f"line {number + 1} is not a line of step {number}")
-    sent, note = SENT.search(found[5]), NOTE.search(found[5])
-    station = int(found[3]) if found[3] else None
-    return ReportedStep(number, station, found[2], found[4] == "done", sent[1] if sent else None, note[1] if note else None, note[2] if note else "")
+    return found
 
 
 def read(text: str) -> Report:
@@ -131,40 +89,40 @@ def read(text: str) -> Report:
     end = next((place for place, line in enumerate(lines) if re.fullmatch(r"end \d+ \d+ \d+", line)), None)
     if end is None:
         raise NoReport("it has no line `end`: it is cut, or ends at a coincidence or at a reply that differs")
-    report = Report([step_of(number, line) for number, line in enumerate(lines[:end])], rows_of(lines[end + 1:]))
+    report = Report([step_of(number, line) for number, line in enumerate(lines[:end])], rows_by_key(lines[end + 1:]))
     if any(note.key not in report.rows for note in report.notes()):
         raise NoReport("a key of its steps is not in its rows")
     return report
 
 
-def is_prepared(report: Report, note: ReportedStep) -> bool:
+def is_prepared(report: Report, note: StepLine) -> bool:
     """Whether a station came by the key of a cell of its own, at which the phone is to arrive: of another station's record
     (given over X2, derived over S1), for a handover within itself, or at a key change."""
-    if note.station is None or report.row(note).form != "star":
+    if note.station is None or report.row(note).word != "star":
         return False
-    ways = {"x2": ["given"], "s1": ["vertical"], "air": ["given"], None: ["horizontal", "vertical"]}
-    return note.way in ways.get(note.sent, [])
+    ways = {"x2": ["given"], "s1": ["vertical"], "air": ["given"], "": ["horizontal", "vertical"]}
+    return note.way in ways.get(note.kind, [])
 
 
-def is_prepared_within(step: ReportedStep) -> bool:
+def is_prepared_within(step: StepLine) -> bool:
     """Whether a station derived the key for a handover within itself."""
-    return step.station is not None and step.sent is None and step.way in ("horizontal", "vertical")
+    return step.station is not None and not step.kind and step.way in ("horizontal", "vertical")
 
 
-def is_asked(note: ReportedStep) -> bool:
+def is_asked(note: StepLine) -> bool:
     """Whether a station derived the key of another's cell, to ask it over X2 for a handover."""
-    return note.station is not None and note.sent == "x2" and note.way in ("horizontal", "vertical")
+    return note.station is not None and note.kind == "x2" and note.way in ("horizontal", "vertical")
 
 
 @dataclasses.dataclass
 class Obeyed:
     """A handover or key change that the phone obeyed: its key, and the steps at which stations prepared its cell and completed it."""
 
-    phone: ReportedStep
-    prepared: list[ReportedStep]
-    completed: ReportedStep | None = None
+    phone: StepLine
+    prepared: list[StepLine]
+    completed: StepLine | None = None
 
-    def target(self) -> ReportedStep | None:
+    def target(self) -> StepLine | None:
         """The step at which the target came by its key: the last before the phone's, for a station has one attempt at a time. None where
         the report does not tell it: where that one has another key, and one before has the phone's."""
         same = [note for note in self.prepared if note.key == self.phone.key]
@@ -173,16 +131,16 @@ class Obeyed:
         return self.prepared[-1] if self.prepared and (not same or same[-1] is self.prepared[-1]) else None
 
 
-def may_be_commanded(begun: ReportedStep, prepared: ReportedStep, behind: list[ReportedStep]) -> bool:
+def may_be_commanded(begun: StepLine, prepared: StepLine, behind: list[StepLine]) -> bool:
     """Whether, by the steps behind what was prepared, its source may have sent the command for it: it did so before its next attempt. A key
     change is commanded where its key is derived."""
-    if prepared.sent == "air":
+    if prepared.kind == "air":
         return True
     for step in behind:
-        is_source = step.station not in (None, prepared.station) if begun.sent == "s1" else step.station == begun.station
-        if is_source and step.sent == "air" and not step.way:
+        is_source = step.station not in (None, prepared.station) if begun.kind == "s1" else step.station == begun.station
+        if is_source and step.kind == "air" and not step.way:
             return True
-        if is_source and begun.sent != "s1" and (is_asked(step) or is_prepared_within(step)):
+        if is_source and begun.kind != "s1" and (is_asked(step) or is_prepared_within(step)):
             return False
     return False
 
@@ -192,10 +150,10 @@ def obeyed(report: Report) -> list[Obeyed]:
     neither, but that a preparation was not commanded."""
     found: list[Obeyed] = []
     sources = {to.number: begun for begun, to in attempts(report) if to}
-    prepared: dict[int, list[ReportedStep]] = {}
+    prepared: dict[int, list[StepLine]] = {}
     for note in report.notes():
         row = report.row(note)
-        if note.who == "phone" and row.form == "star":
+        if note.who == "phone" and row.word == "star":
             at = [it for notes in prepared.values() for it in notes if report.row(it).cell == row.cell]
             behind = {it.number: report.steps[it.number + 1:note.number] for it in at}
             commanded = [it for it in at if may_be_commanded(sources.get(it.number, it), it, behind[it.number])]
@@ -239,7 +197,7 @@ class KenbChange:
 
 
 KEY_CHANGE, SET_UP = "key change", "connection or key change"
-KINDS = {"x2": "handover over X2", "s1": "handover over S1", "air": KEY_CHANGE, None: "handover within the station"}
+KINDS = {"x2": "handover over X2", "s1": "handover over S1", "air": KEY_CHANGE, "": "handover within the station"}
 
 
 def ahead(report: Report, phone: str, target: str) -> str:
@@ -260,13 +218,13 @@ def of_obeyed(report: Report, made: Obeyed) -> KenbChange:
         why = "several keys were prepared for its cell" if made.prepared else "no station prepared its cell"
         return KenbChange("handover or key change", phone.number, phone.number, None, cell, Outcome.NOT_TOLD, why)
     last = max(phone.number, made.completed.number if made.completed else 0)
-    place = (KINDS[target.sent], target.number, last, target.station, cell)
+    place = (KINDS[target.kind], target.number, last, target.station, cell)
     if target.key != phone.key:
         return KenbChange(*place, Outcome.DIFFER, ahead(report, phone.key, target.key))
     return KenbChange(*place, Outcome.AGREED if made.completed else Outcome.NOT_COMPLETED)
 
 
-def until(report: Report, begun: ReportedStep) -> Iterator[ReportedStep]:
+def until(report: Report, begun: StepLine) -> Iterator[StepLine]:
     """The steps after one at which an attempt began, up to the next attempt of that station, or of any at a key of another station."""
     for step in report.steps[begun.number + 1:]:
         if step.station == begun.station and step.way and (is_asked(step) or is_prepared(report, step)):
@@ -274,29 +232,29 @@ def until(report: Report, begun: ReportedStep) -> Iterator[ReportedStep]:
         yield step
 
 
-def of_begun(report: Report, begun: ReportedStep, prepared: ReportedStep | None) -> KenbChange:
+def of_begun(report: Report, begun: StepLine, prepared: StepLine | None) -> KenbChange:
     """What became of an attempt that the phone did not obey: begun where a source derived the key, or else where a target did."""
-    cell, kind = report.row(begun).cell, KINDS[begun.sent]
+    cell, kind = report.row(begun).cell, KINDS[begun.kind]
     if prepared is None:
         return KenbChange(kind, begun.number, begun.number, None, cell, Outcome.NOT_PREPARED)
     place = (kind, begun.number, prepared.number, prepared.station, cell)
     if kind == KEY_CHANGE:
         return KenbChange(*place, Outcome.NOT_OBEYED)
     after = [step for step in until(report, begun) if step.number > prepared.number]
-    sources = [step for step in after if (step.station != prepared.station if begun.sent == "s1" else step.station == begun.station)]
-    is_silent = not any(step.station is not None and step.sent == "air" and not step.way for step in sources)
+    sources = [step for step in after if (step.station != prepared.station if begun.kind == "s1" else step.station == begun.station)]
+    is_silent = not any(step.station is not None and step.kind == "air" and not step.way for step in sources)
     return KenbChange(*place, Outcome.NOT_COMMANDED if is_silent else Outcome.NOT_TAKEN)
 
 
-def attempts(report: Report) -> list[tuple[ReportedStep, ReportedStep | None]]:
+def attempts(report: Report) -> list[tuple[StepLine, StepLine | None]]:
     """Each handover and key change that began: the step at which its key was derived, and that at which its target had it."""
-    found: list[tuple[ReportedStep, ReportedStep | None]] = []
+    found: list[tuple[StepLine, StepLine | None]] = []
     for note in report.notes():
         if is_asked(note):
             found.append((note, None))
         elif is_prepared(report, note):
             places = [place for place, (begun, to) in enumerate(found) if is_asked(begun) and to is None and begun.key == note.key]
-            if note.sent == "x2" and places:
+            if note.kind == "x2" and places:
                 found[places[-1]] = (found[places[-1]][0], note)
             else:
                 found.append((note, note))
@@ -305,9 +263,9 @@ def attempts(report: Report) -> list[tuple[ReportedStep, ReportedStep | None]]:
 
 def not_taken(report: Report) -> list[KenbChange]:
     """Each connection or key change of the core whose KeNB no station took."""
-    taken = {place for note in report.notes() if note.station is not None for row in [report.row(note)] for place in (row.place, row.above)}
+    taken = {place for note in report.notes() if note.station is not None for row in [report.row(note)] for place in (row.number, row.parent)}
     begun = [note for note in report.notes() if note.who.startswith("core") and note.way == "initial"]
-    return [KenbChange(SET_UP, note.number, note.number, None, "", Outcome.NOT_PREPARED) for note in begun if report.row(note).place not in taken]
+    return [KenbChange(SET_UP, note.number, note.number, None, "", Outcome.NOT_PREPARED) for note in begun if report.row(note).number not in taken]
 
 
 def items(report: Report) -> list[KenbChange]:
@@ -324,8 +282,8 @@ def items(report: Report) -> list[KenbChange]:
 
 def connected(report: Report) -> bool | None:
     """Whether the phone has the KeNB of a station at each connection; None where none was set up."""
-    phone = [note.key for note in report.notes() if note.who == "phone" and report.row(note).form == "kenb"]
-    stations = {note.key for note in report.notes() if note.station is not None and report.row(note).form == "kenb"}
+    phone = [note.key for note in report.notes() if note.who == "phone" and report.row(note).word == "kenb"]
+    stations = {note.key for note in report.notes() if note.station is not None and report.row(note).word == "kenb"}
     return stations.issuperset(phone) if phone else None
 
 
@@ -346,7 +304,7 @@ def healing(report: Report, found: list[KenbChange]) -> Healing | int | None:
     parted = [item.last for item in found if item.outcome == Outcome.DIFFER]
     if not parted:
         return None
-    kenbs = [note for note in report.notes() if report.row(note).form == "kenb"]
+    kenbs = [note for note in report.notes() if report.row(note).word == "kenb"]
     given = {note.key for note in kenbs if note.station is not None}
     later = [note.number for note in kenbs if note.who == "phone" and note.number > parted[-1] and note.key in given]
     if later:

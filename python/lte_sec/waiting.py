@@ -6,7 +6,8 @@ from dataclasses import dataclass, field
 from typing import NamedTuple
 
 from .courses import Course, Item
-from .messages import Names, StepLine
+from .messages import Names
+from .run_report import StepLine
 from .scenarios import Scenario
 from .variants import moved, put_behind
 

@@ -2,6 +2,7 @@
 from __future__ import annotations
 
 import contextlib
+import gc
 import json
 import sys
 from collections.abc import Callable
@@ -10,34 +11,35 @@ from pathlib import Path
 from typing import IO
 
 from . import about, lawful, pages, trace_page
-from .captures import UNREADABLE, read_all
+from .captures import read_all
 from .cells import Cells, Site, is_cell, read_cells
 from .derive import proved_calls
 from .dumps import HALF, KEY, blocks, has_hex
-from .explain import Explanation, document as explained, told
+from .explained import Explanation, document as explained, told
 from .inputs import lines_of, of_file, of_input
+from .layers import UNREADABLE
 from .link_types import CUT, decoded, protocols
 from .logged import cells_of
 from .options import Words, WrongWords
 from .repeats import bounded, first_repeat
 from .reading import Said, check
-from .report import status
+from .report import status_of
 from .seen import judged_anything
 from .terms import Derivations, TraceError, is_kasme, kasme_fault, kasmes_of
 from .trace import Trace
-from .vectors import MOST, SEEDS, USUAL, document
-from .wireshark import rows
+from .wireshark import document as table_document, rows
 from .written import annotate, document as trace_document, lines
 
 USAGE = {
     "check-trace": "check-trace [--plain] [--json] [--annotate FILE] [--html FILE] [--html-keys no] [--cells FILE] [--covers LINK].. [--not-covered LINK].. [--dlt NUMBER=PROTOCOL].. CAPTURE.. KASME..   judges each KeNB, KeNB* and NH, and each NAS message, of a capture",
-    "explain": "explain [--cells FILE] [--cell PCI,EARFCN].. [--counts N] [--depth N] [--keys FILE] [--json] KASME..   says which derivation each key of a text is",
-    "wireshark": "wireshark [--cells FILE] [--dlt NUMBER=PROTOCOL].. CAPTURE.. KASME..   prints the PDCP keys of a capture as Wireshark's table",
-    "vectors": "vectors [--seed N] [--count N]   prints test vectors",
-    "repeats": "repeats [FILE]   tells the first key, bearer, direction and COUNT that come twice",
+    "explain": "explain [--cells FILE] [--cell PCI,EARFCN].. [--counts N] [--depth N] [--keys FILE] [--far] [--json] KASME..   says which derivation each key of a text is",
+    "wireshark": "wireshark [--json] [--cells FILE] [--dlt NUMBER=PROTOCOL].. CAPTURE.. KASME..   prints the PDCP keys of a capture as Wireshark's table",
+    "vectors": "vectors [--wycheproof KIND] [--seed N] [--count N]   prints test vectors",
+    "repeats": "repeats [--json] [FILE]   tells the first key, bearer, direction and COUNT that come twice",
 }
 BAD_WORDS, NOT_JUDGED = 2, 3
 MOST_NOTED = 5  # frames that are named
+RARELY = 200_000  # objects between two rounds of the collector: nothing here goes in circles, and it would look at all messages again and again
 LINKS = ("--covers", "--not-covered")  # what the user says of the links of a trace
 
 
@@ -73,27 +75,36 @@ class TraceWords(Words):
 def traced(words: TraceWords) -> Trace:
     if not words.files:
         raise TraceError("a capture and the KASMEs of its phones are wanted: CAPTURE KASME.., a KASME as 64 hex digits")
-    dlts = words.options["--dlt"]
-    protocols(dlts)
-    messages = read_all(words.files, dlts)
-    kasmes = kasmes_of(words.kasmes)
-    if not kasmes and not any(message.kasmes for message in messages):
-        raise TraceError("the KASMEs of its phones are wanted, 64 hex digits each: the capture has no S6a and no GTPv2-C that tells one")
     said = Said(*(tuple(words.options.get(name, [])) for name in LINKS))
-    derivations = Derivations(proved_calls(), kasmes)
-    return check(derivations, words.cells(), decoded(messages, dlts, derivations), said=said)
+    return trace_of(words.files, words.kasmes, words.cells, words.options["--dlt"], said)
 
 
-def noted(trace: Trace) -> int:
-    """Says what of a capture could not be read; the status for that."""
+def trace_of(files: list[Path], kasmes: list[str], cells: Callable[[], Cells], dlts: list[str], said: Said) -> Trace:
+    """Captures as they are read with these KASMEs; the cells are asked for behind what is wrong with a capture."""
+    protocols(dlts)
+    messages = read_all(files, dlts)
+    known = kasmes_of(kasmes)
+    if not known and not any(message.kasmes for message in messages):
+        raise TraceError("the KASMEs of its phones are wanted, 64 hex digits each: the capture has no S6a and no GTPv2-C that tells one")
+    derivations = Derivations(proved_calls(), known)
+    return check(derivations, cells(), decoded(messages, dlts, derivations), said=said)
+
+
+def notes_of(trace: Trace) -> list[str]:
+    """What of a capture could not be read."""
     unread = [message for message in trace.messages if message.link == UNREADABLE]
     said = [message.name for message in trace.messages if message.link == CUT]
     said += [f"frame {message.frame} cannot be read: {message.name}" for message in unread[:MOST_NOTED]]
     said += [f"and {len(unread) - MOST_NOTED} more frames cannot be read"] if len(unread) > MOST_NOTED else []
-    said += ["the capture has no message of S1AP, X2AP, RRC or NAS"] if not trace.messages else []
-    for line in said:
-        print(f"lte_sec: {line}", file=sys.stderr)
-    return NOT_JUDGED if said else 0
+    return said + (["the capture has no message of S1AP, X2AP, RRC or NAS"] if not trace.messages else [])
+
+
+def noted(trace: Trace) -> int:
+    """Says what of a capture could not be read; the status for that."""
+    notes = notes_of(trace)
+    for note in notes:
+        print(f"lte_sec: {note}", file=sys.stderr)
+    return NOT_JUDGED if notes else 0
 
 
 def check_trace(words: list[str]) -> int:
@@ -116,7 +127,7 @@ def check_trace(words: list[str]) -> int:
             print(line)
     if not judged_anything(seen):
         print("lte_sec: the capture has no key and no protected NAS message", file=sys.stderr)
-    return status(value for _, value in seen.values())
+    return status_of(seen.verdicts())
 
 
 def told_options(given: TraceWords) -> list[str]:
@@ -141,12 +152,15 @@ def explain(words: list[str]) -> int:
     for site in logged:
         cells.learn(site)
     explanation = Explanation(derivations, cells, counts, depth)
-    found = explanation.find(keys)
+    found = explanation.find(keys, given.has("--far"))
     if given.has("--json"):
-        print(json.dumps(explained(derivations, found, logged), indent=1))
+        print(json.dumps(explained(derivations, found, logged, explanation.fits), indent=1))
     else:
         for one in found:
             print(told(derivations, one))
+    if not explanation.fits:
+        whose = "this KASME" if len(derivations.kasmes) == 1 else f"any of these {len(derivations.kasmes)} KASMEs"
+        print(f"lte_sec: no key of the text fits {whose}; --far goes on, among the algorithm keys of all KeNB*s", file=sys.stderr)
     if logged:
         print(f"lte_sec: no cell is given; those of the text are tried: {' '.join(f'{site.pci},{site.earfcn}' for site in logged)}", file=sys.stderr)
     elif not cells.sites and not all(one.key for one in found):
@@ -155,9 +169,14 @@ def explain(words: list[str]) -> int:
 
 
 def wireshark(words: list[str]) -> int:
-    trace = traced(TraceWords.read("wireshark", words))
-    for row in rows(trace.seen, trace.derivations.calls):
-        print(row)
+    given = TraceWords.read("wireshark", words)
+    trace = traced(given)
+    table, notes = list(rows(trace.seen, trace.derivations.calls)), notes_of(trace)
+    if given.has("--json"):
+        print(json.dumps(table_document(table, notes, NOT_JUDGED if notes else 0), indent=1))
+    else:
+        for row in table:
+            print(row)
     return noted(trace)
 
 
@@ -171,18 +190,22 @@ def repeats(words: list[str]) -> int:
             found = first_repeat(bounded(text))
     except OSError as fault:
         raise TraceError(f"{given.files[0]} cannot be read: {fault.strerror}") from None
-    print(found)
+    print(json.dumps(found.document(), indent=1) if given.has("--json") else found)
     return found.status
 
 
 def vectors(words: list[str]) -> int:
+    from . import wycheproof
+    from .vectors import MOST, SEEDS, USUAL, document
+
     given = TraceWords.read("vectors", words)
     if given.others:
         raise TraceError("vectors takes --seed N and --count N")
     seed, count = given.last("--seed", "1"), given.number("--count", USUAL, MOST)
     if not seed.isdigit() or int(seed) >= SEEDS:
         raise TraceError(f"--seed is 0 to {SEEDS - 1}: {seed}")
-    print(json.dumps(document(int(seed), count), indent=1))
+    kind = given.last("--wycheproof")
+    print(json.dumps(wycheproof.document(kind, int(seed), count) if kind else document(int(seed), count), indent=1))
     return 0
 
 
@@ -193,6 +216,7 @@ def main(words: list[str]) -> int:
     if not words or words[0] not in COMMANDS:
         print("lte_sec: the words are:", *USAGE.values(), sep="\n    ", file=sys.stderr)
         return BAD_WORDS
+    gc.set_threshold(RARELY)
     try:
         return COMMANDS[words[0]](words[1:])
     except TraceError as fault:

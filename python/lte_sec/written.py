@@ -8,9 +8,11 @@ import tempfile
 from collections.abc import Iterator, Mapping
 from pathlib import Path
 
+from .causes import WARNING
 from .derived import DerivedKey, Numbers, numbered
-from .report import NOTE, counts, status, summary
-from .seen import Account, Seen, Value
+from .pairs import paired
+from .report import Line, counts, status, summary
+from .seen import Account, Seen
 from .terms import TraceError
 
 VERSION = 1  # of the document; it goes up where a field goes or changes its meaning, and stays where one is added
@@ -21,21 +23,21 @@ AT_ONCE = 500  # comments that one call of editcap takes: the words of a call ar
 def lines(seen: Account, plain: bool = False) -> Iterator[str]:
     """The lines of a report: the head, a line for each value, and the numbers."""
     yield from seen.head
-    for _, value in seen.values():
+    for value in seen.lines():
         yield value.text + (f" plain {value.plain.hex()}" if plain and value.plain is not None else "")
-    yield summary(value for _, value in seen.values())
+    yield summary(seen.verdicts())
 
 
-def record(number: int, seen: Seen, value: Value, keys: Numbers) -> dict[str, object]:
+def record(number: int, seen: Seen, value: Line, keys: Numbers) -> dict[str, object]:
     """The fields of a value; `is` and `wanted` are derivations, of MACs and numbers the octets themselves."""
     nas = value.nas
     return {
         "frame": seen.frame, "time": seen.time, "message": value.message, "what": value.what, "verdict": value.verdict.value,
-        "is": value.term, "wanted": value.wanted_term, "ncc": value.ncc, "wanted_ncc": value.wanted_ncc, "base": value.base, "kasme": value.kasme,
+        "is": value.found, "wanted": value.wanted, "ncc": value.ncc, "wanted_ncc": value.wanted_ncc, "base": value.base, "kasme": value.kasme,
         "count": value.count, "cell": list(value.cell) if value.cell else None, "plain": value.plain.hex() if value.plain is not None else None,
-        "reason": value.reason, "text": value.text, "number": number, "hex": value.got, "wanted_hex": value.wanted, "clause": value.clause or None,
+        "reason": value.reason, "text": value.text, "number": number, "hex": value.hex, "wanted_hex": value.wanted_hex, "clause": value.clause or None,
         "nas": None if nas is None else {"direction": "up" if nas.is_up else "down", "header": nas.header, "name": nas.name, "ksi": nas.ksi, "eea": nas.eea, "eia": nas.eia},
-        "key": keys.key, "wanted_key": keys.wanted, "mac_key": keys.chain, "warning": value.verdict == NOTE and value.reason.startswith("warning: "),
+        "key": keys.key, "wanted_key": keys.wanted, "mac_key": keys.chain, "warning": any(one.cause.severity is WARNING for one in value.said),
     }
 
 
@@ -58,9 +60,9 @@ def derived(row: DerivedKey) -> dict[str, object]:
 def document(seen: Account, about: Mapping[str, object] | None = None) -> dict[str, object]:
     """The document of a trace; `about` says of what and by whom it is."""
     places = {id(one): place for place, one in enumerate(seen.messages)}
-    values = [value for _, value in seen.values()]
+    values = list(seen.lines())
     rows, numbers = numbered(seen)
-    told = [record(places[id(one)], one, value, keys) for (one, value), keys in zip(seen.values(), numbers)]
+    told = [record(places[id(one)], one, value, keys) for (one, value), keys in paired(seen.values(), numbers)]
     return {
         "version": VERSION, "head": list(seen.head), "messages": [message(one) for one in seen.messages], "lines": told, "summary": counts(values), "status": status(values),
         "keys": [derived(row) for row in rows], **(about or {}),
@@ -77,7 +79,7 @@ def comments(seen: Account) -> dict[int, str]:
     found: dict[int, list[str]] = {}
     for one, value in seen.values():
         if one.frame.isdigit():
-            found.setdefault(int(one.frame), []).append(f"{value.verdict.value}: {value.text.removeprefix(f'frame {one.frame} ')}")
+            found.setdefault(int(one.frame), []).append(f"{value.verdict.value}: {value.words}")
     return {frame: "; ".join(texts) for frame, texts in found.items()}
 
 

@@ -191,9 +191,10 @@ def browser() -> Iterator[Browser]:
     program = found()
     if program is None:
         raise Fails("there is none")
-    with tempfile.TemporaryDirectory(ignore_cleanup_errors=True) as folder:
-        one = Browser(program, folder)
-        try:
-            yield one
-        finally:
-            one.close()
+    folder = tempfile.mkdtemp()
+    one = Browser(program, folder)
+    try:
+        yield one
+    finally:
+        one.close()
+        shutil.rmtree(folder, ignore_errors=True)

@@ -27,7 +27,7 @@ def power(a: int, exponent: int, modulus: int) -> int:
 
 
 def affine(value: int, rows: bytes, constant: int) -> int:
-    return sum(((value & row).bit_count() & 1) << bit for bit, row in enumerate(rows)) ^ constant
+    return sum((bin(value & row).count("1") & 1) << bit for bit, row in enumerate(rows)) ^ constant
 
 
 SR = [affine(power(x, 254, 0x11B), bytes.fromhex("f1e3c78f1f3e7cf8"), 0x63) for x in range(256)]  # AES's own

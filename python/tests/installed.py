@@ -1,6 +1,7 @@
 """One call of each kind of the installed package, for `package/check`: installed.py KIND. The values are those of docs/COOKBOOK.md and examples/c."""
 import sys
 
+import lte_sec
 from lte_sec.library import DOWNLINK, UPLINK, DrbContext, MacFails, NasContext, SrbContext, algorithm_key, eea2, eia2, kenb, kenb_star, proved, reach, short_mac_i
 
 
@@ -24,6 +25,12 @@ def main(kind: str) -> None:
     assert DrbContext(key, 2).receive(UPLINK, DrbContext(key, 2).send(UPLINK, b"packet")).text == b"packet"
     assert len(short_mac_i(key, b"input")) == 2
     assert reach(kasme, key, key, 0, 1, 10, 100).is_vertical
+    assert lte_sec.kenb(kasme, 0) == key and [one.form for one in lte_sec.explain(key.hex(), [kasme])] == ["kenb(0)"]
+    try:
+        lte_sec.run("")
+        raise AssertionError("a wheel runs a scenario")
+    except lte_sec.TraceError as refused:
+        assert "install the package seedspan" in str(refused), refused
 
 
 if __name__ == "__main__":

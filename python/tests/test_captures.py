@@ -7,11 +7,13 @@ import unittest
 from pathlib import Path
 
 from lte_sec.captures import messages
-from lte_sec.decoding import Command, Message, Pairs, Radio, command, pdu
+from lte_sec.decoding import Command, Message, Pairs, Radio
 from lte_sec.cells import Cells, Site, read_cells, sites_of
+from lte_sec.fields import command
+from lte_sec.layers import pdu
 from lte_sec.terms import TraceError
 from lte_sec.stations import Stations, station_end
-from lte_sec.reading import learn
+from lte_sec.learning import learn
 from lte_sec.report import UNKNOWN
 
 from .test_traces import TRACES, traced
@@ -75,7 +77,7 @@ class Captures(unittest.TestCase):
     def test_an_end_with_two_addresses_is_one(self) -> None:
         told = [Message("1", 1.0, "S1", "DownlinkNASTransport", "core:1", "first:1", "0x1"), Message("2", 2.0, "S1", "DownlinkNASTransport", "core:1", "second:1", "0x1"),
                 Message("3", 3.0, "S1", "UplinkNASTransport", "second:1", "core:1", "0x2")]
-        Stations(Cells(), told)
+        Stations.of(Cells(), told)
         self.assertEqual([station_end(message) for message in told], ["first:1"] * 3)
 
     def test_cells_of_commands_where_nothing_else_tells_them(self) -> None:

@@ -69,7 +69,7 @@ class Covered(unittest.TestCase):
         ):
             thin = [Message(name, 3.0, "S1", name, *((core, enb) if name.startswith("Down") else (enb, core)), enb_id=7) for name in names]
             messages = [*thick, *thin]
-            found = taken(Stations(Cells(CELLS), messages).links(), (), ())
+            found = taken(Stations.of(Cells(CELLS), messages).links(), (), ())
             self.assertEqual((found.s1(enb, "up"), found.s1(enb, "down")), covered, names)
 
 

@@ -4,14 +4,14 @@ import sys
 import unittest
 from unittest import mock
 
-from lte_sec import drive, ending, frames, patient
+from lte_sec import differences, drive, ending, frames, patient
 from lte_sec.options import WrongWords
 
 DONE = "00088000000000000000"
 
 
 def told_of(line: bytes, whose: bytes, rest: bytes) -> list[str]:
-    found = drive.difference_of(line, whose, rest)
+    found = differences.difference_of(line, whose, rest)
     return found.lines() if found else []
 
 
@@ -36,17 +36,17 @@ class Drive(unittest.TestCase):
             return f"16 differs {wanted.spelled().hex()} {got.spelled().hex()}\n".encode()
 
         def chained(ncc: int) -> frames.Reply:
-            return frames.Reply(derived=(bytes(32),), note=frames.Note(ncc, drive.CHAINED, bytes(32)))
+            return frames.Reply(derived=(bytes(32),), note=frames.Note(ncc, differences.CHAINED, bytes(32)))
 
-        begun = frames.Reply(derived=(bytes(32),), note=frames.Note(0, drive.INITIAL, bytes(32)))
+        begun = frames.Reply(derived=(bytes(32),), note=frames.Note(0, differences.INITIAL, bytes(32)))
         kept = frames.Reply(derived=(bytes(32), bytes(32)), note=begun.note)
         for wanted, got in ((chained(1), chained(2)), (begun, kept)):
-            self.assertIn(f"step 16, core: {drive.STANDARD}", told_of(line(wanted, got), b"core", b""))
-            self.assertNotIn(drive.STANDARD, "".join(told_of(line(wanted, got), b"station 0", b"")))
-            self.assertNotIn(drive.STANDARD, "".join(told_of(line(got, wanted), b"core", b"")))
+            self.assertIn(f"step 16, core: {differences.STANDARD}", told_of(line(wanted, got), b"core", b""))
+            self.assertNotIn(differences.STANDARD, "".join(told_of(line(wanted, got), b"station 0", b"")))
+            self.assertNotIn(differences.STANDARD, "".join(told_of(line(got, wanted), b"core", b"")))
 
     def test_the_document_has_the_report_and_what_differs(self) -> None:
-        found = drive.difference_of(f"3 differs {DONE} 00088001000000000000\n".encode(), b"core", b"")
+        found = differences.difference_of(f"3 differs {DONE} 00088001000000000000\n".encode(), b"core", b"")
         told = {"version": 1, "status": 8, "report": ["0 both done"], "differs": {"step": 3, "actor": "core", "told": ["answer: wanted 0 (done), got 1 (NoContext)"]}, "failed": None}
         self.assertEqual(told, drive.document(8, ["0 both done"], found, None))
         self.assertIsNone(drive.document(0, [], None, None)["differs"])

@@ -9,7 +9,7 @@ from pathlib import Path
 from lte_sec import quick, reasons
 from lte_sec.cells import Cells, Site
 from lte_sec.dumps import blocks, candidates
-from lte_sec.explain import CONSTANT, OTHER_COUNT, ExplainedKey, Explanation, told
+from lte_sec.explained import OF_ANY, OTHER_COUNTS, ExplainedKey, Explanation, told
 from lte_sec.search import DerivationSearch
 from lte_sec.terms import Derivations, Kasme
 
@@ -110,6 +110,22 @@ class Explained(unittest.TestCase):
             "star(nh(16),10,100)", "alg(star(kenb(17),10,100),4,2)", "kenb(299)", "star(star(star(kenb(299),10,100),11,100),10,100)",
         ])
 
+    def test_the_far_search_follows_where_a_key_fits_or_where_it_is_asked_for(self) -> None:
+        calls, kasme = StandIn(), bytes.fromhex(LOG_KASME)
+        kenb = calls.kenb(kasme, 3)
+        star = calls.kenb_star(kenb, 10, 100)
+        deep, half, mistaken, other = calls.algorithm_key(star, 4, 2)[16:], calls.algorithm_key(kenb, 5, 2)[16:], {str(why): made for why, made in reasons.kenb_mistakes(kasme, 3)}["COUNT is little-endian"], bytes(range(32))
+        for keys, fits, forms in (
+            ((other,), False, [None]), ((deep,), False, [None]), ((deep, other), False, [None, None]), ((half, deep), True, ["alg(kenb(3),5,2)", "alg(star(kenb(3),10,100),4,2)"]),
+            ((kenb, other), True, ["kenb(3)", None]), ((mistaken, deep), True, [None, "alg(star(kenb(3),10,100),4,2)"]),
+        ):
+            text = blocks("\n\n".join(key.hex() for key in keys).splitlines())
+            for is_far in (False, True):
+                explanation = Explanation(Derivations(calls, [Kasme("KASME 1", kasme)]), Cells([Site(0, 10, 100)]), 8, 2)
+                found = [one.key.form if one.key else None for one in explanation.find(text, is_far)]
+                self.assertEqual(explanation.fits, fits or is_far)
+                self.assertEqual(found, forms if fits else ["alg(star(kenb(3),10,100),4,2)" if is_far and key == deep else None for key in keys])
+
     def test_each_mistake_is_named_with_the_key_that_was_wanted(self) -> None:
         """Each entry of the catalogue, made of KeNB 5, its NH 2, a cell and an algorithm: its line, where no right derivation gives those octets."""
         calls, kasme, cell = StandIn(), bytes.fromhex(LOG_KASME), (301, 70000)
@@ -119,18 +135,18 @@ class Explained(unittest.TestCase):
         entries = [(kenb, "kenb(5)", reasons.kenb_mistakes(kasme, 5)), (second, "nh(2) on kenb(5)", reasons.nh_mistakes(kasme, first))]
         entries += [(calls.kenb_star(second, *cell), "star(nh(2),301,70000) on kenb(5)", reasons.star_mistakes(second, *cell))]
         entries += [(calls.algorithm_key(kenb, 4, 2), "alg(kenb(5),4,2)", reasons.algorithm_mistakes(kenb, 4, 2, size)) for size in (32, 16)]
-        made = [(wanted, form, *one) for wanted, form, mistakes in entries for one in mistakes if not OTHER_COUNT.match(one[0])]
+        made = [(wanted, form, *one) for wanted, form, mistakes in entries for one in mistakes if one[0].cause not in OTHER_COUNTS]
         derivations = Derivations(calls, [Kasme("KASME 1", kasme)])
         text = "\n\n".join([kenb.hex(), *(value.hex() for *_, value in made)])
         lines = {one.value: (one, told(derivations, one)) for one in Explanation(derivations, Cells([Site(1, *cell)]), 8, 2).find(blocks(text.splitlines()))}
         named = 0
-        for wanted, form, name, value in made:
-            found, line = lines[value]
+        for wanted, form, why, value in made:
+            (found, line), name = lines[value], str(why)
             if found.key is not None:  # KASME, another algorithm key: a right derivation
                 continue
             named += 1
             is_of_any = "the key that it is made of" in name or name == "the identity is left out"  # then the first algorithm is named
-            end = f" none ({name})" if name.startswith(CONSTANT) else f" none ({name}; wanted {wanted[-len(value):].hex()}, which is {form})"
+            end = f" none ({name})" if why.cause in OF_ANY else f" none ({name}; wanted {wanted[-len(value):].hex()}, which is {form})"
             self.assertTrue(line.endswith(end) or is_of_any and " none (" in line, f"{name}: {line}")
         self.assertGreater(named, 45)
 

@@ -1,4 +1,6 @@
 """`drive --generate`: the draws of `gen`, the words, and how the first difference is made small."""
+from __future__ import annotations
+
 import contextlib
 import io
 import sys

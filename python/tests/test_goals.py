@@ -11,10 +11,12 @@ import unittest
 from pathlib import Path
 
 from lte_sec import resumed
+from lte_sec.answers import Answer, tellings
 from lte_sec.asked import steps_of
 from lte_sec.goals import lasting
 from lte_sec.listed import Listed, Lists
 from lte_sec.options import WrongWords
+from lte_sec.study import Variant
 from lte_sec.variants import KINDS, Fault
 
 from . import test_what_if
@@ -64,6 +66,25 @@ class Goals(unittest.TestCase):
         self.assertIn("--yes tries them", err.splitlines()[-1])
         self.assertEqual([lasting(seconds) for seconds in (3, 200, 9000, 400_000)], ["3 seconds", "3 minutes", "2 hours", "5 days"])
 
+    def test_sets_of_more_faults_are_those_that_the_program_lists(self) -> None:
+        """Eight messages at most are named; each choice is listed once, in its order, and the shares have all of them."""
+        steps = ("11", "12", "14", "15", "16", "17")
+        for faults in (4, 6):
+            lists = Lists(test_what_if.VARIANTS, octets("run/ordinary"), ("lost",), False, steps)
+            listed = [one.faults for one in lists.all(faults, None, 1)]
+            self.assertEqual(listed, sorted(set(listed), key=lambda them: [int(fault.item) for fault in them]))
+            self.assertEqual([one.faults for one in lists.all(faults, None, 3)], listed)
+            self.assertTrue(all(tuple(fault.item for fault in them) in itertools.combinations(steps, faults) for them in listed))
+            self.assertEqual(list(lists.messages), [step for step in steps if step in lists.messages])
+
+    def test_many_faults_are_tried_of_eight_messages(self) -> None:
+        ordinary = EXAMPLES / "run/ordinary.toml"
+        status, _, err = called("--goal", "coincidence", "--up-to", "6", "--yes", "--kinds", "lost", "--messages", "2,3,5,6,7,11,12,14,15", ordinary)
+        self.assertEqual(status, 2)
+        self.assertIn("are tried of 8 messages at most; name them with --messages", err.splitlines()[-1])
+        status, out, err = called("--goal", "coincidence", "--up-to", "8", "--kinds", "lost", "--messages", "2,3,5,6,7,11,12,14", ordinary)
+        self.assertEqual((status, out.splitlines()[0]), (0, "coincidence: no set of up to 8 faults has it"), err)
+
     def test_sets_are_saved(self) -> None:
         with tempfile.TemporaryDirectory() as room:
             called("--goal", "stuck", "--kinds", "lost", "--save", room, EXAMPLES / "run/ordinary.toml")
@@ -97,6 +118,16 @@ class Messages(unittest.TestCase):
         self.assertEqual((len(document["variants"]), sum(document["counts"]["1"].values())), (len(expected), len(expected)))
         self.assertEqual([each["step"] for each in document["messages"]], [16, 17])
         self.assertEqual(document["tried"]["messages"], [16, 17])
+
+
+    def test_those_whose_fault_comes_to_the_same_stand_in_one_line(self) -> None:
+        """Where the worst is that something is not made: the loss of a request is the cause of all that does not follow it."""
+        lost, messages = {"not made": "handover of step 14"}, {"11": "X2 Handover Request", "12": "X2 Handover Request Acknowledge", "14": "RRC Reconfiguration"}
+        variants = [Variant((Fault("lost", step),), outcomes) for step, outcomes in (("11", lost), ("12", lost), ("14", {"cut off": "", **lost}))]
+        self.assertEqual(list(tellings(variants, Answer({}, messages))), [
+            "11 X2 Handover Request, 12 X2 Handover Request Acknowledge lost: not made [handover of step 14]",
+            "14 RRC Reconfiguration lost: cut off (here; a phone re-establishes); not made [handover of step 14]",
+        ])
 
 
 class Parts(unittest.TestCase):

@@ -9,13 +9,15 @@ from unittest import mock
 
 from lte_sec import lawful
 from lte_sec.captures import read
-from lte_sec.report import DIFFERS, UNKNOWN
+from lte_sec.causes import Cause, has, told
+from lte_sec.report import DIFFERS, KEYS, UNKNOWN
 from lte_sec.seen import Account
 from lte_sec.trace import Trace
 
 from .test_traces import TRACES
 from .test_traces import traced as judged
 
+NOT_FOUND = Cause.HISTORY_FOUND.says
 SIGHTINGS = ("setup", "change", "answer", "request", "over", "any", "asked", "took")
 
 
@@ -26,8 +28,9 @@ def traced(name: str) -> Trace:
 class Says(lawful.Program):
     """A program that finds a history for all messages but those with these keys."""
 
-    def __init__(self, *wrong: str, closed: bool = True):
+    def __init__(self, *wrong: str, closed: bool = True, never: bool = False):
         super().__init__("", True)
+        object.__setattr__(self, "never", never)
         object.__setattr__(self, "wrong", wrong)
         object.__setattr__(self, "closed", closed)
         object.__setattr__(self, "questions", [])
@@ -36,11 +39,12 @@ class Says(lawful.Program):
         self.questions.append(question)  # type: ignore[attr-defined]
         shown = [line for line in question.splitlines() if line.split()[0] in SIGHTINGS]
         bad = [place for place, line in enumerate(shown) if any(key in line for key in self.wrong)]  # type: ignore[attr-defined]
-        return lawful.Found(bad[0] if bad else len(shown), self.closed)  # type: ignore[attr-defined]
+        moves = ("unseen arrive", "unseen prepare 0 10 100 last", *("seen switch" for _ in shown)) if "moves" in question.splitlines() else ()
+        return lawful.Found(bad[0] if bad else len(shown), self.closed, moves, bool(bad) and self.never)  # type: ignore[attr-defined]
 
 
 def blamed(seen: Account) -> list[str]:
-    return [value.got for _, value in seen.values() if value.verdict == DIFFERS and value.what in lawful.KEYS]
+    return [value.hex for _, value in seen.values() if value.verdict == DIFFERS and value.what in KEYS]
 
 
 class Blames(unittest.TestCase):
@@ -53,12 +57,37 @@ class Blames(unittest.TestCase):
         self.assertIn(f"blames of keys confirmed by proof: {len(wrong)}", seen.head[-1])
         self.assertIn("none without moves over the air", seen.head[-1])
 
+    def test_a_blame_that_no_history_of_any_length_explains_is_told_so(self) -> None:
+        trace = traced("B1-star-earfcn")
+        wrong = blamed(trace.seen)
+        seen = lawful.confirmed(trace, Says(*wrong, never=True))
+        self.assertTrue(seen.head[-1].endswith(f", and for {len(wrong)} none of any length, with moves over the air too"), seen.head[-1])
+
     def test_a_blame_that_a_history_explains_is_withdrawn(self) -> None:
         trace = traced("B1-star-earfcn")
         seen = lawful.confirmed(trace, Says())
         self.assertEqual([], blamed(seen))
         self.assertIn("blames of keys withdrawn", seen.head[-1])
-        self.assertTrue(any(value.verdict == UNKNOWN and value.reason == lawful.NOT_FOUND for _, value in seen.values()))
+        reasons = [value.reason for _, value in seen.values() if value.verdict == UNKNOWN and has(value.remarks, Cause.HISTORY_WITH_UNSEEN, Cause.HISTORY_WITHOUT_UNSEEN)]
+        self.assertTrue(reasons)
+        for reason in reasons:
+            self.assertIn("with the arrival at the target, a handover over X2 prepared at ", reason)
+
+    def test_the_moves_of_a_history_are_told_in_words(self) -> None:
+        phone = lawful.Phone(traced("B1-star-earfcn"), [])
+        phone.numbers.of("eNB 7")
+        said = [*phone.grounds(["unseen arrive", "seen renew 0 3 1 0 10 100 taken", "unseen ask lost", *["unseen switch"] * 8, "seen prepare 0 10 100 besides"])]
+        self.assertEqual(f"{NOT_FOUND}, with no unseen move", told(said[0]))
+        self.assertEqual(f"{NOT_FOUND}: with 1 more and {', '.join(['a path switch'] * 8)} unseen", told(said[1]))
+        for move, wanted in (
+            ("renew 0 3 1 0 10 100 refused", "a KeNB of COUNT 3 at eNB 7, refused"),
+            ("offer 0 4 2", "a key change of COUNT 4"),
+            ("refresh 10 100", "KeNB* within the station for cell 10/100"),
+            ("require 0 10 100 besides", "a handover over S1 prepared at eNB 7, besides another"),
+            ("ask lost", "a request to the core whose answer is lost"),
+            ("cancel", "the handover cancelled"),
+        ):
+            self.assertEqual(wanted, phone.spelled(move))
 
     def test_a_question_has_cells_counts_taps_and_messages(self) -> None:
         trace = traced("B1-star-earfcn")
@@ -84,6 +113,18 @@ class Blames(unittest.TestCase):
         self.assertEqual(blamed(trace.seen), blamed(seen))
         self.assertIn("not confirmed", seen.head[-1])
 
+    def test_where_a_search_is_given_up_fewer_moves_go_unseen(self) -> None:
+        class Gives(Says):
+            def ask(self, question: str) -> lawful.Found | None:
+                return None if "bound 2" in question.splitlines() else super().ask(question)
+
+        trace = traced("B1-star-earfcn")
+        wrong = blamed(trace.seen)
+        seen = lawful.confirmed(trace, Gives(*wrong))
+        self.assertEqual(wrong, blamed(seen))
+        self.assertIn(f"blames of keys confirmed by proof: {len(wrong)}", seen.head[-1])
+        self.assertIn("with at most 1 unseen move between", seen.head[-1])
+
     def test_where_the_program_is_not_built_the_head_says_so(self) -> None:
         with mock.patch.dict(os.environ, {lawful.VARIABLE: ""}):
             self.assertEqual(lawful.NOT_BUILT, lawful.confirmed(traced("B1-star-earfcn")).head[-1])
@@ -93,7 +134,7 @@ class Blames(unittest.TestCase):
     def test_the_answer_of_a_program(self) -> None:
         with tempfile.TemporaryDirectory() as folder:
             program = Path(folder) / "program"
-            for text, status, wanted in (("explained 3 of 4 closed", 0, lawful.Found(3, True)), ("explained 4 of 4", 0, lawful.Found(4, False)), ("bad line 1", 3, None), ("", 12, None)):
+            for text, status, wanted in (("explained 3 of 4 closed", 0, lawful.Found(3, True)), ("explained 1 of 4\nseen switch", 0, lawful.Found(1, False, ("seen switch",))), ("explained 4 of 4", 0, lawful.Found(4, False)), ("explained 2 of 4 closed out-of-order", 0, lawful.Found(2, True, (), True)), ("explained 2 of 4 out-of-order", 0, lawful.Found(2, False, (), True)), ("bad line 1", 3, None), ("", 12, None)):
                 program.write_text(f"#!/bin/sh\ncat >/dev/null\necho '{text}'\nexit {status}\n")
                 program.chmod(0o700)
                 with mock.patch.dict(os.environ, {lawful.VARIABLE: f"proved {program}"}):

@@ -36,7 +36,7 @@ class Derivations(unittest.TestCase):
         draw = random.Random(1)
         for _ in range(CASES):
             key, sync = draw.randbytes(32), draw.randbytes(32)
-            count, pci, earfcn = draw.getrandbits(32), draw.randint(0, 503), draw.choice([65535, 65536, draw.randint(0, 262143)])
+            count, pci, earfcn = draw.getrandbits(24), draw.randint(0, 503), draw.choice([65535, 65536, draw.randint(0, 262143)])
             kind, identity = draw.randint(1, 6), draw.randint(0, 15)
             wide = earfcn.to_bytes(3 if earfcn > 65535 else 2, "big")
             self.assertEqual(library.kenb(key, count), derived(key, 0x11, count.to_bytes(4, "big")))
@@ -59,6 +59,7 @@ class Derivations(unittest.TestCase):
         for call in (
             lambda: library.kasme(bytes(16), bytes(16), bytes(4), bytes(6)),
             lambda: library.kenb(KASME[1:], 0),
+            lambda: library.kenb(KASME, 1 << 24),
             lambda: library.kenb(KASME, 1 << 32),
             lambda: library.kenb_star(KASME, 504, 0),
             lambda: library.kenb_star(KASME, 0, 262144),

@@ -14,7 +14,7 @@ def names_of(module: ast.Module) -> Iterator[str]:
             yield node.name
     for line in module.body:
         if isinstance(line, ast.Assign):
-            yield from (it.id for it in line.targets if isinstance(it, ast.Name) and not it.id.isupper())
+            yield from (it.id for it in line.targets if isinstance(it, ast.Name) and not it.id.isupper() and not it.id.startswith("_"))
 
 
 def modules_by_name() -> dict[str, list[str]]:

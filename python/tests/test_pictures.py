@@ -37,7 +37,7 @@ def faults_of(texts: list[tuple[str, Room]], boxes: list[Room], picture: Room) -
         around = [box for box in boxes if box[0] <= x <= box[2] and box[1] <= y <= box[3]]
         box = min(around, key=lambda it: (it[2] - it[0]) * (it[3] - it[1]), default=picture)
         for name, edge in (("its box", box), ("the picture", picture)):
-            if room[0] < edge[0] - 1 or room[2] > edge[2] + 1 or room[3] > edge[3] + 1:
+            if room[0] < edge[0] - 1 or room[1] < edge[1] - 1 or room[2] > edge[2] + 1 or room[3] > edge[3] + 1:
                 yield f"'{words}' leaves {name}"
 
 

@@ -5,13 +5,25 @@ import hmac
 import os
 import tempfile
 import unittest
+from collections.abc import Callable
 from unittest import mock
 
-from lte_sec import reasons, strict
+from lte_sec import pdu_reasons, reasons, strict
+from lte_sec.causes import Why, told
+from lte_sec.derive import Calc
 from lte_sec.reasons import ProtectedNas
 
 from .standin import StandIn
 
+
+
+def in_words(find: Callable[..., Why]) -> Callable[..., str]:
+    """What is found, in words."""
+    return lambda *given, **more: told(find(*given, **more))
+
+
+of_star, of_kenb, of_nh, of_algorithm = in_words(reasons.star), in_words(reasons.kenb), in_words(reasons.nh), in_words(reasons.algorithm)
+of_mac, of_srb = in_words(reasons.mac), in_words(pdu_reasons.srb)
 CALLS = StandIn()
 KEY, KASME, SYNC = bytes(range(32)), bytes(range(32, 64)), bytes(range(64, 96))
 
@@ -46,7 +58,7 @@ ALGORITHMS = {  # type 4, identity 2
 class OnAnSrb(unittest.TestCase):
     def test_each_mistake_of_a_mac_is_named(self) -> None:
         whole, cipher, body = bytes(range(32)), bytes(range(32, 64)), bytes.fromhex("03010203")
-        it = reasons.Srb(whole, cipher, 2, 0, 7, 1, body)
+        it = pdu_reasons.Srb(whole, cipher, 2, 0, 7, 1, body)
         key = whole[16:]
         right = CALLS.eia2(key, 7, 1, 0, body)
         for value, name in (
@@ -55,8 +67,8 @@ class OnAnSrb(unittest.TestCase):
             (CALLS.eia1(key, 7, 1, 0, body), "it is that of 128-EIA1"), (CALLS.eia3(key, 7, 1, 0, body), "it is that of 128-EIA3"), (CALLS.eia2(key, 7, 0, 0, body), "it is that of BEARER 0"),
             (CALLS.eia2(key, 39, 1, 0, body), "it is that of COUNT 39"), (bytes(4), "it is zeros"), (right, ""), (b"\1\2\3\4", ""),
         ):
-            self.assertEqual(reasons.srb(CALLS, value, it), name)
-        self.assertEqual(reasons.srb(CALLS, right, reasons.Srb(whole, cipher, 0, 0, 7, 1, body)), "")
+            self.assertEqual(of_srb(CALLS, value, it), name)
+        self.assertEqual(of_srb(CALLS, right, pdu_reasons.Srb(whole, cipher, 0, 0, 7, 1, body)), "")
 
 
 ON_SRB = bytes.fromhex("0748aabb")
@@ -104,9 +116,9 @@ PDUS = {  # by what is wrong, at COUNT 70, BEARER 0, down
 class Pdus(unittest.TestCase):
     def test_each_mistake_of_a_pdu_is_named(self) -> None:
         for why, octets in PDUS.items():
-            self.assertEqual(why, reasons.pdu(CALLS, reasons.Pdu(KEY, 2, 2, 1, 70, 0, octets)))
-        self.assertEqual("text: it is ciphered by 128-EEA2", reasons.pdu(CALLS, reasons.Pdu(KEY, 0, 2, 1, 70, 0, pdu())))
-        self.assertEqual("", reasons.pdu(CALLS, reasons.Pdu(KEY, 2, 2, 1, 70, 0, bytes(9))))
+            self.assertEqual(why, str(pdu_reasons.pdu(CALLS, pdu_reasons.Pdu(KEY, 2, 2, 1, 70, 0, octets))))
+        self.assertEqual("text: it is ciphered by 128-EEA2", str(pdu_reasons.pdu(CALLS, pdu_reasons.Pdu(KEY, 0, 2, 1, 70, 0, pdu()))))
+        self.assertEqual("", str(pdu_reasons.pdu(CALLS, pdu_reasons.Pdu(KEY, 2, 2, 1, 70, 0, bytes(9)))))
 
 
 class Strict(unittest.TestCase):
@@ -130,6 +142,29 @@ class Strict(unittest.TestCase):
             what, _, rest = why.replace("MAC-I", "MAC", 1).partition(": ")
             self.assertEqual(f"{what} are wrong: {rest}" if "and" in what else f"the {what} is wrong: {rest}" if why else "", found)
 
+    def test_what_any_algorithms_give_is_named(self) -> None:
+        cases = (
+            (b"no count", "2", "opens 2 5 eia1 eea2 0748010203", "any", "the MAC is wrong: it is that of 128-EIA1 at COUNT 5"),
+            (b"no count", "2/1", "no algorithm but downlink opens 1 7 eia2 0748", "any", "the MAC is wrong: it is that of the other direction, of 128-EIA2 at COUNT 7"),
+            (b"no count", "2", "no algorithm", "any", ""),
+            (b"no count", "any", "", None, ""),
+            (b"opens 2 5 e66bd0ff86", "1", "opens 2 5 eia2 eea2 0748010203", "5", "the text is no NAS message; it is one under EEA2"),
+            (b"opens 2 5 e66bd0ff86 unchecked", "1/0", "opens 2 5 eia2 eea0 0748 eea3 0201d9", "5", "the text is no NAS message; it is one under EEA0 or EEA3"),
+            (b"opens 2 5 e66bd0ff86", "1", "opens 2 5 eia2 no NAS message", "5", "the text is no NAS message"),
+            (b"opens 1 5 6869", "1", "opens 1 5 eia2 6869 no NAS message", "5", "the text is no NAS message"),
+        )
+        for answer, eea, fits, count, said in cases:
+            calc = mock.create_autospec(Calc, instance=True)
+            calc.answer.return_value = fits
+            self.assertEqual(said, strict.fitting(calc, ["nas", KASME.hex(), eea, "0", "uplink", "27"], answer))
+            self.assertEqual([mock.call("nas", KASME.hex(), "any", count, "uplink", "27")] if count else [], calc.answer.call_args_list)
+
+    def test_a_text_that_is_no_nas_message_is_seen_by_its_front(self) -> None:
+        for answer in (b"opens 2 5 0748", b"opens 1 0 0201d9", b"opens 3 0 -", b"opens 7 6869", b"opens 7 6869 unchecked", b"opens 5", b"opens 2 5 eia1 eea2 0748"):
+            self.assertFalse(strict.is_odd(answer), answer)
+        for answer in (b"opens 2 5 07", b"opens 2 5 0788", b"opens 2 5 0201", b"opens 2 5 020119 unchecked"):
+            self.assertTrue(strict.is_odd(answer), answer)
+
     def test_lines_are_read_again_from_a_file_or_a_copy(self) -> None:
         with tempfile.NamedTemporaryFile() as file, mock.patch.dict(os.environ, {strict.COPY: file.name}):
             file.write(b"# a\nkenb x\n\nnas y\n")
@@ -144,37 +179,37 @@ class Strict(unittest.TestCase):
 class Keys(unittest.TestCase):
     def test_kenb_star(self) -> None:
         for name, text in STARS.items():
-            self.assertEqual(reasons.star(made(KEY, text), KEY, 301, 1575), name)
+            self.assertEqual(of_star(made(KEY, text), KEY, 301, 1575), name)
         right = made(KEY, "13 012d 0002 0627 0002")
-        self.assertEqual(reasons.star(made(KEY[::-1], "13 012d 0002 0627 0002"), KEY, 301, 1575), "the key is reversed")
-        self.assertEqual(reasons.star(right[::-1], KEY, 301, 1575), "the octets are reversed")
-        self.assertEqual(reasons.star(KEY, KEY, 301, 1575), "it is the key without the step to the cell")
-        self.assertEqual(reasons.star(made(KEY, "13 004d 0002 0384 0002"), KEY, 77, 66436), "EARFCN has its low two octets only")
-        self.assertEqual((reasons.star(right, KEY, 301, 1575), reasons.star(SYNC, KEY, 301, 1575)), ("", ""))
+        self.assertEqual(of_star(made(KEY[::-1], "13 012d 0002 0627 0002"), KEY, 301, 1575), "the key is reversed")
+        self.assertEqual(of_star(right[::-1], KEY, 301, 1575), "the octets are reversed")
+        self.assertEqual(of_star(KEY, KEY, 301, 1575), "it is the key without the step to the cell")
+        self.assertEqual(of_star(made(KEY, "13 004d 0002 0384 0002"), KEY, 77, 66436), "EARFCN has its low two octets only")
+        self.assertEqual((of_star(right, KEY, 301, 1575), of_star(SYNC, KEY, 301, 1575)), ("", ""))
 
     def test_algorithm_keys(self) -> None:
         for name, text in ALGORITHMS.items():
-            self.assertEqual(reasons.algorithm(made(KEY, text), KEY, 4, 2), name)
-            self.assertEqual(reasons.algorithm(made(KEY, text)[16:], KEY, 4, 2), name)
+            self.assertEqual(of_algorithm(made(KEY, text), KEY, 4, 2), name)
+            self.assertEqual(of_algorithm(made(KEY, text)[16:], KEY, 4, 2), name)
         right = made(KEY, "15 04 0001 02 0001")
-        self.assertEqual(reasons.algorithm(made(KEY[::-1], "15 04 0001 02 0001"), KEY, 4, 2), "the key is reversed")
-        self.assertEqual((reasons.algorithm(right[::-1], KEY, 4, 2), reasons.algorithm(right[16:][::-1], KEY, 4, 2)), ("the octets are reversed",) * 2)
-        self.assertEqual(reasons.algorithm(right[:16], KEY, 4, 2), "it is the first half of the key, not the last")
-        self.assertEqual(reasons.algorithm(KEY[:16], KEY, 4, 2), "it is the first half of the key that it is made of")
-        self.assertEqual(reasons.algorithm(KEY[16:], KEY, 4, 2), "it is the last half of the key that it is made of")
-        self.assertEqual(reasons.algorithm(KEY, KEY, 4, 2), "it is the key that it is made of")
-        self.assertEqual((reasons.algorithm(right, KEY, 4, 2), reasons.algorithm(right[16:], KEY, 4, 2)), ("", ""))
+        self.assertEqual(of_algorithm(made(KEY[::-1], "15 04 0001 02 0001"), KEY, 4, 2), "the key is reversed")
+        self.assertEqual((of_algorithm(right[::-1], KEY, 4, 2), of_algorithm(right[16:][::-1], KEY, 4, 2)), ("the octets are reversed",) * 2)
+        self.assertEqual(of_algorithm(right[:16], KEY, 4, 2), "it is the first half of the key, not the last")
+        self.assertEqual(of_algorithm(KEY[:16], KEY, 4, 2), "it is the first half of the key that it is made of")
+        self.assertEqual(of_algorithm(KEY[16:], KEY, 4, 2), "it is the last half of the key that it is made of")
+        self.assertEqual(of_algorithm(KEY, KEY, 4, 2), "it is the key that it is made of")
+        self.assertEqual((of_algorithm(right, KEY, 4, 2), of_algorithm(right[16:], KEY, 4, 2)), ("", ""))
 
     def test_kenb(self) -> None:
         for name, text in KENBS.items():
-            self.assertEqual(reasons.kenb(made(KASME, text), KASME, 258), name)
-        self.assertEqual(reasons.kenb(made(KASME, "11 00000001 0004"), KASME, 65537), "COUNT is 1, the low 5 bits of 65537")
-        self.assertEqual(reasons.kenb(made(KASME, "11 00000021 0004"), KASME, 65569), "COUNT is 33, the low 8 bits of 65569")
-        self.assertEqual(reasons.kenb(made(KASME, "11 00000121 0004"), KASME, 65825), "COUNT is 289, the low 16 bits of 65825")
+            self.assertEqual(of_kenb(made(KASME, text), KASME, 258), name)
+        self.assertEqual(of_kenb(made(KASME, "11 00000001 0004"), KASME, 65537), "COUNT is 1, the low 5 bits of 65537")
+        self.assertEqual(of_kenb(made(KASME, "11 00000021 0004"), KASME, 65569), "COUNT is 33, the low 8 bits of 65569")
+        self.assertEqual(of_kenb(made(KASME, "11 00000121 0004"), KASME, 65825), "COUNT is 289, the low 16 bits of 65825")
         for name, value in (("it is KASME itself", KASME), ("it is KASME, reversed", KASME[::-1]), ("all octets are 00", bytes(32)), ("all octets are ff", b"\xff" * 32)):
-            self.assertEqual(reasons.kenb(value, KASME, 258), name)
-        self.assertEqual(reasons.kenb(made(KASME[::-1], "11 00000102 0004"), KASME, 258), "KASME is reversed")
-        self.assertEqual(reasons.kenb(made(KASME, "11 00000102 0004")[::-1], KASME, 258), "the octets are reversed")
+            self.assertEqual(of_kenb(value, KASME, 258), name)
+        self.assertEqual(of_kenb(made(KASME[::-1], "11 00000102 0004"), KASME, 258), "KASME is reversed")
+        self.assertEqual(of_kenb(made(KASME, "11 00000102 0004")[::-1], KASME, 258), "the octets are reversed")
 
     def test_nh(self) -> None:
         sync, kasme = SYNC.hex(), KASME.hex()
@@ -184,7 +219,7 @@ class Keys(unittest.TestCase):
             "KASME is reversed": made(KASME[::-1], f"12 {sync} 0020"), "the octets are reversed": made(KASME, f"12 {sync} 0020")[::-1], "it is the SYNC-input itself": SYNC,
             "all octets are 00": bytes(32), "all octets are ff": b"\xff" * 32,
         }.items():
-            self.assertEqual(reasons.nh(value, KASME, SYNC), name)
+            self.assertEqual(of_nh(value, KASME, SYNC), name)
 
 
 TEXT = bytes.fromhex("0755aabbcc")
@@ -217,14 +252,14 @@ class NasReasons(unittest.TestCase):
             "it is zeros": bytes(4), "it is reversed": right[::-1], "it is that of COUNT 2, the sequence number": CALLS.eia2(of, 2, 0, 0, body), "it is that of COUNT 300": CALLS.eia2(of, 300, 0, 0, body),
             "it is that of other at COUNT 258": CALLS.eia2(key(2, 2, SYNC)[16:], COUNT, 0, 0, body), "it is that of other at COUNT 2": CALLS.eia2(key(2, 2, SYNC)[16:], 2, 0, 0, body),
         }.items():
-            self.assertEqual(reasons.mac(CALLS, message(mac), iter([("other", SYNC)])), name)
+            self.assertEqual(of_mac(CALLS, message(mac), iter([("other", SYNC)])), name)
 
     def test_short_macs(self) -> None:
         head = bytes([0xC7, 0x02])
         other = CALLS.eia2(key(2)[16:], COUNT, 0, 1, head)
         nas = ProtectedNas(KASME, 2, 2, 0, COUNT, head + other[2:4])
-        self.assertEqual(reasons.mac(CALLS, nas, tag=slice(2, 4)), "it is that of the other direction")
-        self.assertEqual(reasons.mac(CALLS, ProtectedNas(KASME, 2, 2, 0, COUNT, head + bytes(2)), tag=slice(2, 4)), "it is zeros")
+        self.assertEqual(of_mac(CALLS, nas, tag=slice(2, 4)), "it is that of the other direction")
+        self.assertEqual(of_mac(CALLS, ProtectedNas(KASME, 2, 2, 0, COUNT, head + bytes(2)), tag=slice(2, 4)), "it is zeros")
 
     def test_texts(self) -> None:
         def reads(text: bytes) -> bool:
@@ -236,8 +271,9 @@ class NasReasons(unittest.TestCase):
             "it is ciphered by 128-EEA3": CALLS.eea3(key(1, 3)[16:], COUNT, 0, 0, TEXT), "it is ciphered with BEARER 1": ciphered(bearer=1), "it is ciphered with BEARER 31": ciphered(bearer=31),
             "it is ciphered at COUNT 2": ciphered(count=2), "it is ciphered at COUNT 242": ciphered(count=242), "it is ciphered at COUNT 299": ciphered(count=299),
         }.items():
-            self.assertEqual(reasons.text(CALLS, message(bytes(4), text), reads), (name, TEXT))
-        self.assertEqual(reasons.text(CALLS, message(bytes(4), bytes(5)), reads), ("", b""))
+            why, meant = reasons.text(CALLS, message(bytes(4), text), reads)
+            self.assertEqual((told(why), meant), (name, TEXT))
+        self.assertEqual(reasons.text(CALLS, message(bytes(4), bytes(5)), reads), ((), b""))
 
 
 if __name__ == "__main__":

@@ -9,7 +9,6 @@ import os
 import stat
 import subprocess
 import tempfile
-import tomllib
 import unittest
 from collections import Counter
 from pathlib import Path
@@ -23,6 +22,7 @@ from lte_sec.decoding import Message
 from lte_sec.reading import check
 from lte_sec.recorded import record
 from lte_sec.remarks import frames_of
+from lte_sec.scenarios import table_of
 from lte_sec.terms import Derivations, Kasme
 from lte_sec.told import ReplayedCapture, scenario_of
 
@@ -206,7 +206,7 @@ class Worlds(unittest.TestCase):
         self.assertGreater(len(answer.parts), 3)
         self.assertTrue(any("from here on another scenario" in line for line in lines))
         for part in answer.parts:
-            self.assertLessEqual(len(tomllib.loads(scenario_of(answer, part))["station"]), 8)
+            self.assertLessEqual(len(table_of(scenario_of(answer, part).encode())["station"]), 8)
 
     def test_a_thousand_handovers_take_one_run(self) -> None:
         world, phone = World(), Phone("phone", KASMES[0])
@@ -230,13 +230,13 @@ class Words(unittest.TestCase):
                 self.assertEqual(stat.S_IMODE(file.stat().st_mode), 0o600)
                 text = file.read_text(encoding="utf-8")
                 self.assertEqual(subprocess.run([PROGRAM, "run"], input=text.encode(), capture_output=True).returncode, 0)
-                self.assertEqual(sorted(frames_of(text)), list(range(len(tomllib.loads(text)["step"]))))
+                self.assertEqual(sorted(frames_of(text)), list(range(len(table_of(text.encode())["step"]))))
 
     def test_one_scenario_is_printed_with_or_without_texts(self) -> None:
         given = "--cells", TRACES / "A.cells.txt", TRACES / "A.json.gz", KASME
         _, out, _ = called("--phone", 1, *given)
         _, bare, said = called("--phone", 1, "--no-texts", *given)
-        texts, zeros = ([step["text"] for step in tomllib.loads(one)["step"] if step["do"] == "nas"] for one in (out, bare))
+        texts, zeros = ([step["text"] for step in table_of(one.encode())["step"] if step["do"] == "nas"] for one in (out, bare))
         self.assertTrue(any("696e7465726e6574" in text for text in texts))
         self.assertEqual([len(text) for text in texts], [len(text) for text in zeros])
         self.assertEqual(set("".join(zeros)), {"0"})

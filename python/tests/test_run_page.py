@@ -9,8 +9,8 @@ from pathlib import Path
 from typing import Any
 
 from lte_sec import pages, ran
-from lte_sec.ladders import rows_of
-from lte_sec.messages import StepLine
+from lte_sec.run_report import rows_of
+from lte_sec.run_report import StepLine
 
 from . import test_what_if
 from .browser import found

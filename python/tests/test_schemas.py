@@ -6,7 +6,6 @@ import io
 import json
 import subprocess
 import sys
-import tomllib
 import unittest
 from collections.abc import Iterator
 from functools import lru_cache
@@ -14,7 +13,9 @@ from pathlib import Path
 from typing import Any
 from unittest import mock
 
-from lte_sec import demands, drive, verdict, words
+from lte_sec import differences, demands, documents as documents_module, drive, verdict, wireshark, words
+from lte_sec.repeats import first_repeat
+from lte_sec.scenarios import table_of
 
 from .schemas import SCHEMAS, faults, is_of, schema_of, validator
 from .standin import StandIn
@@ -50,13 +51,29 @@ def documents() -> Iterator[tuple[str, Any]]:
         if file.stem not in NO_REPORTS:
             with contextlib.suppress(verdict.NoReport):
                 yield "verdict", json.loads(json.dumps(verdict.judged(file.read_text()).document()))
-    yield "drive", drive.document(8, ["0 both done"], drive.Difference(None, "core", ["answer: wanted 0 (done), got 1 (NoContext)"]), None)
+    yield "drive", drive.document(8, ["0 both done"], differences.Difference(None, "core", ["answer: wanted 0 (done), got 1 (NoContext)"]), None)
     yield "drive", drive.document(6, [], None, {"step": 3, "actor": "phone", "how": "it was silent"})
+    yield from by_outputs()
     yield "demands", json.loads(json.dumps(demands.document(demands.load())))
     for name in ("A", "B1-star-earfcn"):
         yield "check-trace", traced(name)
     if is_built():
         yield from by_the_program()
+
+
+def by_outputs() -> Iterator[tuple[str, Any]]:
+    """Documents of the outputs that are kept."""
+    for word, form in documents_module.FORMS.items():
+        for file in sorted((EXAMPLES / word).glob("*.out")):
+            told = form(file.read_text().splitlines()) if not file.read_text().startswith("refused") else None
+            if told is not None:
+                yield word, {"version": 1} | told | {"status": 7 if told["coincidence"] else 0}
+    for file in sorted((EXAMPLES / "calc").glob("*.out")):
+        told = documents_module.of_calc(file.with_suffix(".txt").read_text().split("\n"), file.read_text().splitlines())
+        yield "calc", {"version": 1} | told | {"status": 3 if file.stem == "bad" else 0}
+    for text in ("a 1 0 1\na 1 0 1\n", "a 1 0 1\n"):
+        yield "repeats", json.loads(json.dumps(first_repeat(text.splitlines()).document()))
+    yield "wireshark", wireshark.document([wireshark.TableRow(1, "00" * 16, "", "11" * 16, 1, "24", "S0", "kenb(0)", 2, 2, True)], [], 0)
 
 
 def by_the_program() -> Iterator[tuple[str, Any]]:
@@ -71,9 +88,14 @@ def by_the_program() -> Iterator[tuple[str, Any]]:
     yield "check-trace", launched("check-trace", "--json", "--cells", TRACES / "A.cells.txt", TRACES / "A.json.gz", KASME)
     yield "explain", launched("explain", "--json", "--keys", EXAMPLES / "run/ordinary.out", "--cell", "10,100", KASME)
     yield "explain", launched("explain", "--json", "--keys", TOP / "docs/cookbook/handover.log", "6f1d9a0c55e2473bb8a4c07e12f3d96a80bc4e7719d2053fe6a1b8c4d7720e95")
+    for word, file in (("fleet", "fleet/two-phones.toml"), ("two", "two/relocation.toml"), ("audit", "run/ordinary.toml"), ("ladder", "ladder/first.txt"), ("calc", "calc/pdus.txt")):
+        yield word, launched(word, "--json", EXAMPLES / file)
+    yield "audit", launched("audit", "--json", "--frames", EXAMPLES / "run/ordinary.toml")
+    yield "wireshark", launched("wireshark", "--json", TRACES / "A.json.gz", KASME)
     yield "vectors", launched("vectors", "--count", "100")
     yield "drive-suite", launched("drive", "--suite", "--json", "--scenario", "air-01", "--phone", "false")
     for given in (("drive", "--json", "nowhere"), ("run", "--json", EXAMPLES / "ladder/first.txt"), ("verdict", "--json", "/dev/null"), ("what-if", "--json", "--faults", "9"), ("check-trace", "--json", "nowhere"), ("replay", "--json"),
+                  ("audit", "--json", EXAMPLES / "ladder/first.txt"), ("ladder", "--json", "nowhere"), ("repeats", "--json", "/dev/zero"), ("wireshark", "--json", "nowhere", KASME),
                   ("drive", "--json", EXAMPLES / "ladder/first.txt"), ("drive", "--suite", "--json", "--what"), ("what-if", "--json", EXAMPLES / "run/coincidence.toml")):
         yield "error", launched(*given)
 
@@ -109,7 +131,7 @@ class Schemas(unittest.TestCase):
         schema = schema_of("scenario")
         files = [file for room in ("run", "worked", "fleet", "two", "what-if", "procedures", "runs") for file in sorted((EXAMPLES / room).glob("*.toml"))]
         self.assertGreater(len(files), 60)
-        found = [tomllib.loads(file.read_text()) for file in files]
+        found = [table_of(file.read_bytes()) for file in files]
         for file, document in zip(files, found):
             self.assertTrue(is_of(schema, schema, document), file)
         self.assertEqual("", faults([("scenario", schema, found)]))
@@ -121,9 +143,9 @@ class Schemas(unittest.TestCase):
     def test_a_mistake_is_not_of_the_schema_of_scenarios(self) -> None:
         schema = schema_of("scenario")
         right = 'phone = { caps = "a020" }\nstation = [{ id = 0, cells = [[10, 100]] }]\nstep = [{ do = "x2", station = 0, cell = [10, 100] }]\n'
-        self.assertTrue(is_of(schema, schema, tomllib.loads(right)))
+        self.assertTrue(is_of(schema, schema, table_of(right.encode())))
         for old, new in (("a020", "a02"), ("id = 0", "id = 8"), ("[[10, 100]]", "[[504, 100]]"), ("[[10, 100]]", "[[10]]"), ("x2", "x3"), ("station = 0", "stations = 0"), (", station = 0", ""), ("caps", "cap")):
-            self.assertFalse(is_of(schema, schema, tomllib.loads(right.replace(old, new, 1))), new)
+            self.assertFalse(is_of(schema, schema, table_of(right.replace(old, new, 1).encode())), new)
 
 
 if __name__ == "__main__":

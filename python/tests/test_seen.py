@@ -53,7 +53,7 @@ class SeenList(unittest.TestCase):
         asked = next(one for one in world.messages if one.link == "X2")
         right, asked.key = asked.key, bytes(32)
         values = [value for one, value in seen(world).values() if one.frame == asked.frame and value.what == "KeNB*"]
-        self.assertEqual([(value.got, value.wanted, value.term, value.wanted_term) for value in values], [("00" * 32, (right or b"").hex(), "none", "star(kenb(0),10,100)".replace("10,100", "301,6300"))])
+        self.assertEqual([(value.hex, value.wanted_hex, value.found, value.wanted) for value in values], [("00" * 32, (right or b"").hex(), "none", "star(kenb(0),10,100)".replace("10,100", "301,6300"))])
 
     def test_the_document_numbers_messages(self) -> None:
         found = seen(two_phones())

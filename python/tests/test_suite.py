@@ -1,4 +1,6 @@
 """The suite of `drive`: rows, visits, outcomes, options and the report."""
+from __future__ import annotations
+
 import contextlib
 import io
 import json

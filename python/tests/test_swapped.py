@@ -14,10 +14,10 @@ from lte_sec.report import DIFFERS, Line
 from lte_sec.terms import Derivations, Kasme
 
 from . import test_faults, test_simulated
+from .in_views import WORLDS
 from .simulated import CALLS, CELLS
 from .situations import KASMES
 from .test_simulated import late_answer
-from .test_views import WORLDS
 
 EVERY = 1 if os.environ.get("EVERY_PLACE") else 7  # the gate tries a sample
 LONG = 100  # messages; longer worlds say the same again and again

@@ -97,7 +97,7 @@ class Truth(unittest.TestCase):
 
     def test_commands_over_the_air_are_compared(self) -> None:
         for name in ("A", "C"):
-            found = read_all([TRACES / f"{name}.json.gz", TRACES / f"{name}.rrc.json.gz"])
+            found = list(read_all([TRACES / f"{name}.json.gz", TRACES / f"{name}.rrc.json.gz"]))
             lines = [line for line in traced(name, found).lines if line.message == "RRC"]
             wanted = [one for one in truth_of(name)["rrc"] if "ncc" in one]
             self.assertEqual(

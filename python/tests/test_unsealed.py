@@ -6,9 +6,9 @@ import unittest
 from pathlib import Path
 from unittest import mock
 
-from lte_sec import frames, protected, reasons, scenarios, unsealed
+from lte_sec import frames, pdu_reasons, protected, scenarios, unsealed
 from lte_sec.frames import Reply
-from lte_sec.ladders import rows_of
+from lte_sec.run_report import rows_of
 
 from .standin import StandIn
 
@@ -37,7 +37,7 @@ def step(place: int) -> unsealed.ActorStep:
 
 def mistakes(place: int, got: Reply) -> list[str]:
     with mock.patch.object(unsealed, "body_at", lambda *_: TOLD[place][0]):
-        return unsealed.mistakes(CALLS, step(place), TOLD[place][1], got)
+        return [*map(str, unsealed.mistakes(CALLS, step(place), TOLD[place][1], got))]
 
 
 def sends(place: int, record: bytes) -> list[str]:
@@ -115,7 +115,7 @@ class Came(unittest.TestCase):
             self.assertEqual([f"{way}: it is zeros"], refuses(place, bytes(4), self.received(place, octets)))
             self.assertEqual([f"{way}: it is that of the other direction"], refuses(place, self.computed(place, octets, UP), self.received(place, octets)))
 
-    def srb(self, octets: bytes) -> reasons.Pdu:
+    def srb(self, octets: bytes) -> pdu_reasons.Pdu:
         it = protected.srb(CALLS, step(RECONFIGURATION).course(DOWN, "srb1"), octets)
         assert it
         return it

@@ -6,7 +6,7 @@ from pathlib import Path
 
 from lte_sec import waiting
 from lte_sec.courses import act, delivery
-from lte_sec.messages import StepLine
+from lte_sec.run_report import StepLine
 from lte_sec.scenarios import read
 from lte_sec.waiting import Crossing, Happened
 

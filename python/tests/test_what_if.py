@@ -8,7 +8,6 @@ import json
 import signal
 import subprocess
 import tempfile
-import tomllib
 import unittest
 import unittest.mock
 import xml.dom.minidom
@@ -16,13 +15,14 @@ from functools import lru_cache
 from pathlib import Path
 from typing import Any
 
-from lte_sec import scenarios, what_if
+from lte_sec import scenarios, what_if_word as what_if
 from lte_sec.answers import Answer, from_json, merged, ranges, table, to_json
 from lte_sec.courses import Course, Item, ProgramFails, act, delivery
+from lte_sec.healing import Heals
 from lte_sec.listed import Listed, Lists, order, variant_of
-from lte_sec.messages import StepLine
+from lte_sec.run_report import StepLine
 from lte_sec.outcomes import NOT_TOLD, RANK, WORDS, Comparison, Standing, limit, signature
-from lte_sec.probe import PROBE
+from lte_sec.probe import AGAIN, PROBE, opens
 from lte_sec.saving import save
 from lte_sec.scenarios import text
 from lte_sec.study import Study, Variant
@@ -41,6 +41,11 @@ SHOWN = {
     ("worked/user-window", "twice"): ("COUNTs apart",),
     ("run/seven-ahead", "again"): ("keys differ",),
     ("worked/sent-again", "late"): ("coincidence",),
+}
+# What heals behind a scenario: by what, how many events, and why nothing does.
+HEALED = {
+    "run/ordinary": ("reconnection", 7, None), "run/eight-ahead": ("reconnection", 7, None), "procedures/count-out-of-reach": ("authentication", 11, None),
+    "worked/last-number": (None, None, "station 0 NumberSpent"),
 }
 
 
@@ -84,8 +89,8 @@ def called(*words: object) -> tuple[int, str, str]:
 
 class Scenarios(unittest.TestCase):
     def test_a_setup_is_written_as_it_was_read(self) -> None:
-        setup = tomllib.loads('phone = { caps = "a020" }\nnew = { deep = [{ "a b" = "c\\"d" }] }\n[core]\nfirst_ncc = 2\n[[station]]\nid = 0\ncells = [[1, 2]]\nheard = true\n')
-        self.assertEqual(tomllib.loads(scenarios.setup_text(setup)), setup)
+        setup = scenarios.table_of(b'phone = { caps = "a020" }\nnew = { deep = [{ "a b" = "c\\"d" }] }\n[core]\nfirst_ncc = 2\n[[station]]\nid = 0\ncells = [[1, 2]]\nheard = true\n')
+        self.assertEqual(scenarios.table_of(scenarios.setup_text(setup).encode()), setup)
 
     def test_a_table_may_go_over_lines(self) -> None:
         octets = (EXAMPLES / "run/wrong-ksi.toml").read_bytes()
@@ -123,15 +128,16 @@ class Lines(unittest.TestCase):
             self.assertEqual(found, whole[part[0] - 1::part[1]], f"{part} {jobs}")
 
     def test_lines_are_read(self) -> None:
-        for line, faults, outcomes in (
-            ("lost 9: stuck; not made", (Fault("lost", "9"),), ("stuck", "not made")),
-            ("late 9 12, again 14: same", (Fault("late", "9", "12"), Fault("again", "14")), ("same",)),
+        for line, faults, outcomes, heals in (
+            ("lost 9: stuck; not made, heals authentication", (Fault("lost", "9"),), ("stuck", "not made"), Heals("authentication")),
+            ("late 9 12, again 14: same, heals nothing", (Fault("late", "9", "12"), Fault("again", "14")), ("same",), Heals(None)),
+            ("lost 9: coincidence", (Fault("lost", "9"),), ("coincidence",), None),
         ):
-            self.assertEqual(variant_of(line), (faults, outcomes))
+            self.assertEqual(variant_of(line), (faults, outcomes, heals))
         lists = Lists("", b"", KINDS, False)
-        lines = ["scenario 27 2 serving 1", "message 9 X2 Handover Request", "lost 9: same", "end 1"]
+        lines = ["scenario 27 2 serving 1 heals reconnection", "message 9 X2 Handover Request", "lost 9: same, heals reconnection", "end 1"]
         self.assertEqual([variant.outcomes for variant in lists.variants(iter(lines))], [("same",)])
-        self.assertEqual((lists.serving, lists.messages), (1, {"9": "X2 Handover Request"}))
+        self.assertEqual((lists.serving, lists.heals, lists.messages), (1, Heals("reconnection"), {"9": "X2 Handover Request"}))
         with self.assertRaises(ProgramFails):
             list(lists.variants(iter([*lines[:-1], "end 2"])))
 
@@ -154,12 +160,36 @@ class Lines(unittest.TestCase):
         """The status, the document and what is said where the program lists this in place of its line for `lost 3`."""
         with tempfile.TemporaryDirectory() as room:
             wrong = Path(room) / "wrong"
-            wrong.write_text(f"#!/bin/sh\n'{VARIANTS}' \"$@\" | sed 's/^lost 3: .*/lost 3: {line}/'\n")
+            wrong.write_text(f"#!/bin/sh\n'{VARIANTS}' \"$@\" | sed 's/^lost 3: .*,/lost 3: {line},/'\n")
             wrong.chmod(0o700)
             out, err = io.StringIO(), io.StringIO()
             with contextlib.redirect_stdout(out), contextlib.redirect_stderr(err):
                 status = what_if.main([PROGRAM, str(wrong), "--jobs", "1", "--json", str(EXAMPLES / "run/wrong-ksi.toml")])
         return status, json.loads(out.getvalue()), err.getvalue()
+
+    def test_what_heals_is_told(self) -> None:
+        found = {name: json.loads(launched("--json", "--kinds", "lost", EXAMPLES / f"{name}.toml").stdout) for name in HEALED}
+        self.assertEqual({name: (document["heals"]["by"], document["heals"]["events"], document["heals"]["reason"]) for name, document in found.items()}, HEALED)
+        document = found["run/ordinary"]
+        self.assertEqual({one["heals"]["by"] for one in document["variants"]}, {"reconnection", "authentication"})
+        answer = from_json(document)
+        self.assertEqual(to_json(answer), document)
+        lines = list(table(answer))
+        self.assertTrue(all(line.endswith("; heals: authentication, 11 events") for line in lines if " lost: stuck" in line))
+        self.assertTrue(any(line.endswith("; heals: reconnection, 7 events") for line in lines if " lost: cut off" in line))
+        self.assertIn("; heals: no (station 0 NumberSpent)", "\n".join(table(from_json(found["worked/last-number"]))))
+
+    def test_what_heals_is_what_its_own_run_shows(self) -> None:
+        found = set()
+        for name in ("run/key-change", "procedures/count-out-of-reach", "worked/last-number", "run/complete-lost"):
+            whole = study(name)
+            for each in listed(octets(name), "lost"):
+                tried = whole.tried(each.faults)
+                again = opens(tried.course, "again arrives", AGAIN)
+                anew = whole.prober.refusal(whole.faults.put_all(each.faults) or [], whole.usual, tried.course.sends(), tried.serving) is None
+                self.assertEqual(each.heals, Heals("reconnection" if again else "authentication" if anew else None), f"{name} {each.faults}")
+                found.add(each.heals)
+        self.assertEqual(found, {Heals("reconnection"), Heals("authentication"), Heals(None)})
 
     def test_a_variant_whose_own_run_has_other_outcomes_is_marked(self) -> None:
         status, document, said = self.listed_otherwise("stuck")
@@ -180,7 +210,7 @@ class Lines(unittest.TestCase):
         answer = from_json(document)
         answer.itself = ["keys differ 69", "keys differ probe", "stuck", "packet lost 14"]
         self.assertEqual(from_json(to_json(answer)).itself, answer.itself)
-        self.assertEqual(next(table(answer)), "without any fault: keys differ at step 69; keys differ in the probe behind it; stuck; packet lost of step 14")
+        self.assertEqual(next(table(answer)), "without any fault: keys differ at step 69; keys differ in the probe behind it; stuck; packet lost of step 14; heals: reconnection, 7 events")
         self.assertEqual(launched("--kinds", "lost", "--bad", "coincidence", EXAMPLES / "run/eight-ahead.toml").returncode, 1)
 
 

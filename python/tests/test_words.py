@@ -142,6 +142,15 @@ class Words(unittest.TestCase):
         for text, why in (("", "nothing in it"), ("\n \n", "nothing in it"), ("nothing here\n", "no key")):
             self.assertEqual(run("explain", KASME, text=text), (3, "", f"lte_sec: the text has {why}\n"))
 
+    def test_explain_with_another_kasme_says_that_no_key_fits(self) -> None:
+        text, few = "\n".join([StandIn().kenb(bytes(32), 1).hex(), "7" * 64]), ("--counts", "8", "--depth", "2", "--cell", "10,100")
+        lines = "".join(f"line {place}: {key} none\n" for place, key in enumerate(text.splitlines(), 1))
+        for kasmes, whose in (((KASME,), "this KASME"), ((KASME, "11" * 32), "any of these 2 KASMEs")):
+            self.assertEqual(run("explain", *few, *kasmes, text=text), (1, lines, f"lte_sec: no key of the text fits {whose}; --far goes on, among the algorithm keys of all KeNB*s\n"))
+            self.assertEqual(run("explain", "--far", *few, *kasmes, text=text), (1, lines, ""))
+            self.assertEqual([json.loads(run("explain", "--json", *far, *few, *kasmes, text=text)[1])["fits"] for far in ((), ("--far",))], [False, True])
+        self.assertIn("kenb(1) of KASME 2", run("explain", *few, KASME, "00" * 32, text=text)[1])
+
     def test_explain_without_a_cell_takes_those_of_the_log(self) -> None:
         star = f"K_eNB* {StandIn().kenb_star(StandIn().kenb(bytes.fromhex(KASME), 5), 87, 3100).hex()}\n"
         for text, status, said in (
@@ -210,7 +219,7 @@ class Words(unittest.TestCase):
                 if one["form"][:5] in ("alg(3", "alg(4", "alg(5") and (one["kasme"], one["parent"]) not in changed:
                     used.setdefault((one["kasme"], one["base"], one["parent"]), {})[one["form"][4]] = one["used"]
             trace = traced(name, list(read(TRACES / f"{name}.json.gz")))
-            table = list(rows(trace.seen, trace.derivations.calls))
+            table = "\n".join(map(str, rows(trace.seen, trace.derivations.calls))).splitlines()
             wanted = {(keys["3"], keys["5"], keys["4"]) for keys in used.values()}
             got = {tuple(json.loads(f"[{row}]")[1:]) for row in table if not row.startswith("#")}
             self.assertEqual(got, wanted)

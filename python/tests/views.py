@@ -37,11 +37,3 @@ def views(messages: list[Message]) -> Iterator[tuple[str, list[Message]]]:
     lacking.append(("without S1 down", {way for way in links.values() if way[0] == "S1" and way[2] == "down"}))
     for name, lacks in lacking:
         yield name, [one for one in messages if links[id(one)] not in lacks]
-
-
-def lacks_of(view: str) -> tuple[str, ...]:
-    """The links that a view lacks, as the user would say it; only of views that lack one."""
-    words = view.replace(",", "").split()
-    if words[:3] == ["without", "S1", "of"]:
-        return ("/".join(["S1", *words[3:]]),)
-    return (f"X2/{words[-3]}/{words[-1]}",) if words[:2] == ["without", "X2"] else ()

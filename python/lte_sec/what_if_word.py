@@ -65,7 +65,7 @@ class WhatIfWords(Words):
         for other in NOT_WITH_GOAL:
             if self.has(other):
                 raise WrongWords(f"--goal takes no {other}")
-        return Goal(self.outcome("--goal"), self.number("--up-to", goals.MOST_FAULTS, goals.MOST_FAULTS), self.has("--yes"))
+        return Goal(self.outcome("--goal"), self.number("--up-to", goals.USUAL_FAULTS, goals.MOST_FAULTS), self.has("--yes"))
 
     def part(self) -> tuple[int, int] | None:
         if not self.has("--part"):
@@ -136,7 +136,7 @@ def tried(programs: Programs, words: WhatIfWords, share: Share, goal: Goal | Non
     }
     answer.frames = frames_of(octets.decode(errors="replace"))
     if words.has("--resume"):
-        kept = resumed.Kept(Path(words.last("--resume")))
+        kept = resumed.KeptAnswer(Path(words.last("--resume")))
         kept.fits(answer.tried)
         gathering.answer = resumed.gathered(kept, gathering.part, answer)
     else:

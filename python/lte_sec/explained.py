@@ -5,12 +5,12 @@ Keys have 32 octets, or 16 (the half of an algorithm key that is used); `dumps` 
 from __future__ import annotations
 
 import itertools
-import re
 from collections.abc import Callable, Iterable, Iterator
 from dataclasses import dataclass
 from functools import partial
 
 from . import reasons
+from .causes import Cause, Reason
 from .cells import Cell, Cells, Site
 from .dumps import OctetBlock, candidates, resolved
 from .quick import ready
@@ -18,23 +18,28 @@ from .search import EARFCNS, FEW, PCIS, DerivationSearch, MadeStar, star_text, s
 from .terms import Derivations, Key, Term, counted
 
 NAS_TYPES, STATION_TYPES, IDENTITIES = (1, 2), (3, 4, 5, 6), range(16)
-OTHER_COUNT = re.compile(r"COUNT is \d")  # KeNB of another COUNT is found by itself
-CONSTANT = ("all octets", "it is KASME", "SYNC-input is KASME")  # mistakes that do not tell which key was to be made
+OTHER_COUNTS = (Cause.COUNT_CUT, Cause.COUNT_LESS, Cause.COUNT_MORE)  # KeNB of another COUNT is found by itself
+OF_ANY = (Cause.CONSTANT, Cause.KASME_ITSELF, Cause.KASME_TURNED, Cause.SYNC_OF_KASME)  # mistakes that do not tell which key was to be made
 MOST_COUNTS = 301  # KeNBs for which a mistake is sought
 VERSION = 1  # of the document that --json prints
 COMMON = range(4)  # identities that algorithms have today
 OF_KENB, OF_STAR = ([(type, identity, bytes([0x15, type, 0, 1, identity, 0, 1])) for type in STATION_TYPES for identity in identities] for identities in (IDENTITIES, COMMON))
 
 
-Mistaken = tuple[Callable[[], Key], str, bytes]  # the key that was wanted, the mistake, and what it gives
+Mistaken = tuple[Callable[[], Key], Reason, bytes]  # the key that was wanted, the mistake, and what it gives
 
 
 @dataclass(frozen=True)
 class Mistake:
     """Why a key that nothing gives is what it is: the mistake, and the key that it was to be."""
 
-    name: str
+    why: Reason
     wanted: Key
+
+    @property
+    def is_of_one_key(self) -> bool:
+        """Whether it tells which key was to be made."""
+        return self.why.cause not in OF_ANY
 
 
 @dataclass(frozen=True)
@@ -60,10 +65,16 @@ class Explanation:
         self.derivations, self.cells = derivations, cells
         self.found: dict[bytes, Key] = {}
         self.open: set[bytes] = set()
+        self.fits = True  # whether a key of the text may be of these KASMEs
 
-    def find(self, text: list[OctetBlock]) -> list[ExplainedKey]:
-        """The derivations of the keys of a text. Rows that may be halves of keys are sought by themselves where no whole key is found."""
-        self.seek({value for block in text for value in candidates(block)})
+    def find(self, text: list[OctetBlock], is_far: bool = True) -> list[ExplainedKey]:
+        """The derivations of the keys of a text. Rows that may be halves of keys are sought by themselves where no whole key is found. Where the near search
+        gives no key of the text at all, the far one follows only if it is to."""
+        self.near({value for block in text for value in candidates(block)})
+        self.fits = is_far or bool(self.found) or self.fits_otherwise(text)
+        if not self.fits:
+            return [ExplainedKey(line, value, None) for block in text for line, value in resolved(block, lambda value: False)]
+        self.far()
         left = [block for block in text if not block.sure and not all(value in self.found for value in candidates(block)[::2])]
         self.seek({row.value for block in left for row in block.rows})
         found = [one for block in text for one in resolved(block, lambda value: value in self.found)]
@@ -73,9 +84,9 @@ class Explanation:
     def mistakes(self, keys: set[bytes]) -> dict[bytes, Mistake]:
         """Of keys that nothing gives those that a mistake of an implementation gives (`reasons`)."""
         found: dict[bytes, Mistake] = {}
-        for wanted, name, made in self.mistaken({len(key) for key in keys}) if keys else ():
+        for wanted, why, made in self.mistaken({len(key) for key in keys}) if keys else ():
             if made in keys and made not in found:
-                found[made] = Mistake(name, wanted())
+                found[made] = Mistake(why, wanted())
                 if len(found) == len(keys):
                     break
         return found
@@ -84,7 +95,7 @@ class Explanation:
         """What mistakes give in so many octets, each with the key that was wanted and the name of the mistake: from the keys that were found and their
         chains, or where none was from each KeNB."""
         for wanted, named in self.mistaken_keys(sizes):
-            yield from ((wanted, name, made) for name, made in named)
+            yield from ((wanted, why, made) for why, made in named)
 
     def mistaken_keys(self, sizes: set[int]) -> Iterator[tuple[Callable[[], Key], reasons.Named]]:
         """The keys that may have been wanted, which are made where they are asked for, and what mistakes give in the place of each."""
@@ -97,7 +108,7 @@ class Explanation:
         for place, kasme in enumerate(make.kasmes):
             yield from self.mistaken_algorithms(Key(kasme.value, Term("kasme"), place), NAS_TYPES, sizes)
             for count in range(min(self.search.counts + 1, MOST_COUNTS)):
-                yield partial(make.kenb, place, count), (one for one in reasons.kenb_mistakes(kasme.value, count) if not OTHER_COUNT.match(one[0]))
+                yield partial(make.kenb, place, count), (one for one in reasons.kenb_mistakes(kasme.value, count) if one[0].cause not in OTHER_COUNTS)
         for sync in (key for chain in chains for key in chain):
             yield partial(make.next_nh, sync.kasme, sync), reasons.nh_mistakes(make.kasmes[sync.kasme].value, sync.value)
         for parent in parents:
@@ -111,8 +122,20 @@ class Explanation:
             for size in sorted(sizes, reverse=True):
                 yield partial(self.derivations.algorithm, parent, type, identity), reasons.algorithm_mistakes(parent.value, type, identity, size)
 
+    def fits_otherwise(self, text: list[OctetBlock]) -> bool:
+        """Whether a row of a text is the half of a key that the near search gives, or a mistake gives one of its keys. Nothing is taken of it."""
+        sought = self.open
+        self.near({row.value for block in text if not block.sure for row in block.rows})
+        is_half, self.found, self.open = bool(self.found), {}, sought
+        return is_half or bool(self.mistakes({value for block in text for _, value in resolved(block, lambda value: False)}))
+
     def seek(self, keys: set[bytes]) -> None:
         """Searches for all of these keys together."""
+        self.near(keys)
+        self.far()
+
+    def near(self, keys: set[bytes]) -> None:
+        """Searches among all KeNBs and NHs, their KeNB*s, and the algorithm keys of KASMEs and KeNBs."""
         self.open = keys - set(self.found)
         if not self.open:
             return
@@ -120,13 +143,18 @@ class Explanation:
         self.take([*roots, *(key for root in roots for key in self.algorithms(root, NAS_TYPES, IDENTITIES))])
         self.take(self.search.roots())
         self.spread()
-        stages: list[Callable[[], None]] = [
-            lambda: self.take_made(self.stars_of_roots()), lambda: self.take_algorithms(as_made(self.search.kenbs())), lambda: self.take_algorithms(self.stars_of_roots()),
-        ]
-        for stage in stages:
-            if self.open:
-                stage()
-                self.spread()
+        if self.open:
+            self.take_made(self.stars_of_roots())
+            self.spread()
+        if self.open:
+            self.take_algorithms(as_made(self.search.kenbs()))
+            self.spread()
+
+    def far(self) -> None:
+        """Goes on for what is open: among the algorithm keys of all KeNB*s, which are many, and KeNB*s for cells that nobody named."""
+        if self.open:
+            self.take_algorithms(self.stars_of_roots())
+            self.spread()
         if self.open:
             self.take_made(self.swept())
 
@@ -214,28 +242,29 @@ def told(derivations: Derivations, found: ExplainedKey) -> str:
     if key is None and found.why is None:
         return f"{head} none"
     if key is None and found.why is not None:
-        if found.why.name.startswith(CONSTANT):
-            return f"{head} none ({found.why.name})"
+        if not found.why.is_of_one_key:
+            return f"{head} none ({found.why.why})"
         wanted = found.why.wanted.value[-len(found.value) :].hex()
-        return f"{head} none ({found.why.name}; wanted {wanted}, which is {formed(derivations, found.why.wanted)})"
+        return f"{head} none ({found.why.why}; wanted {wanted}, which is {formed(derivations, found.why.wanted)})"
     assert key is not None
     return f"{head} {formed(derivations, key)} {found.no_cell}".rstrip()
 
 
-def document(derivations: Derivations, found: list[ExplainedKey], cells: list[Site]) -> dict[str, object]:
-    """What `explain --json` prints: each key with its derivation or its mistake; `cells` are those that the text named."""
+def document(derivations: Derivations, found: list[ExplainedKey], cells: list[Site], fits: bool = True) -> dict[str, object]:
+    """What `explain --json` prints: each key with its derivation or its mistake; `cells` are those that the text named. It `fits` unless the search was
+    ended since no key was of these KASMEs."""
     return {
         "version": VERSION, "keys": [entry(derivations, one) for one in found], "cells": [{"pci": site.pci, "earfcn": site.earfcn} for site in cells],
-        "status": 0 if all(one.is_right for one in found) else 1,
+        "fits": fits, "status": 0 if all(one.is_right for one in found) else 1,
     }
 
 
 def entry(derivations: Derivations, found: ExplainedKey) -> dict[str, object]:
     key, why = found.key, found.why
-    wanted = None if why is None or why.name.startswith(CONSTANT) else {"hex": why.wanted.value[-len(found.value):].hex(), "form": formed(derivations, why.wanted)}
+    wanted = None if why is None or not why.is_of_one_key else {"hex": why.wanted.value[-len(found.value):].hex(), "form": formed(derivations, why.wanted)}
     return {
         "line": found.line, "hex": found.value.hex(), "form": formed(derivations, key) if key else None, "kasme": derivations.kasmes[key.kasme].name if key else None,
-        "mistake": found.no_cell or (why.name if why else None), "wanted": wanted,
+        "mistake": found.no_cell or (str(why.why) if why else None), "wanted": wanted,
     }
 
 
