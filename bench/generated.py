@@ -2,8 +2,12 @@
 from __future__ import annotations
 
 import hashlib
-import tomllib
+import sys
 from collections.abc import Iterator
+from pathlib import Path
+
+sys.path.insert(0, str(Path(__file__).resolve().parents[1] / "python"))
+from lte_sec.scenarios import table_of  # noqa: E402
 
 PHONES = 256
 
@@ -71,7 +75,7 @@ def written(value: object) -> str:
 
 def of_fleet(count: int) -> str:
     """A scenario of 256 phones, with as many steps as go evenly into them."""
-    phones = [tomllib.loads(scenario(count // PHONES, phone + 1)) for phone in range(PHONES)]
+    phones = [table_of(scenario(count // PHONES, phone + 1).encode()) for phone in range(PHONES)]
     lines = [f"fleet={{phones={PHONES}}}", f"phone={written(phones[0]['phone'])}", f"station={written(phones[0]['station'])}", "step=["]
     for steps in zip(*(it["step"] for it in phones)):
         for phone, step in enumerate(steps):

@@ -2,6 +2,8 @@
 
 The peak is that of the program alone, since bench/parent.c starts it; a C compiler has to be on the path, as cc.
 """
+from __future__ import annotations
+
 import atexit
 import functools
 import os

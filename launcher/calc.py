@@ -1,7 +1,10 @@
 """What is wrong with the lines that `calc` answers by `bad`, and what must stand there (docs/CALC.md)."""
+from __future__ import annotations
+
 import dataclasses
 import re
 from collections.abc import Callable
+from typing import Optional
 
 from kinds import EARFCN, PCI, nearest, one_of
 
@@ -16,7 +19,7 @@ class Bad:
     reason: str
 
 
-Check = Callable[[str], str | None]  # why a field is wrong, or None
+Check = Callable[[str], Optional[str]]  # why a field is wrong, or None
 
 
 def of_hex(word: str) -> str | None:
@@ -71,17 +74,20 @@ def algorithms(word: str) -> str | None:
     return None if re.fullmatch(r"[0-3](/[0-3])?", word) else f"is '{word}'; it must be 0 to 3, or two of these with a slash, as 2/1 for 128-EEA2 and 128-EIA1"
 
 
-def count_or_any(word: str) -> str | None:
-    """A NAS COUNT, or `any`."""
-    wrong = None if word == "any" else number(0, 2**24 - 1)(word)
-    return wrong and f"{wrong}, or any"
+def or_any(check: Check) -> Check:
+    """What may be `any`, too."""
+    def checked(word: str) -> str | None:
+        wrong = None if word == "any" else check(word)
+        return wrong and f"{wrong}, or any"
+    return checked
 
 
 KEY, CIPHER_KEY, NAS_COUNT, COUNT = octets(32), octets(16), number(0, 2**24 - 1), number(0, 2**32 - 1)
+COUNT_OR_ANY, ALGORITHMS_OR_ANY = or_any(NAS_COUNT), or_any(algorithms)
 FIELDS: dict[str, Check] = {
     "ck": CIPHER_KEY, "ik": CIPHER_KEY, "plmn": octets(3), "sqn-xor-ak": octets(6), "kasme": KEY, "key": KEY, "sync": KEY, "count": COUNT, "bearer": number(0, 31), "direction": word_of(["uplink", "downlink"]), "text": text(), "pdu": text(),
     "eea": algorithms, "eia": word_of(["0", "1", "2", "3"]), "bits": word_of(["7", "12", "15", "18"]), "ncc-in-use": number(0, 7), "ncc": number(0, 7), "pci": number(0, PCI), "earfcn": number(0, EARFCN),
-    "type": number(1, 6), "id": number(0, 15),
+    "type": number(1, 6), "id": number(0, 15), "cell-identity": number(0, 2**28 - 1), "c-rnti": number(0, 2**16 - 1),
 }
 # The fields of each line, and of those that differ from the table above how.
 LINES: dict[str, tuple[str, dict[str, Check]]] = {
@@ -91,10 +97,11 @@ LINES: dict[str, tuple[str, dict[str, Check]]] = {
     "star": ("key pci earfcn", {}),
     "alg": ("key type id", {}),
     **{name: ("key count bearer direction text", {"key": CIPHER_KEY}) for name in ("eea1", "eea2", "eea3", "eia1", "eia2", "eia3")},
-    "nas": ("kasme eea count direction pdu", {"count": count_or_any}),
+    "nas": ("kasme eea count direction pdu", {"eea": ALGORITHMS_OR_ANY, "count": COUNT_OR_ANY}),
     "seal-nas": ("kasme eea count direction type text", {"count": NAS_COUNT, "type": number(1, 4)}),
-    "service-request": ("kasme count pdu", {"count": count_or_any, "pdu": text(exactly=4)}),
-    "srb": ("key eea count bearer direction pdu", {"pdu": text(most=8193)}),
+    "service-request": ("kasme count pdu", {"count": COUNT_OR_ANY, "pdu": text(exactly=4), "eia": word_of(["0", "1", "2", "3", "any"])}),
+    "short-mac-i": ("key eia cell-identity pci c-rnti", {}),
+    "srb": ("key eea count bearer direction pdu", {"eea": ALGORITHMS_OR_ANY, "pdu": text(most=8193)}),
     "seal-srb": ("key eea count bearer direction text", {"text": text(most=8188)}),
     "drb": ("key eea count bearer direction bits pdu", {}),
     "seal-drb": ("key eea count bearer direction bits text", {}),

@@ -1,4 +1,6 @@
 """How each word ends where its input or its output fails: python3 launcher/failing.py. The statuses are those of the README's table."""
+from __future__ import annotations
+
 import concurrent.futures
 import os
 import pathlib

@@ -7,7 +7,7 @@ import difflib
 import re
 from collections.abc import Callable
 
-from document import Value
+from lte_sec.document import PlacedValue
 
 MOST_CELLS, PCI, EARFCN = 4, 503, 262143
 Schema = dict[str, object]
@@ -27,7 +27,7 @@ class Kind:
     and the cells of a station join the setup. And the same as JSON Schema has it, as far as that goes."""
 
     may: str
-    wrong: Callable[[Value, Setup], str]
+    wrong: Callable[[PlacedValue, Setup], str]
     schema: Schema
 
 
@@ -41,7 +41,7 @@ def nearest(word: str, words: list[str]) -> str:
     return f"; did you mean {found[0]}?" if found else ""
 
 
-def shown(value: Value) -> str:
+def shown(value: PlacedValue) -> str:
     """A value as it may stand in a line, cut where it is long."""
     it = value.is_
     if isinstance(it, dict):
@@ -53,11 +53,11 @@ def shown(value: Value) -> str:
     return text if len(text) <= 44 else text[:40] + " .."
 
 
-def is_whole(value: Value, low: int, high: int) -> bool:
+def is_whole(value: PlacedValue, low: int, high: int) -> bool:
     return type(value.is_) is int and low <= value.is_ <= high
 
 
-def kind(may: str, is_right: Callable[[Value, Setup], bool], schema: Schema) -> Kind:
+def kind(may: str, is_right: Callable[[PlacedValue, Setup], bool], schema: Schema) -> Kind:
     return Kind(may, lambda value, setup: "" if is_right(value, setup) else f"is {shown(value)}", schema)
 
 
@@ -76,7 +76,7 @@ def words(*these: str) -> Kind:
 
 def octets(count: int, exactly: bool = True) -> Kind:
     """Octets in hex: just so many, or at most so many."""
-    def wrong(value: Value, setup: Setup) -> str:
+    def wrong(value: PlacedValue, setup: Setup) -> str:
         if not isinstance(value.is_, str):
             return f"is {shown(value)}"
         other, digits = re.search("[^0-9a-fA-F]", value.is_), len(value.is_)
@@ -87,13 +87,13 @@ def octets(count: int, exactly: bool = True) -> Kind:
     return Kind(may, wrong, {"type": "string", "pattern": f"^([0-9a-fA-F]{{2}}){{{'' if exactly else '0,'}{count}}}$"})
 
 
-def wrong_cell(value: Value, setup: Setup) -> str:
+def wrong_cell(value: PlacedValue, setup: Setup) -> str:
     pair = value.is_ if isinstance(value.is_, list) and len(value.is_) == 2 else []
     parts = zip(("PCI", "EARFCN"), pair, (PCI, EARFCN))
     return next((f"has {name} {shown(part)}" for name, part, most in parts if not is_whole(part, 0, most)), "" if pair else f"is {shown(value)}")
 
 
-def wrong_cells(value: Value, setup: Setup) -> str:
+def wrong_cells(value: PlacedValue, setup: Setup) -> str:
     if not isinstance(value.is_, list):
         return f"is {shown(value)}"
     for cell in value.is_ if 1 <= len(value.is_) <= MOST_CELLS else []:
@@ -104,19 +104,19 @@ def wrong_cells(value: Value, setup: Setup) -> str:
     return "" if 1 <= len(value.is_) <= MOST_CELLS else f"has {len(value.is_)} cells"
 
 
-def is_new_station(value: Value, setup: Setup) -> bool:
+def is_new_station(value: PlacedValue, setup: Setup) -> bool:
     is_new = is_whole(value, 0, 7) and value.is_ not in setup.stations
     setup.stations += [value.is_] if is_new else []
     return is_new
 
 
-def wrong_station(value: Value, setup: Setup) -> str:
+def wrong_station(value: PlacedValue, setup: Setup) -> str:
     stations = [str(number) for number in setup.stations]
     those = f"{'the stations are' if len(stations) > 1 else 'the only station is'} {one_of(stations, 'and')}"
     return "" if type(value.is_) is int and value.is_ in setup.stations else f"is {shown(value)}, and {those}"
 
 
-def is_priority(value: Value, setup: Setup) -> bool:
+def is_priority(value: PlacedValue, setup: Setup) -> bool:
     algorithms = value.is_ if isinstance(value.is_, list) else []
     return [it.is_ for it in algorithms] in ([0], [2], [0, 2], [2, 0]) and all(type(it.is_) is int for it in algorithms)
 

@@ -1,13 +1,16 @@
 """The first bad line of a ladder text, and why it is bad (docs/SCENARIOS.md, Ladder texts)."""
+from __future__ import annotations
+
 import re
+from typing import Union
 
 from calc import DECIMAL, FIELDS, KEY, NAS_COUNT, Check, number, word_of
-from document import Fault
 from kinds import nearest, one_of
+from lte_sec.document import TextFault
 
 MOST_LINES = 4096
 # The words behind that of a line: a row of one of these kinds, or what is wrong with another. Of `alg`, `of_type` says more.
-May = tuple[str, ...] | Check
+May = Union[tuple[str, ...], Check]
 LINES: dict[str, dict[str, May]] = {
     "root": {"kasme": KEY},
     "kenb": {"row": ("root",), "count": NAS_COUNT},
@@ -34,15 +37,15 @@ class Ladder:
     def take(self, kind: str, given: list[str]) -> None:
         """One line."""
         if kind not in LINES:
-            raise Fault(0, f"there is no line '{kind}'{nearest(kind, list(LINES)) or '; it must be ' + one_of(list(LINES))}")
+            raise TextFault(0, f"there is no line '{kind}'{nearest(kind, list(LINES)) or '; it must be ' + one_of(list(LINES))}")
         fields = LINES[kind]
         if len(given) != len(fields):
-            raise Fault(0, f"{kind} needs {len(fields)} {'word' if len(fields) == 1 else 'words'}, and has {len(given)}: {kind} {' '.join(fields)}")
+            raise TextFault(0, f"{kind} needs {len(fields)} {'word' if len(fields) == 1 else 'words'}, and has {len(given)}: {kind} {' '.join(fields)}")
         if kind == "alg" and not number(1, 5)(given[1]):
             fields = fields | of_type(given[1])
         for place, ((name, may), word) in enumerate(zip(fields.items(), given), 1):
             if wrong := self.wrong_row(word, may) if isinstance(may, tuple) else may(word):
-                raise Fault(place, f"{name} {wrong}")
+                raise TextFault(place, f"{name} {wrong}")
         self.add(kind, given)
 
     def wrong_row(self, word: str, kinds: tuple[str, ...]) -> str | None:
@@ -57,9 +60,9 @@ class Ladder:
         """The row of a line whose words are right one by one."""
         line, root = " ".join([kind, *given]).lower(), len(self.rows) if kind == "root" else self.rows[int(given[0])][1]
         if kind == "root" and line in self.lines:
-            raise Fault(1, "there is a root with these octets already")
+            raise TextFault(1, "there is a root with these octets already")
         if kind == "nh" and self.rows[int(given[1])][1] != root:
-            raise Fault(2, f"sync {given[1]} comes from root {self.rows[int(given[1])][1]}, and not of root {given[0]}")
+            raise TextFault(2, f"sync {given[1]} comes from root {self.rows[int(given[1])][1]}, and not of root {given[0]}")
         if line not in self.lines:
             self.lines.add(line)
             self.rows.append((kind, root))
@@ -69,10 +72,10 @@ def spaced(line: str) -> list[str]:
     """The words of a line, which is ASCII and has one space between them."""
     if other := re.search("[^ -~]", line):
         of = {"\r": "the line ends with a carriage return; it must end with only a line feed", "\t": "there is a tab; words are parted by one space"}
-        raise Fault(0, of.get(other[0], "there is a character that is not printed ASCII"))
+        raise TextFault(0, of.get(other[0], "there is a character that is not printed ASCII"))
     words = line.split(" ")
     if "" in words:
-        raise Fault(0, "words are parted by one space, with none before the first or after the last" if line else "the line is empty")
+        raise TextFault(0, "words are parted by one space, with none before the first or after the last" if line else "the line is empty")
     return words
 
 
@@ -83,10 +86,10 @@ def judge(octets: bytes) -> None:
     for number_, line in enumerate(lines, 1):
         try:
             if number_ > MOST_LINES:
-                raise Fault(0, f"there are {len(lines):,} lines; there may be {MOST_LINES:,}")
+                raise TextFault(0, f"there are {len(lines):,} lines; there may be {MOST_LINES:,}")
             kind, *given = spaced(line)
             ladder.take(kind, given)
-        except Fault as bad:
+        except TextFault as bad:
             before = "".join(f"{word} " for word in line.split(" ")[:bad.place])
-            raise Fault(place + len(before), bad.reason, f"refused line {number_}") from None
+            raise TextFault(place + len(before), bad.reason, f"refused line {number_}") from None
         place += len(line) + 1

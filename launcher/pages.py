@@ -10,12 +10,14 @@ import dataclasses
 import itertools
 import pathlib
 import re
-
-import schema
-import shells
+import sys
 
 HERE = pathlib.Path(__file__).resolve().parent
 TOP = HERE.parent
+sys.path.insert(0, str(TOP / "python"))
+import schema  # noqa: E402
+import shells  # noqa: E402
+
 MAN, COMPLETIONS = TOP / "share/man/man1/lte_sec.1", TOP / "share/bash-completion/completions/lte_sec"
 ZSH, FISH = TOP / "share/zsh/vendor-completions/_lte_sec", TOP / "share/fish/vendor_completions.d/lte_sec.fish"
 SCENARIO = TOP / "share/schema/scenario.schema.json"
@@ -31,7 +33,7 @@ VALUES = {
     "what-if --bad": list(OUTCOMES),
     "what-if --faults": list("123"),
     "what-if --goal": list(OUTCOMES),
-    "what-if --up-to": list("123"),
+    "what-if --up-to": list("12345678"),
     "drive --answers": ["done"],
     "serve station": list("01234567"),
 }

@@ -1,5 +1,8 @@
 """Tests of the launcher's scripts: python3 launcher/tests.py. They run the built program by ./lte_sec."""
+from __future__ import annotations
+
 import concurrent.futures
+import importlib
 import json
 import os
 import pathlib
@@ -8,18 +11,18 @@ import shutil
 import subprocess
 import sys
 import tempfile
-import tomllib
 import unittest
 
 sys.dont_write_bytecode = True
 HERE = pathlib.Path(__file__).resolve().parent
 TOP = HERE.parent
+sys.path.insert(0, str(TOP / "python"))
 import calc  # noqa: E402
-import document  # noqa: E402
 import fields  # noqa: E402
 import ladder  # noqa: E402
 import pages  # noqa: E402
 import scenario  # noqa: E402
+from lte_sec import document  # noqa: E402
 
 EXAMPLES = TOP / "examples"
 SETUP = 'phone = { caps = "a020" }\nstation = [{ id = 0, cells = [[10, 100]] }, { id = 1, cells = [[11, 101]] }]\n'
@@ -41,12 +44,6 @@ def mistakes() -> list[tuple[str, str, str, str]]:
         elif line and not line.startswith("#"):
             blocks.append([*(part.strip() for part in line.split("|", 2)), ""])
     return [(word, line, reason, text) for word, line, reason, text in blocks]
-
-
-def plain(value: document.Value) -> object:
-    if isinstance(value.is_, dict):
-        return {name: plain(each) for name, each in value.is_.items()}
-    return [plain(it) for it in value.is_] if isinstance(value.is_, list) else value.is_
 
 
 class Mistakes(unittest.TestCase):
@@ -81,12 +78,14 @@ class Mistakes(unittest.TestCase):
 class Texts(unittest.TestCase):
     """What the program takes is not a mistake here."""
 
+    @unittest.skipIf(sys.version_info < (3, 11), "it needs tomllib")
     def test_documents_are_those_of_tomllib(self) -> None:
+        tomllib = importlib.import_module("tomllib")
         for file in [*EXAMPLES.glob("*/*.toml"), *TOP.glob("docs/cookbook/*.toml")]:
-            self.assertEqual(tomllib.loads(file.read_text()), plain(document.read(file.read_bytes())), file)
+            self.assertEqual(tomllib.loads(file.read_text()), document.plain(document.read(file.read_bytes())), file)
 
     def test_inline_tables_may_go_over_lines(self) -> None:
-        self.assertEqual({"a": {"b": 1, "c": "\x1b"}}, plain(document.read(b'a = { b = 1, # of TOML 1.1\n  c = "\\e",\n}\n')))
+        self.assertEqual({"a": {"b": 1, "c": "\x1b"}}, document.plain(document.read(b'a = { b = 1, # of TOML 1.1\n  c = "\\e",\n}\n')))
 
     def test_examples_have_no_fault(self) -> None:
         for room, kind in (("run", scenario.RUN), ("worked", scenario.RUN), ("fleet", scenario.FLEET), ("two", scenario.TWO)):
@@ -97,7 +96,7 @@ class Texts(unittest.TestCase):
 
     def test_a_ladder_text_has_4096_lines_at_most(self) -> None:
         text = b"root " + b"0" * 64 + b"\n" + b"".join(b"kenb 0 %d\n" % count for count in range(4096))
-        with self.assertRaises(document.Fault) as caught:
+        with self.assertRaises(document.TextFault) as caught:
             ladder.judge(text)
         self.assertEqual("refused line 4097", caught.exception.line)
         ladder.judge(text[:text.rindex(b"kenb")])
@@ -149,6 +148,15 @@ class Lines(unittest.TestCase):
             file.flush()
             for ran in (launched("calc", "--strict", file.name), launched("calc", "--strict", given=text)):
                 self.assertEqual((1, said), (ran.returncode, ran.stderr.decode()))
+
+    def test_what_fits_a_line_that_opens_at_no_count_or_to_no_nas_message_is_said(self) -> None:
+        key = "000102030405060708090a0b0c0d0e0f101112131415161718191a1b1c1d1e1f"
+        text = f"nas {key} 2 any downlink 277b3eaa160546084a250c\nnas {key} 1 0 uplink 270a76966105e7a452c4b5\n"
+        one, two = "the MAC is wrong: it is that of the other direction, of 128-EIA2 at COUNT 1192965", "the text is no NAS message; it is one under EEA2"
+        ran = launched("calc", "--strict", given=text.encode())
+        self.assertEqual((1, f"lte_sec: line 1: {one}\nlte_sec: line 2: {two}\nlte_sec: status 1: 1 line with a MAC that fails\n"), (ran.returncode, ran.stderr.decode()))
+        ran = launched("calc", "--strict", given=text.splitlines(keepends=True)[1].encode())
+        self.assertEqual((0, f"lte_sec: line 1: {two}\n"), (ran.returncode, ran.stderr.decode()))
 
     def test_a_line_that_is_cut_where_the_copy_ends_is_not_told(self) -> None:
         remark, line = b"# " + b"x" * 60_000 + b"\n", b"kenb " + b"0" * 64 + b" 1\n"
@@ -280,7 +288,7 @@ class Installed(unittest.TestCase):
 
     def test_each_option_of_the_table_is_asked_for(self) -> None:
         for name, files in (
-            ("check-trace", ["words"]), ("explain", ["words"]), ("wireshark", ["words"]), ("vectors", ["words"]), ("replay", ["words", "replay"]), ("what-if", ["what_if"]),
+            ("check-trace", ["words"]), ("explain", ["words"]), ("wireshark", ["words"]), ("vectors", ["words"]), ("replay", ["words", "replay"]), ("what-if", ["what_if_word"]), ("repeats", ["words"]),
             ("verdict", ["verdict"]), ("draw", ["ran"]), ("drive", ["drive", "suite", "generate"]), ("demands", ["demands"]),
         ):
             texts = "".join((TOP / "python" / "lte_sec" / f"{file}.py").read_text() for file in files)

@@ -1,4 +1,6 @@
 """What is wrong with the words that the launcher or a program was given, and what may stand there."""
+from __future__ import annotations
+
 import os
 
 from calc import Check, number

@@ -49,7 +49,7 @@ static void vectors(void) {
            "1b13a4b4abfe4fb1006045b674bb54729304c382be53a5af05556176f6eaa2ef1d05e4b083181ee674cda5a485f74d7a", text);
     CHECK(ltesec_eia2(key, 0x36af6144, 15, 1, text, 96, mac) == LTESEC_DONE && !memcmp(mac, "\xe6\x57\xe1\x82", 4));
     for (int i = 0; i < 32; i++) root[i] = (uint8_t)i;
-    ltesec_kenb(root, 0, out);
+    CHECK(ltesec_kenb(root, 0, out) == LTESEC_DONE);
     of_hex("e6267359de012d9bda173d1b6fae57dec0e04e01cfcf57cb33a7573f142b8b95", wanted); /* by Python's hmac */
     CHECK(!memcmp(out, wanted, 32));
     of_hex("20dacc4ea11469989be30900ac3fe304a1075f26ca4489c78eadc9543f6cd1a6", root); /* CK and IK; by libosmocore's osmo_kdf_kasme */
@@ -98,10 +98,11 @@ static void as_openssl(void) {
         CHECK(EVP_MAC_final(context, theirs, &size, sizeof theirs) == 1 && !memcmp(mac, theirs, 4));
         EVP_MAC_CTX_free(context);
         EVP_MAC_free(cmac);
+        counter(count %= 1 << 24, bearer, direction, block);
         input[0] = 0x11;
         memcpy(input + 1, block, 4);
         memcpy(input + 5, "\0\4", 2);
-        ltesec_kenb(key, count, out);
+        CHECK(ltesec_kenb(key, count, out) == LTESEC_DONE);
         CHECK(HMAC(EVP_sha256(), key, 32, input, 7, theirs, &long_) && !memcmp(out, theirs, 32));
         input[0] = 0x12;
         memcpy(input + 1, text, 8);
@@ -418,6 +419,7 @@ static void others(void) {
         CHECK(ltesec_reach(&phone, ncc, pci, 262144, &reached) == LTESEC_OUT_OF_RANGE && !memcmp(reached.star, out, 32));
     }
     memcpy(out, key, 32);
+    CHECK(ltesec_kenb(key, (1 << 24) - 1, whole) == LTESEC_DONE && ltesec_kenb(key, 1 << 24, out) == LTESEC_OUT_OF_RANGE);
     CHECK(ltesec_kenb_star(key, 504, 0, out) == LTESEC_OUT_OF_RANGE && ltesec_kenb_star(key, 0, 262144, out) == LTESEC_OUT_OF_RANGE);
     CHECK(ltesec_algorithm_key(key, 0, 0, out) == LTESEC_OUT_OF_RANGE && ltesec_algorithm_key(key, 7, 0, out) == LTESEC_OUT_OF_RANGE);
     CHECK(ltesec_algorithm_key(key, 257, 0, out) == LTESEC_OUT_OF_RANGE && ltesec_algorithm_key(key, 1, 16, out) == LTESEC_OUT_OF_RANGE);

@@ -19,6 +19,11 @@ COMPILES = '#!/bin/sh\nset -e\nif [ "$1" = configure ] && command -v py3compile 
 FORGETS = '#!/bin/sh\nset -e\nif command -v py3clean >/dev/null; then py3clean -p {name}; fi\n'
 
 
+# Why lintian takes a program for a library that names none: it has what it needs of the C library in it.
+OVERRIDES = "# Programs are linked with what they need of the C library in them, and are no libraries.\n{name}: shared-library-lacks-prerequisites [usr/lib/seedspan/programs/*]\n"
+IN_ONE = "# Header, static and shared library are one package: nothing that Debian ships needs the shared one alone.\n{name}: link-to-shared-library-in-wrong-package *\n{name}: package-name-doesnt-match-sonames *\n"
+
+
 @dataclasses.dataclass(frozen=True)
 class Package:
     """A Debian package: its name, what its control file says, its files below /usr, and further files of control."""
@@ -47,7 +52,9 @@ def told(package: Package, commit: str, moment: int) -> Tree:
     )
     rights = (
         "Format: https://www.debian.org/doc/packaging-manuals/copyright-format/1.0/\nUpstream-Name: seedspan\n\n"
-        "Files: *\nCopyright: 2026 the authors of Seedspan\nLicense: none-chosen\n No licence has been chosen yet; the choice is the owner's. Until then all rights are the authors'.\n"
+        "Files: *\nCopyright: 2026 the authors of Seedspan\nLicense: none-chosen\n No licence has been chosen yet; the choice is the owner's. Until then all rights are the authors'.\n\n"
+        "Files: usr/lib/seedspan/programs/*\nCopyright: 2026 the authors of Seedspan, and of the GNU C Library that is linked in: Free Software Foundation\nLicense: none-chosen and LGPL-2.1+\n"
+        " The parts of the GNU C Library are under its own licence, LGPL 2.1 or later\n (/usr/share/common-licenses/LGPL-2.1).\n"
     )
     return below(f"share/doc/{package.name}", {"changelog.gz": zipped(changes), "copyright": Entry(rights.encode())})
 
@@ -83,10 +90,11 @@ def seedspan(name: str, version: str, libc: str, trees: dict[str, Tree], others:
     files |= {f"{room}/{place}": Entry(link=os.path.relpath(f"{home}/{place}", os.path.dirname(f"{room}/{place}"))) for place in trees["works"] if is_read(place)}
     files |= below(room, {place: entry for place, entry in trees["pages"].items() if place not in trees["works"]})
     files |= {"bin/lte_sec": Entry(link="../lib/seedspan/lte_sec"), f"{room}/lte_sec": Entry(link="../../../bin/lte_sec")}
+    files["share/lintian/overrides/" + name] = Entry(OVERRIDES.format(name=name).encode())
     for place, entry in trees["share"].items():
         files |= {f"{place}.gz": Entry(gzip.compress(entry.octets, 9, mtime=0))} if place.startswith("share/man/") else {place: entry}
     fields = {
-        "Section": "comm", "Depends": f"{libc}, python3 (>= 3.11)", "Suggests": "tshark", **rivals("seedspan", name),
+        "Section": "comm", "Depends": f"{libc}, python3, python3 (>= 3.9) | python3.9", "Suggests": "tshark", **rivals("seedspan", name),
         "Description": "LTE access security computed and checked (TS 33.401)" + others,
     }
     about = "Derives the keys of LTE access security, runs scenarios of a phone, stations and a core, judges captures and logs, and drives actors of a product beside the reference."
@@ -103,6 +111,7 @@ def library(name: str, version: str, libc: str, files: Tree, soname: str, others
     fields = {"Section": "libdevel", "Depends": libc, **rivals("liblte-sec-dev", name), "Description": "library of LTE access security for C and C++" + others}
     about = "Derivations, ciphers, NAS messages, PDCP PDUs, short MACs and the chain of a phone, as calls that take no memory and keep nothing."
     stem, _, number = soname.partition(".so.")
+    files = {**files, f"share/lintian/overrides/{name}": Entry(IN_ONE.format(name=name).encode())}
     return Package(name, version, fields, about, files, {"triggers": "activate-noawait ldconfig\n", "shlibs": f"{stem} {number} {name} (>= {version})\n"})
 
 

@@ -48,11 +48,16 @@ complete -c lte_sec -n '__fish_seen_subcommand_from drive' -l generate -r -d 'dr
 complete -c lte_sec -n '__fish_seen_subcommand_from drive' -l save -r -a '(__fish_complete_directories)' -d 'with --generate: writes each scenario'
 complete -c lte_sec -n '__fish_seen_subcommand_from drive' -l timeout -r -d 'waits so long for an actor that does not work; without it 10'
 complete -c lte_sec -n '__fish_seen_subcommand_from fleet' -F
+complete -c lte_sec -n '__fish_seen_subcommand_from fleet' -l json -d 'prints one document in place of the report'
 complete -c lte_sec -n '__fish_seen_subcommand_from two' -F
+complete -c lte_sec -n '__fish_seen_subcommand_from two' -l json -d 'prints one document in place of the report'
 complete -c lte_sec -n '__fish_seen_subcommand_from audit' -F
+complete -c lte_sec -n '__fish_seen_subcommand_from audit' -l json -d 'prints one document in place of the rows'
 complete -c lte_sec -n '__fish_seen_subcommand_from audit' -l frames -d 'adds to each row the frame at which its key came into use, where the scenario has frames'
 complete -c lte_sec -n '__fish_seen_subcommand_from ladder' -F
+complete -c lte_sec -n '__fish_seen_subcommand_from ladder' -l json -d 'prints one document in place of the lines'
 complete -c lte_sec -n '__fish_seen_subcommand_from calc' -F
+complete -c lte_sec -n '__fish_seen_subcommand_from calc' -l json -d 'prints one document at the end, in place of the answers'
 complete -c lte_sec -n '__fish_seen_subcommand_from calc' -l strict -d 'ends with 1 if a MAC failed'
 complete -c lte_sec -n '__fish_seen_subcommand_from lawful' -F
 complete -c lte_sec -n '__fish_seen_subcommand_from serve' -a phone -d 'serves a phone'
@@ -71,7 +76,7 @@ complete -c lte_sec -n '__fish_seen_subcommand_from what-if' -l faults -x -a '1 
 complete -c lte_sec -n '__fish_seen_subcommand_from what-if' -l kinds -x -a 'lost late twice again lost,late lost,twice lost,again late,twice late,again twice,again lost,late,twice lost,late,again lost,twice,again late,twice,again lost,late,twice,again' -d 'tries only these kinds of faults, with commas between; all are lost,late,twice,again'
 complete -c lte_sec -n '__fish_seen_subcommand_from what-if' -l bad -x -a 'same better goes-on context-left packet-lost weaker-key not-made no-handover misrouted NAS-apart COUNTs-apart cut-off stuck keys-differ coincidence' -d 'ends with 1 where an outcome is as bad as this one; without it keys-differ'
 complete -c lte_sec -n '__fish_seen_subcommand_from what-if' -l goal -x -a 'same better goes-on context-left packet-lost weaker-key not-made no-handover misrouted NAS-apart COUNTs-apart cut-off stuck keys-differ coincidence' -d 'tells the smallest sets of faults with this outcome, in place of the answer'
-complete -c lte_sec -n '__fish_seen_subcommand_from what-if' -l up-to -x -a '1 2 3' -d 'with --goal: takes sets of up to N faults, 1 to 3; without it 3'
+complete -c lte_sec -n '__fish_seen_subcommand_from what-if' -l up-to -x -a '1 2 3 4 5 6 7 8' -d 'with --goal: takes sets of up to N faults, 1 to 8, more than 5 of up to eight messages; without it 3'
 complete -c lte_sec -n '__fish_seen_subcommand_from what-if' -l yes -d 'with --goal: tries also more than a million sets of one size'
 complete -c lte_sec -n '__fish_seen_subcommand_from what-if' -l messages -r -d 'has faults happen to these messages alone, by names or steps, with commas between'
 complete -c lte_sec -n '__fish_seen_subcommand_from what-if' -l packets -d 'takes user packets for messages too'
@@ -112,14 +117,18 @@ complete -c lte_sec -n '__fish_seen_subcommand_from explain' -l cell -r -d 'name
 complete -c lte_sec -n '__fish_seen_subcommand_from explain' -l counts -r -d 'tries NAS COUNTs up to N; without it 300'
 complete -c lte_sec -n '__fish_seen_subcommand_from explain' -l depth -r -d 'tries so many steps of the chain of NH; without it 16'
 complete -c lte_sec -n '__fish_seen_subcommand_from explain' -l keys -r -F -d 'reads this file in place of standard input'
+complete -c lte_sec -n '__fish_seen_subcommand_from explain' -l far -d 'goes on where no key of the text fits the KASMEs at first sight: tries the algorithm keys of all KeNB*s, which takes seconds'
 complete -c lte_sec -n '__fish_seen_subcommand_from explain' -l json -d 'prints one document in place of the lines'
 complete -c lte_sec -n '__fish_seen_subcommand_from wireshark' -F
+complete -c lte_sec -n '__fish_seen_subcommand_from wireshark' -l json -d 'prints one document in place of the table'
 complete -c lte_sec -n '__fish_seen_subcommand_from wireshark' -l cells -r -F -d 'takes the PCI and EARFCN of cells from a file'
 complete -c lte_sec -n '__fish_seen_subcommand_from wireshark' -l dlt -r -d 'takes a link type that Wireshark does not know for this protocol, as 150=s1ap or 148=nas-eps; may be given again'
 complete -c lte_sec -n '__fish_seen_subcommand_from vectors' -l seed -r -d 'makes them of this seed; without it 1'
 complete -c lte_sec -n '__fish_seen_subcommand_from vectors' -l count -r -d 'prints so many; without it 1000'
+complete -c lte_sec -n '__fish_seen_subcommand_from vectors' -l wycheproof -r -d 'prints a file in the form of Wycheproof: derivations, eea1 to eea3 or eia1 to eia3'
 complete -c lte_sec -n '__fish_seen_subcommand_from demands' -l json -d 'prints one document in place of the lines'
 complete -c lte_sec -n '__fish_seen_subcommand_from repeats' -F
+complete -c lte_sec -n '__fish_seen_subcommand_from repeats' -l json -d 'prints one document in place of the line'
 complete -c lte_sec -n '__fish_seen_subcommand_from --proved' -a lte_sec_app -d 'asks for the program of all words but calc'
 complete -c lte_sec -n '__fish_seen_subcommand_from --proved' -a lte_calc -d 'asks for the program of calc'
 complete -c lte_sec -n '__fish_seen_subcommand_from --proved' -a lte_variants -d 'asks for the program of what-if'
