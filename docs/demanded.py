@@ -32,12 +32,9 @@ HEAD = """# The demands of the standards, and where each is here
 For whoever knows the standards and asks which of their demands this project has, by which definition, row, law and test, and where it departs. The demands are those of TS 33.401 clauses 5.1 and 6 to 8
 and Annexes A and B (Release 15), in our words. **All clauses, and all names of test cases, are from memory**: no document was at hand. A clause without a document is of TS 33.401.
 
-`docs/demanded.py` makes this page of [docs/demands](demands), and `./lte_sec demands 7.2.4` prints what stands below a clause, as JSON with `--json`. `docs/check` sees that each definition, row, law and
-file named here is there, that each row of the [suite](SUITE.md) and each [procedure](PROCEDURES.md) is named, and that what is covered has a test.
-
-- *By*: definitions, as CRATE/FILE.NAME of `crates/CRATE/specs/FILE.antt`; laws that are proved ([PROPERTIES](PROPERTIES.md)) behind them.
-- *Tried by*: rows of [examples/suite/rows](../examples/suite/rows), by input and answer; scenarios of [examples](../examples/README.md); crates of test vectors; modules of `python/tests`, which try
-  `check-trace`. Test cases of TS 33.116 (MME) and TS 33.216 (eNB) stand last.
+*Here* has the state, definitions, as CRATE/FILE.NAME of `crates/CRATE/specs/FILE.antt`, and laws that are proved ([PROPERTIES](PROPERTIES.md)). What tries a demand stands in [docs/demands](demands), of which
+`docs/demanded.py` makes this page: rows of the [suite](SUITE.md), scenarios of [examples](../examples/README.md), vectors, and modules of `python/tests`, which try `check-trace`. `./lte_sec demands 7.2.4` prints
+all that stands below a clause, as JSON with `--json`. `docs/check` sees that all that is named there is, that each row of the suite and each [procedure](PROCEDURES.md) is named, and that what is covered has a test.
 """
 
 
@@ -110,20 +107,11 @@ def code(names: Iterable[str]) -> str:
     return ", ".join(f"`{name}`" for name in names).replace("|", "\\|")
 
 
-def tried(demand: Demand) -> str:
-    """Its tests, with links to what packages have too."""
-    evidence = demand.evidence
-    parts = [code(evidence["rows"])]
-    parts += [", ".join(f"[{name.removeprefix('procedures/').replace('suite/scenarios', 'suite')}](../{scenario(name).relative_to(TOP)})" for name in evidence["scenario"])]
-    parts += [", ".join(f"[{name}](../crates/{name}/README.md)" for name in evidence["vectors"]), code(evidence["trace"]), ", ".join(f"*{name}*" for name in evidence["assurance"])]
-    return "; ".join(part for part in parts if part)
-
-
 def row(demand: Demand) -> str:
     evidence = demand.evidence
     by = "; ".join(part for part in (code(evidence["by"]), code(evidence["law"])) if part)
     here = f"**{demand.state}**{': ' * bool(evidence['remark'])}{' '.join(evidence['remark'])}"
-    return f"| {demand.clause} | {demand.who} | {demand.text} | {here} | {by} | {tried(demand)} |"
+    return f"| {demand.clause} ({demand.who}) | {demand.text} | {'; '.join(part for part in (here, by) if part)} |"
 
 
 def page(found: list[Demand]) -> str:
@@ -131,7 +119,7 @@ def page(found: list[Demand]) -> str:
     counts = demands.counted(found)
     lines = [HEAD, f"| {len(found)} demands | | |", "|---|---|---|", *(f"| {state} | {count} | {MEANS[state]} |" for state, count in counts.items())]
     for group in dict.fromkeys(demand.group for demand in found):
-        lines += ["", f"## {group}", "", "| clause | who | demand | here | by | tried by |", "|---|---|---|---|---|---|"]
+        lines += ["", f"## {group}", "", "| clause, of whom | demand | here |", "|---|---|---|"]
         lines += [row(demand) for demand in found if demand.group == group]
     cases: dict[str, list[str]] = {}
     for demand in found:

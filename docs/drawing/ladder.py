@@ -2,8 +2,9 @@
 
 The chain runs down (KeNB, and each NH with the key above it as SYNC-input, dashed), and to the right the keys of cells.
 """
-from lte_sec.ladders import LadderRow, algorithm, rows_of, title_of
+from lte_sec.ladders import algorithm, title_of
 from lte_sec.picture import MONO, Picture
+from lte_sec.run_report import LadderRow, rows_of
 
 from . import NotDrawn
 
@@ -11,6 +12,11 @@ FILLS = {"root": "#e4e7eb", "kenb": "#cfe3ff", "nh": "#cdeed6", "star": "#ffe8c7
 
 
 BOX, STEP, GAP = 300, 344, 22  # the width of a box, of a column, and the space between boxes
+
+
+def marks(row: LadderRow) -> str:
+    """Who has held it, as reports tell it."""
+    return ",".join(row.holders) or "-"
 
 
 def height_of(row: LadderRow) -> int:
@@ -22,12 +28,12 @@ def draw_row(picture: Picture, row: LadderRow, x: int, y: int, number: int) -> N
     picture.text(x + 9, y + 18, title_of(row, number), 12.5, weight="bold")
     picture.text(x + BOX - 9, y + 18, f"row {row.number}", 10.5, colour="#52606d", anchor="end")
     picture.text(x + 9, y + 35, f"{row.key[:8]}..{row.key[-8:]}", 11, MONO)
-    picture.text(x + BOX - 9, y + 35, row.holders, 11, MONO, weight="bold", anchor="end")
+    picture.text(x + BOX - 9, y + 35, marks(row), 11, MONO, weight="bold", anchor="end")
     for place, alg in enumerate(row.algs):
         at = y + 54 + 15 * place
         picture.text(x + 9, at, algorithm(alg.values), 9.5)
         picture.text(x + 186, at, f"..{alg.key[-8:]}", 9.5, MONO)
-        picture.text(x + BOX - 9, at, alg.holders, 9.5, MONO, anchor="end")
+        picture.text(x + BOX - 9, at, marks(alg), 9.5, MONO, anchor="end")
 
 
 def draw_from(picture: Picture, row: LadderRow, x: int, y: int, number: int) -> int:
@@ -70,7 +76,7 @@ def picture_of(report: list[str], name: str) -> str:
         for before, row in zip([None, *chain], chain):
             if row.word != "nh":
                 continue
-            sync = rows[int(row.values[1])]
+            sync = rows[row.values[1]]
             if sync is before:
                 x = 20 + STEP + 40
                 picture.line([(x, places[sync.number] + height_of(sync)), (x, places[row.number])], dashed=True)

@@ -11,10 +11,10 @@ from collections.abc import Mapping
 from typing import Any
 
 from lte_sec.charted import Charted, lanes_of, octets, said, steps_of
-from lte_sec.ladders import names_of, rows_of
-from lte_sec.messages import LINE, NotedKey
+from lte_sec.ladders import names_of
 from lte_sec.picture import INK, MONO, PALE, RED, Picture
 from lte_sec.remarks import named
+from lte_sec.run_report import NotedKey, StepLine, rows_of
 
 from . import NotDrawn
 
@@ -33,7 +33,7 @@ HEAD = (
 def draw(text: str, scenario: Mapping[str, Any], name: str, frames: Mapping[int, str]) -> str:
     """The picture of a report of this scenario, under its name and with the frames of its steps."""
     report = text.splitlines()
-    if not report or not LINE.match(report[0]):
+    if not report or StepLine.read(report[0]) is None:
         raise NotDrawn("it has no steps")
     ends = [line.split()[1] for line in report if re.fullmatch(r"end \d+ \d+ \d+", line)]
     steps = len(scenario.get("step", []))

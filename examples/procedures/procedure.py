@@ -1,4 +1,6 @@
 """A procedure: the steps of a scenario, and beside each what the standard has it give."""
+from __future__ import annotations
+
 import dataclasses
 import typing
 
