@@ -8,8 +8,8 @@ from pathlib import Path
 
 TOP = Path(__file__).resolve().parent.parent
 sys.path.insert(0, str(TOP / "python"))
-from lte_sec import frames  # noqa: E402
-from lte_sec.frames import DRBS, LONGEST_PACKET, LONGEST_RECORD, LONGEST_TEXT, RADIO, SRBS  # noqa: E402
+from lte_sec.drive import frames  # noqa: E402
+from lte_sec.drive.frames import DRBS, LONGEST_PACKET, LONGEST_RECORD, LONGEST_TEXT, RADIO, SRBS  # noqa: E402
 
 
 class Wrong(Exception):

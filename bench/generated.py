@@ -7,7 +7,7 @@ from collections.abc import Iterator
 from pathlib import Path
 
 sys.path.insert(0, str(Path(__file__).resolve().parents[1] / "python"))
-from lte_sec.scenarios import table_of  # noqa: E402
+from lte_sec.runs.scenarios import table_of  # noqa: E402
 
 PHONES = 256
 

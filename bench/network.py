@@ -14,9 +14,9 @@ from typing import BinaryIO
 TOP = Path(__file__).resolve().parents[1]
 TRACES = TOP / "examples" / "traces"
 sys.path.insert(0, str(TOP / "python"))
-from lte_sec.captures import read  # noqa: E402
-from lte_sec.derive import proved_calls  # noqa: E402
-from lte_sec.terms import DOWN, UP, Calls  # noqa: E402
+from lte_sec.captures.capture_files import read  # noqa: E402
+from lte_sec.common.derive import proved_calls  # noqa: E402
+from lte_sec.common.terms import DOWN, UP, Calls  # noqa: E402
 
 PACKET, HEAD = 6, 28  # the type of a packet's block, and the octets before its data
 CHUNKS = 46  # where the chunks of SCTP begin behind Ethernet and IPv4

@@ -14,8 +14,9 @@ from collections.abc import Iterable, Iterator
 TOP = pathlib.Path(__file__).resolve().parent.parent
 sys.path.insert(0, str(TOP / "python"))
 
-from lte_sec import demands, rows  # noqa: E402
-from lte_sec.demands import Demand  # noqa: E402
+from lte_sec.runs import demands
+from lte_sec.suite import rows  # noqa: E402
+from lte_sec.runs.demands import Demand  # noqa: E402
 
 PAGE = TOP / "docs" / "DEMANDS.md"
 SUITE = TOP / "examples" / "suite"

@@ -6,7 +6,7 @@ import re
 from collections.abc import Callable
 from typing import Optional
 
-from kinds import EARFCN, PCI, nearest, one_of
+from lte_sec.runs.kinds import EARFCN, PCI, nearest, one_of
 
 DECIMAL = re.compile(r"0|[1-9][0-9]*")
 

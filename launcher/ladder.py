@@ -5,8 +5,8 @@ import re
 from typing import Union
 
 from calc import DECIMAL, FIELDS, KEY, NAS_COUNT, Check, number, word_of
-from kinds import nearest, one_of
-from lte_sec.document import TextFault
+from lte_sec.runs.kinds import nearest, one_of
+from lte_sec.runs.document import TextFault
 
 MOST_LINES = 4096
 # The words behind that of a line: a row of one of these kinds, or what is wrong with another. Of `alg`, `of_type` says more.

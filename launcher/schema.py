@@ -8,7 +8,7 @@ import itertools
 import json
 from typing import Any
 
-from fields import MOST_STATIONS, MOST_STEPS, OF_CORE, SETUP, STEPS, Field, of_phone
+from lte_sec.runs.scenario_fields import MOST_STATIONS, MOST_STEPS, OF_CORE, SETUP, STEPS, Field, of_phone
 
 DIALECT = "https://json-schema.org/draft/2020-12/schema"
 PHONES = 256  # of a fleet

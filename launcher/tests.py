@@ -18,11 +18,9 @@ HERE = pathlib.Path(__file__).resolve().parent
 TOP = HERE.parent
 sys.path.insert(0, str(TOP / "python"))
 import calc  # noqa: E402
-import fields  # noqa: E402
 import ladder  # noqa: E402
 import pages  # noqa: E402
-import scenario  # noqa: E402
-from lte_sec import document  # noqa: E402
+from lte_sec.runs import document, scenario_faults, scenario_fields  # noqa: E402
 
 EXAMPLES = TOP / "examples"
 SETUP = 'phone = { caps = "a020" }\nstation = [{ id = 0, cells = [[10, 100]] }, { id = 1, cells = [[11, 101]] }]\n'
@@ -88,9 +86,9 @@ class Texts(unittest.TestCase):
         self.assertEqual({"a": {"b": 1, "c": "\x1b"}}, document.plain(document.read(b'a = { b = 1, # of TOML 1.1\n  c = "\\e",\n}\n')))
 
     def test_examples_have_no_fault(self) -> None:
-        for room, kind in (("run", scenario.RUN), ("worked", scenario.RUN), ("fleet", scenario.FLEET), ("two", scenario.TWO)):
+        for room, kind in (("run", scenario_faults.RUN), ("worked", scenario_faults.RUN), ("fleet", scenario_faults.FLEET), ("two", scenario_faults.TWO)):
             for file in EXAMPLES.glob(f"{room}/*.toml"):
-                scenario.judge(document.read(file.read_bytes()), kind)
+                scenario_faults.judge(document.read(file.read_bytes()), kind)
         for name in ("first", "chain", "algorithms"):
             ladder.judge((EXAMPLES / "ladder" / f"{name}.txt").read_bytes())
 
@@ -189,14 +187,14 @@ class Page(unittest.TestCase):
         lines = text[text.index(head):].split("\n\n")[0].splitlines()[2:]
         return [[cell.strip() for cell in line.strip("|").split(" | ")] for line in lines]
 
-    def tell(self, told: list[fields.Field], cell: str) -> None:
+    def tell(self, told: list[scenario_fields.Field], cell: str) -> None:
         """A cell names these fields in order, each in a part of its own, with what may stand there and when."""
         shared = self.PLAIN[self.PLAIN.index("A station is"):self.PLAIN.index("| do | what happens | fields")]
         parts = {names.split()[0].strip(","): names for names in re.sub(r"(\w+) and (\w+) (as for \w+)", r"\1 \3; \2 \3", cell).split("; ") if names}
         self.assertEqual(list(dict.fromkeys(field.name for field in told)), list(parts))
         for field in told:
             part, may = parts[field.name], field.kind.may.replace("a number ", "").replace(" in quotes", "").replace('"', "")
-            other = fields.STEPS[part.split(" as for ")[1]] if " as for " in part else []
+            other = scenario_fields.STEPS[part.split(" as for ")[1]] if " as for " in part else []
             self.assertTrue(may in part + shared or field.name in [it.name for it in other if it.kind.may == field.kind.may], (part, may))
             self.assertIn(f"or {field.left_out}" if field.left_out else "", part)
             self.assertTrue(not field.when or other or field.name == "bearer" or f" {field.when[0]} is " in part, part)
@@ -207,11 +205,11 @@ class Page(unittest.TestCase):
             for word in words.split(", "):
                 seen.append(word)
                 with self.subTest(word):
-                    self.tell(fields.STEPS[word], cell)
-        self.assertEqual(sorted(fields.STEPS), sorted(seen))
+                    self.tell(scenario_fields.STEPS[word], cell)
+        self.assertEqual(sorted(scenario_fields.STEPS), sorted(seen))
 
     def test_the_setup_has_the_fields_of_the_page(self) -> None:
-        tables = {f"[{name}]": told for name, told in fields.SETUP.items()} | {"of phone": [fields.of_phone(2)], "of core": [fields.OF_CORE]}
+        tables = {f"[{name}]": told for name, told in scenario_fields.SETUP.items()} | {"of phone": [scenario_fields.of_phone(2)], "of core": [scenario_fields.OF_CORE]}
         seen: dict[str, list[str]] = {name: [] for name in tables}
         for where, extra in (("", ""), ("## Scenarios of a fleet", "of phone"), ("## Scenarios of two cores", "of core")):
             table = extra
@@ -223,11 +221,11 @@ class Page(unittest.TestCase):
                 seen[table].append(field)
                 self.assertEqual(of.left_out or "refused", left_out, field)
                 may = of.kind.may.replace("a number ", "").replace(" in quotes", "")
-                self.assertTrue(may in cell or extra == "of phone" or cell == "as for the core" and of in fields.SETUP["core"], (field, may))
+                self.assertTrue(may in cell or extra == "of phone" or cell == "as for the core" and of in scenario_fields.SETUP["core"], (field, may))
         self.assertEqual({name: [field.name for field in told] for name, told in tables.items()}, seen)
 
     def test_the_page_tells_how_many_there_may_be_and_the_lines_of_a_ladder(self) -> None:
-        for told in (f"[[station]], 1 to {fields.MOST_STATIONS} |", f"[[step]], at most {fields.MOST_STEPS:,} |", f"at most {ladder.MOST_LINES:,} lines"):
+        for told in (f"[[station]], 1 to {scenario_fields.MOST_STATIONS} |", f"[[step]], at most {scenario_fields.MOST_STEPS:,} |", f"at most {ladder.MOST_LINES:,} lines"):
             self.assertIn(told, self.PLAIN)
         rows = self.rows("| line | needs | derives")
         self.assertEqual([f"{kind} {' '.join(names)}" for kind, names in ladder.LINES.items()], [line for line, _, _ in rows])
@@ -283,15 +281,15 @@ class Installed(unittest.TestCase):
     def test_each_option_that_is_taken_is_in_the_table(self) -> None:
         package = TOP / "python" / "lte_sec"
         of = {word.name: {name.split()[0] for name, _ in word.below if name.startswith("--")} for word in self.WORDS}
-        for name, usage in re.findall(r'^    "([\w-]+)": "(.*)",$', (package / "words.py").read_text(), re.MULTILINE):
+        for name, usage in re.findall(r'^    "([\w-]+)": "(.*)",$', (package / "words/trace_words.py").read_text(), re.MULTILINE):
             self.assertEqual(set(re.findall(r"--[a-z-]+", usage)), of[name], name)
 
     def test_each_option_of_the_table_is_asked_for(self) -> None:
         for name, files in (
-            ("check-trace", ["words"]), ("explain", ["words"]), ("wireshark", ["words"]), ("vectors", ["words"]), ("replay", ["words", "replay"]), ("what-if", ["what_if_word"]), ("repeats", ["words"]),
-            ("verdict", ["verdict"]), ("draw", ["ran"]), ("drive", ["drive", "suite", "generate"]), ("demands", ["demands"]),
+            ("check-trace", ["trace_words"]), ("explain", ["trace_words"]), ("wireshark", ["trace_words"]), ("vectors", ["trace_words"]), ("replay", ["trace_words", "replay_word"]), ("what-if", ["what_if_word"]), ("repeats", ["trace_words"]),
+            ("verdict", ["verdict"]), ("draw", ["run_page"]), ("drive", ["drive_word", "suite_word", "generate"]), ("demands", ["demands"]),
         ):
-            texts = "".join((TOP / "python" / "lte_sec" / f"{file}.py").read_text() for file in files)
+            texts = "".join(next((TOP / "python/lte_sec").rglob(f"{file}.py")).read_text() for file in files)
             asked = set(re.findall(r'"(--[a-z-]+)"', texts)) | {"--suite"}
             self.assertLessEqual({option.split()[0] for word in self.WORDS if word.name == name for option, _ in word.below if option.startswith("--")}, asked, name)
 

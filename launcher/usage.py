@@ -4,7 +4,7 @@ from __future__ import annotations
 import os
 
 from calc import Check, number
-from kinds import nearest
+from lte_sec.runs.kinds import nearest
 
 ACTORS = ["phone", "station", "core"]
 # What follows these words, and of each part its name and what is wrong with another.

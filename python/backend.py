@@ -18,7 +18,7 @@ import zipfile
 from pathlib import Path
 from typing import Any
 
-from lte_sec import document
+from lte_sec.runs import document
 
 HERE = Path(__file__).resolve().parent
 LIBRARY = Path(os.environ.get("LTE_SEC_LIBRARY") or HERE.parent / "library/built/liblte_sec.so")
@@ -55,7 +55,7 @@ def _record(name: str, content: bytes) -> str:
 def _contents(about: str, tag: str, version: str) -> dict[str, bytes]:
     """The files of the wheel, each by its name."""
     project = document.plain(document.read((HERE / "pyproject.toml").read_bytes()))["project"]
-    files = {f"lte_sec/{path.name}": path.read_bytes() for part in PARTS for path in sorted((HERE / "lte_sec").glob(part))}
+    files = {f"lte_sec/{path.relative_to(HERE / 'lte_sec').as_posix()}": path.read_bytes() for part in PARTS for path in sorted((HERE / "lte_sec").rglob(part))}
     files["lte_sec/words.txt"] = (HERE.parent / "launcher/words").read_bytes()
     files["lte_sec/liblte_sec.so"] = LIBRARY.read_bytes()
     files[f"{about}/METADATA"] = _metadata(project, version).encode()

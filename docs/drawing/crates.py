@@ -7,7 +7,7 @@ import textwrap
 from collections.abc import Mapping
 from typing import Union
 
-from lte_sec.picture import PALE, Picture
+from lte_sec.pages.picture import PALE, Picture
 
 from . import NotDrawn
 

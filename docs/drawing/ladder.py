@@ -2,9 +2,9 @@
 
 The chain runs down (KeNB, and each NH with the key above it as SYNC-input, dashed), and to the right the keys of cells.
 """
-from lte_sec.ladders import algorithm, title_of
-from lte_sec.picture import MONO, Picture
-from lte_sec.run_report import LadderRow, rows_of
+from lte_sec.runs.ladders import algorithm, title_of
+from lte_sec.pages.picture import MONO, Picture
+from lte_sec.runs.run_report import LadderRow, rows_of
 
 from . import NotDrawn
 

@@ -10,11 +10,11 @@ import textwrap
 from collections.abc import Mapping
 from typing import Any
 
-from lte_sec.charted import Charted, lanes_of, octets, said, steps_of
-from lte_sec.ladders import names_of
-from lte_sec.picture import INK, MONO, PALE, RED, Picture
-from lte_sec.remarks import named
-from lte_sec.run_report import NotedKey, StepLine, rows_of
+from lte_sec.whatif.chart import Charted, lanes_of, octets, said, steps_of
+from lte_sec.runs.ladders import names_of
+from lte_sec.pages.picture import INK, MONO, PALE, RED, Picture
+from lte_sec.runs.remarks import named
+from lte_sec.runs.run_report import NotedKey, StepLine, rows_of
 
 from . import NotDrawn
 

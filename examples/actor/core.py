@@ -13,7 +13,7 @@ from typing import Any
 
 import serving
 from calls import DOWN, UP, calls
-from lte_sec.frames import Input, Note, Reply, spelled_cell
+from lte_sec.drive.frames import Input, Note, Reply, spelled_cell
 
 CALLS = calls()
 MAC_FAILS, NO_CONTEXT, NO_TRIGGER = 5, 1, 43

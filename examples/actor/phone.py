@@ -13,7 +13,7 @@ from collections.abc import Callable
 
 import serving
 from calls import DOWN, UP, calls
-from lte_sec.frames import BEARERS, DRBS, Input, Note, Reply
+from lte_sec.drive.frames import BEARERS, DRBS, Input, Note, Reply
 
 CALLS = calls()
 MAC_FAILS, WRONG_KSI, NOT_CONNECTED, NOT_ADDRESSED, NO_CONTEXT = 5, 2, 20, 21, 1

@@ -10,7 +10,7 @@ import sys
 from typing import Callable
 
 from calls import PYTHON
-from lte_sec import frames
+from lte_sec.drive import frames
 
 assert PYTHON in sys.path, "the package of this repository"
 

@@ -14,7 +14,7 @@ EXAMPLES = pathlib.Path(__file__).resolve().parent.parent
 sys.dont_write_bytecode = True
 sys.path[:0] = [str(EXAMPLES / "actor"), str(EXAMPLES.parent / "python")]
 
-from lte_sec import frames  # noqa: E402
+from lte_sec.drive import frames  # noqa: E402
 
 
 def main() -> None:

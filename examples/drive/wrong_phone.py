@@ -13,7 +13,7 @@ sys.path.insert(0, str(pathlib.Path(__file__).resolve().parent.parent / "actor")
 import phone  # noqa: E402
 import serving  # noqa: E402
 from calls import DOWN  # noqa: E402
-from lte_sec.frames import Reply  # noqa: E402
+from lte_sec.drive.frames import Reply  # noqa: E402
 
 FOLDER, HOW = sys.argv[1:3]
 

@@ -8,7 +8,8 @@ import collections
 import pathlib
 from collections.abc import Iterator
 
-from lte_sec import frames, network, records, visits
+from lte_sec.drive import frames, network, records
+from lte_sec.suite import visits
 
 Class = tuple[str, str, str]  # an actor, a field, and a class of its values
 Place = tuple[bytes, int]  # a cell, and the algorithm there

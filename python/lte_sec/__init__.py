@@ -14,18 +14,11 @@ import importlib
 from typing import TYPE_CHECKING
 
 if TYPE_CHECKING:
-    from .api import (
-        Change, JudgedTrace, KeyOrigin, LadderKey, MessageFault, RunStep, ScenarioRun, TraceLine, TriedVariant, WhatIf, WordFails, check_trace, explain,
-        run, what_if,
-    )
-    from .cells import Site
-    from .library import (
-        DISCARDED, DOWNLINK, EEA0, EEA1, EEA2, EEA3, EIA0, EIA1, EIA2, EIA3, LATE, NEW, UPLINK, BadHeader, BeforeFirst, CountSpent, DrbContext, MacFails,
-        NasContext, Opened, OtherCount, OutOfRange, Reached, Refused, Short, SrbContext, algorithm_key, check_service_request, eea1, eea2, eea3, eia1,
-        eia2, eia3, kasme, kenb, kenb_star, nh, proved, reach, service_request, short_mac_i,
-    )
-    from .report import Verdict
-    from .terms import TraceError
+    from .api import Change, JudgedTrace, KeyOrigin, LadderKey, MessageFault, RunStep, ScenarioRun, TraceLine, TriedVariant, WhatIf, WordFails, check_trace, explain, run, what_if
+    from .captures.cells import Site
+    from .library import DISCARDED, DOWNLINK, EEA0, EEA1, EEA2, EEA3, EIA0, EIA1, EIA2, EIA3, LATE, NEW, UPLINK, BadHeader, BeforeFirst, CountSpent, DrbContext, MacFails, NasContext, Opened, OtherCount, OutOfRange, Reached, Refused, Short, SrbContext, algorithm_key, check_service_request, eea1, eea2, eea3, eia1, eia2, eia3, kasme, kenb, kenb_star, nh, proved, reach, service_request, short_mac_i
+    from .common.report import Verdict
+    from .common.terms import TraceError
 
 __all__ = [
     "Change", "JudgedTrace", "KeyOrigin", "LadderKey", "MessageFault", "RunStep", "ScenarioRun", "Site", "TraceError", "TraceLine", "TriedVariant", "Verdict",
@@ -35,7 +28,7 @@ __all__ = [
     "check_service_request", "eea1", "eea2", "eea3", "eia1", "eia2", "eia3", "kasme", "kenb", "kenb_star", "nh", "proved", "reach", "service_request",
     "short_mac_i",
 ]
-WHERE = dict.fromkeys(__all__[:__all__.index("DISCARDED")], "api") | {"Site": "cells", "TraceError": "terms", "Verdict": "report"}  # and else in the library
+WHERE = dict.fromkeys(__all__[:__all__.index("DISCARDED")], "api") | {"Site": "captures.cells", "TraceError": "common.terms", "Verdict": "common.report"}  # and else in the library
 
 
 def __getattr__(name: str) -> object:

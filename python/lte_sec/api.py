@@ -13,17 +13,17 @@ from dataclasses import dataclass, field
 from pathlib import Path
 from typing import Any, Optional, Union
 
-from . import lawful
-from .cells import Cell, Cells, Site, is_cell
-from .derive import TOP, proved_calls
-from .dumps import blocks
-from .explained import Explanation, entry
-from .outcomes import RANK
-from .reading import Said
-from .report import Verdict, counts, status
-from .terms import Derivations, TraceError, is_kasme, kasmes_of
-from .words import trace_of
-from .written import lines
+from .judge import lawful
+from .captures.cells import Cell, Cells, Site, is_cell
+from .common.derive import TOP, proved_calls
+from .words.dumps import blocks
+from .words.explanation import Explanation, entry
+from .whatif.outcomes import RANK
+from .judge.reading import Said
+from .common.report import Verdict, counts, status
+from .common.terms import Derivations, TraceError, is_kasme, kasmes_of
+from .words.trace_words import trace_of
+from .words.trace_document import lines
 
 Text = Union[str, bytes, Path]  # a text itself, or the file that has it
 KeyOctets = Union[str, bytes]  # 32 octets, or 64 hex digits

@@ -3,7 +3,7 @@ from __future__ import annotations
 
 from collections.abc import Callable
 
-from lte_sec.decoding import Command
+from lte_sec.captures.decoding import Command
 
 from .networks import CELL, ENB1, ENB2, ENB2_SECOND, ENB3, Context, Network, attached, broken, chain, star
 from .simulated import CALLS

@@ -4,7 +4,7 @@ from __future__ import annotations
 import hmac
 from collections.abc import Callable
 
-from lte_sec.decoding import Message
+from lte_sec.captures.decoding import Message
 
 from .rarer import RarerWorld
 from .simulated import CALLS, Phone, World, cell_of, nas_mac

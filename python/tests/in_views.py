@@ -11,11 +11,11 @@ from collections.abc import Callable, Iterator
 from dataclasses import dataclass
 from pathlib import Path
 
-from lte_sec.cells import Cells
-from lte_sec.decoding import Message
-from lte_sec.reading import check
-from lte_sec.report import DIFFERS, UNKNOWN, Line
-from lte_sec.terms import Derivations, Kasme
+from lte_sec.captures.cells import Cells
+from lte_sec.captures.decoding import Message
+from lte_sec.judge.reading import check
+from lte_sec.common.report import DIFFERS, UNKNOWN, Line
+from lte_sec.common.terms import Derivations, Kasme
 
 from . import broken_handovers, broken_nas, sound_handovers, sound_modes, sound_phones, test_faults, test_simulated, test_situations
 from .networks import BROKEN, SITES, SOUND, Network

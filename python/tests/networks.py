@@ -9,8 +9,8 @@ import hashlib
 from collections.abc import Callable
 from dataclasses import dataclass, field
 
-from lte_sec.cells import Site
-from lte_sec.decoding import Command, Message
+from lte_sec.captures.cells import Site
+from lte_sec.captures.decoding import Command, Message
 
 from .simulated import CALLS, CELLS, CIPHERS, MACS
 

@@ -3,7 +3,7 @@ from __future__ import annotations
 
 from dataclasses import replace
 
-from lte_sec.decoding import Command, Message, Reestablishment
+from lte_sec.captures.decoding import Command, Message, Reestablishment
 
 from .simulated import CALLS, ENDS, Phone, Side, World, cell_of
 

@@ -7,8 +7,8 @@ from __future__ import annotations
 from collections.abc import Callable
 from dataclasses import dataclass, field
 
-from lte_sec.decoding import Command, Message
-from lte_sec.cells import Site
+from lte_sec.captures.decoding import Command, Message
+from lte_sec.captures.cells import Site
 
 from .standin import StandIn
 

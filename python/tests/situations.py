@@ -4,7 +4,7 @@ from __future__ import annotations
 import copy
 from collections.abc import Callable
 
-from lte_sec.decoding import Command, Message
+from lte_sec.captures.decoding import Command, Message
 
 from .rarer import ATTACH_REQUEST, RarerWorld
 from .simulated import CALLS, CELLS, ENDS, Phone, World, cell_of

@@ -1,7 +1,7 @@
 """Conformant networks: handovers, what is lost of them, and stations behind a gateway."""
 from __future__ import annotations
 
-from lte_sec.decoding import Command
+from lte_sec.captures.decoding import Command
 
 from .networks import (
     CELL, CORE, ENB1, ENB2, ENB2_SECOND, END, FIRST, GATEWAY, HOME1, HOME2, HOME_END, UPDATE, UPDATE_ACCEPT, UPDATED, Context, Network, attached, chain, kasme_of, sound, star,

@@ -10,7 +10,8 @@ from pathlib import Path
 from unittest import mock
 
 import lte_sec
-from lte_sec import api, words
+from lte_sec import api
+from lte_sec.words import trace_words as words
 
 from .standin import StandIn
 from .test_traces import TRACES
@@ -33,7 +34,7 @@ class Names(unittest.TestCase):
         self.assertEqual(len(set(lte_sec.__all__)), len(lte_sec.__all__))
 
     def test_no_name_is_that_of_a_module(self) -> None:
-        modules = {file.stem for file in (TOP / "python/lte_sec").glob("*.py")}
+        modules = {file.stem for file in (TOP / "python/lte_sec").rglob("*") if file.suffix == ".py" or file.is_dir()}
         self.assertEqual(set(), modules & set(lte_sec.__all__))
 
     def test_each_name_is_on_the_page_or_of_a_value(self) -> None:

@@ -10,7 +10,7 @@ import unittest
 from pathlib import Path
 from typing import Any
 
-from lte_sec import pages, trace_page
+from lte_sec.pages import page as pages, trace_page
 
 from .browser import Browser, Fails, browser, found
 from .test_pages import HOSTILE, made, trace

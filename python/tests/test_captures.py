@@ -6,15 +6,15 @@ import tempfile
 import unittest
 from pathlib import Path
 
-from lte_sec.captures import messages
-from lte_sec.decoding import Command, Message, Pairs, Radio
-from lte_sec.cells import Cells, Site, read_cells, sites_of
-from lte_sec.fields import command
-from lte_sec.layers import pdu
-from lte_sec.terms import TraceError
-from lte_sec.stations import Stations, station_end
-from lte_sec.learning import learn
-from lte_sec.report import UNKNOWN
+from lte_sec.captures.capture_files import messages
+from lte_sec.captures.decoding import Command, Message, Pairs, Radio
+from lte_sec.captures.cells import Cells, Site, read_cells, sites_of
+from lte_sec.captures.fields import command
+from lte_sec.captures.layers import pdu
+from lte_sec.common.terms import TraceError
+from lte_sec.captures.stations import Stations, station_end
+from lte_sec.judge.told_cells import learn
+from lte_sec.common.report import UNKNOWN
 
 from .test_traces import TRACES, traced
 

@@ -7,12 +7,12 @@ import re
 import unittest
 from collections.abc import Callable
 
-from lte_sec.cells import Cells
-from lte_sec.reading import check
-from lte_sec.report import DIFFERS
-from lte_sec.seen import Account
-from lte_sec.terms import Derivations, Kasme
-from lte_sec.written import as_json
+from lte_sec.captures.cells import Cells
+from lte_sec.judge.reading import check
+from lte_sec.common.report import DIFFERS
+from lte_sec.judge.account import Account
+from lte_sec.common.terms import Derivations, Kasme
+from lte_sec.words.trace_document import as_json
 
 from . import test_faults, test_simulated
 from .simulated import CALLS, CELLS, World

@@ -5,15 +5,15 @@ import copy
 import unittest
 from dataclasses import replace
 
-from lte_sec.cells import Cells, Site
-from lte_sec.coverage import Coverage, taken, word
-from lte_sec.decoding import Message
-from lte_sec.reading import Said, check
-from lte_sec.report import DIFFERS, NOTE, RIGHT
-from lte_sec.seen import Account
-from lte_sec.stations import Stations
-from lte_sec.taps import without_second_taps
-from lte_sec.terms import Derivations, Kasme, TraceError
+from lte_sec.captures.cells import Cells, Site
+from lte_sec.captures.coverage import Coverage, taken, word
+from lte_sec.captures.decoding import Message
+from lte_sec.judge.reading import Said, check
+from lte_sec.common.report import DIFFERS, NOTE, RIGHT
+from lte_sec.judge.account import Account
+from lte_sec.captures.stations import Stations
+from lte_sec.captures.taps import without_second_taps
+from lte_sec.common.terms import Derivations, Kasme, TraceError
 
 from .simulated import CALLS, CELLS, ENDS, World
 from .situations import numbered, without_commands

@@ -6,7 +6,7 @@ import io
 import json
 import unittest
 
-from lte_sec import demands
+from lte_sec.runs import demands
 
 TEXT = """# comment
 == first

@@ -5,7 +5,7 @@ import json
 import unittest
 from pathlib import Path
 
-from lte_sec.documents import answer_of, of_audit, of_calc, of_fleet, of_ladder, run_of
+from lte_sec.runs.documents import answer_of, of_audit, of_calc, of_fleet, of_ladder, run_of
 
 EXAMPLES = Path(__file__).resolve().parents[2] / "examples"
 

@@ -4,8 +4,9 @@ import sys
 import unittest
 from unittest import mock
 
-from lte_sec import differences, drive, ending, frames, patient
-from lte_sec.options import WrongWords
+from lte_sec.drive import differences, drive_word as drive, frames, patient
+from lte_sec.common import ending
+from lte_sec.common.options import WrongWords
 
 DONE = "00088000000000000000"
 
@@ -63,7 +64,7 @@ class Drive(unittest.TestCase):
         ):
             fails = "import sys; sys.stderr.write('lte_sec: station 3: it gave no whole reply: ..\\n'); sys.exit(6)"
             driven = drive.Driven([sys.executable, "-c", f"{program}\n{fails}"], {}, True)
-            with mock.patch("lte_sec.drive.put") as said:
+            with mock.patch("lte_sec.drive.drive_word.put") as said:
                 self.assertEqual((6, told, report), (driven.run(), driven.failure(), driven.report))
                 driven.tell()
             self.assertEqual({"step": driven.step(), "actor": "station 3", "how": "it closed the connection before it gave a whole reply"}, driven.fault())
@@ -76,7 +77,7 @@ class Drive(unittest.TestCase):
     def test_a_report_that_cannot_be_written_is_status_5_also_where_the_program_ended_before(self) -> None:
         for lines in ("0 both done", "0 both done\\n1 core done"):
             run = drive.Run([sys.executable, "-c", f"print('{lines}')"], drive.DriveOptions({}))
-            with mock.patch("lte_sec.drive.put", side_effect=OSError):
+            with mock.patch("lte_sec.drive.drive_word.put", side_effect=OSError):
                 self.assertEqual(ending.WRITING, drive.answered(run))
             assert run.driven and run.driven.process.stderr
             run.driven.process.stderr.close()
@@ -84,7 +85,7 @@ class Drive(unittest.TestCase):
     def test_an_actor_that_did_not_start_is_in_the_document(self) -> None:
         fails = "import sys; sys.stderr.write('lte_sec: core: its program did not start\\n'); sys.exit(6)"
         driven = drive.Driven([sys.executable, "-c", fails], {}, True)
-        with mock.patch("lte_sec.drive.put"):
+        with mock.patch("lte_sec.drive.drive_word.put"):
             self.assertEqual((6, {"step": None, "actor": "core", "how": "its program did not start"}), (driven.run(), driven.fault()))
         assert driven.process.stderr
         driven.process.stderr.close()
@@ -127,7 +128,7 @@ class Drive(unittest.TestCase):
 
     def test_the_program_is_given_the_whole_scenario(self) -> None:
         run = drive.Run([sys.executable, "-c", "import sys; print(len(sys.stdin.read()))"], drive.DriveOptions({}, True), b"x" * 100_000)
-        with mock.patch("lte_sec.drive.put"):
+        with mock.patch("lte_sec.drive.drive_word.put"):
             status, driven = run.run()
             driven.tell()
         self.assertEqual((0, ["100000"]), (status, driven.report))

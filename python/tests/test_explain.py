@@ -6,12 +6,13 @@ import re
 import unittest
 from pathlib import Path
 
-from lte_sec import quick, reasons
-from lte_sec.cells import Cells, Site
-from lte_sec.dumps import blocks, candidates
-from lte_sec.explained import OF_ANY, OTHER_COUNTS, ExplainedKey, Explanation, told
-from lte_sec.search import DerivationSearch
-from lte_sec.terms import Derivations, Kasme
+from lte_sec.common import quick
+from lte_sec.nas import reasons
+from lte_sec.captures.cells import Cells, Site
+from lte_sec.words.dumps import blocks, candidates
+from lte_sec.words.explanation import OF_ANY, OTHER_COUNTS, ExplainedKey, Explanation, told
+from lte_sec.judge.search import DerivationSearch
+from lte_sec.common.terms import Derivations, Kasme
 
 from .standin import StandIn
 

@@ -4,10 +4,10 @@ from __future__ import annotations
 import copy
 import unittest
 
-from lte_sec.cells import Cells
-from lte_sec.reading import check
-from lte_sec.report import DIFFERS, Line
-from lte_sec.terms import Derivations, Kasme
+from lte_sec.captures.cells import Cells
+from lte_sec.judge.reading import check
+from lte_sec.common.report import DIFFERS, Line
+from lte_sec.common.terms import Derivations, Kasme
 
 from .faulty import (
     Made, LONG, accepted_again, begins_there, behind_a_reject, commanded_again, eea2, header_1_up, kdf, key_by, keys, lacking, mac_by, mac_without_overflow, null_integrity, other_algorithm, renewed, replayed,

@@ -9,11 +9,11 @@ import tempfile
 import unittest
 from pathlib import Path
 
-from lte_sec.captures import read, read_all
-from lte_sec.cells import Cells, read_cells
-from lte_sec.report import DIFFERS, UNKNOWN, Line, status
-from lte_sec.reading import check
-from lte_sec.terms import Derivations, Kasme
+from lte_sec.captures.capture_files import read, read_all
+from lte_sec.captures.cells import Cells, read_cells
+from lte_sec.common.report import DIFFERS, UNKNOWN, Line, status
+from lte_sec.judge.reading import check
+from lte_sec.common.terms import Derivations, Kasme
 
 from .standin import StandIn
 from .test_spoilt import report, stored
@@ -134,7 +134,7 @@ class Files(unittest.TestCase):
         lines = stored("A")
         place = next(place for place, line in enumerate(lines) if '"s1ap.integrityProtectionAlgorithms": "e0:00"' in line)
         lines[place] = lines[place].replace("e0:00", "80:00")
-        from lte_sec.captures import messages
+        from lte_sec.captures.capture_files import messages
         told = [line for line in report("A", list(messages(lines))) if line.verdict == DIFFERS]
         self.assertEqual([line.text for line in told][:1], ["frame 24 InitialContextSetupRequest capabilities differ: are integrity 100, wanted 111 (bits for algorithms 1, 2, 3)"])
 

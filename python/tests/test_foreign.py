@@ -5,10 +5,10 @@ import os
 import random
 import unittest
 
-from lte_sec.cells import Cells
-from lte_sec.reading import check
-from lte_sec.report import DIFFERS
-from lte_sec.terms import Derivations, Kasme
+from lte_sec.captures.cells import Cells
+from lte_sec.judge.reading import check
+from lte_sec.common.report import DIFFERS
+from lte_sec.common.terms import Derivations, Kasme
 
 from .rarer import RarerWorld
 from .simulated import CELLS, Phone

@@ -4,7 +4,7 @@ import pathlib
 import re
 import unittest
 
-from lte_sec import frames
+from lte_sec.drive import frames
 
 TOP = pathlib.Path(__file__).resolve().parent.parent.parent
 TESTS = TOP / "crates" / "record_tests" / "src" / "frames"

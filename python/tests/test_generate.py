@@ -9,8 +9,10 @@ import unittest
 import unittest.mock
 from pathlib import Path
 
-from lte_sec import generate, journeys, network, played, rows, scenarios
-from lte_sec.options import WrongWords
+from lte_sec.suite import generate, journeys, play as played, rows
+from lte_sec.drive import network
+from lte_sec.runs import scenarios
+from lte_sec.common.options import WrongWords
 
 VISIT = rows.Visit("phone", "SendUser", "any", "done", "")
 

@@ -10,14 +10,14 @@ import time
 import unittest
 from pathlib import Path
 
-from lte_sec import resumed
-from lte_sec.answers import Answer, tellings
-from lte_sec.asked import steps_of
-from lte_sec.goals import lasting
-from lte_sec.listed import Listed, Lists
-from lte_sec.options import WrongWords
-from lte_sec.study import Variant
-from lte_sec.variants import KINDS, Fault
+from lte_sec.whatif import resumption as resumed
+from lte_sec.whatif.answers import Answer, tellings
+from lte_sec.whatif.named_messages import steps_of
+from lte_sec.whatif.goals import lasting
+from lte_sec.whatif.variant_lists import Listed, Lists
+from lte_sec.common.options import WrongWords
+from lte_sec.whatif.study import Variant
+from lte_sec.runs.variants import KINDS, Fault
 
 from . import test_what_if
 from .test_what_if import EXAMPLES, TOP, called, octets

@@ -8,15 +8,15 @@ import unittest
 from collections.abc import Callable
 from dataclasses import dataclass, replace
 
-from lte_sec import lawful
-from lte_sec.causes import Cause
-from lte_sec.cells import Cells
-from lte_sec.decoding import Message
-from lte_sec.reading import check
-from lte_sec.recorded import record
-from lte_sec.report import DIFFERS, Line
-from lte_sec.terms import Derivations, Kasme, kasmes_of
-from lte_sec.trace import Trace
+from lte_sec.judge import lawful
+from lte_sec.common.causes import Cause
+from lte_sec.captures.cells import Cells
+from lte_sec.captures.decoding import Message
+from lte_sec.judge.reading import check
+from lte_sec.replay.recording import record
+from lte_sec.common.report import DIFFERS, Line
+from lte_sec.common.terms import Derivations, Kasme, kasmes_of
+from lte_sec.judge.trace import Trace
 
 from . import test_faults, test_simulated
 from .simulated import CALLS, CELLS, World

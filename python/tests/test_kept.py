@@ -9,17 +9,17 @@ from dataclasses import replace
 from operator import attrgetter
 from unittest.mock import patch
 
-from lte_sec.captures import read, read_all
-from lte_sec.cells import Cells, read_cells
-from lte_sec.decoding import Message
-from lte_sec.grounds import FirstPlaces
-from lte_sec.kept import BLOCK, Kept
-from lte_sec.kept_lines import KeptLines
-from lte_sec.reading import check
-from lte_sec.report import DIFFERS, NOTE, RIGHT, UNKNOWN, Line, Verdict
-from lte_sec.taps import APART, MANY, SecondTaps, alike, capture_of
-from lte_sec.terms import Derivations, Key, Term, kasmes_of
-from lte_sec.written import as_json, lines as lines_of
+from lte_sec.captures.capture_files import read, read_all
+from lte_sec.captures.cells import Cells, read_cells
+from lte_sec.captures.decoding import Message
+from lte_sec.judge.grounds import FirstPlaces
+from lte_sec.captures.message_store import BLOCK, Kept
+from lte_sec.judge.line_store import KeptLines
+from lte_sec.judge.reading import check
+from lte_sec.common.report import DIFFERS, NOTE, RIGHT, UNKNOWN, Line, Verdict
+from lte_sec.captures.taps import APART, MANY, SecondTaps, alike, capture_of
+from lte_sec.common.terms import Derivations, Key, Term, kasmes_of
+from lte_sec.words.trace_document import as_json, lines as lines_of
 
 from .standin import StandIn
 from .test_scanned import EVERY
@@ -80,7 +80,7 @@ class Lines(unittest.TestCase):
         return [Line(str(place // 2), "NAS", "MAC", (RIGHT, DIFFERS, UNKNOWN)[place % 3], found=str(place), place=None if place % 5 == 0 else place // 2 + 1) for place in range(number)]
 
     def test_lines_are_those_that_were_put_in(self) -> None:
-        with patch("lte_sec.kept_lines.NEWEST", 16), patch("lte_sec.kept_lines.BATCH", 8):
+        with patch("lte_sec.judge.line_store.NEWEST", 16), patch("lte_sec.judge.line_store.BATCH", 8):
             lines, kept = self.lines(100), KeptLines()
             for place, line in enumerate(lines):
                 self.assertEqual(list(kept.since(max(0, place - 3))), lines[max(0, place - 3):place])
@@ -107,7 +107,7 @@ class Lines(unittest.TestCase):
         term = Term("kenb", (0,))
         for _ in range(20_000):
             term = Term("star", (1, 1), term)
-        with patch("lte_sec.kept_lines.NEWEST", 0), patch("lte_sec.kept_lines.BATCH", 2):
+        with patch("lte_sec.judge.line_store.NEWEST", 0), patch("lte_sec.judge.line_store.BATCH", 2):
             kept = KeptLines()
             for line in self.lines(4):
                 line.key = Key(bytes(32), term)
@@ -120,7 +120,7 @@ class Lines(unittest.TestCase):
             kasmes = [one["hex"] for one in json.loads((TRACES / f"{name}.truth.json").read_text())["kasme"]] if name != "lost-answers" else [KASME]
             reports = []
             for newest in (1000, 0):
-                with patch("lte_sec.kept_lines.NEWEST", newest), patch("lte_sec.kept_lines.BATCH", 4):
+                with patch("lte_sec.judge.line_store.NEWEST", newest), patch("lte_sec.judge.line_store.BATCH", 4):
                     cells = Cells(read_cells(TRACES / f"{name}.cells.txt"))
                     trace = check(Derivations(StandIn(), kasmes_of(kasmes)), cells, read_all([TRACES / f"{name}.json.gz"]), budget=1000)
                     reports.append((list(lines_of(trace.seen)), [str(line) for line in trace.lines], trace.seen.verdicts(), as_json(trace.seen)))

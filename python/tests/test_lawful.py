@@ -7,12 +7,12 @@ import unittest
 from pathlib import Path
 from unittest import mock
 
-from lte_sec import lawful
-from lte_sec.captures import read
-from lte_sec.causes import Cause, has, told
-from lte_sec.report import DIFFERS, KEYS, UNKNOWN
-from lte_sec.seen import Account
-from lte_sec.trace import Trace
+from lte_sec.judge import lawful
+from lte_sec.captures.capture_files import read
+from lte_sec.common.causes import Cause, has, told
+from lte_sec.common.report import DIFFERS, KEYS, UNKNOWN
+from lte_sec.judge.account import Account
+from lte_sec.judge.trace import Trace
 
 from .test_traces import TRACES
 from .test_traces import traced as judged

@@ -7,9 +7,9 @@ import tempfile
 import unittest
 from pathlib import Path
 
-from lte_sec import captures
-from lte_sec.link_types import Ways, preferences, user_dlt
-from lte_sec.terms import DOWN, UP, Derivations, TraceError, kasmes_of
+from lte_sec.captures import capture_files as captures
+from lte_sec.captures.link_types import Ways, preferences, user_dlt
+from lte_sec.common.terms import DOWN, UP, Derivations, TraceError, kasmes_of
 
 from .standin import StandIn
 from .test_traces import TRACES

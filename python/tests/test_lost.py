@@ -6,9 +6,9 @@ import os
 import unittest
 from collections.abc import Iterator
 
-from lte_sec.captures import messages
-from lte_sec.decoding import Message
-from lte_sec.report import DIFFERS
+from lte_sec.captures.capture_files import messages
+from lte_sec.captures.decoding import Message
+from lte_sec.common.report import DIFFERS
 
 from .test_spoilt import NAMES, report, stored
 

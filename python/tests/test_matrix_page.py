@@ -9,9 +9,10 @@ import unittest
 from pathlib import Path
 from typing import Any
 
-from lte_sec import matrix_page, pages
-from lte_sec.answers import from_json, to_json
-from lte_sec.outcomes import WORDS
+from lte_sec.whatif import matrix_page
+from lte_sec.pages import page as pages
+from lte_sec.whatif.answers import from_json, to_json
+from lte_sec.whatif.outcomes import WORDS
 
 from . import test_what_if
 from .browser import found

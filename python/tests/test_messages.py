@@ -4,8 +4,8 @@ import pathlib
 import re
 import unittest
 
-from lte_sec.messages import NAMES, Names
-from lte_sec.run_report import NotedKey, StepLine
+from lte_sec.runs.messages import NAMES, Names
+from lte_sec.runs.run_report import NotedKey, StepLine
 
 CRATES = pathlib.Path(__file__).resolve().parent.parent.parent / "crates"
 NOTE = NotedKey("00" * 32, "vertical", "1")

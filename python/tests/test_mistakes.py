@@ -6,9 +6,11 @@ import unittest
 from pathlib import Path
 from unittest import mock
 
-from lte_sec import causes, frames, mistakes, reasons
-from lte_sec.ladders import kind_of
-from lte_sec.run_report import LadderRow, rows_of
+from lte_sec.common import causes
+from lte_sec.drive import frames, mistakes
+from lte_sec.nas import reasons
+from lte_sec.runs.ladders import kind_of
+from lte_sec.runs.run_report import LadderRow, rows_of
 
 from .standin import StandIn
 
@@ -68,7 +70,7 @@ class Mistakes(unittest.TestCase):
         one, other = frames.Reply(to=b"\2", record=b"\x47abcd\0\2"), frames.Reply(to=b"\2", record=b"\x47abce\0\2")
         key, wrong = (dataclasses.replace(other, derived=(octets,)) for octets in (bytes(32), bytes([1]) * 32))
         with mock.patch.object(mistakes, "rows_by_run", lambda *_: ROWS), mock.patch.object(mistakes, "proved_calls", StandIn), \
-                mock.patch("lte_sec.unsealed.mistakes", lambda *_: ["named"]), mock.patch("lte_sec.scenarios.read", lambda _: None):
+                mock.patch("lte_sec.drive.seal_mistakes.mistakes", lambda *_: ["named"]), mock.patch("lte_sec.runs.scenarios.read", lambda _: None):
             for want, have, told in ((one, other, ["named"]), (one, one, []), (dataclasses.replace(one, derived=(bytes(32),)), wrong, []), (dataclasses.replace(one, derived=(bytes(32),)), key, ["named"])):
                 self.assertEqual(told, mistakes.of_reply("a program", b"", 3, want.spelled(), have.spelled(), "phone"))
             self.assertEqual([], mistakes.of_reply("a program", b"", None, one.spelled(), other.spelled(), "phone"))  # the setup

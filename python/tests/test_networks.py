@@ -4,7 +4,7 @@ from __future__ import annotations
 import re
 import unittest
 
-from lte_sec.report import DIFFERS, UNKNOWN
+from lte_sec.common.report import DIFFERS, UNKNOWN
 
 from .in_views import of_network
 from .networks import BROKEN, SOUND

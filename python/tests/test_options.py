@@ -6,8 +6,8 @@ import unittest
 from pathlib import Path
 from unittest import mock
 
-from lte_sec import options
-from lte_sec.options import Words, WrongWords
+from lte_sec.common import options
+from lte_sec.common.options import Words, WrongWords
 
 
 class Options(unittest.TestCase):

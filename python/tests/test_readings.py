@@ -7,18 +7,18 @@ from collections.abc import Callable
 from dataclasses import replace
 from unittest import mock
 
-from lte_sec.cells import Cells
-from lte_sec.choices import Offer, Tape
-from lte_sec.decoding import Message
-from lte_sec.reading import check
-from lte_sec.report import DIFFERS, RIGHT, UNKNOWN, Line
-from lte_sec.rereading import Reading, best
-from lte_sec.search import DerivationSearch
-from lte_sec.seen import Account
-from lte_sec.stations import FROM_STATION
-from lte_sec.terms import Derivations, Kasme
-from lte_sec.causes import Cause
-from lte_sec.trace import Trace
+from lte_sec.captures.cells import Cells
+from lte_sec.judge.choices import Offer, Tape
+from lte_sec.captures.decoding import Message
+from lte_sec.judge.reading import check
+from lte_sec.common.report import DIFFERS, RIGHT, UNKNOWN, Line
+from lte_sec.judge.rereading import Reading, best
+from lte_sec.judge.search import DerivationSearch
+from lte_sec.judge.account import Account
+from lte_sec.captures.stations import FROM_STATION
+from lte_sec.common.terms import Derivations, Kasme
+from lte_sec.common.causes import Cause
+from lte_sec.judge.trace import Trace
 
 from . import broken_handovers, broken_nas, sound_handovers, sound_phones
 from .networks import BROKEN, END, ENB1, ENB2, SITES, Context, Network, attached, chain, star
@@ -120,7 +120,7 @@ class Search(unittest.TestCase):
 class Bounds(unittest.TestCase):
     def test_what_differs_behind_a_choice_is_not_judged_where_a_bound_is_reached(self) -> None:
         for bound in ({"READINGS": 0}, {"TIMES": 0, "LEAST": 0}):
-            with mock.patch.multiple("lte_sec.rereading", **bound):  # type: ignore[arg-type]
+            with mock.patch.multiple("lte_sec.judge.rereading", **bound):  # type: ignore[arg-type]
                 account = seen(sound_phones.a_core_that_begins_anew(), s1_up)
             self.assertEqual(told(account), [])
             self.assertEqual(len(heads(account, ENDED)), 1, account.head)
@@ -138,7 +138,7 @@ class Bounds(unittest.TestCase):
                 steps.append(found.steps)
                 return found
 
-            with mock.patch.multiple("lte_sec.rereading", LEAST=bound, TIMES=0), mock.patch.object(Trace, "other", other):
+            with mock.patch.multiple("lte_sec.judge.rereading", LEAST=bound, TIMES=0), mock.patch.object(Trace, "other", other):
                 account = check(Derivations(CALLS, [Kasme(one.name, one.kasme) for one in world.phones]), Cells(CELLS), copy.deepcopy(kept), 100).seen
             self.assertLess(sum(steps[:-1]), bound)
             self.assertEqual(len(heads(account, ENDED)), bound == 60, account.head)
@@ -151,7 +151,7 @@ class Bounds(unittest.TestCase):
         network.release(1, 12, 101)
         kenb = network.service(phone)
         network.x2_handover(3, 13, 102, ENB2, star(kenb, ENB1), 0, ENB1, chain(kenb, phone, 2), 2)
-        with mock.patch("lte_sec.state.MOST", 1), mock.patch("lte_sec.histories.MOST", 1):
+        with mock.patch("lte_sec.judge.state.MOST", 1), mock.patch("lte_sec.judge.histories.MOST", 1):
             account = seen(network)
         keys = [(value.verdict, value.reason) for _, value in account.values() if value.what == "KeNB*"]
         self.assertEqual([verdict for verdict, _ in keys], [DIFFERS, UNKNOWN, DIFFERS], keys)

@@ -8,10 +8,11 @@ import unittest
 from collections.abc import Callable
 from unittest import mock
 
-from lte_sec import pdu_reasons, reasons, strict
-from lte_sec.causes import Why, told
-from lte_sec.derive import Calc
-from lte_sec.reasons import ProtectedNas
+from lte_sec.nas import pdu_reasons, reasons
+from lte_sec.drive import strict
+from lte_sec.common.causes import Why, told
+from lte_sec.common.derive import Calc
+from lte_sec.nas.reasons import ProtectedNas
 
 from .standin import StandIn
 

@@ -3,7 +3,7 @@ import dataclasses
 import pathlib
 import unittest
 
-from lte_sec import frames, records
+from lte_sec.drive import frames, records
 
 SESSIONS = pathlib.Path(__file__).resolve().parent.parent.parent / "examples" / "serve"
 

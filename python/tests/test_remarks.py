@@ -6,8 +6,8 @@ import tempfile
 import unittest
 from pathlib import Path
 
-from lte_sec.messages import nas_name
-from lte_sec.remarks import frames_of, named, with_frames
+from lte_sec.runs.messages import nas_name
+from lte_sec.runs.remarks import frames_of, named, with_frames
 
 TOP = Path(__file__).resolve().parents[2]
 # The ordinary beginning, with frames above some of its steps.

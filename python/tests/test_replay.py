@@ -14,17 +14,18 @@ from collections import Counter
 from pathlib import Path
 from unittest import mock
 
-from lte_sec import replay, words
-from lte_sec.captures import read
-from lte_sec.cells import Cells, Site, read_cells
-from lte_sec.compared import ReplayVerdict
-from lte_sec.decoding import Message
-from lte_sec.reading import check
-from lte_sec.recorded import record
-from lte_sec.remarks import frames_of
-from lte_sec.scenarios import table_of
-from lte_sec.terms import Derivations, Kasme
-from lte_sec.told import ReplayedCapture, scenario_of
+from lte_sec.replay import replay_word as replay
+from lte_sec.words import trace_words as words
+from lte_sec.captures.capture_files import read
+from lte_sec.captures.cells import Cells, Site, read_cells
+from lte_sec.replay.comparison import ReplayVerdict
+from lte_sec.captures.decoding import Message
+from lte_sec.judge.reading import check
+from lte_sec.replay.recording import record
+from lte_sec.runs.remarks import frames_of
+from lte_sec.runs.scenarios import table_of
+from lte_sec.common.terms import Derivations, Kasme
+from lte_sec.replay.replay_answer import ReplayedCapture, scenario_of
 
 from . import simulated
 from .lost_answers import made

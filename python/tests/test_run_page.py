@@ -8,9 +8,10 @@ import unittest
 from pathlib import Path
 from typing import Any
 
-from lte_sec import pages, ran
-from lte_sec.run_report import rows_of
-from lte_sec.run_report import StepLine
+from lte_sec.pages import page as pages
+from lte_sec.whatif import run_page as ran
+from lte_sec.runs.run_report import rows_of
+from lte_sec.runs.run_report import StepLine
 
 from . import test_what_if
 from .browser import found

@@ -7,7 +7,7 @@ import math
 import sys
 import unittest
 
-from lte_sec import scalars
+from lte_sec.runs import scalars
 
 RIGHT: dict[str, scalars.Scalar] = {
     "1": 1, "+1": 1, "-0": 0, "1_000": 1000, "0x1F": 31, "0o17": 15, "0b101": 5, "1.0": 1.0, "1e5": 1e5, "1e05": 1e5, "1_0.0_1e1_0": 10.01e10, "inf": math.inf, "-inf": -math.inf, "true": True, "false": False,

@@ -7,12 +7,12 @@ import unittest
 from collections.abc import Iterator
 from dataclasses import replace
 
-from lte_sec.captures import messages
-from lte_sec.decoding import Message
-from lte_sec.layers import of_packet
-from lte_sec.packets import cut
-from lte_sec.scanned import BEGINS, of_lines, scanned
-from lte_sec.terms import TraceError
+from lte_sec.captures.capture_files import messages
+from lte_sec.captures.decoding import Message
+from lte_sec.captures.layers import of_packet
+from lte_sec.captures.packets import cut
+from lte_sec.captures.scanner import BEGINS, of_lines, scanned
+from lte_sec.common.terms import TraceError
 
 from .test_spoilt import NAMES, stored
 

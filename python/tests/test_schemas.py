@@ -13,9 +13,11 @@ from pathlib import Path
 from typing import Any
 from unittest import mock
 
-from lte_sec import differences, demands, documents as documents_module, drive, verdict, wireshark, words
-from lte_sec.repeats import first_repeat
-from lte_sec.scenarios import table_of
+from lte_sec.drive import differences, drive_word as drive
+from lte_sec.runs import demands, documents as documents_module, verdict
+from lte_sec.words import wireshark, trace_words as words
+from lte_sec.words.repeats import first_repeat
+from lte_sec.runs.scenarios import table_of
 
 from .schemas import SCHEMAS, faults, is_of, schema_of, validator
 from .standin import StandIn

@@ -7,12 +7,12 @@ import io
 import json
 import unittest
 
-from lte_sec.cells import Cells
-from lte_sec.escaped import shown
-from lte_sec.reading import check
-from lte_sec.seen import Account
-from lte_sec.terms import Derivations, Kasme
-from lte_sec.written import as_json, comments, lines
+from lte_sec.captures.cells import Cells
+from lte_sec.common.escaped import shown
+from lte_sec.judge.reading import check
+from lte_sec.judge.account import Account
+from lte_sec.common.terms import Derivations, Kasme
+from lte_sec.words.trace_document import as_json, comments, lines
 
 from .simulated import CALLS, CELLS, ENDS, Phone, World
 from .test_simulated import ENB1, ENB2, ENB3, KASMES

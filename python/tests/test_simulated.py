@@ -6,11 +6,11 @@ import random
 import unittest
 from collections.abc import Callable
 
-from lte_sec.decoding import Command
-from lte_sec.cells import Cells
-from lte_sec.report import DIFFERS, UNKNOWN, Line
-from lte_sec.terms import Derivations, Kasme
-from lte_sec.reading import check
+from lte_sec.captures.decoding import Command
+from lte_sec.captures.cells import Cells
+from lte_sec.common.report import DIFFERS, UNKNOWN, Line
+from lte_sec.common.terms import Derivations, Kasme
+from lte_sec.judge.reading import check
 
 from .simulated import CALLS, CELLS, Phone, World, cell_of
 

@@ -9,10 +9,10 @@ import unittest
 from dataclasses import dataclass
 from pathlib import Path
 
-from lte_sec.cells import Cells
-from lte_sec.reading import check
-from lte_sec.report import DIFFERS, UNKNOWN, Line
-from lte_sec.terms import Derivations, Kasme
+from lte_sec.captures.cells import Cells
+from lte_sec.judge.reading import check
+from lte_sec.common.report import DIFFERS, UNKNOWN, Line
+from lte_sec.common.terms import Derivations, Kasme
 
 from .simulated import CALLS, CELLS, World
 from .situations import (

@@ -9,12 +9,12 @@ import unittest
 from collections.abc import Iterator
 from pathlib import Path
 
-from lte_sec.captures import messages
-from lte_sec.decoding import Message
-from lte_sec.cells import Cells, read_cells
-from lte_sec.report import NOTE, Line
-from lte_sec.terms import Derivations, Kasme
-from lte_sec.reading import check
+from lte_sec.captures.capture_files import messages
+from lte_sec.captures.decoding import Message
+from lte_sec.captures.cells import Cells, read_cells
+from lte_sec.common.report import NOTE, Line
+from lte_sec.common.terms import Derivations, Kasme
+from lte_sec.judge.reading import check
 
 from .standin import StandIn
 

@@ -8,12 +8,12 @@ import unittest.mock
 from math import isqrt
 from pathlib import Path
 
-from lte_sec.spread import spread
+from lte_sec.whatif.spread import spread
 
 SLEEPERS = """
 import os
 import time
-from lte_sec.spread import spread
+from lte_sec.whatif.spread import spread
 
 def sleeps(seconds):
     os.write(1, b"%d\\n" % seconds)  # in one piece: the processes share the pipe

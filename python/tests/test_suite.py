@@ -14,9 +14,11 @@ import time
 import unittest
 import xml.etree.ElementTree
 
-from lte_sec import allowed, frames, junit, network, peers, played, rows, scenarios, suite, suite_page, suite_report, visits
-from lte_sec.options import WrongWords
-from lte_sec.trace_page import Json
+from lte_sec.suite import allowances as allowed, junit, play as played, rows, suite_word as suite, suite_page, suite_report, visits
+from lte_sec.drive import frames, network, peers
+from lte_sec.runs import scenarios
+from lte_sec.common.options import WrongWords
+from lte_sec.pages.trace_page import Json
 
 from .schemas import is_of, schema_of
 

@@ -7,11 +7,11 @@ import unittest
 from collections.abc import Iterator
 from dataclasses import replace
 
-from lte_sec.cells import Cells
-from lte_sec.decoding import Message
-from lte_sec.reading import check
-from lte_sec.report import DIFFERS, Line
-from lte_sec.terms import Derivations, Kasme
+from lte_sec.captures.cells import Cells
+from lte_sec.captures.decoding import Message
+from lte_sec.judge.reading import check
+from lte_sec.common.report import DIFFERS, Line
+from lte_sec.common.terms import Derivations, Kasme
 
 from . import test_faults, test_simulated
 from .in_views import WORLDS

@@ -3,7 +3,7 @@ import pathlib
 import re
 import unittest
 
-from lte_sec import frames, records
+from lte_sec.drive import frames, records
 
 TOP = pathlib.Path(__file__).resolve().parent.parent.parent
 CRATES = TOP / "crates"

@@ -8,13 +8,13 @@ import unittest
 from pathlib import Path
 from typing import Any
 
-from lte_sec.captures import read, read_all
-from lte_sec.decoding import Message
-from lte_sec.cells import Cells, read_cells
-from lte_sec.report import DIFFERS, Line, status
-from lte_sec.terms import Derivations, Kasme
-from lte_sec.trace import Trace
-from lte_sec.reading import check
+from lte_sec.captures.capture_files import read, read_all
+from lte_sec.captures.decoding import Message
+from lte_sec.captures.cells import Cells, read_cells
+from lte_sec.common.report import DIFFERS, Line, status
+from lte_sec.common.terms import Derivations, Kasme
+from lte_sec.judge.trace import Trace
+from lte_sec.judge.reading import check
 
 from .standin import StandIn
 

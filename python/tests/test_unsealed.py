@@ -6,9 +6,11 @@ import unittest
 from pathlib import Path
 from unittest import mock
 
-from lte_sec import frames, pdu_reasons, protected, scenarios, unsealed
-from lte_sec.frames import Reply
-from lte_sec.run_report import rows_of
+from lte_sec.drive import frames, protection as protected, seal_mistakes as unsealed
+from lte_sec.nas import pdu_reasons
+from lte_sec.runs import scenarios
+from lte_sec.drive.frames import Reply
+from lte_sec.runs.run_report import rows_of
 
 from .standin import StandIn
 

@@ -7,8 +7,8 @@ import json
 import unittest
 from typing import Any
 
-from lte_sec import vectors, words
-from lte_sec.terms import TraceError
+from lte_sec.words import vectors, trace_words as words
+from lte_sec.common.terms import TraceError
 from tests import ciphers
 from tests.standin import StandIn, kdf
 

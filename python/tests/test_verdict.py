@@ -3,7 +3,7 @@ import pathlib
 import re
 import unittest
 
-from lte_sec import verdict
+from lte_sec.runs import verdict
 
 EXAMPLES = pathlib.Path(__file__).resolve().parent.parent.parent / "examples"
 NOTHING = ["no handover and no key change", "nothing to judge"]

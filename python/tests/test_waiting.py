@@ -4,11 +4,11 @@ from __future__ import annotations
 import unittest
 from pathlib import Path
 
-from lte_sec import waiting
-from lte_sec.courses import act, delivery
-from lte_sec.run_report import StepLine
-from lte_sec.scenarios import read
-from lte_sec.waiting import Crossing, Happened
+from lte_sec.runs import waiting
+from lte_sec.runs.courses import act, delivery
+from lte_sec.runs.run_report import StepLine
+from lte_sec.runs.scenarios import read
+from lte_sec.runs.waiting import Crossing, Happened
 
 EXAMPLES = Path(__file__).resolve().parents[2] / "examples"
 

@@ -15,18 +15,19 @@ from functools import lru_cache
 from pathlib import Path
 from typing import Any
 
-from lte_sec import scenarios, what_if_word as what_if
-from lte_sec.answers import Answer, from_json, merged, ranges, table, to_json
-from lte_sec.courses import Course, Item, ProgramFails, act, delivery
-from lte_sec.healing import Heals
-from lte_sec.listed import Listed, Lists, order, variant_of
-from lte_sec.run_report import StepLine
-from lte_sec.outcomes import NOT_TOLD, RANK, WORDS, Comparison, Standing, limit, signature
-from lte_sec.probe import AGAIN, PROBE, opens
-from lte_sec.saving import save
-from lte_sec.scenarios import text
-from lte_sec.study import Study, Variant
-from lte_sec.variants import KINDS, Fault
+from lte_sec.runs import scenarios
+from lte_sec.whatif import what_if_word as what_if
+from lte_sec.whatif.answers import Answer, from_json, merged, ranges, table, to_json
+from lte_sec.runs.courses import Course, Item, ProgramFails, act, delivery
+from lte_sec.whatif.healing import Heals
+from lte_sec.whatif.variant_lists import Listed, Lists, order, variant_of
+from lte_sec.runs.run_report import StepLine
+from lte_sec.whatif.outcomes import NOT_TOLD, RANK, WORDS, Comparison, Standing, limit, signature
+from lte_sec.whatif.probe import AGAIN, PROBE, opens
+from lte_sec.whatif.saving import save
+from lte_sec.runs.scenarios import text
+from lte_sec.whatif.study import Study, Variant
+from lte_sec.runs.variants import KINDS, Fault
 
 TOP = Path(__file__).resolve().parents[2]
 EXAMPLES = TOP / "examples"

@@ -6,8 +6,8 @@ import unittest
 from typing import Any
 from unittest import mock
 
-from lte_sec import wycheproof
-from lte_sec.options import WrongWords
+from lte_sec.words import wycheproof
+from lte_sec.common.options import WrongWords
 
 from .standin import StandIn
 

@@ -3,8 +3,8 @@ from __future__ import annotations
 
 from collections.abc import Iterator
 
-from lte_sec.decoding import Message
-from lte_sec.stations import FROM_STATION, station_end
+from lte_sec.captures.decoding import Message
+from lte_sec.captures.stations import FROM_STATION, station_end
 
 from .simulated import ENDS
 

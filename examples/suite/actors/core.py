@@ -13,8 +13,8 @@ from texts import CALLS, NAS_LIMIT, Refused, Security, estimate, octets, place_o
 
 import serving
 from calls import DOWN, UP
-from lte_sec import records
-from lte_sec.frames import Input, Note, Reply, spelled_cell
+from lte_sec.drive import records
+from lte_sec.drive.frames import Input, Note, Reply, spelled_cell
 
 INITIAL, CHAINED = 0, 5
 NUMBERS = 1 << 32

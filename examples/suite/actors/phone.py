@@ -14,8 +14,8 @@ from texts import BEARER_LIMIT, CALLS, MISMATCH, NAS_LIMIT, UNSPECIFIED, Refused
 
 import serving
 from calls import DOWN, UP
-from lte_sec import records
-from lte_sec.frames import DRBS, Input, Note, Reply
+from lte_sec.drive import records
+from lte_sec.drive.frames import DRBS, Input, Note, Reply
 
 INITIAL, HORIZONTAL, VERTICAL = 0, 1, 2
 

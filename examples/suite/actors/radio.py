@@ -6,7 +6,7 @@ import dataclasses
 from texts import BEARER_LIMIT, Refused, ciphered, estimate, key, mac, octets
 
 from calls import DOWN, UP
-from lte_sec.frames import RADIO, SRBS, Reply
+from lte_sec.drive.frames import RADIO, SRBS, Reply
 
 SRB1, SRB2 = SRBS
 

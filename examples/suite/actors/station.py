@@ -15,8 +15,8 @@ from texts import BEARER_LIMIT, CALLS, Refused, octets, place_of
 
 import serving
 from calls import DOWN, UP
-from lte_sec import records
-from lte_sec.frames import DRBS, Input, Note, Reply, spelled_cell
+from lte_sec.drive import records
+from lte_sec.drive.frames import DRBS, Input, Note, Reply, spelled_cell
 
 HORIZONTAL, VERTICAL, GIVEN, COMPLETED = 1, 2, 3, 4
 NUMBERS, MOST_PREPARATIONS = 1 << 32, 8

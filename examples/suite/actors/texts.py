@@ -7,8 +7,8 @@ from typing import Any
 
 sys.path.insert(0, str(pathlib.Path(__file__).resolve().parents[2] / "actor"))
 from calls import calls  # noqa: E402
-from lte_sec import frames, records  # noqa: E402
-from lte_sec.frames import Reply  # noqa: E402
+from lte_sec.drive import frames, records  # noqa: E402
+from lte_sec.drive.frames import Reply  # noqa: E402
 
 CALLS = calls()
 NUMBER = {name: number for number, (name, _) in frames.ANSWERS.items()}

@@ -1,0 +1,362 @@
+"""Blames of keys, asked of the proved program `lte_trace`: whether a lawful history gives what was captured.
+
+The judge says `differs` where it finds no lawful history. Before that is told, the program searches for one of its own: of the moves of the
+standard in the cells, at the COUNTs and between the taps of the trace, with so many unseen moves between two messages. A blame that it explains
+becomes `not judged`. One that it does not explain is confirmed by proof, as far as moves and bound go.
+"""
+from __future__ import annotations
+
+import os
+import subprocess
+from collections.abc import Iterable, Iterator
+from dataclasses import dataclass, field, replace
+from pathlib import Path
+
+from ..common.causes import Cause, Why, has
+from ..captures.coverage import DOWN, UP
+from ..common.report import DIFFERS, KEYS, UNKNOWN, Line, unknown_line
+from .account import Account, Seen
+from ..common.terms import counted
+from .trace import Trace
+
+BOUNDS, FAR_BOUND = (2, 1), 6  # unseen moves between two messages: with moves over the air, fewer where the search is given up; and without
+ASKS = 64  # of a phone: each leaves out one message that no history gives
+COUNTS = 40  # that are tried behind the last one where a station's messages to the core are not covered
+MOST = 256  # stations, or KASMEs
+SECONDS = 60.0  # for one question
+VARIABLE = "LTE_SEC_TRACE"  # `proved` or `unproved`, and the path of the program: the launcher says it
+NOT_BUILT = "blames of keys are not confirmed by proof: the program lte_trace is not built (./lte_sec --prove builds it)"
+OUT_OF_ORDER = "out-of-order"  # said of a message whose NH is not further on in its chain than the last one
+MOST_TOLD = 8  # moves of such a history that are told
+ANSWERED = {"PathSwitchRequestAcknowledge": "PathSwitchRequest", "UEContextSuspendResponse": "UEContextSuspendRequest", "UEContextResumeResponse": "UEContextResumeRequest", "HandoverRequest": "HandoverRequired"}
+TAKEN = "UEContextModificationResponse"
+REQUESTS = tuple(ANSWERED.values())
+PLAIN = {
+    "take": "the key change taken",
+    "switch": "a path switch",
+    "ask": "a request to the core whose answer is",
+    "arrive": "the arrival at the target",
+    "cancel": "the handover cancelled",
+    "leave": "the end of the connection",
+}
+
+
+@dataclass(frozen=True)
+class Found:
+    """So many messages of a question have a lawful history, and whether no number of unseen moves gives one more."""
+
+    explained: int
+    closed: bool
+    moves: tuple[str, ...] = ()  # of that history, if they were asked for
+    never: bool = False  # no number of unseen moves gives one more, over the air neither: its NH is not further on in its chain than the last one
+
+
+@dataclass(frozen=True)
+class Program:
+    """The program `lte_trace`."""
+
+    path: str
+    is_proved: bool
+
+    def ask(self, question: str) -> Found | None:
+        """The answer to a question; None where the search was given up."""
+        try:
+            ran = subprocess.run([self.path], input=question, capture_output=True, text=True, timeout=SECONDS, check=False)
+        except (OSError, subprocess.TimeoutExpired):
+            return None
+        first, *moves = ran.stdout.splitlines() or [""]
+        words = first.split()
+        return Found(int(words[1]), "closed" in words, tuple(moves), OUT_OF_ORDER in words) if ran.returncode == 0 and words[:1] == ["explained"] else None
+
+
+def program() -> Program | None:
+    """The program as the launcher names it, where it is built."""
+    kind, _, path = os.environ.get(VARIABLE, "").partition(" ")
+    return Program(path, kind == "proved") if path and Path(path).exists() else None
+
+
+@dataclass
+class Sighting:
+    """A message of a phone that tells of keys, as a question has it: the words before the key, and the key with its NCC."""
+
+    at: str
+    key: str = ""
+    seen: Seen | None = None
+    value: Line | None = None  # that is blamed
+    passed: bool = False  # its key is not looked at
+
+    @property
+    def line(self) -> str:
+        return f"{self.at} {self.key}" if self.key and not self.passed else self.at if self.at.startswith(("asked ", "took ")) else f"any {self.at}"
+
+
+@dataclass
+class Numbering:
+    """Stations by their numbers."""
+
+    found: dict[str, int] = field(default_factory=dict)
+
+    def of(self, name: str) -> int:
+        return self.found.setdefault(name, len(self.found))
+
+
+def is_blamed(value: Line) -> bool:
+    """Whether a line says that a key, or its NCC, is another than any lawful history gives. A KeNB of another COUNT is not asked for: NAS tells its
+    COUNT, which the program does not see."""
+    is_of_count = value.what == "KeNB" and value.key is not None and value.key.term.kind == "kenb"
+    return value.verdict == DIFFERS and value.what in KEYS and not is_of_count and (value.hex != value.wanted_hex or value.ncc != value.wanted_ncc)
+
+
+def key_of(one: Seen) -> str:
+    """Key and NCC of a message."""
+    message = one.decoded
+    key = message.nh or message.key or b""
+    return f"{key.hex()} {message.ncc}" if message.ncc is not None else key.hex()
+
+
+class Phone:
+    """What a trace has of the keys of one phone, as a question."""
+
+    def __init__(self, trace: Trace, messages: list[Seen]):
+        self.trace, self.messages = trace, messages
+        self.numbers = Numbering()
+        self.kasmes: dict[int, int] = {}
+        self.bound = BOUNDS[0]
+        self.sightings = [*self.all()]
+
+    def all(self) -> Iterator[Sighting]:
+        answered = self.answered()
+        for place, one in enumerate(self.messages):
+            blamed = next((value for value in one.values if is_blamed(value)), None)
+            at = self.place(one)
+            if at and key_of(one):
+                yield Sighting(at, key_of(one), one, blamed)
+            elif one.kind == TAKEN and one.link.kind == "S1" and self.was_changed(place):
+                yield Sighting(f"took {self.numbers.of(one.link.one)}")
+            elif one.kind in REQUESTS and one.link.kind == "S1" and place not in answered:
+                yield Sighting(f"asked {self.numbers.of(one.link.one)}")
+
+    def was_changed(self, place: int) -> bool:
+        """Whether the modification that is answered here brought a key."""
+        before = (one for one in reversed(self.messages[:place]) if one.kind == "UEContextModificationRequest" and one.connection == self.messages[place].connection)
+        return any(one.decoded.key is not None for one in [next(before, None)] if one is not None)
+
+    def place(self, one: Seen) -> str:
+        """Where a message goes that carries a key."""
+        message, link = one.decoded, one.link
+        if link.kind == "X2" and message.key is not None and message.ncc is not None:
+            cells = self.trace.cells  # the cells tell the stations, also where no X2 Setup names an end
+            return f"over {self.numbers.of(cells.station(message.source_eci) or link.one)} {self.numbers.of(cells.station(message.eci) or link.other)}"
+        if link.kind != "S1":
+            return ""
+        station = self.numbers.of(link.one)
+        if message.name == "HandoverRequest" and message.nh is not None and message.ncc is not None:
+            return f"request {station}"
+        if message.name in ANSWERED and message.nh is not None and message.ncc is not None:
+            return f"answer {station}"
+        if message.name == "InitialContextSetupRequest" and message.key is not None:
+            return f"setup {station}"
+        return f"change {station}" if message.name == "UEContextModificationRequest" and message.key is not None else ""
+
+    def answered(self) -> set[int]:
+        """The places of requests to the core whose answer is there."""
+        waiting: dict[tuple[int | None, str], list[int]] = {}
+        found: set[int] = set()
+        for place, one in enumerate(self.messages):
+            if one.link.kind != "S1":
+                continue
+            if one.kind in REQUESTS:
+                waiting.setdefault((one.connection, one.kind), []).append(place)
+            before = waiting.get((one.connection, ANSWERED.get(one.kind, "")), [])
+            if before and one.decoded.nh is not None:
+                found.add(before.pop(0))
+        return found
+
+    # -- the question
+
+    def counts(self) -> Iterator[tuple[int, int]]:
+        """KASME and COUNT of each KeNB that is due: those of the lines, and of messages up that are not covered."""
+        last: dict[int, int] = {}
+        for one in self.messages:
+            for value in one.values:
+                key = value.wanted_key if value.wanted_key is not None and value.wanted_key.known else value.key
+                if value.what in KEYS and key is not None and key.kasme >= 0 and counted(key.term.base()) >= 0:
+                    last.setdefault(key.kasme, counted(key.term.base()))
+                    last[key.kasme] = max(last[key.kasme], counted(key.term.base()))
+                    yield key.kasme, counted(key.term.base())
+        if not all(self.trace.coverage.s1(name, UP) for name in self.numbers.found):
+            for kasme, count in last.items():
+                yield from ((kasme, more) for more in range(count, count + COUNTS))
+
+    def moves(self) -> Iterator[str]:
+        """The KASMEs, COUNTs and cells of which moves are made."""
+        due = dict.fromkeys(self.counts())
+        for kasme in dict.fromkeys(kasme for kasme, _ in due):
+            self.kasmes[kasme] = len(self.kasmes)
+            yield f"kasme {self.trace.derivations.kasmes[kasme].value.hex()}"
+        for name, number in self.numbers.found.items():
+            yield from dict.fromkeys(f"cell {number} {site.pci} {site.earfcn}" for site in self.trace.cells.every() if self.trace.cells.station(site.eci) == name)
+        yield from (f"count {self.kasmes[kasme]} {count}" for kasme, count in due)
+        yield from (f"first {number}" for number in self.firsts())
+
+    def firsts(self) -> list[int]:
+        """The first NCC that the cores of the trace send: 2, or 1 where they step their chain only for an answer."""
+        judge = self.trace.judge
+        seen = {number for numbers in judge.seen_firsts.values() for number in numbers}
+        return sorted({*judge.firsts.values()} or seen & {1, 2} or {1, 2})
+
+    def taps(self) -> Iterator[str]:
+        coverage, found = self.trace.coverage, self.numbers.found
+        for name, number in found.items():
+            if coverage.s1(name, DOWN):
+                yield from (f"covers {what} {number}" for what in ("setup", "change", "answer", "request"))
+            if coverage.s1(name, UP):
+                yield from (f"covers {what} {number}" for what in ("took", "asked"))
+        if not any(has(value.said, Cause.WITHOUT_X2) for one in self.messages for value in one.values):
+            yield from (f"covers over {found[one]} {found[other]}" for one in found for other in found if one != other and coverage.x2(one, other))
+
+    def fits(self) -> bool:
+        """Whether the program takes a question of so many stations and KASMEs."""
+        return len(self.numbers.found) <= MOST and len({kasme for kasme, _ in self.counts()}) <= MOST
+
+    def ask(self, taken: Program, told: bool = False) -> Found | None:
+        """The answer to the question of all messages, with as many unseen moves as it can be searched with."""
+        for bound in BOUNDS[BOUNDS.index(self.bound) :] if self.fits() else ():
+            self.bound = bound
+            answer = taken.ask(self.question(bound, True, told=told))
+            if answer is not None:
+                return answer
+        return None
+
+    def question(self, bound: int, air: bool, upto: int | None = None, told: bool = False) -> str:
+        self.kasmes = {}
+        head = [*self.moves(), *self.taps(), f"bound {bound}", *(["air"] if air else []), *(["moves"] if told else [])]
+        return "\n".join([*head, *(one.line for one in self.sightings[:upto])]) + "\n"
+
+
+    # -- the answer
+
+    def spelled(self, move: str) -> str:
+        """A move of a history, in words."""
+        name, *choices = move.split()
+        stations = {str(number): station for station, number in self.numbers.found.items()}
+        if name == "renew":
+            return f"a KeNB of COUNT {choices[1]} at {stations.get(choices[3], '?')}" + (", refused" if choices[-1] == "refused" else "")
+        if name == "offer":
+            return f"a key change of COUNT {choices[1]}"
+        if name == "refresh":
+            return f"KeNB* within the station for cell {choices[0]}/{choices[1]}"
+        if name in ("prepare", "require"):
+            link = "X2" if name == "prepare" else "S1"
+            return f"a handover over {link} prepared at {stations.get(choices[0], '?')}" + (", besides another" if choices[-1] == "besides" else "")
+        return " ".join([PLAIN.get(name, name), *choices])
+
+    def grounds(self, moves: Iterable[str]) -> Iterator[Why]:
+        """What each message rests on, in order: the unseen moves of its connection up to it."""
+        unseen: list[str] = []
+        for line in moves:
+            seen, _, move = line.partition(" ")
+            if move.startswith("renew "):
+                unseen = []
+            if seen == "unseen":
+                unseen.append(self.spelled(move))
+                continue
+            few = unseen[-MOST_TOLD:]
+            more = f"{len(unseen) - len(few)} more and " if len(few) < len(unseen) else ""
+            yield Cause.HISTORY_WITH_UNSEEN.because(moves=more + ", ".join(few)) if few else Cause.HISTORY_WITHOUT_UNSEEN.because()
+
+
+@dataclass
+class Verdicts:
+    """What became of the blames of a trace, by the identity of their values."""
+
+    confirmed: dict[int, bool] = field(default_factory=dict)  # whether no number of unseen moves on links gives it
+    bounds: dict[int, int] = field(default_factory=dict)  # within how many unseen moves it is confirmed
+    explained: dict[int, Why] = field(default_factory=dict)  # what the history rests on that gives it
+    never: set[int] = field(default_factory=set)  # those that no history of any length gives, with moves over the air too
+    open: int = 0
+
+    def head(self, is_proved: bool) -> Iterator[str]:
+        """What the head of a report says of its blames."""
+        how = "by proof" if is_proved else "by lte_trace, which was built without proof"
+        for bound in BOUNDS:
+            found = [one for one in self.confirmed if self.bounds[one] == bound]
+            closed = sum(self.confirmed[one] for one in found)
+            never = sum(one in self.never for one in found)
+            if found:
+                yield (
+                    f"blames of keys confirmed {how}: {len(found)}; no lawful history of these cells and COUNTs with at most {bound} unseen move{'s' if bound > 1 else ''} between two messages gives them"
+                    + (f", and for {closed} none without moves over the air, however many go unseen" if closed else "")
+                    + (f", and for {never} none of any length, with moves over the air too" if never else "")
+                )
+        if self.explained:
+            yield f"blames of keys withdrawn: {len(self.explained)}; lte_trace finds a lawful history"
+        if self.open:
+            yield f"blames of keys not confirmed: {self.open}; their search was given up, or no history has the message whatever its key"
+
+
+def asked(phone: Phone, taken: Program, verdicts: Verdicts) -> None:
+    """Asks for the blames of a phone, the first first. A message whose key no history gives is passed over then, and what follows is asked again.
+
+    Where no history has the message at all, whatever its key, the moves of the question are too few to judge by: what is left is not confirmed.
+    """
+    blamed = [one for one in phone.sightings if one.value is not None]
+    waiting: dict[int, bool] = {}  # blames that no history explains, until it is seen that one has the message with another key
+    for _ in range(ASKS):
+        answer = phone.ask(taken)
+        at = answer.explained if answer is not None else 0
+        if answer is not None and (at >= len(phone.sightings) or not phone.sightings[at].passed):
+            verdicts.confirmed.update(waiting)
+            verdicts.bounds.update(dict.fromkeys(waiting, phone.bound))
+            waiting = {}
+        if answer is not None and at >= len(phone.sightings):
+            verdicts.explained.update((id(value), why) for value, why in told(phone, taken) if id(value) not in verdicts.confirmed)
+            return
+        first = phone.sightings[at]
+        if answer is None or first.passed or not first.key:
+            break
+        if first.value is not None:
+            if answer.never:
+                verdicts.never.add(id(first.value))
+            near = taken.ask(phone.question(FAR_BOUND, False, at + 1))
+            waiting[id(first.value)] = near is not None and near.closed and near.explained == at
+        first.passed = True
+    verdicts.open += sum(id(one.value) not in verdicts.confirmed for one in blamed)
+
+
+def told(phone: Phone, taken: Program) -> Iterator[tuple[Line, Why]]:
+    """The blames of a phone whose messages a history gives, and what it rests on."""
+    if not any(one.value is not None and not one.passed for one in phone.sightings):
+        return
+    answer = phone.ask(taken, told=True)
+    grounds = [*phone.grounds(answer.moves)] if answer is not None else []
+    for place, one in enumerate(phone.sightings):
+        if one.value is not None:
+            yield one.value, grounds[place] if place < len(grounds) else Cause.HISTORY_FOUND.because()
+
+
+def withdrawn(value: Line, why: Why) -> Line:
+    """A blame that a lawful history explains."""
+    line = unknown_line(value.frame, value.message, value.kind, why, value.found, value.of)
+    return replace(value, verdict=UNKNOWN, said=line.said, faults=(), remarks=why, doubt=())
+
+
+def confirmed(trace: Trace, taken: Program | None = None) -> Account:
+    """What was seen of a trace, with its blames asked for."""
+    seen, taken = trace.seen, taken or program()
+    if not seen.verdicts()[DIFFERS]:
+        return seen
+    phones: dict[int, list[Seen]] = {}
+    for one in seen.messages:
+        if one.phone is not None:
+            phones.setdefault(one.phone, []).append(one)
+    to_ask = [messages for messages in phones.values() if any(is_blamed(value) for one in messages for value in one.values)]
+    if not to_ask:
+        return seen
+    if taken is None:
+        return replace(seen, head=(*seen.head, NOT_BUILT))
+    verdicts = Verdicts()
+    for messages in to_ask:
+        asked(Phone(trace, messages), taken, verdicts)
+    found = tuple(replace(one, values=tuple(withdrawn(value, verdicts.explained[id(value)]) if id(value) in verdicts.explained else value for value in one.values)) for one in seen.messages)
+    return replace(seen, messages=found, told=None, head=(*seen.head, *verdicts.head(taken.is_proved)))

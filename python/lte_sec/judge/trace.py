@@ -1,0 +1,374 @@
+"""A trace message by message: which connection of which phone each belongs to, and how it is judged."""
+from __future__ import annotations
+
+from bisect import bisect_right
+from collections.abc import Callable, Iterable, Iterator
+
+from ..captures.layers import UNREADABLE
+from ..common.causes import Cause, Why
+from .choices import Choices, Offer, Tape
+from ..nas.contexts import PLAIN, NasSeen
+from ..captures.coverage import DOWN as FROM_CORE
+from ..captures.coverage import UP as FROM_STATIONS
+from ..captures.decoding import Message, title
+from ..common.escaped import shown
+from .grounds import Grounds, within, without
+from .attempts import ANY_CORE, Leg
+from .handovers import WAITING, Handovers
+from ..common.progress import told
+from .key_judge import KeyJudge
+from .line_store import LinesInOrder
+from ..captures.link_types import ALONE, CUT
+from ..common.report import DIFFERS, KEYS, RIGHT, UNKNOWN, Line, NasPart, Verdict, note_line, unknown_line, withdrawn
+from .account import Account, Membership, Use, account
+from ..nas.service import ServiceBook
+from ..captures.stations import FROM_STATION, TELLS_CELL, station_end
+from .state import Connection
+from ..common.terms import DOWN, UP
+
+FROM_PHONE = ("InitialUEMessage", "UplinkNASTransport")
+SERVED = (  # only the station that serves the phone has these
+    "UplinkNASTransport", "HandoverRequired", "PathSwitchRequestAcknowledge", "UEContextSuspendRequest", "UEContextSuspendResponse",
+    "UEContextResumeRequest", "UEContextResumeResponse",
+)
+RESTARTS = ("S1SetupRequest", "S1SetupResponse", "Reset", "ResetAcknowledge")
+JUDGED = (*KEYS, "command", "agreement")  # by histories
+TRIES = 16  # keys or MACs that are tried weigh as much as a message that is read
+EMERGENCY = 0  # an RRC Establishment Cause
+
+Handler = Callable[["Trace", Connection, Message, str, Leg], None]
+
+
+class Trace(Handovers):
+    """A reading: the messages of a trace in their order, and what became of each connection, by some choices."""
+
+    def __init__(self, grounds: Grounds, taken: Tape = frozenset()):
+        super().__init__()
+        self.grounds, self.choices = grounds, Choices(taken)
+        self.messages, self.stations, self.gummeis, self.coverage = grounds.messages, grounds.stations, grounds.stations.gummeis, grounds.coverage
+        self.cells, self.derivations = grounds.cells, grounds.derivations
+        self.book = ServiceBook(self.derivations, 10 * grounds.budget)
+        self.judge = KeyJudge(self.book, self.cells, grounds.search, grounds.firsts, self.coverage)
+        self.judge.reply, self.judge.gaps = grounds.reply, grounds.index.gaps.found
+        self.by_frame: LinesInOrder | None = None  # the lines, once they are told
+        self.legs = {}
+        self.mmes = {}
+        self.connections = []
+        self.restarts: dict[str, int] = {}  # by station's end, the place where its S1 last began anew
+        self.steps = 0  # that the reading took: messages, and what was tried beside them
+        self.seen = Account(())
+
+    # -- reading
+
+    def read(self, notes: list[Line]) -> None:
+        """Reads all messages."""
+        self.judge.lines.extend(notes)
+        self.read_at(told(range(len(self.messages)), "judged", len(self.messages)))
+
+    def read_at(self, places: Iterable[int], most: int | None = None) -> None:
+        """Reads the messages at these places, until more lines differ than this."""
+        differing, tried = 0, self.tried
+        for place in places:
+            message = self.messages[place]
+            before, self.at, self.cells.now = len(self.judge.lines), place, place
+            self.one(message, place)
+            self.left_over(message, before)
+            self.weigh(place, before)
+            for line in self.judge.lines.since(before):
+                line.place = place if line.frame == message.frame else self.grounds.first.get(line.frame)
+            if place in self.owners and any(line.verdict == RIGHT for line in self.judge.lines.since(before)):
+                self.owners[place].proved = place
+            differing += sum(line.verdict == DIFFERS for line in self.judge.lines.since(before))
+            self.steps += 1
+            if most is None:
+                self.judge.lines.settle(self.grounds.first.get)
+            if most is not None and differing > most:
+                break
+        self.steps += (self.tried - tried) // TRIES
+
+    @property
+    def tried(self) -> int:
+        """The keys and MACs that searches made so far."""
+        return self.book.tried + self.grounds.search.tried
+
+    def other(self, places: set[int], taken: Tape, most: int) -> Trace:
+        """The messages at these places read with other choices, until more lines differ than this."""
+        other = Trace(self.grounds, taken)
+        other.read_at(sorted(places), most)
+        return other
+
+    def goes_on_from(self, other: Trace, places: set[int]) -> None:
+        """What another reading found of these messages takes the place of what this one found."""
+        gone = {id(one) for place, one in self.owners.items() if place in places}
+        self.judge.lines.put([*(line for line in self.lines if line.place not in places), *(line for line in other.lines if line.place in places)])
+        self.connections = [*(one for one in self.connections if id(one) not in gone), *other.connections]
+        self.owners = {**without(self.owners, places), **within(other.owners, places)}
+        self.handovers = {**without(self.handovers, places), **within(other.handovers, places)}
+
+    def tell(self, head: list[str]) -> None:
+        """Makes the list of what was seen."""
+        self.by_frame, by_place = self.judge.lines.sort(self.grounds.first.get)
+        names, head = self.stations.cores | self.cells.addresses, [*self.coverage.head(), *head]
+        self.seen = account(self.messages, by_place, self.membership, names, FROM_STATION, head, self.derivations, self.uses)
+
+    @property
+    def lines(self) -> list[Line]:
+        """The lines so far, in the end in the order of the frames."""
+        return list(self.judge.lines) if self.by_frame is None else list(self.by_frame)
+
+    def count(self, verdict: Verdict) -> int:
+        """How many lines have a verdict."""
+        return self.judge.lines.count(verdict)
+
+    def membership(self) -> Membership:
+        """The numbers of the connection and the handover of each message."""
+        numbers = {id(connection): place for place, connection in enumerate(self.connections)}
+        attempts: dict[int, int] = {}
+        handovers = {place: attempts.setdefault(id(attempt), len(attempts)) for place, attempt in sorted(self.handovers.items())}
+        tmsis = {place: one.side.tmsi for place, one in enumerate(self.connections) if one.side.tmsi is not None}
+        return Membership({place: numbers[id(one)] for place, one in self.owners.items()}, handovers, tmsis)
+
+    def uses(self) -> Iterator[Use]:
+        """The keys that stations had in use."""
+        for number, connection in enumerate(self.connections, 1):
+            eea, eia = connection.algorithms or (None, None)
+            for frame, station, key in connection.keys:
+                yield Use(number, shown(frame), shown(station), shown(self.derivations.shown(key)), key.value, eea, eia)
+
+    def weigh(self, place: int, before: int) -> None:
+        """Decides of the lines of a message whether what no history gives is blamed: the only place that does, for keys, commands and agreement. Where
+        not all was kept, a history that was not tried may give it."""
+        cut = self.owners[place].cut if place in self.owners else ()
+        for line in self.judge.lines.since(before):
+            if cut and line.verdict == DIFFERS and line.what in JUDGED:
+                withdrawn(line, cut)
+
+    def one(self, message: Message, place: int) -> None:
+        if message.link == "S1":
+            self.s1(message, place)
+        elif message.link == "X2":
+            self.x2ap(message)
+        elif message.mm is not None:
+            self.mm_context(message)
+        elif message.link == ALONE:
+            self.nas_alone(message, place)
+        elif message.link == UNREADABLE:
+            self.judge.lines.append(unknown_line(message.frame, "message", "of this frame", Cause.UNREADABLE.because(said=message.name)))
+        elif message.link == CUT:
+            self.judge.lines.append(unknown_line(message.frame, "capture", "behind this frame", Cause.UNREADABLE.because(said=message.name)))
+        elif message.command is not None:
+            self.rrc(message, message.command)
+
+    def nas_alone(self, message: Message, place: int) -> None:
+        """A NAS message that came without S1: all are of one phone."""
+        connection = self.connections[0] if self.connections else self.new("the core", None)
+        self.owners[place] = connection
+        self.nas(connection, message, place)
+
+    def left_over(self, message: Message, before: int) -> None:
+        """Lines for keys that no rule here judges."""
+        for name, _ in message.secrets:
+            self.judge.lines.append(unknown_line(message.frame, title(message), name, Cause.SECONDARY_STATION.because()))
+        if message.link in ("S1", "X2") and (message.key or message.nh) and not any(line.what in KEYS for line in self.judge.lines.since(before)):
+            self.judge.lines.append(unknown_line(message.frame, title(message), "key", Cause.NO_RULE.because()))
+
+    def later(self, message: Message, place: int) -> Iterator[tuple[int, bytes] | bytes]:
+        """What comes after a message in the same connection at the same station: NAS messages and KeNBs."""
+        places = self.grounds.index.by_leg.get((station_end(message), message.enb_id), ())
+        for after in places[bisect_right(places, place):]:
+            one = self.messages[after]
+            if one.name == "InitialUEMessage":
+                return
+            if one.key is not None:
+                yield one.key
+            for pdu in one.nas:
+                yield (UP if one.name in FROM_PHONE else DOWN), pdu
+
+    # -- S1
+
+    def s1(self, message: Message, place: int) -> None:
+        end = station_end(message)
+        core = message.target if end == message.source else message.source
+        station = self.stations.at(place, message)
+        if message.name in RESTARTS:
+            self.restarts[end] = place
+        if message.name == "Reset":
+            return self.reset(end, core)
+        if message.name == "HandoverRequest":
+            return self.handover_request(message, core, end)
+        leg, at_core = (end, message.enb_id), (core, message.mme_id)
+        connection = self.connection(message, station, leg, at_core)
+        if connection is None:
+            return
+        self.owners[place], connection.last = connection, place
+        self.binds(connection, leg, at_core)
+        if message.name in SERVED and not self.is_late(connection, message, station):
+            self.arrived(connection, station, message.frame)
+        if message.name == "UplinkNASTransport" and station == connection.station:
+            connection.told_eci = message.eci
+        handler = HANDLERS.get(message.name)
+        if handler is not None:
+            handler(self, connection, message, station, at_core)
+        self.nas(connection, message, place)
+
+    def is_late(self, connection: Connection, message: Message, station: str) -> bool:
+        """Whether an answer comes to a station that the phone has left since: its NH is overdue, and says nothing of where the phone is."""
+        return station != connection.station and station in connection.left and message.nh is not None and self.judge.late(connection, message, station) is not None
+
+    def connection(self, message: Message, station: str, leg: Leg, at_core: Leg) -> Connection | None:
+        """The connection that a message belongs to."""
+        if message.name == "InitialUEMessage":
+            connection = self.legs[leg] = self.new(station, message.eci)
+            connection.side.tmsi, connection.side.initial = message.tmsi, True
+            connection.side.emergency = message.cause == EMERGENCY
+            return connection
+        if message.name == "HandoverRequestAcknowledge" and at_core in self.targets:
+            return self.targets[at_core][0]
+        new_leg = message.name == "PathSwitchRequest"  # its eNB-UE-S1AP-ID is a fresh one
+        found = self.legs.get(leg) if message.enb_id is not None and not new_leg else None
+        known = self.mmes.get(-1 if message.mme_id is None else message.mme_id, {})
+        found = found or known.get(at_core[0]) or known.get(ANY_CORE)
+        if found is not None and self.may_be_new(found, message, station, leg, at_core) and self.choices.takes(self.at, Offer.NEW):
+            found = self.new(station)
+        if found is None and (message.enb_id is not None or message.mme_id is not None):
+            found = self.new(station, message.eci if message.name in TELLS_CELL else None)
+        return found
+
+    def may_be_new(self, connection: Connection, message: Message, station: str, leg: Leg, at_core: Leg) -> bool:
+        """Whether a message down may be of a new connection whose first message the trace cannot show. Its identities must be free: the core gives a new
+        one to this eNB-UE-S1AP-ID, or S1 began anew, or the release may have passed unseen too."""
+        if message.name in FROM_STATION or self.coverage.s1(station, FROM_STATIONS):
+            return False
+        bound = connection.legs.get(leg)
+        is_other = bound is not None and at_core[1] is not None and bound != at_core[1]
+        return is_other or self.restarts.get(leg[0], -1) > connection.last or not self.coverage.s1(station, FROM_CORE)
+
+    def binds(self, connection: Connection, leg: Leg, at_core: Leg) -> None:
+        if leg[1] is not None:
+            self.legs[leg] = connection
+            connection.legs[leg] = at_core[1] if at_core[1] is not None else connection.legs.get(leg)
+        if at_core[1] is not None:
+            known = self.mmes.setdefault(at_core[1], {})
+            known[at_core[0]] = connection
+            if known.get(ANY_CORE) is connection:
+                del known[ANY_CORE]
+            connection.mme = connection.mme or at_core[0]
+
+    def nas(self, connection: Connection, message: Message, place: int) -> None:
+        direction = UP if message.name in FROM_PHONE else DOWN
+        connection.side.away |= bool(connection.away)
+        connection.side.hidden = self.judge.licensed(connection)
+        for pdu in message.nas:
+            seen = self.book.judge(connection.side, direction, pdu, lambda: self.later(message, place))
+            if seen is not None:
+                if seen.verdict == RIGHT and seen.kasme is not None:  # the context in use is certain again
+                    connection.side.away = bool(connection.away)
+                self.judge.lines.append(self.nas_line(message, seen))
+                if seen.warning:
+                    self.judge.lines.append(note_line(message.frame, seen.warning))
+
+    def nas_line(self, message: Message, seen: NasSeen) -> Line:
+        subject = f"NAS {'up' if seen.direction == UP else 'down'}" + (f" COUNT {seen.count}" if seen.count is not None else "") + f" header {seen.header}"
+        kasme = "" if seen.kasme is None else self.derivations.name(seen.kasme)
+        behind = " ".join(filter(None, [seen.name, f"of {kasme}" if kasme and len(self.derivations.kasmes) > 1 else ""]))
+        context = self.book.contexts.get(seen.kasme) if seen.kasme is not None else None
+        part = NasPart(seen.direction == UP, seen.header, seen.name, *((context.ksi, context.eea, context.eia) if context else (None, None, None)), -1 if seen.kasme is None else seen.kasme)
+        return Line(
+            message.frame, "NAS", "MAC", seen.verdict, of_mac(seen), tuple(seen.faults), seen.note, subject=subject, behind=behind, found=seen.mac, wanted=seen.wanted,
+            hex=seen.mac, wanted_hex=seen.wanted, kasme=kasme, count=seen.count, plain=seen.plain, nas=part,
+        )
+
+    def context_setup(self, connection: Connection, message: Message, station: str, at_core: Leg) -> None:
+        self.told_capabilities(connection, message)
+        if message.key is not None:
+            if not connection.station:
+                self.judge.moves.came(connection, station)
+            self.judge.setup(connection, message)
+
+    def told_capabilities(self, connection: Connection, message: Message) -> None:
+        """The core tells a station what the phone can do, as the phone said in NAS (TS 33.401 7.2.4.2.1, 7.2.4.4)."""
+        side = connection.side
+        before = side.current.capabilities if side.current is not None else None
+        self.judge.capabilities(message, [side.capabilities or before], side.capabilities is not None)
+        connection.capabilities = message.capabilities or connection.capabilities
+
+    def context_changed(self, connection: Connection, message: Message, station: str, at_core: Leg) -> None:
+        self.told_capabilities(connection, message)
+        if message.key is not None:
+            self.judge.change(connection, message)
+            if connection.attempts:
+                self.commands = [*self.commands[-WAITING:], (connection, connection.attempts[-1])]
+
+    def change_done(self, connection: Connection, message: Message, station: str, at_core: Leg) -> None:
+        self.judge.changed(connection)
+        self.judge.comes_into_use(connection)
+
+    def set_up(self, connection: Connection, message: Message, station: str, at_core: Leg) -> None:
+        self.judge.comes_into_use(connection)
+
+    def setup_failed(self, connection: Connection, message: Message, station: str, at_core: Leg) -> None:
+        self.judge.refused(connection)
+
+    def change_failed(self, connection: Connection, message: Message, station: str, at_core: Leg) -> None:
+        self.judge.change_failed(connection)
+
+    def released(self, connection: Connection, message: Message, station: str, at_core: Leg) -> None:
+        leg = (station_end(message), message.enb_id)
+        if self.legs.get(leg) is connection:
+            del self.legs[leg]
+        connection.legs.pop(leg, None)
+        if at_core[1] is not None and at_core[1] not in connection.legs.values():
+            self.mmes.get(at_core[1], {}).pop(at_core[0], None)
+            self.targets.pop(at_core, None)
+
+    def releasing(self, connection: Connection, message: Message, station: str, at_core: Leg) -> None:
+        """A release whose answer the trace cannot show: the connection ends here."""
+        if not self.coverage.s1(station, FROM_STATIONS) and not self.choices.takes(self.at, Offer.STAYS):
+            self.released(connection, message, station, at_core)
+
+    def reset(self, end: str, core: str) -> None:
+        """The S1 interface begins anew: all connections at this station's end are gone."""
+        for leg in [leg for leg in self.legs if leg[0] in (end, core)]:
+            del self.legs[leg]
+
+
+def of_mac(seen: NasSeen) -> Why:
+    """What is said of the MAC of a NAS message."""
+    if seen.header == PLAIN:
+        return (Cause.NAS_NOT_JUDGED if seen.verdict == UNKNOWN else Cause.NAS_DIFFERS).because()
+    if seen.verdict == UNKNOWN:
+        return Cause.MAC_NOT_JUDGED.because()
+    if seen.verdict == DIFFERS and seen.count is None:
+        return Cause.NAS_DIFFERS.because()
+    if seen.verdict == DIFFERS and seen.wanted and seen.wanted != seen.mac:
+        return Cause.MAC_WRONG.because(found=seen.mac, wanted=seen.wanted)
+    if seen.count is None:
+        return Cause.MAC_NOT_JUDGED.because()
+    return (Cause.MAC_AND_TEXT_RIGHT if seen.text_right else Cause.MAC_RIGHT).because()
+
+
+HANDLERS: dict[str, Handler] = {
+    "InitialContextSetupRequest": Trace.context_setup,
+    "InitialContextSetupResponse": Trace.set_up,
+    "InitialContextSetupFailure": Trace.setup_failed,
+    "UEContextModificationRequest": Trace.context_changed,
+    "UEContextModificationResponse": Trace.change_done,
+    "UEContextModificationFailure": Trace.change_failed,
+    "UEContextReleaseCommand": Trace.releasing,
+    "UEContextReleaseComplete": Trace.released,
+    "HandoverRequired": Trace.handover_required,
+    "HandoverRequestAcknowledge": Trace.handover_answered,
+    "HandoverCommand": Trace.handover_command,
+    "HandoverNotify": Trace.handover_notify,
+    "HandoverFailure": Trace.handover_failure,
+    "HandoverCancel": Trace.handover_cancelled,
+    "HandoverCancelAcknowledge": Trace.refused,
+    "HandoverPreparationFailure": Trace.refused,
+    "PathSwitchRequestFailure": Trace.refused,
+    "PathSwitchRequest": Trace.path_switch,
+    "PathSwitchRequestAcknowledge": Trace.switched,
+    "UEContextSuspendRequest": Trace.suspend,
+    "UEContextSuspendResponse": Trace.given,
+    "UEContextResumeRequest": Trace.resume,
+    "UEContextResumeResponse": Trace.resumed,
+}

@@ -1,0 +1,1 @@
+"""Replay: a capture as scenarios, and its keys beside the run."""

@@ -1,0 +1,1 @@
+"""Scenarios and reports of run: their values, items and variants, verdict, audit, documents."""

@@ -1,0 +1,1 @@
+"""Drive --suite and --generate: rows, visits, what became of each, and its report."""

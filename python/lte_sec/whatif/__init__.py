@@ -1,0 +1,1 @@
+"""What-if: variants, outcomes, the answer with its page and picture."""

@@ -1,0 +1,67 @@
+"""An answer of `what-if` as a picture: messages by faults, and in each cell a box for each place, with colour and letter of its worst
+outcome."""
+from __future__ import annotations
+
+from .answers import Answer
+from .outcomes import WORDS
+from ..common.pairs import paired
+from ..pages.picture import MONO, Picture
+from ..runs.remarks import named
+from .study import Variant
+from ..runs.variants import KINDS
+
+# Of each outcome its letter and its colour.
+LOOKS = dict(paired(WORDS, (
+    ("=", "#eef1f4"), ("+", "#c9eef0"), ("~", "#dde3ea"), ("c", "#d9e8c4"), ("p", "#f3f0b5"), ("w", "#ffe08a"), ("m", "#ffc98a"), ("h", "#f9b27c"),
+    ("r", "#e3d9f7"), ("n", "#cbb8ee"), ("o", "#f6b8d8"), ("x", "#f08f80"), ("s", "#e0604f"), ("K", "#b3261e"), ("!", "#7b8794"),
+)))
+# Of each outcome what it means, in a few words; docs/WHATIF.md defines it.
+MEANS = dict(paired(WORDS, (
+    "Each line is as in the scenario, but those of the fault itself.", "User packets pass here, and not in the scenario.", "A line differs, and nothing worse comes of it.",
+    "A station that does not serve the phone still has its context.", "A text that arrives in the scenario does not arrive here.", "A key is horizontal that is vertical in the scenario, or more stations can derive it.",
+    "The phone does not come by a key that it has in the scenario.", "The next handover or its path switch fails.", "The core has the phone at another station than the one that serves it.",
+    "NAS texts no longer arrive as they were sent.", "A user packet opens to other octets: the COUNTs differ.", "User packets fail until the phone asks for service.", "User packets fail even after the phone asked for service.",
+    "Phone and station have different keys.", "The run ends at a coincidence.",
+)))
+ROW, BOX, TOP, LEFT, GAP = 20, 16, 96, 20, 18
+
+
+def draw(answer: Answer) -> str:
+    """The picture of the variants of one fault."""
+    picture = Picture()
+    kinds = [kind for kind in KINDS if kind in answer.tried["kinds"]]
+    cells: dict[tuple[str, str], list[Variant]] = {}
+    for variant in answer.singles:
+        cells.setdefault((variant.faults[0].item, variant.faults[0].kind), []).append(variant)
+    picture.text(LEFT, 26, "What if a message is lost, late, or comes twice?", 16, weight="bold")
+    picture.text(LEFT, 45, "A box is a variant of the scenario, with its worst outcome; the boxes of late and twice are places, the earliest first.", 11, colour="#52606d")
+    place = 32 if not answer.frames else 12 + 7 * max(len(named(step, answer.frames)) for step in answer.messages)
+    column = LEFT + place + 8 + 7 * max([len("message"), *map(len, answer.messages.values())])
+    for kind in kinds:
+        most = max([len(variants) for (_, each), variants in cells.items() if each == kind] + [3])
+        picture.text(column, TOP - 20, kind, 12, weight="bold")
+        for row, step in enumerate(answer.messages):
+            for at, variant in enumerate(cells.get((step, kind), [])):
+                box(picture, column + BOX * at, TOP + ROW * row - 12, variant.worst)
+        column += BOX * most + GAP
+    for row, (step, message) in enumerate(answer.messages.items()):
+        picture.text(LEFT, TOP + ROW * row, named(step, answer.frames), 11, MONO, "#52606d")
+        picture.text(LEFT + place, TOP + ROW * row, message, 12)
+    legend(picture, answer, TOP + ROW * len(answer.messages) + 12)
+    return picture.svg("What if a message is lost, late, or comes twice?")
+
+
+def box(picture: Picture, x: float, y: float, word: str) -> None:
+    letter, fill = LOOKS[word]
+    picture.box(x, y, BOX - 1, BOX, fill, "#ffffff")
+    picture.text(x + 4, y + 12, letter, 10.5, MONO, "#ffffff" if word in ("stuck", "keys differ", "coincidence") else "#1f2933")
+
+
+def legend(picture: Picture, answer: Answer, y: float) -> None:
+    """The outcomes that there are, the worst last."""
+    x = float(LEFT)
+    for word in WORDS:
+        if any(variant.worst == word for variant in answer.singles):
+            box(picture, x, y, word)
+            picture.text(x + BOX + 4, y + 12, word, 11)
+            x += BOX + 22 + 7 * len(word)

@@ -1,0 +1,277 @@
+"""What becomes of phone, stations and core in a variant: compared with the scenario itself. docs/WHATIF.md defines each word."""
+from __future__ import annotations
+
+from collections.abc import Iterator
+from typing import Protocol
+
+from . import probe
+from ..runs.courses import Course, Item
+from .dropped_pairs import Dropped
+from ..runs.messages import Names
+from ..common.pairs import paired
+from ..runs.run_report import StepLine, behind_end, rows_of
+from .probe import named
+from ..runs.scenarios import Scenario
+from ..runs.variants import Fault
+from ..runs.verdict import Outcome, connected, items, read
+
+# From the best to the worst.
+WORDS = (
+    "same", "better", "goes on", "context left", "packet lost", "weaker key", "not made", "no handover", "misrouted", "NAS apart",
+    "COUNTs apart", "cut off", "stuck", "keys differ", "coincidence",
+)
+RANK = {word: rank for rank, word in enumerate(WORDS)}
+GOES_ON, KEYS_DIFFER = "goes on", "keys differ"
+USUAL_BAD = KEYS_DIFFER
+NOT_MADE = "not made"
+NOT_TOLD = "at which handover the report does not tell"
+HERE = " (here)"  # behind what an outcome is about, where the standard has it otherwise
+WAITS = " (7.2.10)"  # and where it is not there if each security procedure of the core waits for the one before
+
+
+class Standing:
+    """What the report of a course and its probe tells."""
+
+    def __init__(self, scenario: Scenario, course: Course, serving: int):
+        self.course, self.lines, self.serving = course, course.lines, serving
+        self.scenario = scenario
+        self.rows = rows_of(behind_end(course.report))
+        self.by_key = {row.key: number for number, row in self.rows.items()}
+        self.up = self.opens("up arrives", probe.UP)
+        self.down = self.opens(f"down {serving} arrives", probe.DOWN)
+        self.again = self.opens("again arrives", probe.AGAIN)
+        self.nas = [self.opens("nas up arrives", probe.NAS_UP), self.opens("nas down arrives", probe.NAS_DOWN)]
+        self.passes = self.up is True and self.down is True
+        self.view = self.core_view()
+        self.dropped = Dropped(course)
+        self.different = different(course, self.dropped) if course.report.find("\nend ") >= 0 else {}
+
+    def opens(self, name: str, text: str) -> bool | None:
+        """Whether a packet or text of the probe is opened to what was sent; None if it is opened to something else."""
+        line = self.lines.get(named(name))
+        if line is None or line.answer != "done":
+            return False
+        return True if line.text == text else None
+
+    def contexts(self) -> dict[int, str]:
+        """What each station answers to a packet down."""
+        return {station: self.lines[named(f"down {station}")].answer for station in self.scenario.stations}
+
+    def core_view(self) -> int | None:
+        """The station at which the core has the phone: that of the last connection, Path Switch Request or Handover Notify."""
+        view: int | None = None
+        names, sent = Names(), dict[str, str]()
+        for item in self.course.items:
+            if item.name.startswith(probe.PROBE) or item.name not in self.lines:
+                break
+            line = self.lines[item.name]
+            cause = sent.get(item.of, "record") if item.of is not None else item.do
+            if line.sent is not None or line.note:
+                sent[item.name] = names.of(line, cause)
+            if line.who != "core" or line.answer != "done":
+                continue
+            if cause == "connect":
+                view = self.scenario.cells.get((item.step["cell"][0], item.step["cell"][1]))
+            elif cause in ("Path Switch Request", "Handover Notify") and item.of is not None:
+                view = int(self.lines[item.of].who[8:])
+            elif cause == "release":
+                view = None
+        return view
+
+    def phone_key(self) -> str | None:
+        """The phone's key before the probe."""
+        key = None
+        for item in self.course.items:
+            line = self.lines[item.name]
+            if item.name.startswith(probe.PROBE):
+                break
+            if line.who == "phone" and line.note:
+                key = line.note.key
+        return key
+
+    def reach(self, by_standard: bool = False) -> set[str]:
+        """The stations that can derive the phone's key: that held it, or a key above it from which steps of KeNB* lead to it. By the standard
+        such steps end at a handover that is vertical there."""
+        found: set[str] = set()
+        key = self.phone_key()
+        number = self.by_key.get(key) if key else None
+        while number is not None:
+            row = self.rows[number]
+            found |= {holder for holder in row.holders if holder.startswith("S")}
+            number = None if row.word != "star" or by_standard and row.key in self.dropped.instead else row.parent
+        return found
+
+    def station_of(self, key: str, item: Item) -> int | None:
+        """The station for which the phone has this key, by which it came at this item: that of its cell, or that which set up security."""
+        row = self.rows[self.by_key[key]]
+        if row.word == "star":
+            return self.scenario.cells.get((row.values[1], row.values[2]))
+        return int(self.lines[item.of].who[8:]) if item.of is not None else None
+
+    def made(self) -> dict[str, str]:
+        """By which item the phone came by a key, and of what: a connection, a handover or a key change."""
+        found = {}
+        for item in self.course.items:
+            line = self.lines[item.name]
+            if line.who == "phone" and line.note and not item.name.startswith(probe.PROBE):
+                is_star = self.rows[self.by_key[line.note.key]].word == "star"
+                found[item.name] = "connection" if not is_star else "key change" if line.note.way == "initial" else "handover"
+        return found
+
+
+def different(course: Course, dropped: Dropped) -> dict[str, tuple[str, bool]]:
+    """What `verdict` says of keys that differ, by the item at which the phone takes its key: at handovers and key changes, and at a connection; and of
+    each whether they differ in the standard, too."""
+    told, names = read(course.report), list(course.lines)
+    found = {names[item.last]: (str(item), not dropped.brings(item, told)) for item in items(told) if item.outcome is Outcome.DIFFER}
+    return found | ({"": ("phone and station have different keys of a connection", True)} if connected(told) is False else {})
+
+
+def signature(line: StepLine | None) -> tuple[str, str, str | None, str | None] | None:
+    """What of a line is compared: who, the answer, the text and the way. Numbers and NCCs shift in harmless ways."""
+    return (line.who, line.answer, line.text, line.note.way if line.note else None) if line else None
+
+
+class Comparison:
+    """A variant beside the scenario, both with their probes; the items of its faults do not count as differences."""
+
+    def __init__(self, usual: Standing, here: Standing, own: set[str]):
+        self.usual, self.here, self.own = usual, here, own
+
+    def outcomes(self) -> dict[str, str]:
+        """Each outcome, and what it is about."""
+        if self.here.course.ended:
+            return {"coincidence": self.here.course.report.splitlines()[-1]}
+        found: dict[str, list[str]] = {}
+        for word, what in self.worse():
+            found.setdefault(word, []).append(what)
+        if not found:
+            found["goes on" if self.differs() else "same"] = []
+        return {word: joined(found[word]) for word in sorted(found, key=lambda word: -RANK[word])}
+
+    def differs(self) -> bool:
+        names = {*self.usual.lines, *self.here.lines}
+        return any(
+            signature(self.usual.lines.get(name)) != signature(self.here.lines.get(name)) for name in names if name.rstrip("+") not in self.own
+        )
+
+    def worse(self) -> Iterator[tuple[str, str]]:
+        yield from self.of_packets()
+        yield from self.of_contexts()
+        yield from self.of_keys()
+        usual, here = self.usual, self.here
+        refused = [name for name in probe.HANDOVER if is_done(usual, name) and not is_done(here, name)]
+        if refused:
+            yield "no handover", said(here, refused[0])
+        if here.passes and here.view != here.serving and usual.view == usual.serving:
+            yield "misrouted", f"the core has {at(here.view)}, the phone station {here.serving}"
+        if any(before and not now for before, now in paired(usual.nas, here.nas)) or (usual.again and here.again is not True):
+            for name, before, now in zip(("no NAS text up", "no NAS text down", "no service"), [*usual.nas, usual.again], [*here.nas, here.again]):
+                if before and not now:
+                    yield "NAS apart", name
+        new = [told for name, told in here.different.items() if name not in usual.different]
+        if new:
+            alike = [what for what, is_alike in new if is_alike]
+            yield "keys differ", alike[-1] if alike else new[-1][0] + HERE
+
+    def of_packets(self) -> Iterator[tuple[str, str]]:
+        usual, here = self.usual, self.here
+        if here.passes and not usual.passes:
+            yield "better", ""
+        lost = [name for name, line in usual.lines.items() if line.text is not None and name not in self.own and not name.startswith(probe.PROBE) and self.text(name) != line.text]
+        for name in lost:
+            yield "packet lost", f"of step {name}"
+        if not usual.passes or here.passes:
+            return
+        if here.up is None or here.down is None:
+            yield "COUNTs apart", "up" if here.up is None else "down"
+        if here.up is False or here.down is False:
+            yield ("cut off" if here.again is True else "stuck"), said(here, "up", "up arrives", f"down {here.serving}", f"down {here.serving} arrives")
+
+    def text(self, name: str) -> str | None:
+        line = self.here.lines.get(name)
+        return line.text if line else None
+
+    def of_contexts(self) -> Iterator[tuple[str, str]]:
+        before = self.usual.contexts()
+        for station, answer in self.here.contexts().items():
+            if station != self.here.serving and answer != "NoUe" and before[station] == "NoUe":
+                yield "context left", f"station {station}"
+
+    def of_keys(self) -> Iterator[tuple[str, str]]:
+        usual, here = self.usual, self.here
+        for name, line in usual.lines.items():
+            now = here.lines.get(name)
+            if line.note and now and now.note and (line.note.way, now.note.way) == ("vertical", "horizontal") and line.who == "phone":
+                at = "horizontal at the next handover" if name.startswith(probe.PROBE) else f"horizontal at step {name}"
+                yield "weaker key", at + (HERE if now.note.key in here.dropped.instead else "")
+        reach = here.reach()
+        if len(reach) > len(usual.reach()):
+            is_so = len(here.reach(by_standard=True)) > len(usual.reach(by_standard=True))
+            yield "weaker key", f"{' '.join(sorted(reach))} can derive the phone's key{'' if is_so else HERE}"
+        made = here.made()
+        for name, what in usual.made().items():
+            if name not in made:
+                yield NOT_MADE, f"{what} of step {name}"
+
+
+def joined(parts: list[str]) -> str:
+    """Parts in a line; those that differ in a step alone are told together, as `handover of step 14 and 23`."""
+    steps: dict[str, list[str]] = {}
+    for part in parts:
+        what, _, step = part.partition("of step ")
+        steps.setdefault(what, []).append(step)
+    return ", ".join(what + (f"of step {' and '.join(found)}" if found[0] else "") for what, found in steps.items())
+
+
+def is_done(standing: Standing, name: str) -> bool:
+    line = standing.lines.get(named(name))
+    return line is not None and line.answer == "done"
+
+
+def said(standing: Standing, *names: str) -> str:
+    """The first of these items of the probe that is not done, and its answer."""
+    for name in names:
+        line = standing.lines.get(named(name))
+        if line is not None and line.answer != "done":
+            return f"{line.who} {line.answer}"
+    return "nothing comes"
+
+
+def at(station: int | None) -> str:
+    return "no station" if station is None else f"station {station}"
+
+
+class HasOutcomes(Protocol):
+    """A variant with its outcomes."""
+
+    @property
+    def faults(self) -> tuple[Fault, ...]: ...
+
+    @property
+    def outcomes(self) -> dict[str, str]: ...
+
+
+def limit(variant: HasOutcomes, word: str, messages: dict[str, str]) -> str | None:
+    """What a product does where an outcome is a limit of this profile and not of LTE."""
+    what = variant.outcomes[word]
+    if what.endswith(WAITS):
+        return "a core waits"
+    if word == "cut off":
+        if "NotConnected" in what:
+            return "a phone asks again at its timer"
+        return "the station has no context, so that a phone goes idle and asks for service" if "NoUe" in what else "a phone re-establishes"
+    if word == "misrouted":
+        late = any(fault.kind in ("late", "twice") and messages[fault.item] == "Handover Notify" for fault in variant.faults)
+        return "this core takes any Handover Notify of its connection" if late else None
+    if word in ("weaker key", "keys differ"):
+        return "a station keeps its pair at a handover within it" if all(part.endswith(HERE) for part in what.split(", ")) else None
+    if word == "context left" and any(fault.kind == "lost" and messages[fault.item] == "Path Switch Request" for fault in variant.faults):
+        return "a core does not know the new station, and answers a handover over S1 from it with Error Indication"
+    if word in ("stuck", "NAS apart") and any(fault.kind == "lost" and messages[fault.item].startswith("NAS Security Mode") for fault in variant.faults):
+        return "the core sends its command again at T3460"
+    if word == "no handover" and "AttemptOpen" in what:
+        return "a timer of the source ends the attempt"
+    if word == "no handover" and "OldConnection" in what:
+        return "the core answers from the old KASME until the key is changed"
+    return "the core or a timer releases it" if word == "context left" else None
