@@ -281,7 +281,7 @@ class Installed(unittest.TestCase):
     def test_each_option_that_is_taken_is_in_the_table(self) -> None:
         package = TOP / "python" / "lte_sec"
         of = {word.name: {name.split()[0] for name, _ in word.below if name.startswith("--")} for word in self.WORDS}
-        for name, usage in re.findall(r'^    "([\w-]+)": "(.*)",$', (package / "words/trace_words.py").read_text(), re.MULTILINE):
+        for name, usage in re.findall(r'^    "([\w-]+)": "(.*)",$', (package / "traces/trace_words.py").read_text(), re.MULTILINE):
             self.assertEqual(set(re.findall(r"--[a-z-]+", usage)), of[name], name)
 
     def test_each_option_of_the_table_is_asked_for(self) -> None:

@@ -13,17 +13,17 @@ from dataclasses import dataclass, field
 from pathlib import Path
 from typing import Any, Optional, Union
 
-from .judge import lawful
 from .captures.cells import Cell, Cells, Site, is_cell
 from .common.derive import TOP, proved_calls
-from .words.dumps import blocks
-from .words.explanation import Explanation, entry
-from .whatif.outcomes import RANK
-from .judge.reading import Said
 from .common.report import Verdict, counts, status
 from .common.terms import Derivations, TraceError, is_kasme, kasmes_of
-from .words.trace_words import trace_of
-from .words.trace_document import lines
+from .judge import lawful
+from .judge.reading import Said
+from .traces.dumps import blocks
+from .traces.explanation import Explanation, entry
+from .traces.trace_document import lines
+from .traces.trace_words import trace_of
+from .whatif.outcomes import RANK
 
 Text = Union[str, bytes, Path]  # a text itself, or the file that has it
 KeyOctets = Union[str, bytes]  # 32 octets, or 64 hex digits

@@ -7,9 +7,9 @@ from __future__ import annotations
 import importlib.metadata
 import sys
 
-from .runs import verdict
-from .words import trace_words as words
 from .common.terms import TraceError
+from .runs import verdict
+from .traces import trace_words as words
 
 USAGE = {name: usage for name, usage in words.USAGE.items() if name != "vectors"} | {
     "verdict": "verdict [--json] [FILE]   tells from a report of run what became of each handover and key change",

@@ -11,7 +11,7 @@ from unittest import mock
 
 import lte_sec
 from lte_sec import api
-from lte_sec.words import trace_words as words
+from lte_sec.traces import trace_words as words
 
 from .standin import StandIn
 from .test_traces import TRACES

@@ -12,7 +12,7 @@ from lte_sec.judge.reading import check
 from lte_sec.common.report import DIFFERS
 from lte_sec.judge.account import Account
 from lte_sec.common.terms import Derivations, Kasme
-from lte_sec.words.trace_document import as_json
+from lte_sec.traces.trace_document import as_json
 
 from . import test_faults, test_simulated
 from .simulated import CALLS, CELLS, World

@@ -7,10 +7,10 @@ import unittest
 from pathlib import Path
 
 from lte_sec.common import quick
-from lte_sec.nas import reasons
+from lte_sec.common import mistakes as reasons
 from lte_sec.captures.cells import Cells, Site
-from lte_sec.words.dumps import blocks, candidates
-from lte_sec.words.explanation import OF_ANY, OTHER_COUNTS, ExplainedKey, Explanation, told
+from lte_sec.traces.dumps import blocks, candidates
+from lte_sec.traces.explanation import OF_ANY, OTHER_COUNTS, ExplainedKey, Explanation, told
 from lte_sec.judge.search import DerivationSearch
 from lte_sec.common.terms import Derivations, Kasme
 

@@ -11,7 +11,7 @@ import unittest
 from pathlib import Path
 
 from lte_sec.whatif import resumption as resumed
-from lte_sec.whatif.answers import Answer, tellings
+from lte_sec.whatif.what_if_document import Answer, tellings
 from lte_sec.whatif.named_messages import steps_of
 from lte_sec.whatif.goals import lasting
 from lte_sec.whatif.variant_lists import Listed, Lists

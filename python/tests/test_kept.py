@@ -19,7 +19,7 @@ from lte_sec.judge.reading import check
 from lte_sec.common.report import DIFFERS, NOTE, RIGHT, UNKNOWN, Line, Verdict
 from lte_sec.captures.taps import APART, MANY, SecondTaps, alike, capture_of
 from lte_sec.common.terms import Derivations, Key, Term, kasmes_of
-from lte_sec.words.trace_document import as_json, lines as lines_of
+from lte_sec.traces.trace_document import as_json, lines as lines_of
 
 from .standin import StandIn
 from .test_scanned import EVERY

@@ -11,7 +11,7 @@ from typing import Any
 
 from lte_sec.whatif import matrix_page
 from lte_sec.pages import page as pages
-from lte_sec.whatif.answers import from_json, to_json
+from lte_sec.whatif.what_if_document import from_json, to_json
 from lte_sec.whatif.outcomes import WORDS
 
 from . import test_what_if

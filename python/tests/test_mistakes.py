@@ -7,8 +7,8 @@ from pathlib import Path
 from unittest import mock
 
 from lte_sec.common import causes
-from lte_sec.drive import frames, mistakes
-from lte_sec.nas import reasons
+from lte_sec.drive import frames, reply_mistakes as mistakes
+from lte_sec.common import mistakes as reasons
 from lte_sec.runs.ladders import kind_of
 from lte_sec.runs.run_report import LadderRow, rows_of
 

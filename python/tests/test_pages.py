@@ -17,7 +17,7 @@ from unittest import mock
 from lte_sec.whatif import matrix_page
 from lte_sec.pages import page as pages, trace_page
 from lte_sec.common.terms import TraceError
-from lte_sec.words.trace_document import document
+from lte_sec.traces.trace_document import document
 
 from .page_checks import contrasts, document_of, faults_of, ratio, wrong_keys
 from .test_seen import seen, two_phones

@@ -8,11 +8,11 @@ import unittest
 from collections.abc import Callable
 from unittest import mock
 
-from lte_sec.nas import pdu_reasons, reasons
+from lte_sec.common import pdu_mistakes as pdu_reasons, mistakes as reasons
 from lte_sec.drive import strict
 from lte_sec.common.causes import Why, told
 from lte_sec.common.derive import Calc
-from lte_sec.nas.reasons import ProtectedNas
+from lte_sec.common.mistakes import ProtectedNas
 
 from .standin import StandIn
 

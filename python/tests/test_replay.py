@@ -15,7 +15,7 @@ from pathlib import Path
 from unittest import mock
 
 from lte_sec.replay import replay_word as replay
-from lte_sec.words import trace_words as words
+from lte_sec.traces import trace_words as words
 from lte_sec.captures.capture_files import read
 from lte_sec.captures.cells import Cells, Site, read_cells
 from lte_sec.replay.comparison import ReplayVerdict

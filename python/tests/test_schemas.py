@@ -15,8 +15,8 @@ from unittest import mock
 
 from lte_sec.drive import differences, drive_word as drive
 from lte_sec.runs import demands, documents as documents_module, verdict
-from lte_sec.words import wireshark, trace_words as words
-from lte_sec.words.repeats import first_repeat
+from lte_sec.traces import wireshark, trace_words as words
+from lte_sec.traces.repeats import first_repeat
 from lte_sec.runs.scenarios import table_of
 
 from .schemas import SCHEMAS, faults, is_of, schema_of, validator

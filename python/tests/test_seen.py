@@ -12,7 +12,7 @@ from lte_sec.common.escaped import shown
 from lte_sec.judge.reading import check
 from lte_sec.judge.account import Account
 from lte_sec.common.terms import Derivations, Kasme
-from lte_sec.words.trace_document import as_json, comments, lines
+from lte_sec.traces.trace_document import as_json, comments, lines
 
 from .simulated import CALLS, CELLS, ENDS, Phone, World
 from .test_simulated import ENB1, ENB2, ENB3, KASMES

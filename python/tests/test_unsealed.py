@@ -7,7 +7,7 @@ from pathlib import Path
 from unittest import mock
 
 from lte_sec.drive import frames, protection as protected, seal_mistakes as unsealed
-from lte_sec.nas import pdu_reasons
+from lte_sec.common import pdu_mistakes as pdu_reasons
 from lte_sec.runs import scenarios
 from lte_sec.drive.frames import Reply
 from lte_sec.runs.run_report import rows_of

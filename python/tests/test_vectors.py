@@ -7,7 +7,8 @@ import json
 import unittest
 from typing import Any
 
-from lte_sec.words import vectors, trace_words as words
+from lte_sec.runs import vectors
+from lte_sec.traces import trace_words as words
 from lte_sec.common.terms import TraceError
 from tests import ciphers
 from tests.standin import StandIn, kdf

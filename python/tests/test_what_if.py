@@ -17,7 +17,7 @@ from typing import Any
 
 from lte_sec.runs import scenarios
 from lte_sec.whatif import what_if_word as what_if
-from lte_sec.whatif.answers import Answer, from_json, merged, ranges, table, to_json
+from lte_sec.whatif.what_if_document import Answer, from_json, merged, ranges, table, to_json
 from lte_sec.runs.courses import Course, Item, ProgramFails, act, delivery
 from lte_sec.whatif.healing import Heals
 from lte_sec.whatif.variant_lists import Listed, Lists, order, variant_of

@@ -16,13 +16,13 @@ from pathlib import Path
 from unittest import mock
 
 from lte_sec.common import derive
-from lte_sec.words import trace_words as words
+from lte_sec.traces import trace_words as words
 from lte_sec.captures.capture_files import read
-from lte_sec.words.log_cells import cells_of
-from lte_sec.nas.reasons import kdf
-from lte_sec.words.repeats import first_repeat
+from lte_sec.traces.log_cells import cells_of
+from lte_sec.common.mistakes import kdf
+from lte_sec.traces.repeats import first_repeat
 from lte_sec.common.terms import TraceError
-from lte_sec.words.wireshark import rows
+from lte_sec.traces.wireshark import rows
 
 from .standin import StandIn
 from .test_traces import TRACES, TSHARK, traced
@@ -100,7 +100,7 @@ class Words(unittest.TestCase):
         status, out, err = run("repeats", text="a 1 0 1 " + "00" * 40_000 + "\n")
         self.assertEqual((status, out, err.count("\n")), (9, "", 1))
         self.assertIn("status 9: repeats: line 1 has more than 65,536 characters", err)
-        with mock.patch("lte_sec.words.repeats.MOST", 2):
+        with mock.patch("lte_sec.traces.repeats.MOST", 2):
             status, _, err = run("repeats", text="a 1 0 1\na 1 0 2\na 1 0 3\n")
         self.assertEqual(status, 9)
         self.assertIn("line 3: repeats reads 2 uses", err)

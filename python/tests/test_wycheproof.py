@@ -6,7 +6,7 @@ import unittest
 from typing import Any
 from unittest import mock
 
-from lte_sec.words import wycheproof
+from lte_sec.runs import wycheproof
 from lte_sec.common.options import WrongWords
 
 from .standin import StandIn

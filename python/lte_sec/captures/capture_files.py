@@ -17,14 +17,14 @@ from dataclasses import replace
 from functools import partial
 from pathlib import Path
 
+from ..common.progress import told
+from ..common.terms import TraceError
 from .decoding import Message, fresh
-from .message_store import Kept
 from .layers import of_packet
 from .link_types import CUT, preferences
+from .message_store import Kept
 from .packets import CHUNK, cut
-from ..common.progress import told
 from .scanner import of_lines
-from ..common.terms import TraceError
 
 LAYERS = "frame ip ipv6 sctp s1ap x2ap lte_rrc exported_pdu diameter gtpv2 data _ws.malformed"
 FILTER = "s1ap or x2ap or lte_rrc or diameter.KASME or gtpv2.mm_context_kasme or user_dlt or (sctp and frame.cap_len < frame.len)"

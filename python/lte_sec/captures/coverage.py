@@ -10,8 +10,8 @@ from collections.abc import Iterable, Iterator
 from dataclasses import dataclass, field
 from functools import cached_property
 
-from .decoding import Message
 from ..common.terms import TraceError
+from .decoding import Message
 
 UP, DOWN = "up", "down"
 WAYS = (UP, DOWN)

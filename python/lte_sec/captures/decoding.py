@@ -8,8 +8,8 @@ from collections.abc import Iterator
 from dataclasses import dataclass, field, replace
 from typing import TYPE_CHECKING
 
-from .cells import Site
 from ..common.escaped import shown
+from .cells import Site
 
 if TYPE_CHECKING:
     from typing_extensions import TypeGuard  # Python has it from 3.10 on

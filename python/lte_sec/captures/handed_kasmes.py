@@ -2,9 +2,9 @@
 from __future__ import annotations
 
 from ..common.causes import Cause
-from .decoding import Message, title
 from ..common.report import Line, note_line
 from ..common.terms import Kasme, name_apart
+from .decoding import Message, title
 
 LINKS = {"S6a": "s6a", "GTPv2": "gtp"}
 

@@ -4,13 +4,13 @@ from __future__ import annotations
 from collections.abc import Callable, Iterable, Iterator, Mapping
 from dataclasses import replace
 
+from ..common.terms import TraceError
 from .cells import sites_of
 from .decoding import Message, MmContext, Pairs, begun, fresh, is_tree, key, leaves, number, octets
 from .fields import Filling, algorithms, command
 from .link_types import RAW, user_dlt
 from .packets import layers_of, member
 from .stations import FROM_STATION
-from ..common.terms import TraceError
 
 Reader = Callable[[Message, Pairs], Iterator[Message]]
 

@@ -9,9 +9,9 @@ from collections import Counter
 from collections.abc import Iterable, Iterator, Sequence
 from dataclasses import replace
 
+from ..common.terms import COMPUTED, DOWN, NAS_INTEGRITY, UP, Derivations, TraceError
 from .decoding import Message, fresh
 from .message_store import Kept, Messages
-from ..common.terms import COMPUTED, DOWN, NAS_INTEGRITY, UP, Derivations, TraceError
 
 RAW, CUT, ALONE = "raw", "cut", "NAS"  # links: of a frame that is not decoded, of the end of a capture that was cut, of a message of NAS alone
 FIRST, LAST = 147, 162

@@ -13,8 +13,8 @@ from dataclasses import fields
 from operator import attrgetter
 from typing import Union, overload
 
-from .decoding import Command, Message
 from ..common.terms import TraceError
+from .decoding import Command, Message
 
 RICH = ("reestablishment", "sites", "mm")  # fields that have objects of their own; most messages have none
 PLAIN = tuple(one.name for one in fields(Message) if one.name not in (*RICH, "command"))

@@ -4,8 +4,8 @@ from __future__ import annotations
 import json
 from collections.abc import Iterable, Iterator
 
-from .decoding import Pairs, is_tree
 from ..common.terms import TraceError
+from .decoding import Pairs, is_tree
 
 FIRST, LAST = "  {", "  }"  # lines in which a packet begins and ends
 CHUNK = 1 << 16  # octets of what tshark prints that are read at once

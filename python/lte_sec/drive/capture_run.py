@@ -19,9 +19,9 @@ import sys
 from collections.abc import Iterator
 from typing import Any, NoReturn, Union
 
-from . import frames, network
 from ..runs.run_report import rows_of
 from ..runs.scenarios import NoScenario, table_of
+from . import frames, network
 
 TOP = pathlib.Path(__file__).resolve().parents[3]
 PROGRAM = TOP / "lte_sec"

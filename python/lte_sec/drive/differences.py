@@ -5,7 +5,7 @@ import dataclasses
 import re
 from collections.abc import Sequence
 
-from lte_sec.drive import frames, mistakes, records
+from . import frames, reply_mistakes as mistakes, records
 from lte_sec.runs import scenarios
 
 DIFFERS = re.compile(rb"(setup|[0-9]+) differs ([0-9a-f]+) ([0-9a-f]+)\n")

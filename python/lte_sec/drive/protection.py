@@ -5,8 +5,8 @@ from collections.abc import Iterator
 from dataclasses import dataclass
 
 from lte_sec.drive import frames
-from lte_sec.nas.pdu_reasons import Pdu
-from lte_sec.nas.reasons import Ciphered, ProtectedNas, cipher, key_of, macs
+from ..common.mistakes import Ciphered, ProtectedNas, cipher, key_of, macs
+from ..common.pdu_mistakes import Pdu
 from lte_sec.runs.run_report import LadderRow
 from lte_sec.runs.scenarios import Step
 from lte_sec.common.terms import NAS_ENCRYPTION, NAS_INTEGRITY, RRC_ENCRYPTION, UP_ENCRYPTION, Calls

@@ -4,11 +4,11 @@ from __future__ import annotations
 import dataclasses
 
 from lte_sec.drive import frames, protection as protected
-from lte_sec.nas import pdu_reasons, reasons
+from ..common import pdu_mistakes as pdu_reasons, mistakes as reasons
 from lte_sec.drive.network import Network, Told
 from lte_sec.drive.peers import Peer
 from lte_sec.drive.protection import BearerHistory
-from lte_sec.nas.pdu_reasons import PartsWrong
+from ..common.pdu_mistakes import PartsWrong
 from lte_sec.runs.run_report import LadderRow
 from lte_sec.runs.scenarios import Scenario
 from lte_sec.common.terms import RRC_ENCRYPTION, RRC_INTEGRITY, Calls

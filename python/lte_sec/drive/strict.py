@@ -14,7 +14,7 @@ import sys
 from pathlib import Path
 
 from lte_sec.common import causes
-from lte_sec.nas import pdu_reasons, reasons
+from ..common import pdu_mistakes as pdu_reasons, mistakes as reasons
 from lte_sec.common.causes import Cause
 from lte_sec.common.derive import Calc
 from lte_sec.drive.drive_word import put

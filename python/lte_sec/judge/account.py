@@ -13,9 +13,9 @@ from typing import TypeVar, overload
 
 from ..captures.decoding import Message, title
 from ..common.escaped import shown
-from .line_store import LinesInOrder
 from ..common.report import NOTE, RIGHT, Line, Verdict
 from ..common.terms import Derivations
+from .line_store import LinesInOrder
 
 UP, DOWN = "up", "down"
 

@@ -4,11 +4,11 @@ from __future__ import annotations
 from typing import Optional
 
 from ..captures.cells import Cells
-from .key_judge import KeyJudge
 from ..captures.message_store import Messages
-from ..nas.service import ServiceBook
-from .state import Attempt, Connection
 from ..common.terms import Derivations
+from ..nas.service import ServiceBook
+from .key_judge import KeyJudge
+from .state import Attempt, Connection
 
 ANY_CORE = ""  # the end of a core that no message has told yet
 Leg = tuple[str, Optional[int]]

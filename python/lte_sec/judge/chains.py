@@ -3,14 +3,14 @@ from __future__ import annotations
 
 from collections.abc import Iterator
 
-from ..nas import reasons
-from ..common.causes import Cause
 from ..captures.decoding import Message
+from ..common import mistakes as reasons
+from ..common.causes import Cause
+from ..common.terms import NONE, UP, Key, counted, numbered
+from ..nas.nas_book import NOT_GIVEN
 from .histories import CHAIN, UNKNOWN_KEY, Chain, History, Numbered, PhoneKeys
 from .kenbs import KenbJudge
-from ..nas.nas_book import NOT_GIVEN
 from .state import Connection, Undecided
-from ..common.terms import NONE, UP, Key, counted, numbered
 
 FAR = 6  # so many steps of the chain ahead of the phone the core is warned of; at eight they come apart
 LOST_FRAMES, LOST_CHANGE = Cause.LOST_FRAMES.because(), Cause.LOST_CHANGE.because()

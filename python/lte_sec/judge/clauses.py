@@ -1,8 +1,8 @@
 """The clause of the standard that says which key a message has: by what the key is and by the message. All other causes have their clause themselves."""
 from __future__ import annotations
 
-from ..common.causes import Why
 from ..captures.decoding import Message, title
+from ..common.causes import Why
 
 S1_HANDOVER = ("HandoverRequest", "ForwardRelocationRequest")
 SUSPENDED = ("UEContextSuspendResponse", "UEContextResumeResponse", "X2 RetrieveUEContextResponse")

@@ -10,12 +10,12 @@ from ..captures.cells import Cells
 from ..captures.coverage import Coverage
 from ..captures.decoding import Command, Message
 from ..captures.message_store import Messages
-from .told_cells import Learning
-from ..common.report import Line
-from .search import DerivationSearch
 from ..captures.stations import Stations, station_end
 from ..captures.taps import Gaps
+from ..common.report import Line
 from ..common.terms import Derivations
+from .search import DerivationSearch
+from .told_cells import Learning
 
 AtPlace = TypeVar("AtPlace")
 

@@ -3,12 +3,12 @@ from __future__ import annotations
 
 from dataclasses import replace
 
-from .attempts import ANY_CORE, Attempts, Leg, PreparedAttempt
 from ..captures.coverage import UP as FROM_STATIONS
-from ..common.causes import Cause
 from ..captures.decoding import Command, Message, title
-from .histories import Numbered
+from ..common.causes import Cause
 from ..common.report import DIFFERS, RIGHT, Line, unknown_line
+from .attempts import ANY_CORE, Attempts, Leg, PreparedAttempt
+from .histories import Numbered
 from .state import Attempt, Connection
 
 FROM_TARGET = ("HandoverRequestAcknowledge", "HandoverPreparationFailure", "UEContextRelease")  # of X2AP

@@ -1,18 +1,18 @@
 """KeNB against TS 33.401: the key that the core makes from KASME at the COUNT of an uplink message, when it is sent."""
 from __future__ import annotations
 
-from ..nas import reasons
-from ..common.causes import Cause, Why
-from ..nas.contexts import NasSide, Trigger
 from ..captures.coverage import UP as FROM_STATION
 from ..captures.decoding import Message
-from .histories import Chain, Held, History, PhoneKeys, merged
-from .keylines import KeyLines
-from ..nas.nas_book import LOST_MODE, NOT_GIVEN
+from ..common import mistakes as reasons
+from ..common.causes import Cause, Why
 from ..common.pairs import paired
 from ..common.report import DIFFERS
-from .state import Connection
 from ..common.terms import UP, Key, counted
+from ..nas.contexts import NasSide, Trigger
+from ..nas.nas_book import LOST_MODE, NOT_GIVEN
+from .histories import Chain, Held, History, PhoneKeys, merged
+from .keylines import KeyLines
+from .state import Connection
 
 FEW = 4  # COUNTs of an uplink message by which a KeNB is made after a Security Mode exchange
 

@@ -3,15 +3,15 @@ from __future__ import annotations
 
 from dataclasses import replace
 
-from ..common.causes import Cause, Reason, Why
 from ..captures.cells import RANGES, Cell, Site, is_cell
 from ..captures.decoding import Command, Message, title
+from ..common.causes import Cause, Reason, Why
+from ..common.report import DIFFERS, RIGHT, UNKNOWN, Line, unknown_line
+from ..common.terms import Key
 from .histories import UNKNOWN_KEY, Held, History, Numbered, PhoneKeys, renewed
 from .preparation import PreparedJudge
-from ..common.report import DIFFERS, RIGHT, UNKNOWN, Line, unknown_line
 from .stars import Made
 from .state import Attempt, Connection, Given
-from ..common.terms import Key
 
 ALGORITHMS = ("ciphering", "integrity")
 

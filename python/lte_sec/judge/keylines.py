@@ -4,19 +4,19 @@ from __future__ import annotations
 import itertools
 from collections.abc import Callable, Iterator
 
-from ..common.causes import Cause, Why
 from ..captures.cells import Cell, Cells
-from .clauses import of_key
 from ..captures.coverage import DOWN, Coverage
 from ..captures.decoding import Command, Message, title
+from ..common import report
+from ..common.causes import Cause, Why
+from ..common.report import DIFFERS, RIGHT, Line, note_line, unknown_line
+from ..common.terms import NONE, UP, Key, counted
+from ..nas.service import ServiceBook
+from .clauses import of_key
 from .line_store import KeptLines
 from .moves import Moves
-from ..common import report
-from ..common.report import DIFFERS, RIGHT, Line, note_line, unknown_line
 from .search import DerivationSearch
-from ..nas.service import ServiceBook
 from .state import Connection
-from ..common.terms import NONE, UP, Key, counted
 
 REASONS = 200  # keys of a trace for which a reason is sought
 OTHERS = 16  # contexts of other phones whose KeNBs are at hand for the search

@@ -12,11 +12,11 @@ from collections.abc import Iterable, Iterator
 from dataclasses import dataclass, field, replace
 from pathlib import Path
 
-from ..common.causes import Cause, Why, has
 from ..captures.coverage import DOWN, UP
+from ..common.causes import Cause, Why, has
 from ..common.report import DIFFERS, KEYS, UNKNOWN, Line, unknown_line
-from .account import Account, Seen
 from ..common.terms import counted
+from .account import Account, Seen
 from .trace import Trace
 
 BOUNDS, FAR_BOUND = (2, 1), 6  # unseen moves between two messages: with moves over the air, fewer where the search is given up; and without

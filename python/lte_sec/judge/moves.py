@@ -8,15 +8,15 @@ from __future__ import annotations
 from collections.abc import Callable, Iterator
 from dataclasses import replace
 
-from ..common.causes import Cause, Why
 from ..captures.cells import Cell, Cells
-from ..nas.contexts import EpsSecurityContext
 from ..captures.coverage import DOWN, Coverage
-from .histories import CHAIN, UNKNOWN_KEY, Chain, Held, History, Numbered, PhoneKeys, renewed
-from ..nas.service import ServiceBook
-from .state import Connection
+from ..common.causes import Cause, Why
 from ..common.terms import Key, counted, numbered
 from ..common.terms import UP as UPLINK
+from ..nas.contexts import EpsSecurityContext
+from ..nas.service import ServiceBook
+from .histories import CHAIN, UNKNOWN_KEY, Chain, Held, History, Numbered, PhoneKeys, renewed
+from .state import Connection
 
 STEPS, COUNTS, FIRSTS, CELLS, KASMES, AROUND = 8, 40, 4, 6, 16, 4
 ANYWHERE = "a station that the trace does not show"

@@ -1,14 +1,14 @@
 """Cells that a source prepares for re-establishment: KeNB* and short MAC of each (TS 33.401 7.4.3, TS 36.331 10.3, 5.3.7.4)."""
 from __future__ import annotations
 
-from ..nas import reasons
-from ..common.causes import Cause
 from ..captures.cells import Cell
 from ..captures.decoding import Message, Reestablishment, title
+from ..common import mistakes as reasons
+from ..common.causes import Cause
 from ..common.report import DIFFERS, RIGHT, Line, unknown_line
+from ..common.terms import COMPUTED, RRC_INTEGRITY, Key
 from .stars import BASES, Made, StarJudge
 from .state import Connection
-from ..common.terms import COMPUTED, RRC_INTEGRITY, Key
 
 ONES, BEARER_ONES, DIRECTION_ONE = (1 << 32) - 1, 31, 1  # COUNT, BEARER and DIRECTION of shortMAC-I (TS 36.331 5.3.7.4)
 

@@ -6,13 +6,13 @@ from dataclasses import dataclass, replace
 
 from ..captures.cells import Cells
 from ..captures.coverage import UP, taken
-from .grounds import Grounds, Groundwork
 from ..captures.handed_kasmes import Handed
 from ..captures.message_store import Messages
-from ..common.report import DIFFERS, Line
-from .rereading import OTHERWISE, read_again
 from ..captures.taps import Courses, SecondTaps, courses, on_one_clock, without_these
+from ..common.report import DIFFERS, Line
 from ..common.terms import Derivations
+from .grounds import Grounds, Groundwork
+from .rereading import OTHERWISE, read_again
 from .trace import Trace
 
 

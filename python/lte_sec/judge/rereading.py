@@ -9,11 +9,11 @@ from __future__ import annotations
 from collections.abc import Callable, Hashable, Iterator
 from dataclasses import dataclass
 
-from ..common.causes import Cause
-from .choices import Groups, Offer, Tape
 from ..captures.coverage import listed
-from ..common.report import DIFFERS, RIGHT, UNKNOWN, Line, withdrawn
 from ..captures.stations import station_end
+from ..common.causes import Cause
+from ..common.report import DIFFERS, RIGHT, UNKNOWN, Line, withdrawn
+from .choices import Groups, Offer, Tape
 from .trace import Trace
 
 READINGS = 48  # of the messages of phones that share identities

@@ -8,16 +8,16 @@ from __future__ import annotations
 from collections.abc import Iterator
 from dataclasses import dataclass, field, replace
 
-from ..nas import reasons
-from ..common.causes import Cause, Why
 from ..captures.cells import Cell, is_cell
-from .chains import LOST_CHANGE, ChainJudge
 from ..captures.decoding import Message
+from ..common import mistakes as reasons
+from ..common.causes import Cause, Why
+from ..common.terms import Key, unknown
+from ..nas.nas_book import NOT_GIVEN
+from .chains import LOST_CHANGE, ChainJudge
 from .histories import CHAIN, Chain, Held, History, Numbered, PhoneKeys, renewed
 from .moves import ANYWHERE
-from ..nas.nas_book import NOT_GIVEN
 from .state import Attempt, Connection, Given
-from ..common.terms import Key, unknown
 
 BASES = 4  # keys for which a mistake is sought
 MANY, MIXED, WIDE = 16, 6, 1024  # refreshes that are tried: so many in turn, in so many cells, through so many ways of them

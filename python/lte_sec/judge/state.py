@@ -4,13 +4,13 @@ from __future__ import annotations
 from collections.abc import Iterable
 from dataclasses import dataclass, field, replace
 
-from ..common.causes import Cause, Why
 from ..captures.cells import Cell
-from ..nas.contexts import NasSide
 from ..captures.decoding import Command
-from .histories import MOST, Chain, Held, History, Numbered, PhoneKeys, merged
+from ..common.causes import Cause, Why
 from ..common.report import Line
 from ..common.terms import Key
+from ..nas.contexts import NasSide
+from .histories import MOST, Chain, Held, History, Numbered, PhoneKeys, merged
 
 MANY_ATTEMPTS, FEW_ATTEMPTS = 64, 16  # of a connection: from so many on so many are kept
 

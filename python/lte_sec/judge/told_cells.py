@@ -3,9 +3,9 @@ from __future__ import annotations
 
 from collections.abc import Iterable
 
-from ..common.causes import Cause
 from ..captures.cells import RANGES, Cells, Site, is_cell
 from ..captures.decoding import Message, title
+from ..common.causes import Cause
 from ..common.report import Line, note_line
 
 LAST = 1 << 62  # behind all places of a trace

@@ -4,27 +4,27 @@ from __future__ import annotations
 from bisect import bisect_right
 from collections.abc import Callable, Iterable, Iterator
 
-from ..captures.layers import UNREADABLE
-from ..common.causes import Cause, Why
-from .choices import Choices, Offer, Tape
-from ..nas.contexts import PLAIN, NasSeen
 from ..captures.coverage import DOWN as FROM_CORE
 from ..captures.coverage import UP as FROM_STATIONS
 from ..captures.decoding import Message, title
+from ..captures.layers import UNREADABLE
+from ..captures.link_types import ALONE, CUT
+from ..captures.stations import FROM_STATION, TELLS_CELL, station_end
+from ..common.causes import Cause, Why
 from ..common.escaped import shown
-from .grounds import Grounds, within, without
-from .attempts import ANY_CORE, Leg
-from .handovers import WAITING, Handovers
 from ..common.progress import told
+from ..common.report import DIFFERS, KEYS, RIGHT, UNKNOWN, Line, NasPart, Verdict, note_line, unknown_line, withdrawn
+from ..common.terms import DOWN, UP
+from ..nas.contexts import PLAIN, NasSeen
+from ..nas.service import ServiceBook
+from .account import Account, Membership, Use, account
+from .attempts import ANY_CORE, Leg
+from .choices import Choices, Offer, Tape
+from .grounds import Grounds, within, without
+from .handovers import WAITING, Handovers
 from .key_judge import KeyJudge
 from .line_store import LinesInOrder
-from ..captures.link_types import ALONE, CUT
-from ..common.report import DIFFERS, KEYS, RIGHT, UNKNOWN, Line, NasPart, Verdict, note_line, unknown_line, withdrawn
-from .account import Account, Membership, Use, account
-from ..nas.service import ServiceBook
-from ..captures.stations import FROM_STATION, TELLS_CELL, station_end
 from .state import Connection
-from ..common.terms import DOWN, UP
 
 FROM_PHONE = ("InitialUEMessage", "UplinkNASTransport")
 SERVED = (  # only the station that serves the phone has these

@@ -1,1 +1,1 @@
-"""The judge of NAS messages: contexts, COUNTs, Security Mode exchanges, Service Requests, and the catalogue of mistakes."""
+"""The judge of NAS messages: contexts, COUNTs, Security Mode exchanges, Service Requests."""

@@ -3,11 +3,11 @@ from __future__ import annotations
 
 from dataclasses import replace
 
-from . import reasons
+from ..common import mistakes as reasons
 from ..common.causes import Cause, Why
+from ..common.terms import COMPUTED, NAS_ENCRYPTION, NAS_INTEGRITY, Derivations
 from .contexts import CIPHERED, PARTLY, EpsSecurityContext, Life, NasSide
 from .counts import WRAP, Effort, near
-from ..common.terms import COMPUTED, NAS_ENCRYPTION, NAS_INTEGRITY, Derivations
 from .texts import is_emm, is_nas
 
 RARE = 64  # the part of the work that goes to other algorithms than the usual one

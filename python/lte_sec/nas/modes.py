@@ -4,10 +4,10 @@ from __future__ import annotations
 from dataclasses import replace
 
 from ..common.causes import Cause, Reason, Why
+from ..common.terms import COMPUTED, DOWN, UP
 from .contexts import COMMAND, COMPLETE, FOREIGN, EpsSecurityContext, NasSeen, NasSide
 from .nas_book import AHEAD, Later, NasBook, is_protected
 from .plain import EMM, MODE_COMMAND, NO_KEY, capability_fault, of_octets, replayed
-from ..common.terms import COMPUTED, DOWN, UP
 
 FIRST_COUNTS = 4  # the most that a Command's COUNT may be where a KASME begins: it is sent again four times (5.4.3.7)
 

@@ -10,12 +10,12 @@ from collections.abc import Callable, Iterable
 from dataclasses import replace
 
 from ..common.causes import FAULT, Cause, Reason, Why, every
+from ..common.report import DIFFERS, RIGHT, UNKNOWN
+from ..common.terms import COMPUTED, DOWN, UP
 from .context_book import ContextBook
 from .contexts import CIPHERED, COMMAND, COMPLETE, FOREIGN, PARTLY, PLAIN, SERVICE_REQUEST, EpsSecurityContext, NasSeen, NasSide, Trigger
 from .counts import WRAP, estimate
 from .plain import EMM, ESM, MODE_COMMAND, learn, plain_verdict
-from ..common.report import DIFFERS, RIGHT, UNKNOWN
-from ..common.terms import COMPUTED, DOWN, UP
 from .texts import NEVER_CIPHERED, is_nas, text_fault
 
 GUTI = re.compile(rb"\x0b\xf6.{6}(.{4})", re.DOTALL)  # TS 24.301 9.9.3.12, with its length

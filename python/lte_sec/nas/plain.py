@@ -2,9 +2,9 @@
 from __future__ import annotations
 
 from ..common.causes import Cause, Why
-from .contexts import NasSide
 from ..common.report import DIFFERS, UNKNOWN, Verdict
 from ..common.terms import DOWN, UP
+from .contexts import NasSide
 
 EMM, ESM = 7, 2  # protocol discriminators (TS 24.007 11.2.3.1.1)
 ATTACH_REQUEST, TRACKING_REQUEST, AUTHENTICATION, MODE_COMMAND, MODE_REJECT = 0x41, 0x48, 0x52, 0x5D, 0x5F

@@ -9,12 +9,12 @@ from collections.abc import Callable, Iterable
 from dataclasses import dataclass, replace
 
 from ..common.causes import Cause
+from ..common.report import DIFFERS, RIGHT, UNKNOWN
+from ..common.terms import COMPUTED, DOWN, UP
 from .contexts import FOREIGN, EpsSecurityContext, Life, NasSeen, NasSide, Trigger
 from .counts import SHORT_WRAP, near
 from .modes import ModeBook
 from .nas_book import LOST_MODE, NEW, NOT_GIVEN, Later, is_fault
-from ..common.report import DIFFERS, RIGHT, UNKNOWN
-from ..common.terms import COMPUTED, DOWN, UP
 
 BESIDE = 2  # COUNTs before and behind that of a request whose KeNB is sought
 SIZE = 4  # octets of a Service Request

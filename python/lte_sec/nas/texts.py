@@ -2,11 +2,11 @@
 from __future__ import annotations
 
 from ..common.causes import Cause, Why
+from ..common.mistakes import ProtectedNas
+from ..common.mistakes import text as mistake
+from ..common.terms import COMPUTED, Derivations
 from .contexts import CIPHERED, NAMES, EpsSecurityContext
 from .plain import ATTACH_REQUEST, EMM, ESM, TRACKING_REQUEST
-from .reasons import ProtectedNas
-from .reasons import text as mistake
-from ..common.terms import COMPUTED, Derivations
 
 ESM_TYPES = frozenset((
     0xC1, 0xC2, 0xC3, 0xC5, 0xC6, 0xC7, 0xC9, 0xCA, 0xCB, 0xCD, 0xCE, 0xD0, 0xD1, 0xD2, 0xD3, 0xD4, 0xD5, 0xD6, 0xD7, 0xD9, 0xDA, 0xDB, 0xDC, 0xE8, 0xE9, 0xEA, 0xEB, 0xEC,

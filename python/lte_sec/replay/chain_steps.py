@@ -6,13 +6,13 @@ from __future__ import annotations
 
 from dataclasses import dataclass, field
 
-from ..common.causes import Why
 from ..captures.cells import Cell
+from ..common.causes import Why
+from ..common.report import DIFFERS
+from ..common.terms import Term, numbered
 from .nas_steps import NasSteps, ReplayedKey
 from .recording import KeySeen, Met
-from ..common.report import DIFFERS
 from .script import At, ItemBlock
-from ..common.terms import Term, numbered
 
 NO_ANSWER = "its answer is not in the capture, and is taken as lost"
 

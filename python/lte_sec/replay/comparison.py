@@ -6,13 +6,13 @@ from dataclasses import dataclass, field
 from enum import Enum
 
 from ..common.causes import Cause, Why, told
-from ..runs.courses import Course
 from ..common.escaped import shown
-from .nas_steps import ReplayedKey
 from ..common.report import DIFFERS
-from ..runs.run_report import behind_end, rows_of
-from .script import Script
 from ..common.terms import NONE, Term, numbered
+from ..runs.courses import Course
+from ..runs.run_report import behind_end, rows_of
+from .nas_steps import ReplayedKey
+from .script import Script
 
 
 class ReplayVerdict(str, Enum):

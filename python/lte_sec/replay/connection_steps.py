@@ -4,15 +4,15 @@ from __future__ import annotations
 from collections.abc import Iterable, Iterator
 from dataclasses import dataclass, field
 
-from ..common.causes import Cause
 from ..captures.cells import Cell
+from ..common.causes import Cause
+from ..common.report import DIFFERS
+from ..common.terms import NONE, counted
+from ..nas.nas_book import NOT_GIVEN
 from .chain_steps import ReplayedConnection, kenb, star
 from .handover_steps import HandoverSteps
-from ..nas.nas_book import NOT_GIVEN
 from .recording import KeySeen, Met
-from ..common.report import DIFFERS
 from .script import At
-from ..common.terms import NONE, counted
 
 FAR = 200  # messages of a connection that are looked at behind one
 

@@ -5,15 +5,15 @@ from __future__ import annotations
 from collections.abc import Iterator
 from dataclasses import dataclass, field
 
-from ..common.causes import Cause
 from ..captures.cells import Cell, Cells
-from .chain_steps import ChainSteps, Open, above, nh, star
+from ..common.causes import Cause
 from ..common.escaped import shown
+from ..common.report import DIFFERS
+from ..common.terms import NONE, Term, numbered
+from .chain_steps import ChainSteps, Open, above, nh, star
 from .nas_steps import ReplayedKey
 from .recording import KeySeen, Met
-from ..common.report import DIFFERS
 from .script import At
-from ..common.terms import NONE, Term, numbered
 
 DEEPEST = 20  # steps within a station that a key may tell of
 

@@ -3,9 +3,9 @@ from __future__ import annotations
 
 from dataclasses import dataclass, field
 
-from .recording import Met, RecordedTrace
 from ..common.report import DIFFERS
 from ..common.terms import Term
+from .recording import Met, RecordedTrace
 
 ASKS = ("PathSwitchRequest", "HandoverRequired")
 FIRST = (Term("nh", (1,)), Term("nh", (2,)))  # the first NH that a core may send

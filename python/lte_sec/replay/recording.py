@@ -3,15 +3,15 @@ from __future__ import annotations
 
 from dataclasses import dataclass, field
 
-from ..common.causes import Cause, Why, has
 from ..captures.cells import Cells
-from ..nas.contexts import PLAIN
 from ..captures.decoding import Message
+from ..common.causes import Cause, Why, has
 from ..common.escaped import shown
 from ..common.report import UNKNOWN, Line, Verdict
-from ..judge.account import Seen
 from ..common.terms import NONE, Term
+from ..judge.account import Seen
 from ..judge.trace import Trace
+from ..nas.contexts import PLAIN
 
 AGAIN = (Cause.SENT_AGAIN, Cause.COUNT_USED_TWICE)
 KEYS = ("KeNB", "KeNB*", "NH", "key")

@@ -4,8 +4,8 @@ from __future__ import annotations
 from collections.abc import Iterator
 from dataclasses import dataclass, field
 
-from .comparison import ComparedKey, ReplayVerdict, Replayed
 from ..common.pairs import paired
+from .comparison import ComparedKey, ReplayVerdict, Replayed
 
 VERSION = 1  # of the document that --json prints; it changes where a field goes or changes its meaning
 WORDS = {ReplayVerdict.SAME: "same", ReplayVerdict.DIFFERS: "differ", ReplayVerdict.NOT_REPLAYED: "not replayed"}

@@ -6,16 +6,16 @@ import os
 import sys
 from pathlib import Path
 
-from .comparison import ComparedKey, ReplayVerdict, compared
-from ..runs.courses import ProgramFails
 from ..common.causes import Cause
+from ..common.terms import TraceError
+from ..runs.courses import ProgramFails
+from ..traces.trace_words import TraceWords, noted, traced
+from .comparison import ComparedKey, ReplayVerdict, compared
 from .phones import CapturedPhone, first_ncc, phones_of
 from .recording import Met, RecordedTrace, record
+from .replay_answer import NO_TEXTS, SECRETS, Part, ReplayedCapture, scenario_of
 from .script import CELLS, STATIONS, Script
 from .steps import Steps, triggers_of
-from ..common.terms import TraceError
-from .replay_answer import NO_TEXTS, SECRETS, Part, ReplayedCapture, scenario_of
-from ..words.trace_words import TraceWords, noted, traced
 
 FAILS, STOPPED = 6, 130
 USUAL_CAPS = "a020"  # EEA0, 128-EEA2 and 128-EIA2, which the profile has

@@ -4,15 +4,15 @@ from __future__ import annotations
 from collections.abc import Callable
 from dataclasses import dataclass
 
-from ..common.causes import Cause, Why
 from ..captures.cells import Cell
+from ..common.causes import Cause, Why
+from ..common.report import DIFFERS, RIGHT
+from ..common.terms import NONE, Term, counted, numbered
+from ..nas.nas_book import NOT_GIVEN
 from .chain_steps import ReplayedConnection, above, kenb, nh
 from .connection_steps import ConnectionSteps, due, without
-from ..nas.nas_book import NOT_GIVEN
 from .recording import KeySeen, Met
-from ..common.report import DIFFERS, RIGHT
 from .script import At, Full
-from ..common.terms import NONE, Term, counted, numbered
 
 TELLS_CELL = ("InitialUEMessage", "UplinkNASTransport", "PathSwitchRequest", "HandoverNotify")
 SHOWS_STATION = ("UplinkNASTransport", "HandoverRequired", "PathSwitchRequestAcknowledge", "UEContextReleaseRequest")

@@ -1,1 +1,1 @@
-"""Scenarios and reports of run: their values, items and variants, verdict, audit, documents."""
+"""Scenarios, reports of run and test vectors: their values, items and variants, verdict, audit, documents."""

@@ -11,9 +11,9 @@ import sys
 from pathlib import Path
 
 from ..common.inputs import of_input
+from ..common.terms import TraceError
 from .remarks import frames_of
 from .run_report import StepLine, rows_of
-from ..common.terms import TraceError
 
 REASONS = Path(__file__).resolve().parents[3] / "launcher" / "reasons"
 REFUSED = 3

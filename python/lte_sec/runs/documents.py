@@ -12,13 +12,13 @@ from collections.abc import Callable
 from pathlib import Path
 from typing import Any
 
-from .audit_frames import frames_of_rows
 from ..common.inputs import of_input
+from ..common.terms import TraceError
+from .audit_frames import frames_of_rows
 from .ladders import holder_of
 from .remarks import frames_of
 from .run_report import FORM, StepLine, numbers_of
 from .run_report import form_of as row_of
-from ..common.terms import TraceError
 
 Members = dict[str, Any]
 

@@ -14,11 +14,11 @@ from collections.abc import Iterator
 
 from ..common.inputs import MOST_MADE, of_file, of_input
 from ..common.options import Words
+from ..common.terms import TraceError
 from .remarks import frames_of, with_frames
 from .run_report import LadderRow, NoRow, StepLine, form_of, rows_of
 from .scenarios import NoScenario
 from .scenarios import read as read_scenario
-from ..common.terms import TraceError
 from .waiting import remarks_of
 
 VERSION = 1  # of the document that --json prints

@@ -13,16 +13,16 @@ import sys
 from collections.abc import Generator
 from pathlib import Path
 
-from ..drive import drive_word as drive
-from . import rows
-from .journeys import generated
-from ..drive.network import NoRecord
 from ..common.options import Words, WrongWords
 from ..common.pairs import paired
-from .play import Case, Commands, Result, play
-from ..runs.scenarios import Scenario, Step, setup_text, text, value
-from .suite_word import MOST_JOBS
 from ..common.terms import TraceError
+from ..drive import drive_word as drive
+from ..drive.network import NoRecord
+from ..runs.scenarios import Scenario, Step, setup_text, text, value
+from . import rows
+from .journeys import generated
+from .play import Case, Commands, Result, play
+from .suite_word import MOST_JOBS
 
 STEPS, MOST, MOST_SEED = 100, 1_000_000, 2**32 - 1
 KNOWN = ("--generate", "--save", "--answers", "--jobs", "--timeout", "--phone", "--station", "--core")

@@ -6,10 +6,10 @@ import shlex
 from collections.abc import Iterable, Iterator
 from html import escape
 
-from . import junit
 from ..pages.page import HERE, policy, written
-from .suite_report import TOLD, in_words, place_of, shown, why
 from ..pages.trace_page import Json
+from . import junit
+from .suite_report import TOLD, in_words, place_of, shown, why
 
 ENDS = {"differs": "failure", "failed": "error", "timed out": "error", "not compared": "skipped", "not reached": "skipped"}
 STYLE = """

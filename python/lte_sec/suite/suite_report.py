@@ -11,11 +11,11 @@ from collections.abc import Iterator
 from typing import Iterable, NamedTuple
 
 from ..common import about
-from .allowances import Allowed, group_of
 from ..common.pairs import paired
+from ..pages.trace_page import Json
+from .allowances import Allowed, group_of
 from .play import Played, Result
 from .rows import Row, Table, Visit
-from ..pages.trace_page import Json
 
 VERSION = 1  # of the document that --json prints
 OUTCOMES = ("passed", "differs", "allowed", "failed", "timed out", "not compared", "not reached")

@@ -9,12 +9,12 @@ from collections.abc import Callable, Iterable, Iterator, Mapping
 from dataclasses import dataclass, field
 from typing import Any, NamedTuple
 
+from ..pages.trace_page import Json
 from ..runs.courses import Course
 from ..runs.messages import NAS_TEXT, Names, nas_name
 from ..runs.run_report import StepLine
-from .probe import PROBE
 from ..runs.scenarios import Scenario, Step
-from ..pages.trace_page import Json
+from .probe import PROBE
 
 COMMENT = re.compile(r"#\s*([^.:\n]+)")
 DOES = {

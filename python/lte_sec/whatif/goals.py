@@ -12,11 +12,11 @@ from collections.abc import Iterator
 from math import comb
 from typing import Any, NamedTuple
 
-from .answers import LINK, Answer, tellings
-from .variant_lists import FEW_FAULTS, MOST_NAMED, Lists
 from ..common.progress import Rate
 from .spread import Gathering, Share
 from .study import Study, Variant
+from .variant_lists import FEW_FAULTS, MOST_NAMED, Lists
+from .what_if_document import LINK, Answer, tellings
 
 MOST_FAULTS, USUAL_FAULTS, MANY, LONG = 8, 3, 1_000_000, 100_000
 

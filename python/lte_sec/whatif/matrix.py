@@ -2,13 +2,13 @@
 outcome."""
 from __future__ import annotations
 
-from .answers import Answer
-from .outcomes import WORDS
 from ..common.pairs import paired
 from ..pages.picture import MONO, Picture
 from ..runs.remarks import named
-from .study import Variant
 from ..runs.variants import KINDS
+from .outcomes import WORDS
+from .study import Variant
+from .what_if_document import Answer
 
 # Of each outcome its letter and its colour.
 LOOKS = dict(paired(WORDS, (

@@ -4,10 +4,10 @@ from __future__ import annotations
 from collections.abc import Iterator
 
 from ..common.escaped import shown
+from ..pages.trace_page import GLYPHS, Json
 from .healing import Heals
 from .matrix import LOOKS, MEANS
 from .outcomes import GOES_ON, RANK, WORDS
-from ..pages.trace_page import GLYPHS, Json
 
 MARKS = {"bad": "refused, and not so in the scenario", "unk": "otherwise than in the scenario", "none": "as in the scenario"}
 

@@ -4,16 +4,16 @@ from __future__ import annotations
 from collections.abc import Iterator
 from typing import Protocol
 
-from . import probe
-from ..runs.courses import Course, Item
-from .dropped_pairs import Dropped
-from ..runs.messages import Names
 from ..common.pairs import paired
+from ..runs.courses import Course, Item
+from ..runs.messages import Names
 from ..runs.run_report import StepLine, behind_end, rows_of
-from .probe import named
 from ..runs.scenarios import Scenario
 from ..runs.variants import Fault
 from ..runs.verdict import Outcome, connected, items, read
+from . import probe
+from .dropped_pairs import Dropped
+from .probe import named
 
 # From the best to the worst.
 WORDS = (

@@ -5,10 +5,10 @@ import json
 import os
 from pathlib import Path
 
-from .answers import VERSION, Answer, from_json, merged, to_json
 from ..common.inputs import MOST_MADE, of_file
 from ..common.options import WrongWords
 from ..common.terms import TraceError
+from .what_if_document import VERSION, Answer, from_json, merged, to_json
 
 MOST_NAMED, BEGINS = 10, '{\n "version"'
 

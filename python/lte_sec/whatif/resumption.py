@@ -12,8 +12,8 @@ from collections.abc import Callable, Iterator
 from pathlib import Path
 from typing import Any
 
-from .answers import Answer, from_json, merged, to_json
 from ..common.options import WrongWords
+from .what_if_document import Answer, from_json, merged, to_json
 
 PARTS, SECONDS = 64, 10.0
 

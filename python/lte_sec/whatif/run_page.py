@@ -11,18 +11,18 @@ import sys
 from collections.abc import Iterator
 from pathlib import Path
 
-from ..pages import page as pages
-from .chart import lanes_of, name_of, stage, steps_of
 from ..common.escaped import shown
 from ..common.inputs import MOST_MADE, of_file, of_input
-from ..runs.ladders import CLAUSES, held_by, inputs_of, kind_of, names_of, title_of
 from ..common.options import Words
-from ..runs.run_report import rows_of
-from ..runs.remarks import frames_of
-from ..runs.scenarios import NoScenario, read
 from ..common.terms import TraceError
+from ..pages import page as pages
 from ..pages.trace_page import GLYPHS, WORST, Json
+from ..runs.ladders import CLAUSES, held_by, inputs_of, kind_of, names_of, title_of
+from ..runs.remarks import frames_of
+from ..runs.run_report import rows_of
+from ..runs.scenarios import NoScenario, read
 from ..runs.verdict import NOT_MADE, NoReport, Outcome, judged
+from .chart import lanes_of, name_of, stage, steps_of
 
 VERSION = 1  # of the document
 REASONS = Path(__file__).resolve().parents[3] / "launcher" / "reasons"

@@ -3,10 +3,10 @@ from __future__ import annotations
 
 from pathlib import Path
 
-from ..runs.courses import Course
 from ..common.pairs import paired
-from .probe import PROBE
+from ..runs.courses import Course
 from ..runs.scenarios import setup_text
+from .probe import PROBE
 from .study import Study, Variant, shown
 
 

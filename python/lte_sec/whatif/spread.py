@@ -14,13 +14,13 @@ from math import comb
 from pathlib import Path
 from typing import Any, TypeVar
 
-from .answers import Answer, line
-from .variant_lists import Listed, Lists
-from .outcomes import GOES_ON, KEYS_DIFFER, NOT_TOLD, RANK
 from ..common.progress import Rate
+from ..runs.variants import Fault
+from .outcomes import GOES_ON, KEYS_DIFFER, NOT_TOLD, RANK
 from .saving import save
 from .study import Study, Tried, Variant
-from ..runs.variants import Fault
+from .variant_lists import Listed, Lists
+from .what_if_document import Answer, line
 
 MANY_AT_ONCE = 32
 PR_SET_PDEATHSIG = 1  # of prctl(2): the signal that a process gets where the one that began it ends

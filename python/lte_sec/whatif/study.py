@@ -6,15 +6,15 @@ from dataclasses import dataclass, field, replace
 from itertools import islice
 from typing import Any
 
-from .chart import Charts
 from ..runs.courses import Course, Item, ProgramFails, Runs, act, delivery
-from .healing import Heals
 from ..runs.messages import NAS_TEXT
-from .outcomes import GOES_ON, RANK, WAITS, Comparison, Standing
-from .probe import PROBE, Prober
 from ..runs.scenarios import Scenario, setup_text
 from ..runs.variants import Fault, Faults, Original, moved, own_guess
 from ..runs.waiting import crossings, of_course, waits
+from .chart import Charts
+from .healing import Heals
+from .outcomes import GOES_ON, RANK, WAITS, Comparison, Standing
+from .probe import PROBE, Prober
 
 HANDOVERS = ("x2", "s1", "intra")
 MOST_ANSWERS = 3

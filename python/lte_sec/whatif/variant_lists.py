@@ -15,8 +15,8 @@ from functools import lru_cache
 from typing import NamedTuple
 
 from ..runs.courses import ProgramFails
-from .healing import Heals
 from ..runs.variants import KINDS, Fault
+from .healing import Heals
 
 MOST_STEPS, TOO_MANY = 2_000, 11
 MOST_NAMED, FEW_FAULTS = 8, 5  # so many messages the program takes by name, and so many faults of all messages

@@ -9,24 +9,24 @@ import sys
 from pathlib import Path
 from typing import Any, NamedTuple
 
-from . import goals, matrix_page, parts, resumption as resumed
-from ..pages import page as pages
-from .answers import Answer, table, to_json
-from .named_messages import steps_of
-from .chart import name_of
-from ..runs.courses import ProgramFails
-from .goals import Goal, Search
 from ..common.inputs import of_file, of_input
-from .variant_lists import TOO_MANY, Lists, TooManySteps
-from .matrix import draw
 from ..common.options import Words, WrongWords
-from .outcomes import RANK, USUAL_BAD
+from ..common.terms import TraceError
+from ..pages import page as pages
+from ..runs.courses import ProgramFails
 from ..runs.remarks import frames_of
 from ..runs.scenarios import NoScenario, read
+from ..runs.variants import KINDS
+from . import goals, matrix_page, parts, resumption as resumed
+from .chart import name_of
+from .goals import Goal, Search
+from .matrix import draw
+from .named_messages import steps_of
+from .outcomes import RANK, USUAL_BAD
 from .spread import Gathering, Share
 from .study import Study
-from ..common.terms import TraceError
-from ..runs.variants import KINDS
+from .variant_lists import TOO_MANY, Lists, TooManySteps
+from .what_if_document import Answer, table, to_json
 
 MOST_FAULTS, MOST_JOBS, BAD, WORDS, REFUSED, FAILS, ENDED, STOPPED = 3, 256, 1, 2, 3, 6, 7, 130
 NOT_WITH_GOAL = ("--faults", "--part", "--lines", "--picture", "--html", "--merge", "--bad", "--resume", "--out")

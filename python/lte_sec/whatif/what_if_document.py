@@ -7,14 +7,14 @@ from dataclasses import dataclass, field
 from itertools import groupby
 from typing import Any
 
-from .chart import Chart, with_numbers
-from .healing import Heals
-from .variant_lists import Listed
-from .outcomes import GOES_ON, NOT_MADE, RANK, USUAL_BAD, limit
 from ..common.pairs import paired
 from ..runs.remarks import named, with_frames
-from .study import Variant
 from ..runs.variants import KINDS, Fault
+from .chart import Chart, with_numbers
+from .healing import Heals
+from .outcomes import GOES_ON, NOT_MADE, RANK, USUAL_BAD, limit
+from .study import Variant
+from .variant_lists import Listed
 
 MANY = {1: "variant", 2: "pair", 3: "triple"}
 VERSION = 1  # of the document that --json prints

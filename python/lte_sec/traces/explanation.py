@@ -9,13 +9,13 @@ from collections.abc import Callable, Iterable, Iterator
 from dataclasses import dataclass
 from functools import partial
 
-from ..nas import reasons
-from ..common.causes import Cause, Reason
 from ..captures.cells import Cell, Cells, Site
-from .dumps import OctetBlock, candidates, resolved
+from ..common import mistakes as reasons
+from ..common.causes import Cause, Reason
 from ..common.quick import ready
-from ..judge.search import EARFCNS, FEW, PCIS, DerivationSearch, MadeStar, star_text, stepped
 from ..common.terms import Derivations, Key, Term, counted
+from ..judge.search import EARFCNS, FEW, PCIS, DerivationSearch, MadeStar, star_text, stepped
+from .dumps import OctetBlock, candidates, resolved
 
 NAS_TYPES, STATION_TYPES, IDENTITIES = (1, 2), (3, 4, 5, 6), range(16)
 OTHER_COUNTS = (Cause.COUNT_CUT, Cause.COUNT_LESS, Cause.COUNT_MORE)  # KeNB of another COUNT is found by itself

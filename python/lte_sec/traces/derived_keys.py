@@ -7,10 +7,10 @@ from __future__ import annotations
 from dataclasses import dataclass, field
 
 from ..common.escaped import shown
-from ..nas.plain import EMM, MODE_COMMAND
 from ..common.report import RIGHT, Line
-from ..judge.account import Account
 from ..common.terms import NAS_INTEGRITY, NONE, Derivations, Key, Term
+from ..judge.account import Account
+from ..nas.plain import EMM, MODE_COMMAND
 
 DEEPEST = 200  # KeNB*s one above the other that are followed; what lies deeper has no key above it here
 CLAUSES = {"kenb": "TS 33.401 A.3", "nh": "TS 33.401 A.4", "star": "TS 33.401 A.5", "alg": "TS 33.401 A.7"}

@@ -4,17 +4,17 @@ from __future__ import annotations
 import subprocess
 from collections.abc import Iterator
 
-from lte_sec.drive import frames, records, seal_mistakes as unsealed
-from lte_sec.nas import reasons
-from lte_sec.runs import scenarios
-from lte_sec.common.causes import Cause, Why
-from lte_sec.common.derive import Calc, proved_calls
-from lte_sec.runs.ladders import kind_of
-from lte_sec.drive.network import NoRecord
-from lte_sec.drive.peers import PeerFault
-from lte_sec.nas.pdu_reasons import PartsWrong
-from lte_sec.runs.run_report import LadderRow, rows_of
-from lte_sec.common.terms import TraceError
+from ..common import mistakes as reasons
+from ..common.causes import Cause, Why
+from ..common.derive import Calc, proved_calls
+from ..common.pdu_mistakes import PartsWrong
+from ..common.terms import TraceError
+from ..runs import scenarios
+from ..runs.ladders import kind_of
+from ..runs.run_report import LadderRow, rows_of
+from . import frames, records, seal_mistakes as unsealed
+from .network import NoRecord
+from .peers import PeerFault
 
 STARRED = ("kenb", "nh", "star")  # rows of keys that a KeNB* is made of
 

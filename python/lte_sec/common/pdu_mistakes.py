@@ -4,9 +4,9 @@ from __future__ import annotations
 from collections.abc import Callable, Iterator
 from dataclasses import dataclass, replace
 
-from ..common.causes import Cause, Reason, Why, told
-from .reasons import SHORT, Ciphered, cipher, ciphering, macs, near
-from ..common.terms import COMPUTED, RRC_ENCRYPTION, RRC_INTEGRITY, Calls
+from .causes import Cause, Reason, Why, told
+from .mistakes import SHORT, Ciphered, cipher, ciphering, macs, near
+from .terms import COMPUTED, RRC_ENCRYPTION, RRC_INTEGRITY, Calls
 
 
 @dataclass(frozen=True)

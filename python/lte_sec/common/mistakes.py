@@ -9,9 +9,9 @@ import functools
 from collections.abc import Callable, Iterable, Iterator
 from dataclasses import dataclass
 
-from ..common.causes import Cause, Reason, Why, has
-from ..common.quick import ready
-from ..common.terms import COMPUTED, NAS_ENCRYPTION, NAS_INTEGRITY, Calls
+from .causes import Cause, Reason, Why, has
+from .quick import ready
+from .terms import COMPUTED, NAS_ENCRYPTION, NAS_INTEGRITY, Calls
 
 made_by = functools.lru_cache(maxsize=16)(ready)  # mistakes of one key come one after the other
 KENB, NH, STAR, ALGORITHM = 0x11, 0x12, 0x13, 0x15  # FC (TS 33.401 A.3, A.4, A.5, A.7)

@@ -10,27 +10,27 @@ from dataclasses import dataclass
 from pathlib import Path
 from typing import IO
 
-from ..common import about
-from ..judge import lawful
-from ..pages import page as pages, trace_page
 from ..captures.capture_files import read_all
 from ..captures.cells import Cells, Site, is_cell, read_cells
-from ..common.derive import proved_calls
-from .dumps import HALF, KEY, blocks, has_hex
-from .explanation import Explanation, document as explained, told
-from ..common.inputs import lines_of, of_file, of_input
 from ..captures.layers import UNREADABLE
 from ..captures.link_types import CUT, decoded, protocols
-from .log_cells import cells_of
+from ..common import about
+from ..common.derive import proved_calls
+from ..common.inputs import lines_of, of_file, of_input
 from ..common.options import Words, WrongWords
-from .repeats import bounded, first_repeat
-from ..judge.reading import Said, check
 from ..common.report import status_of
-from ..judge.account import judged_anything
 from ..common.terms import Derivations, TraceError, is_kasme, kasme_fault, kasmes_of
+from ..judge import lawful
+from ..judge.account import judged_anything
+from ..judge.reading import Said, check
 from ..judge.trace import Trace
-from .wireshark import document as table_document, rows
+from ..pages import page as pages, trace_page
+from .dumps import HALF, KEY, blocks, has_hex
+from .explanation import Explanation, document as explained, told
+from .log_cells import cells_of
+from .repeats import bounded, first_repeat
 from .trace_document import annotate, document as trace_document, lines
+from .wireshark import document as table_document, rows
 
 USAGE = {
     "check-trace": "check-trace [--plain] [--json] [--annotate FILE] [--html FILE] [--html-keys no] [--cells FILE] [--covers LINK].. [--not-covered LINK].. [--dlt NUMBER=PROTOCOL].. CAPTURE.. KASME..   judges each KeNB, KeNB* and NH, and each NAS message, of a capture",
@@ -197,8 +197,8 @@ def repeats(words: list[str]) -> int:
 
 
 def vectors(words: list[str]) -> int:
-    from . import wycheproof
-    from .vectors import MOST, SEEDS, USUAL, document
+    from ..runs import wycheproof
+    from ..runs.vectors import MOST, SEEDS, USUAL, document
 
     given = TraceWords.read("vectors", words)
     if given.others:

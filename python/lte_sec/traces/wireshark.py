@@ -4,8 +4,8 @@ from __future__ import annotations
 from collections.abc import Iterator
 from dataclasses import asdict, dataclass
 
-from ..judge.account import Account
 from ..common.terms import RRC_ENCRYPTION, RRC_INTEGRITY, UP_ENCRYPTION, Calls
+from ..judge.account import Account
 
 USUAL = 2  # the algorithms that are taken where a trace does not tell them: 128-EEA2 and 128-EIA2
 

@@ -9,11 +9,11 @@ from collections.abc import Iterator, Mapping
 from pathlib import Path
 
 from ..common.causes import WARNING
-from .derived_keys import DerivedKey, Numbers, numbered
 from ..common.pairs import paired
 from ..common.report import Line, counts, status, summary
-from ..judge.account import Account, Seen
 from ..common.terms import TraceError
+from ..judge.account import Account, Seen
+from .derived_keys import DerivedKey, Numbers, numbered
 
 VERSION = 1  # of the document; it goes up where a field goes or changes its meaning, and stays where one is added
 EDITCAP = "editcap is not here; it comes with Wireshark, in the package wireshark-common of Debian and Ubuntu"

@@ -1,0 +1,1 @@
+"""The words on traces: check-trace, explain, wireshark, repeats; what they print and write."""
