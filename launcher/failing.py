@@ -12,6 +12,8 @@ import unittest
 from collections.abc import Iterator
 
 sys.dont_write_bytecode = True
+import pages  # noqa: E402
+
 HERE = pathlib.Path(__file__).resolve().parent
 TOP = HERE.parent
 EXAMPLES = TOP / "examples"
@@ -21,21 +23,13 @@ PAGE = pathlib.Path(tempfile.gettempdir()) / f"lte_sec-page-{os.getpid()}.html"
 READ_FAILS, WRITE_FAILS, INTERRUPTED = 4, 5, 130
 SECONDS = 600  # that a call may take, on a busy machine
 
-# Each word, as it is called, and its standard input where it reads that.
+# Each word, as it is called, and its standard input where it reads that: those of the table read the file of their example.
 READERS: dict[str, tuple[list[str | pathlib.Path], pathlib.Path]] = {
-    "run": ([], SCENARIO),
-    "drive": ([], SCENARIO),
-    "fleet": ([], EXAMPLES / "fleet/two-phones.toml"),
-    "two": ([], EXAMPLES / "two/relocation.toml"),
-    "audit": ([], SCENARIO),
-    "ladder": ([], EXAMPLES / "ladder/first.txt"),
-    "calc": ([], EXAMPLES / "calc/keys.txt"),
+    **{word.name: ([], TOP / word.example.split()[-1]) for word in pages.words() if word.behind.endswith("[FILE]") and not word.name.startswith("-")},
     "calc --strict": ([], EXAMPLES / "calc/keys.txt"),
-    "lawful": ([], EXAMPLES / "lawful/handover.txt"),
     "run --json": ([], SCENARIO),
     "drive --json": ([], SCENARIO),
     "drive --timeout 20": ([], SCENARIO),
-    "verdict": ([], REPORT),
     "verdict --json": ([], REPORT),
     "repeats": ([], HERE / "failing.uses"),
     "explain": ([KASME], REPORT),

@@ -1,5 +1,5 @@
 #!/usr/bin/env python3
-"""Makes the man page and the completions for bash, zsh and fish of the table `words`, and the schema of scenarios of the table of fields, and writes them where they belong: launcher/pages.py.
+"""Makes the man page and the completions for bash, zsh and fish of the table `words`, the schema of scenarios of the table of fields, and the words in that of what-if, and writes them where they belong: launcher/pages.py.
 
 `share` is laid out as below a prefix such as /usr, for whoever packages it. The exit statuses are those of README.md. A test wants
 both as they are made here.
@@ -8,6 +8,7 @@ from __future__ import annotations
 
 import dataclasses
 import itertools
+import json
 import pathlib
 import re
 import sys
@@ -17,22 +18,21 @@ TOP = HERE.parent
 sys.path.insert(0, str(TOP / "python"))
 import schema  # noqa: E402
 import shells  # noqa: E402
+from lte_sec.common import tables  # noqa: E402
+from lte_sec.whatif import healing  # noqa: E402
 
 MAN, COMPLETIONS = TOP / "share/man/man1/lte_sec.1", TOP / "share/bash-completion/completions/lte_sec"
 ZSH, FISH = TOP / "share/zsh/vendor-completions/_lte_sec", TOP / "share/fish/vendor_completions.d/lte_sec.fish"
-SCENARIO = TOP / "share/schema/scenario.schema.json"
+SCENARIO, WHAT_IF = TOP / "share/schema/scenario.schema.json", TOP / "share/schema/what-if.schema.json"
 # What may stand for a name in capitals, where it can be completed.
-KINDS = ("lost", "late", "twice", "again")
-OUTCOMES = (
-    "same", "better", "goes-on", "context-left", "packet-lost", "weaker-key", "not-made", "no-handover", "misrouted", "NAS-apart", "COUNTs-apart", "cut-off", "stuck", "keys-differ",
-    "coincidence",
-)
+KINDS = tables.FAULTS
+OUTCOMES = [word.replace(" ", "-") for word in tables.OUTCOMES]
 # What may stand behind an option or a fixed argument, where it is one of a few.
 VALUES = {
     "what-if --kinds": [",".join(some) for count in range(1, len(KINDS) + 1) for some in itertools.combinations(KINDS, count)],
-    "what-if --bad": list(OUTCOMES),
+    "what-if --bad": OUTCOMES,
     "what-if --faults": list("123"),
-    "what-if --goal": list(OUTCOMES),
+    "what-if --goal": OUTCOMES,
     "what-if --up-to": list("12345678"),
     "drive --answers": ["done"],
     "serve station": list("01234567"),
@@ -172,10 +172,21 @@ def completions() -> str:
     ]) + "\n"
 
 
+def what_if() -> str:
+    """The schema of the answers of `what-if`, with the words that there are."""
+    document = json.loads(WHAT_IF.read_text())
+    variant = document["$defs"]["variant"]["properties"]
+    variant["outcomes"]["items"]["properties"]["is"]["enum"] = list(tables.OUTCOMES)
+    for kind in (document["properties"]["tried"]["properties"]["kinds"]["items"], variant["faults"]["items"]["properties"]["kind"]):
+        kind["enum"] = list(KINDS)
+    document["$defs"]["heals"]["properties"]["by"]["enum"] = [*(word for word in tables.HEALS if word != healing.NOTHING), None]
+    return json.dumps(document, indent=2) + "\n"
+
+
 def made() -> dict[pathlib.Path, str]:
     """The files, and what stands in each."""
     of_shells = {ZSH: shells.zsh(words(), takes, values), FISH: shells.fish(words(), takes, values)}
-    return {MAN: man(), COMPLETIONS: completions(), **of_shells, SCENARIO: schema.text_of(schema.scenario()) + "\n"}
+    return {MAN: man(), COMPLETIONS: completions(), **of_shells, SCENARIO: schema.text_of(schema.scenario()) + "\n", WHAT_IF: what_if()}
 
 
 def main() -> None:

@@ -267,11 +267,7 @@ class Installed(unittest.TestCase):
         ))
 
     def test_each_word_with_json_says_by_it_why_it_fails(self) -> None:
-        case = re.search(r"^    case \$word in ([\w |-]+)\) ;; \*\) return ;; esac$", (HERE / "answers").read_text(), re.MULTILINE)
-        assert case
-        words = [word.name for word in self.WORDS if any(name == "--json" for name, _ in word.below)]
-        self.assertEqual(sorted(words), sorted(case[1].split(" | ")))
-        for word in words:
+        for word in [word.name for word in self.WORDS if any(name == "--json" for name, _ in word.below)]:
             ran = launched(word, "--json", 'no "file"\tof that name', "and no other")
             told = json.loads(ran.stdout)
             self.assertEqual({"error", "status"}, told.keys(), word)

@@ -23,7 +23,7 @@ from lte_sec.runs import document
 HERE = Path(__file__).resolve().parent
 LIBRARY = Path(os.environ.get("LTE_SEC_LIBRARY") or HERE.parent / "library/built/liblte_sec.so")
 OLDEST = 315_532_800  # 1980, before which there are no times in an archive of zip
-PARTS = ("*.py", "py.typed", "page.js", "page.css")
+PARTS = ("*.py", "py.typed", "page.js", "page.css", "tables.txt")
 
 
 def _version() -> str:

@@ -12,12 +12,14 @@ import re
 from collections.abc import Iterable, Iterator
 from typing import NamedTuple
 
+from lte_sec.common import tables
+
 SPECS = pathlib.Path(__file__).resolve().parents[2] / "crates" / "lte_machine" / "specs"
 FILES = {"phone": ("Refusals", "PhoneChoice", "PhoneKeys"), "station": ("Refusals", "StationChoice", "StationKeys"), "core": ("Refusals", "CoreChoice", "CoreKeys")}
 ROOTS = {"phone": ("phone_front", "phone_row", "changed_unless"), "station": ("station_front", "station_row"), "core": ("core_front", "core_row")}
 ROWS = {"phone": "PhoneRows", "station": "StationRows", "core": "CoreRows"}
 WORD = re.compile(r"[\w.]+")
-PLAIN = {"Done"}  # an answer that is no refusal
+PLAIN = {"done"}  # an answer that is no refusal
 
 
 class Equation(NamedTuple):
@@ -42,10 +44,7 @@ def row_names(actor: str) -> set[str]:
 
 def answers() -> set[str]:
     """The refusals that there are."""
-    text = (SPECS.parents[1] / "lte_events" / "src" / "answers.rt").read_text()
-    body = re.search(r"enum Answer \{(.*?)\n\}", text, re.S)
-    assert body
-    return set(re.findall(r"^    ([A-Z]\w+)", body[1], re.M)) - PLAIN
+    return {name for name, _ in tables.ANSWERS.values()} - PLAIN
 
 
 def blocks_of(text: str) -> Iterator[tuple[str, str]]:

@@ -16,6 +16,7 @@ from lte_sec.whatif.named_messages import steps_of
 from lte_sec.whatif.goals import lasting
 from lte_sec.whatif.variant_lists import Listed, Lists
 from lte_sec.common.options import WrongWords
+from lte_sec.whatif.outcomes import About
 from lte_sec.whatif.study import Variant
 from lte_sec.runs.variants import KINDS, Fault
 
@@ -122,8 +123,8 @@ class Messages(unittest.TestCase):
 
     def test_those_whose_fault_comes_to_the_same_stand_in_one_line(self) -> None:
         """Where the worst is that something is not made: the loss of a request is the cause of all that does not follow it."""
-        lost, messages = {"not made": "handover of step 14"}, {"11": "X2 Handover Request", "12": "X2 Handover Request Acknowledge", "14": "RRC Reconfiguration"}
-        variants = [Variant((Fault("lost", step),), outcomes) for step, outcomes in (("11", lost), ("12", lost), ("14", {"cut off": "", **lost}))]
+        lost, messages = {"not made": About("handover of step 14")}, {"11": "X2 Handover Request", "12": "X2 Handover Request Acknowledge", "14": "RRC Reconfiguration"}
+        variants = [Variant((Fault("lost", step),), outcomes) for step, outcomes in (("11", lost), ("12", lost), ("14", {"cut off": About(), **lost}))]
         self.assertEqual(list(tellings(variants, Answer({}, messages))), [
             "11 X2 Handover Request, 12 X2 Handover Request Acknowledge lost: not made [handover of step 14]",
             "14 RRC Reconfiguration lost: cut off (here; a phone re-establishes); not made [handover of step 14]",

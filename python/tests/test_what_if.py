@@ -22,7 +22,7 @@ from lte_sec.runs.courses import Course, Item, ProgramFails, act, delivery
 from lte_sec.whatif.healing import Heals
 from lte_sec.whatif.variant_lists import Listed, Lists, order, variant_of
 from lte_sec.runs.run_report import StepLine
-from lte_sec.whatif.outcomes import NOT_TOLD, RANK, WORDS, Comparison, Standing, limit, signature
+from lte_sec.whatif.outcomes import NOT_TOLD, RANK, WORDS, About, Comparison, Standing, limit, signature
 from lte_sec.whatif.probe import AGAIN, PROBE, opens
 from lte_sec.whatif.saving import save
 from lte_sec.runs.scenarios import text
@@ -320,7 +320,7 @@ class Outcomes(unittest.TestCase):
     def test_a_scenario_is_the_same_as_itself(self) -> None:
         for name in ("run/ordinary", "what-if/release-and-service"):
             whole = study(name)
-            self.assertEqual(Comparison(whole.standing, whole.standing, set()).outcomes(), {"same": ""})
+            self.assertEqual(Comparison(whole.standing, whole.standing, set()).outcomes(), {"same": About()})
 
     def test_findings(self) -> None:
         """What a person found in the reports, by hand."""
@@ -352,7 +352,7 @@ class Outcomes(unittest.TestCase):
         scenario = study("what-if/handover-within").scenario
         whole = Study(PROGRAM, dataclasses.replace(scenario, steps=scenario.steps[:36]))
         for fault, expected in ((Fault("late", "31", "34"), "horizontal at the next handover (here)"), (Fault("lost", "34"), "horizontal at the next handover")):
-            self.assertEqual(whole.tried((fault,)).variant.outcomes["weaker key"], expected)
+            self.assertEqual(whole.tried((fault,)).variant.outcomes["weaker key"].text, expected)
 
     def test_keys_that_differ_by_dropped_pairs_are_marked(self) -> None:
         """Seven pairs are dropped by handovers within; an answer that is lost and sent again is the eighth step ahead. Without handovers within
@@ -367,8 +367,8 @@ class Outcomes(unittest.TestCase):
     def test_a_handover_is_begun_by_the_station_that_serves(self) -> None:
         tried = study("what-if/ten-handovers", True).tried((Fault("lost", "11"),))
         plain = study("what-if/ten-handovers").tried((Fault("lost", "11"),))
-        self.assertEqual(tried.variant.outcomes["not made"], "handover of step 14")
-        self.assertIn("23", plain.variant.outcomes["not made"])
+        self.assertEqual(str(tried.variant.outcomes["not made"]), "handover of step 14")
+        self.assertIn("23", str(plain.variant.outcomes["not made"]))
 
 
 class Answers(unittest.TestCase):
@@ -444,7 +444,7 @@ class Answers(unittest.TestCase):
             self.assertIn(line, err)
 
     def test_a_part_that_is_none_is_told_in_one_line(self) -> None:
-        part = to_json(Answer({}, {"0": "x"}, [Variant((Fault("lost", "0", None),), {"same": ""})]))
+        part = to_json(Answer({}, {"0": "x"}, [Variant((Fault("lost", "0", None),), {"same": About()})]))
         variant = part["variants"][0]
         wrong: tuple[object, ...] = (
             part | {"variants": [variant | {"outcomes": [{"is": "no outcome", "what": ""}]}]}, part | {"variants": [variant | {"faults": [{"kind": "never", "step": 0}]}]}, [], {},

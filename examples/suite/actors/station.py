@@ -15,6 +15,7 @@ from texts import BEARER_LIMIT, CALLS, Refused, octets, place_of
 
 import serving
 from calls import DOWN, UP
+from lte_sec.common import tables
 from lte_sec.drive import records
 from lte_sec.drive.frames import DRBS, Input, Note, Reply, spelled_cell
 
@@ -136,7 +137,7 @@ class Station:
     def X2(self, pdu: bytes) -> Reply:
         return self.record({0x30: self.prepared, 0x31: self.acknowledged, 0x32: self.cancelled, 0x33: self.source_released}, records.X2, pdu)
 
-    def record(self, taken: dict[int, Any], forms: dict[int, records.Form], pdu: bytes) -> Reply:
+    def record(self, taken: dict[int, Any], forms: dict[int, tables.Form], pdu: bytes) -> Reply:
         if pdu[:1] in (b"\x30", b"\x31", b"\x32", b"\x33") or pdu[:1] and pdu[0] in records.S1:
             forms = records.S1 | records.X2
         told = texts.fields_of(forms, pdu)

@@ -7,6 +7,7 @@ from typing import Any
 
 sys.path.insert(0, str(pathlib.Path(__file__).resolve().parents[2] / "actor"))
 from calls import calls  # noqa: E402
+from lte_sec.common import tables  # noqa: E402
 from lte_sec.drive import frames, records  # noqa: E402
 from lte_sec.drive.frames import Reply  # noqa: E402
 
@@ -36,7 +37,7 @@ def fault(of: int, place: int = 0) -> Refused:
     return Refused("BadRecord", bytes([of, place]))
 
 
-def fields_of(forms: dict[int, records.Form], octets: bytes) -> dict[str, Any]:
+def fields_of(forms: dict[int, tables.Form], octets: bytes) -> dict[str, Any]:
     """Kind and fields of a text or a record: its size is looked at first, and then the fields from left to right."""
     if not octets:
         raise fault(SHORT)

@@ -9,50 +9,19 @@ import struct
 from collections.abc import Sequence
 from typing import Any, BinaryIO
 
+from lte_sec.common import tables
+
 BEARERS = {0x00: "nas", 0x01: "srb1", 0x02: "srb2", 0x81: "drb1", 0x82: "drb2", 0x83: "drb3", 0x84: "drb4"}
 RADIO, SRBS, DRBS = (0x01, 0x02, 0x81, 0x82, 0x83, 0x84), (0x01, 0x02), (0x81, 0x82, 0x83, 0x84)
 WAYS = ("initial", "horizontal", "vertical", "given", "completed", "chained")
 RECORD_FAULTS = {1: "Short", 2: "Long", 3: "BadKind", 4: "BadField"}
 LONGEST_BODY, LONGEST_RECORD, LONGEST_PACKET, LONGEST_TEXT = 4096, 1536, 1500, 200
 
-# The answers by number: the name, and the values that it keeps, each with its width in octets.
-ANSWERS: dict[int, tuple[str, tuple[tuple[str, int], ...]]] = {
-    0: ("done", ()),
-    1: ("NoContext", ()),
-    2: ("WrongKsi", (("held", 1), ("got", 1))),
-    3: ("CapsMismatch", (("own", 2), ("got", 2))),
-    4: ("AlgUnsupported", (("algorithms", 1),)),
-    5: ("MacFails", (("count", 4), ("wanted", 4), ("got", 4))),
-    6: ("CountSpent", ()),
-    7: ("SmcOpen", ()),
-    8: ("NoAlgorithm", ()),
-    9: ("BadRecord", (("fault", 1), ("place", 1))),
-    10: ("Short", ()),
-    11: ("BadHeader", (("octet", 1),)),
-    13: ("WrongKind", (("kind", 1),)),
-    20: ("NotConnected", ()),
-    21: ("NotAddressed", ()),
-    22: ("NothingToResend", ()),
-    23: ("AlreadyConnected", ()),
-    30: ("NoUe", ()),
-    31: ("Stale", (("outstanding", 4), ("got", 4))),
-    32: ("OldConnection", (("held", 4), ("got", 4))),
-    33: ("NotActive", ()),
-    34: ("UnknownCell", ()),
-    35: ("NoPathSwitch", ()),
-    36: ("AttemptOpen", (("number", 4),)),
-    37: ("NoAttempt", ()),
-    38: ("CommandSent", ()),
-    39: ("Repeated", (("seen", 4), ("got", 4))),
-    40: ("PrepFull", ()),
-    41: ("NotReady", ()),
-    42: ("NumberSpent", ()),
-    43: ("NoTrigger", ()),
-    44: ("NoSmc", ()),
-}
+# The answers of actors by number: the name, and the values that it keeps, each with its width in octets.
+ANSWERS: dict[int, tables.Form] = {number: form for number, form in tables.ANSWERS.items() if number < tables.NETWORK}
 
 # The addresses by tag: the words, and the values, each with its width.
-ADDRESSES: dict[int, tuple[str, tuple[tuple[str, int], ...]]] = {
+ADDRESSES: dict[int, tables.Form] = {
     0: ("phone", (("station", 1), ("air", 4), ("bearer", 1))),
     1: ("phone nas", ()),
     2: ("core nas", ()),
@@ -306,7 +275,7 @@ class Reply:
         return found | ({"alarm": "1"} if self.alarm else {})
 
 
-def values_of(forms: tuple[tuple[str, int], ...], octets: bytes) -> dict[str, int | str]:
+def values_of(forms: tables.Fields, octets: bytes) -> dict[str, int | str]:
     """Values by their names, in order: MACs and capabilities in hex."""
     found: dict[str, int | str] = {}
     place = 0

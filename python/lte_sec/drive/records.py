@@ -4,49 +4,13 @@ from __future__ import annotations
 import dataclasses
 from collections.abc import Sequence
 
+from lte_sec.common import tables
 from lte_sec.drive import frames
 
-# The fields of a record, each with its width in octets. A name in KEYS is that of a key: it is told to differ and not printed.
-Form = tuple[str, tuple[tuple[str, int], ...]]
-CONNECTION, STATION, SOURCE, ATTEMPT = ("connection", 4), ("station", 1), ("source", 1), ("attempt", 4)
-NUMBER, CELL, CAPABILITIES, NCC, ALGORITHMS, AIR = ("number", 4), ("cell", 6), ("capabilities", 2), ("NCC", 1), ("algorithms", 1), ("air", 4)
+# The records by kind, each with its fields and their widths in octets. A name in KEYS is that of a key: it is told to differ and not printed.
 KEYS = ("KeNB", "KeNB*", "NH")
-S1: dict[int, Form] = {
-    0x20: ("Initial Context Setup Request", (CONNECTION, CELL, CAPABILITIES, ("KeNB", 32))),
-    0x21: ("UE Context Release Command", (CONNECTION,)),
-    0x22: ("Path Switch Request", (CONNECTION, STATION, NUMBER, CELL, CAPABILITIES)),
-    0x23: ("Path Switch Request Acknowledge", (CONNECTION, NUMBER, NCC, ("NH", 32))),
-    0x24: ("Handover Required", (CONNECTION, STATION, ATTEMPT, CELL)),
-    0x25: ("Handover Request", (CONNECTION, SOURCE, ATTEMPT, CELL, CAPABILITIES, NCC, ("NH", 32))),
-    0x26: ("Handover Request Acknowledge", (CONNECTION, SOURCE, ATTEMPT, CELL, NCC, ALGORITHMS, AIR)),
-    0x27: ("Handover Command", (CONNECTION, ATTEMPT, CELL, NCC, ALGORITHMS, AIR)),
-    0x28: ("Handover Notify", (CONNECTION, STATION, CELL)),
-    0x29: ("Handover Cancel", (CONNECTION, SOURCE, ATTEMPT, CELL)),
-    0x34: ("UE Context Modification Request", (CONNECTION, ("next connection", 4), ("KeNB", 32))),
-}
-X2: dict[int, Form] = {
-    0x30: ("X2 Handover Request", (CONNECTION, SOURCE, ATTEMPT, CELL, CAPABILITIES, NCC, ("KeNB*", 32))),
-    0x31: ("X2 Handover Request Acknowledge", (CONNECTION, ATTEMPT, CELL, ALGORITHMS, AIR)),
-    0x32: ("X2 Handover Cancel", (CONNECTION, SOURCE, ATTEMPT)),
-    0x33: ("X2 UE Context Release", (CONNECTION, ATTEMPT)),
-}
-# NAS and RRC texts; a width of 0 is that of what is left, at most 200 octets.
-TEXT = ("text", 0)
-NAS: dict[int, Form] = {
-    0x01: ("Security Mode Command", (("KSI", 1), ALGORITHMS, CAPABILITIES)),
-    0x02: ("Security Mode Complete", ()),
-    0x03: ("Security Mode Reject", (("cause", 1),)),
-    0x04: ("Service Request", ()),
-    0x05: ("data", (TEXT,)),
-}
-RRC: dict[int, Form] = {
-    0x01: ("Security Mode Command", (ALGORITHMS, STATION, AIR)),
-    0x02: ("Security Mode Complete", ()),
-    0x03: ("Reconfiguration", (CELL, NCC, ALGORITHMS, STATION, AIR)),
-    0x04: ("Reconfiguration Complete", ()),
-    0x05: ("data", (TEXT,)),
-    0x06: ("key change", (CELL, ALGORITHMS, STATION, AIR)),
-}
+TEXT = ("text", 0)  # a field to the end
+S1, X2, NAS, RRC = (tables.records(of) for of in ("s1", "x2", "nas", "rrc"))
 OTHERS = {"connection", "next connection", "station", "source", "attempt", "number", "air"}  # fields told in decimal
 NAMES = {1: "NAS", 2: "NAS", 3: "S1", 5: "S1", 6: "X2"}  # what an address of this tag gets
 
@@ -66,7 +30,7 @@ def shown(name: str, octets: bytes) -> str:
     return str(int.from_bytes(octets, "big")) if name in OTHERS or name == "NCC" else octets.hex()
 
 
-def of_form(form: Form, octets: bytes) -> Record | None:
+def of_form(form: tables.Form, octets: bytes) -> Record | None:
     """A record of this form, if the octets are as many as its fields take."""
     message, parts = form
     if len(octets) != sum(width for _, width in parts):

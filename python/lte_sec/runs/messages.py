@@ -5,38 +5,26 @@ send it.
 """
 from __future__ import annotations
 
+from ..common import tables
 from ..nas.contexts import NAMES as NAMES_OF_NAS
 from .run_report import StepLine
 
 
 # What is sent, by who sends it and what made it: an act, or the message that came.
-NAMES = {
+ACTS = {
     ("core", "smc"): "NAS Security Mode Command",
     ("core", "connect"): "Initial Context Setup Request",
     ("core", "release"): "UE Context Release Command",
     ("core", "nas"): "NAS text",
-    ("core", "NAS Security Mode Complete"): "UE Context Modification Request",
-    ("core", "Path Switch Request"): "Path Switch Request Acknowledge",
-    ("core", "Handover Required"): "Handover Request",
-    ("core", "Handover Request Acknowledge"): "Handover Command",
-    ("core", "Handover Notify"): "UE Context Release Command",
-    ("core", "Handover Cancel"): "Handover Cancel",
     ("phone", "service"): "Service Request",
     ("phone", "nas"): "NAS text",
     ("phone", "resend"): "RRC Reconfiguration Complete",
-    ("phone", "NAS Security Mode Command"): "NAS Security Mode Complete",
-    ("phone", "RRC Security Mode Command"): "RRC Security Mode Complete",
-    ("phone", "RRC Reconfiguration"): "RRC Reconfiguration Complete",
     ("station", "x2"): "X2 Handover Request",
     ("station", "s1"): "Handover Required",
     ("station", "command"): "RRC Reconfiguration",
     ("station", "ask"): "Path Switch Request",
-    ("station", "Initial Context Setup Request"): "RRC Security Mode Command",
-    ("station", "UE Context Modification Request"): "RRC Reconfiguration",
-    ("station", "X2 Handover Request"): "X2 Handover Request Acknowledge",
-    ("station", "Handover Request"): "Handover Request Acknowledge",
-    ("station", "Path Switch Request Acknowledge"): "X2 UE Context Release",
 }
+NAMES = ACTS | tables.sent()
 
 
 NAS_TEXT, EMM = "NAS text", 7
@@ -65,7 +53,6 @@ class Names:
             return "X2 Handover Cancel" if line.kind == "x2" else "Handover Cancel"
         if who == "phone" and cause == "NAS Security Mode Command" and line.answer != "done":
             return "NAS Security Mode Reject"
-        if who == "station" and cause == "RRC Reconfiguration Complete":
-            origin = self.origins.get((line.who, line.note.key)) if line.note else None
-            return "Handover Notify" if origin == "Handover Request" else "Path Switch Request"
+        if who == "station" and cause == "RRC Reconfiguration Complete" and line.note and self.origins.get((line.who, line.note.key)) == "Handover Request":
+            return "Handover Notify"
         return NAMES.get((who, cause), "record")

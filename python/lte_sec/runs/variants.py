@@ -4,12 +4,13 @@ from __future__ import annotations
 from collections.abc import Iterator, Mapping
 from dataclasses import dataclass
 
+from ..common import tables
 from .courses import Item, Runs, act, delivery
 from .messages import Names, nas_name
 from .run_report import StepLine
 from .scenarios import Scenario, Step, value
 
-KINDS = ("lost", "late", "twice", "again")
+KINDS = tables.FAULTS
 NOWHERE = 2**62  # the number of a record that is never sent
 # What a delivery of these makes happen later: the act, and whose.
 COMMANDED = ("X2 Handover Request Acknowledge", "Handover Command")

@@ -4,6 +4,7 @@ A watch goes with one actor that answers as the written machine does. It is give
 """
 from __future__ import annotations
 
+from lte_sec.common import tables
 from lte_sec.drive import frames, records
 from lte_sec.suite.rows import Visit
 
@@ -119,7 +120,7 @@ class StationWatch(Watch):
     def on_X2(self, told: frames.Input, reply: frames.Reply, answer: str, made_by: str) -> RowParts:
         return self.record("X2", records.X2, told, reply, answer)
 
-    def record(self, interface: str, forms: dict[int, records.Form], told: frames.Input, reply: frames.Reply, answer: str) -> RowParts:
+    def record(self, interface: str, forms: dict[int, tables.Form], told: frames.Input, reply: frames.Reply, answer: str) -> RowParts:
         octets = octets_of(told)
         if answer in ("BadRecord", "WrongKind"):
             return interface, "any", ""

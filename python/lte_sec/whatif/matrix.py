@@ -2,7 +2,8 @@
 outcome."""
 from __future__ import annotations
 
-from ..common.pairs import paired
+from typing import NamedTuple
+
 from ..pages.picture import MONO, Picture
 from ..runs.remarks import named
 from ..runs.variants import KINDS
@@ -10,19 +11,32 @@ from .outcomes import WORDS
 from .study import Variant
 from .what_if_document import Answer
 
-# Of each outcome its letter and its colour.
-LOOKS = dict(paired(WORDS, (
-    ("=", "#eef1f4"), ("+", "#c9eef0"), ("~", "#dde3ea"), ("c", "#d9e8c4"), ("p", "#f3f0b5"), ("w", "#ffe08a"), ("m", "#ffc98a"), ("h", "#f9b27c"),
-    ("r", "#e3d9f7"), ("n", "#cbb8ee"), ("o", "#f6b8d8"), ("x", "#f08f80"), ("s", "#e0604f"), ("K", "#b3261e"), ("!", "#7b8794"),
-)))
-# Of each outcome what it means, in a few words; docs/WHATIF.md defines it.
-MEANS = dict(paired(WORDS, (
-    "Each line is as in the scenario, but those of the fault itself.", "User packets pass here, and not in the scenario.", "A line differs, and nothing worse comes of it.",
-    "A station that does not serve the phone still has its context.", "A text that arrives in the scenario does not arrive here.", "A key is horizontal that is vertical in the scenario, or more stations can derive it.",
-    "The phone does not come by a key that it has in the scenario.", "The next handover or its path switch fails.", "The core has the phone at another station than the one that serves it.",
-    "NAS texts no longer arrive as they were sent.", "A user packet opens to other octets: the COUNTs differ.", "User packets fail until the phone asks for service.", "User packets fail even after the phone asked for service.",
-    "Phone and station have different keys.", "The run ends at a coincidence.",
-)))
+
+class Look(NamedTuple):
+    """Of an outcome its letter, its colour, and what it means, in a few words; docs/WHATIF.md defines it."""
+
+    letter: str
+    colour: str
+    means: str
+
+
+LOOKS = {
+    "same": Look("=", "#eef1f4", "Each line is as in the scenario, but those of the fault itself."),
+    "better": Look("+", "#c9eef0", "User packets pass here, and not in the scenario."),
+    "goes on": Look("~", "#dde3ea", "A line differs, and nothing worse comes of it."),
+    "context left": Look("c", "#d9e8c4", "A station that does not serve the phone still has its context."),
+    "packet lost": Look("p", "#f3f0b5", "A text that arrives in the scenario does not arrive here."),
+    "weaker key": Look("w", "#ffe08a", "A key is horizontal that is vertical in the scenario, or more stations can derive it."),
+    "not made": Look("m", "#ffc98a", "The phone does not come by a key that it has in the scenario."),
+    "no handover": Look("h", "#f9b27c", "The next handover or its path switch fails."),
+    "misrouted": Look("r", "#e3d9f7", "The core has the phone at another station than the one that serves it."),
+    "NAS apart": Look("n", "#cbb8ee", "NAS texts no longer arrive as they were sent."),
+    "COUNTs apart": Look("o", "#f6b8d8", "A user packet opens to other octets: the COUNTs differ."),
+    "cut off": Look("x", "#f08f80", "User packets fail until the phone asks for service."),
+    "stuck": Look("s", "#e0604f", "User packets fail even after the phone asked for service."),
+    "keys differ": Look("K", "#b3261e", "Phone and station have different keys."),
+    "coincidence": Look("!", "#7b8794", "The run ends at a coincidence."),
+}
 ROW, BOX, TOP, LEFT, GAP = 20, 16, 96, 20, 18
 
 
@@ -52,9 +66,9 @@ def draw(answer: Answer) -> str:
 
 
 def box(picture: Picture, x: float, y: float, word: str) -> None:
-    letter, fill = LOOKS[word]
-    picture.box(x, y, BOX - 1, BOX, fill, "#ffffff")
-    picture.text(x + 4, y + 12, letter, 10.5, MONO, "#ffffff" if word in ("stuck", "keys differ", "coincidence") else "#1f2933")
+    look = LOOKS[word]
+    picture.box(x, y, BOX - 1, BOX, look.colour, "#ffffff")
+    picture.text(x + 4, y + 12, look.letter, 10.5, MONO, "#ffffff" if word in ("stuck", "keys differ", "coincidence") else "#1f2933")
 
 
 def legend(picture: Picture, answer: Answer, y: float) -> None:

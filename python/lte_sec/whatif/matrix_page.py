@@ -6,7 +6,7 @@ from collections.abc import Iterator
 from ..common.escaped import shown
 from ..pages.trace_page import GLYPHS, Json
 from .healing import Heals
-from .matrix import LOOKS, MEANS
+from .matrix import LOOKS
 from .outcomes import GOES_ON, RANK, WORDS
 
 MARKS = {"bad": "refused, and not so in the scenario", "unk": "otherwise than in the scenario", "none": "as in the scenario"}
@@ -47,7 +47,7 @@ def outcomes_of(document: Json) -> list[Json]:
     """The outcomes, the worst first, and how many variants of one fault have each as their worst."""
     counts = document["counts"].get("1", {})
     return [
-        {"id": word.replace(" ", "-"), "word": word, "letter": LOOKS[word][0], "colour": LOOKS[word][1], "ink": "#ffffff" if word in DARK else "#000000", "means": MEANS[word], "isBad": RANK[word] > RANK[GOES_ON], "many": counts.get(word, 0)}
+        {"id": word.replace(" ", "-"), "word": word, "letter": LOOKS[word].letter, "colour": LOOKS[word].colour, "ink": "#ffffff" if word in DARK else "#000000", "means": LOOKS[word].means, "isBad": RANK[word] > RANK[GOES_ON], "many": counts.get(word, 0)}
         for word in reversed(WORDS)
     ]
 

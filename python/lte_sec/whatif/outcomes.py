@@ -2,8 +2,10 @@
 from __future__ import annotations
 
 from collections.abc import Iterator
+from dataclasses import dataclass, field, replace
 from typing import Protocol
 
+from ..common import tables
 from ..common.pairs import paired
 from ..runs.courses import Course, Item
 from ..runs.messages import Names
@@ -15,18 +17,51 @@ from . import probe
 from .dropped_pairs import Dropped
 from .probe import named
 
-# From the best to the worst.
-WORDS = (
-    "same", "better", "goes on", "context left", "packet lost", "weaker key", "not made", "no handover", "misrouted", "NAS apart",
-    "COUNTs apart", "cut off", "stuck", "keys differ", "coincidence",
-)
+WORDS = tables.OUTCOMES  # from the best to the worst
 RANK = {word: rank for rank, word in enumerate(WORDS)}
 GOES_ON, KEYS_DIFFER = "goes on", "keys differ"
 USUAL_BAD = KEYS_DIFFER
 NOT_MADE = "not made"
 NOT_TOLD = "at which handover the report does not tell"
-HERE = " (here)"  # behind what an outcome is about, where the standard has it otherwise
-WAITS = " (7.2.10)"  # and where it is not there if each security procedure of the core waits for the one before
+
+
+@dataclass(frozen=True)
+class Part:
+    """A part of what an outcome is about: in words, the step that it is of, the refusal that brought it, and whether the standard has it otherwise."""
+
+    what: str = ""
+    step: str = ""
+    answer: str = ""
+    is_here: bool = False
+
+
+@dataclass(frozen=True)
+class About:
+    """What an outcome is about: its text, the refusal that brought it, whether the standard has all of it otherwise, and whether it is not there if each
+    security procedure of the core waits for the one before. One that was read from an answer has its limit, as that tells it."""
+
+    text: str = ""
+    answer: str = field(default="", compare=False)
+    is_here: bool = field(default=False, compare=False)
+    waits: bool = field(default=False, compare=False)
+    is_read: bool = field(default=False, compare=False)
+    limit: str | None = field(default=None, compare=False)
+
+    def __str__(self) -> str:
+        return self.text
+
+    @classmethod
+    def of(cls, parts: list[Part]) -> About:
+        """Parts in a line; those that differ in a step alone are told together, as `handover of step 14 and 23`."""
+        steps: dict[tuple[str, bool], list[str]] = {}
+        for part in parts:
+            steps.setdefault((part.what, part.is_here), []).append(part.step)
+        told = [" ".join([*([what] if what else []), *([f"of step {' and '.join(found)}"] if found[0] else [])]) + " (here)" * is_here for (what, is_here), found in steps.items()]
+        return cls(", ".join(told), next((part.answer for part in parts if part.answer), ""), bool(parts) and all(part.is_here for part in parts))
+
+    def waiting(self) -> About:
+        """The same, not there where each procedure waits."""
+        return replace(self, text=f"{self.text} (7.2.10)", waits=True)
 
 
 class Standing:
@@ -138,16 +173,16 @@ class Comparison:
     def __init__(self, usual: Standing, here: Standing, own: set[str]):
         self.usual, self.here, self.own = usual, here, own
 
-    def outcomes(self) -> dict[str, str]:
+    def outcomes(self) -> dict[str, About]:
         """Each outcome, and what it is about."""
         if self.here.course.ended:
-            return {"coincidence": self.here.course.report.splitlines()[-1]}
-        found: dict[str, list[str]] = {}
+            return {"coincidence": About(self.here.course.report.splitlines()[-1])}
+        found: dict[str, list[Part]] = {}
         for word, what in self.worse():
             found.setdefault(word, []).append(what)
         if not found:
             found["goes on" if self.differs() else "same"] = []
-        return {word: joined(found[word]) for word in sorted(found, key=lambda word: -RANK[word])}
+        return {word: About.of(found[word]) for word in sorted(found, key=lambda word: -RANK[word])}
 
     def differs(self) -> bool:
         names = {*self.usual.lines, *self.here.lines}
@@ -155,7 +190,7 @@ class Comparison:
             signature(self.usual.lines.get(name)) != signature(self.here.lines.get(name)) for name in names if name.rstrip("+") not in self.own
         )
 
-    def worse(self) -> Iterator[tuple[str, str]]:
+    def worse(self) -> Iterator[tuple[str, Part]]:
         yield from self.of_packets()
         yield from self.of_contexts()
         yield from self.of_keys()
@@ -164,27 +199,27 @@ class Comparison:
         if refused:
             yield "no handover", said(here, refused[0])
         if here.passes and here.view != here.serving and usual.view == usual.serving:
-            yield "misrouted", f"the core has {at(here.view)}, the phone station {here.serving}"
+            yield "misrouted", Part(f"the core has {at(here.view)}, the phone station {here.serving}")
         if any(before and not now for before, now in paired(usual.nas, here.nas)) or (usual.again and here.again is not True):
             for name, before, now in zip(("no NAS text up", "no NAS text down", "no service"), [*usual.nas, usual.again], [*here.nas, here.again]):
                 if before and not now:
-                    yield "NAS apart", name
+                    yield "NAS apart", Part(name)
         new = [told for name, told in here.different.items() if name not in usual.different]
         if new:
             alike = [what for what, is_alike in new if is_alike]
-            yield "keys differ", alike[-1] if alike else new[-1][0] + HERE
+            yield "keys differ", Part(alike[-1]) if alike else Part(new[-1][0], is_here=True)
 
-    def of_packets(self) -> Iterator[tuple[str, str]]:
+    def of_packets(self) -> Iterator[tuple[str, Part]]:
         usual, here = self.usual, self.here
         if here.passes and not usual.passes:
-            yield "better", ""
+            yield "better", Part()
         lost = [name for name, line in usual.lines.items() if line.text is not None and name not in self.own and not name.startswith(probe.PROBE) and self.text(name) != line.text]
         for name in lost:
-            yield "packet lost", f"of step {name}"
+            yield "packet lost", Part(step=name)
         if not usual.passes or here.passes:
             return
         if here.up is None or here.down is None:
-            yield "COUNTs apart", "up" if here.up is None else "down"
+            yield "COUNTs apart", Part("up" if here.up is None else "down")
         if here.up is False or here.down is False:
             yield ("cut off" if here.again is True else "stuck"), said(here, "up", "up arrives", f"down {here.serving}", f"down {here.serving} arrives")
 
@@ -192,36 +227,27 @@ class Comparison:
         line = self.here.lines.get(name)
         return line.text if line else None
 
-    def of_contexts(self) -> Iterator[tuple[str, str]]:
+    def of_contexts(self) -> Iterator[tuple[str, Part]]:
         before = self.usual.contexts()
         for station, answer in self.here.contexts().items():
             if station != self.here.serving and answer != "NoUe" and before[station] == "NoUe":
-                yield "context left", f"station {station}"
+                yield "context left", Part(f"station {station}")
 
-    def of_keys(self) -> Iterator[tuple[str, str]]:
+    def of_keys(self) -> Iterator[tuple[str, Part]]:
         usual, here = self.usual, self.here
         for name, line in usual.lines.items():
             now = here.lines.get(name)
             if line.note and now and now.note and (line.note.way, now.note.way) == ("vertical", "horizontal") and line.who == "phone":
                 at = "horizontal at the next handover" if name.startswith(probe.PROBE) else f"horizontal at step {name}"
-                yield "weaker key", at + (HERE if now.note.key in here.dropped.instead else "")
+                yield "weaker key", Part(at, is_here=now.note.key in here.dropped.instead)
         reach = here.reach()
         if len(reach) > len(usual.reach()):
             is_so = len(here.reach(by_standard=True)) > len(usual.reach(by_standard=True))
-            yield "weaker key", f"{' '.join(sorted(reach))} can derive the phone's key{'' if is_so else HERE}"
+            yield "weaker key", Part(f"{' '.join(sorted(reach))} can derive the phone's key", is_here=not is_so)
         made = here.made()
         for name, what in usual.made().items():
             if name not in made:
-                yield NOT_MADE, f"{what} of step {name}"
-
-
-def joined(parts: list[str]) -> str:
-    """Parts in a line; those that differ in a step alone are told together, as `handover of step 14 and 23`."""
-    steps: dict[str, list[str]] = {}
-    for part in parts:
-        what, _, step = part.partition("of step ")
-        steps.setdefault(what, []).append(step)
-    return ", ".join(what + (f"of step {' and '.join(found)}" if found[0] else "") for what, found in steps.items())
+                yield NOT_MADE, Part(what, name)
 
 
 def is_done(standing: Standing, name: str) -> bool:
@@ -229,13 +255,13 @@ def is_done(standing: Standing, name: str) -> bool:
     return line is not None and line.answer == "done"
 
 
-def said(standing: Standing, *names: str) -> str:
+def said(standing: Standing, *names: str) -> Part:
     """The first of these items of the probe that is not done, and its answer."""
     for name in names:
         line = standing.lines.get(named(name))
         if line is not None and line.answer != "done":
-            return f"{line.who} {line.answer}"
-    return "nothing comes"
+            return Part(f"{line.who} {line.answer}", answer=line.answer)
+    return Part("nothing comes")
 
 
 def at(station: int | None) -> str:
@@ -249,29 +275,29 @@ class HasOutcomes(Protocol):
     def faults(self) -> tuple[Fault, ...]: ...
 
     @property
-    def outcomes(self) -> dict[str, str]: ...
+    def outcomes(self) -> dict[str, About]: ...
 
 
 def limit(variant: HasOutcomes, word: str, messages: dict[str, str]) -> str | None:
     """What a product does where an outcome is a limit of this profile and not of LTE."""
-    what = variant.outcomes[word]
-    if what.endswith(WAITS):
-        return "a core waits"
+    about = variant.outcomes[word]
+    if about.is_read or about.waits:
+        return about.limit if about.is_read else "a core waits"
     if word == "cut off":
-        if "NotConnected" in what:
+        if about.answer == "NotConnected":
             return "a phone asks again at its timer"
-        return "the station has no context, so that a phone goes idle and asks for service" if "NoUe" in what else "a phone re-establishes"
+        return "the station has no context, so that a phone goes idle and asks for service" if about.answer == "NoUe" else "a phone re-establishes"
     if word == "misrouted":
         late = any(fault.kind in ("late", "twice") and messages[fault.item] == "Handover Notify" for fault in variant.faults)
         return "this core takes any Handover Notify of its connection" if late else None
     if word in ("weaker key", "keys differ"):
-        return "a station keeps its pair at a handover within it" if all(part.endswith(HERE) for part in what.split(", ")) else None
+        return "a station keeps its pair at a handover within it" if about.is_here else None
     if word == "context left" and any(fault.kind == "lost" and messages[fault.item] == "Path Switch Request" for fault in variant.faults):
         return "a core does not know the new station, and answers a handover over S1 from it with Error Indication"
     if word in ("stuck", "NAS apart") and any(fault.kind == "lost" and messages[fault.item].startswith("NAS Security Mode") for fault in variant.faults):
         return "the core sends its command again at T3460"
-    if word == "no handover" and "AttemptOpen" in what:
+    if word == "no handover" and about.answer == "AttemptOpen":
         return "a timer of the source ends the attempt"
-    if word == "no handover" and "OldConnection" in what:
+    if word == "no handover" and about.answer == "OldConnection":
         return "the core answers from the old KASME until the key is changed"
     return "the core or a timer releases it" if word == "context left" else None

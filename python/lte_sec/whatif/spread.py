@@ -16,7 +16,7 @@ from typing import Any, TypeVar
 
 from ..common.progress import Rate
 from ..runs.variants import Fault
-from .outcomes import GOES_ON, KEYS_DIFFER, NOT_TOLD, RANK
+from .outcomes import GOES_ON, KEYS_DIFFER, NOT_TOLD, RANK, About
 from .saving import save
 from .study import Study, Tried, Variant
 from .variant_lists import Listed, Lists
@@ -99,7 +99,7 @@ def take_listed(variant: Variant, listed: list[str]) -> None:
     found = variant.outcomes
     if others(found) != others(listed) or KEYS_DIFFER not in (*found, *listed) and list(found) != listed:
         variant.by_run = list(found)
-    variant.outcomes = {word: found.get(word, NOT_TOLD if word == KEYS_DIFFER else "") for word in listed}
+    variant.outcomes = {word: found.get(word, About(NOT_TOLD) if word == KEYS_DIFFER else About()) for word in listed}
 
 
 def healed_by(variant: Variant) -> str | None:
@@ -205,7 +205,7 @@ class Gathering:
             if self.share.lines:
                 print(line(variant), flush=True)
             if faults == 1 or self.is_new(variant):
-                kept.append(Variant(variant.faults, dict.fromkeys(variant.outcomes, ""), heals=variant.heals))
+                kept.append(Variant(variant.faults, dict.fromkeys(variant.outcomes, About()), heals=variant.heals))
             rate.one()
         if work and (work.has_all or not self.share.lines):
             self.tell_of(kept, at)

@@ -13,7 +13,7 @@ from ..runs.variants import Fault, Faults, Original, moved, own_guess
 from ..runs.waiting import crossings, of_course, waits
 from .chart import Charts
 from .healing import Heals
-from .outcomes import GOES_ON, RANK, WAITS, Comparison, Standing
+from .outcomes import GOES_ON, RANK, About, Comparison, Standing
 from .probe import PROBE, Prober
 
 HANDOVERS = ("x2", "s1", "intra")
@@ -27,7 +27,7 @@ class Variant:
     run has no more than its outcomes."""
 
     faults: tuple[Fault, ...]
-    outcomes: dict[str, str]
+    outcomes: dict[str, About]
     answers: list[str] = field(default_factory=list)
     run: list[Any] = field(default_factory=list)  # of one fault: its course beside the scenario's, and what falls away
     gone: list[str] = field(default_factory=list)
@@ -105,7 +105,7 @@ class Study:
             return heals
         return Heals(None, self.prober.refusal(items, self.usual, course.sends(), serving))
 
-    def marked(self, outcomes: dict[str, str], items: list[Item], course: Course, own: set[str]) -> dict[str, str]:
+    def marked(self, outcomes: dict[str, About], items: list[Item], course: Course, own: set[str]) -> dict[str, About]:
         """The outcomes, with a mark on those that are not there where each security procedure of the core waits for the one that it crosses."""
         if RANK[next(iter(outcomes))] <= RANK[GOES_ON] or course.ended:
             return outcomes
@@ -119,9 +119,9 @@ class Study:
         if now is course:
             return outcomes
         standard = Comparison(self.standing, Standing(self.scenario, now, serving), own).outcomes()
-        return {word: what + WAITS * (word not in standard) for word, what in outcomes.items()}
+        return {word: about if word in standard else about.waiting() for word, about in outcomes.items()}
 
-    def told(self, faults: tuple[Fault, ...], outcomes: dict[str, str], course: Course) -> Variant:
+    def told(self, faults: tuple[Fault, ...], outcomes: dict[str, About], course: Course) -> Variant:
         run, gone = self.charts.run(course) if self.charts and len(faults) == 1 else ([], [])
         return Variant(faults, outcomes, self.answers(course), run, gone)
 

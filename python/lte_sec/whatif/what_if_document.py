@@ -12,7 +12,7 @@ from ..runs.remarks import named, with_frames
 from ..runs.variants import KINDS, Fault
 from .chart import Chart, with_numbers
 from .healing import Heals
-from .outcomes import GOES_ON, NOT_MADE, RANK, USUAL_BAD, limit
+from .outcomes import GOES_ON, NOT_MADE, RANK, USUAL_BAD, About, limit
 from .study import Variant
 from .variant_lists import Listed
 
@@ -94,7 +94,7 @@ def variant_json(variant: Variant, answer: Answer) -> dict[str, Any]:
         {"kind": fault.kind, "step": int(fault.item), "message": messages[fault.item]} | ({"after": int(fault.after)} if fault.after else {})
         for fault in variant.faults
     ]
-    outcomes = [{"is": word, "what": what, "limit": limit(variant, word, messages)} for word, what in variant.outcomes.items()]
+    outcomes = [{"is": word, "what": str(about), "limit": limit(variant, word, messages)} for word, about in variant.outcomes.items()]
     return {"faults": faults, "outcomes": outcomes, "heals": variant.heals and variant.heals.to_json(), "answers": variant.answers} | ({"by_run": variant.by_run} if variant.by_run else {})
 
 
@@ -108,7 +108,7 @@ def from_json(it: dict[str, Any]) -> Answer:
     answer.itself, answer.heals = [itself_from(each) for each in it.get("itself", [])], Heals.from_json(it.get("heals"))
     for each in it["variants"]:
         faults = tuple(Fault(KINDS[KINDS.index(one["kind"])], str(one["step"]), str(one["after"]) if "after" in one else None) for one in each["faults"])
-        variant = Variant(faults, {one["is"]: one["what"] for one in each["outcomes"] if RANK[one["is"]] >= 0}, each["answers"], gone=each.get("gone", []), by_run=each.get("by_run", []), heals=Heals.from_json(each.get("heals")))
+        variant = Variant(faults, {one["is"]: About(one["what"], is_read=True, limit=one["limit"]) for one in each["outcomes"] if RANK[one["is"]] >= 0}, each["answers"], gone=each.get("gone", []), by_run=each.get("by_run", []), heals=Heals.from_json(each.get("heals")))
         variant.run = [it["steps"][entry] if isinstance(entry, int) else entry for entry in each.get("run", [])]
         (answer.singles if len(faults) == 1 else answer.together).append(variant)
     answer.counts = {int(faults): Counter(counts) for faults, counts in it["counts"].items()}
@@ -214,7 +214,7 @@ def together(told: list[tuple[Variant, list[list[Fault]]]], at: int) -> list[tup
 
 def outcome(variant: Variant, word: str, answer: Answer) -> str:
     """An outcome with its limit and what it is about. The steps of keys that differ are the variant's own, which have no frames."""
-    here, what = limit(variant, word, answer.messages), variant.outcomes[word]
+    here, what = limit(variant, word, answer.messages), str(variant.outcomes[word])
     what = what if word == USUAL_BAD else with_frames(what, answer.frames)
     return word + (f" (here; {here})" if here else "") + (f" [{what}]" if what else "")
 
