@@ -9,6 +9,8 @@ of its own has these where they do not heal, for the reason.
 """
 from __future__ import annotations
 
+from itertools import takewhile
+
 from ..runs.courses import Course, Item, Runs, act, delivery
 from ..runs.scenarios import Scenario, Step
 
@@ -79,6 +81,11 @@ def serving_of(course: Course) -> int | None:
     return int(line.who[8:]) if line and line.who.startswith("station") else None
 
 
+def sends_before_serving(course: Course) -> dict[str, bool]:
+    """Of each item whether it sent, but those of the probe at the station that serves: at another one they may send otherwise."""
+    return dict(takewhile(lambda sent: sent[0] != named("cancel"), course.sends().items()))
+
+
 def opens(course: Course, name: str, text: str) -> bool:
     """Whether a packet of the probe is opened to this text."""
     line = course.lines.get(named(name))
@@ -104,7 +111,7 @@ class Prober:
             found = otherwise if found is None else found
             if found == serving:
                 break
-            serving, guess = found, course.sends()
+            serving, guess = found, sends_before_serving(course)
         course.runs = count
         return course, serving
 
