@@ -1,15 +1,15 @@
-"""Tests of frames and replies: the examples of crates/record_tests, the kinds that crates/role_wire reads, and the sessions of examples/serve."""
+"""Tests of frames and replies: the examples of crates/record_tests, and the sessions of examples/serve."""
 import io
 import pathlib
 import re
 import unittest
 
+from lte_sec.common import tables
 from lte_sec.drive import frames
 
 TOP = pathlib.Path(__file__).resolve().parent.parent.parent
 TESTS = TOP / "crates" / "record_tests" / "src" / "frames"
 SESSIONS = TOP / "examples" / "serve"
-READER = TOP / "crates" / "role_wire" / "src" / "inputs.rt"
 
 
 def table(name: str) -> list[tuple[str, int]]:
@@ -20,22 +20,11 @@ def table(name: str) -> list[tuple[str, int]]:
     return [(octets, int(place)) for octets, place in re.findall(r'"([0-9a-f]+)",\s*(\d+)', rows[1])]
 
 
-def kinds_that_are_read(of: str) -> dict[int, str]:
-    """The kinds of frames behind a Setup that the program reads for this role, each with the name of its input or act."""
-    arms = re.split(r"\n        (0x[0-9a-f]{2}) =>", READER.read_text())
-    found = {}
-    for kind, arm in zip(arms[1::2], arms[2::2]):
-        made = re.search(rf"Ok\({of}In::(?:Act\({of}Act::)?(\w+)", arm)
-        if made:
-            found[int(kind, 16)] = made[1]
-    return found
-
-
 class Frames(unittest.TestCase):
-    def test_kinds_are_those_that_the_program_reads(self) -> None:
-        for role, forms in frames.INPUTS.items():
+    def test_each_field_is_of_an_input_that_the_program_reads(self) -> None:
+        for role, fields in frames.FIELDS.items():
             with self.subTest(role=role):
-                self.assertEqual(kinds_that_are_read(role.capitalize()), {kind: form[0] for kind, form in forms.items()})
+                self.assertLessEqual(fields.keys(), set(tables.inputs(role).values()))
 
     def test_sessions_are_read_whole_and_written_again(self) -> None:
         for file in sorted(SESSIONS.glob("*.frames")):

@@ -22,7 +22,7 @@ class Tables(unittest.TestCase):
         self.assertEqual(KEPT.read_bytes(), WRITTEN.read_bytes(), "cp crates/lte_tables/stdout python/lte_sec/common/tables.txt")
 
     def test_each_line_is_read(self) -> None:
-        read = [*tables.MESSAGES, *tables.FAULTS, *tables.OUTCOMES, *tables.HEALS, *tables.FIELDS, *tables.ANSWERS, *tables.sent(), *records.NAS, *records.RRC, *records.S1, *records.X2]
+        read = [*tables.MESSAGES, *tables.FAULTS, *tables.OUTCOMES, *tables.HEALS, *tables.FIELDS, *tables.ANSWERS, *tables.sent(), *(kind for role in frames.INPUTS for kind in tables.inputs(role)), *records.NAS, *records.RRC, *records.S1, *records.X2]
         self.assertEqual(len(read), len(tables.LINES))
 
     def test_what_python_adds_to_a_word_has_a_row_for_each(self) -> None:

@@ -1,6 +1,7 @@
 pub mod Numeral
 pub mod Answers
 pub mod Records
+pub mod Inputs
 pub mod Outcomes
 pub mod Sends
 pub mod Scenario

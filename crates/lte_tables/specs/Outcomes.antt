@@ -13,15 +13,14 @@ use Rattle.variant_text.specs.{Faults.kind_name, Healing.heals_name, Messages.me
 abbrev pub word_line : List ℕ → List ℕ → List ℕ
 word_line of word = of ++ (codes " " ++ (word ++ codes "\n"))
 
--- that are told beside one another, from the best to the worst
-abbrev pub beside : List Outcome
-beside =
-    outcome.ContextLeft ∷ outcome.PacketLost ∷ outcome.WeakerKey ∷ outcome.NotMade ∷ outcome.NoHandover ∷ outcome.Misrouted ∷ outcome.NasApart
-    ∷ outcome.CountsApart ∷ outcome.CutOff ∷ outcome.Stuck ∷ outcome.KeysDiffer ∷ []
+-- `goes on` is worse than the best of those that are told beside one another
+abbrev pub with_goes_on : List Outcome → List Outcome
+with_goes_on [] = outcome.GoesOn ∷ []
+with_goes_on (best ∷ others) = best ∷ outcome.GoesOn ∷ others
 
--- all, from the best to the worst
+-- all outcomes, from the best to the worst: the order is that in which a variant tells them
 abbrev pub outcomes : List Outcome
-outcomes = outcome.Same ∷ outcome.Better ∷ outcome.GoesOn ∷ (beside ++ outcome.Coincidence ∷ [])
+outcomes = outcome.Same ∷ (with_goes_on (reverse worst_first) ++ outcome.Coincidence ∷ [])
 
 abbrev pub faults : List Kind
 faults = kind.Lost ∷ kind.Late ∷ kind.Twice ∷ kind.Again ∷ []
@@ -76,7 +75,3 @@ message_lines = flat_map (λ m. word_line (codes "message") (message_name m)) me
 -- a name is one of those of a list
 abbrev pub IsAmong : {X : Type 0} → (X → List ℕ) → List X → X → Type 0
 IsAmong name xs x = list_any (λ other. bytes_eq (name other) (name x)) xs ≡ true
-
--- the order is that in which they are told, the worst first
-abbrev pub AreInOrder : Type 0
-AreInOrder = reverse worst_first ≡ outcome.Better ∷ beside

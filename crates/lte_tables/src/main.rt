@@ -2,6 +2,7 @@
 #![tactic(auto)]
 
 mod answers;
+mod inputs;
 mod outcomes;
 mod records;
 mod scenario;

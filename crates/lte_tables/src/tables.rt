@@ -6,6 +6,7 @@ ghost use Rattle.edge_io.specs.Octets.{Grows, GrowsByProperPrefix};
 ghost use Rattle.lte_tables.specs.Tables.{tables};
 
 use crate::answers::answer_lines;
+use crate::inputs::input_lines;
 use crate::outcomes::{fault_lines, heals_lines, message_lines, outcome_lines};
 use crate::records::record_lines;
 use crate::scenario::field_lines;
@@ -39,12 +40,8 @@ fn tables(alloc: Global) -> Result<String, AllocError>
     ensures text { IfOk result (λ text. string_bytes text ≡ tables) }
     ensures refused { OnErr result WasRefused }
 {
-    let (answers, records, messages, sends) = (
-        answer_lines(),
-        record_lines(),
-        message_lines(),
-        sends_lines(),
-    );
+    let (answers, records, inputs) = (answer_lines(), record_lines(), input_lines());
+    let (messages, sends) = (message_lines(), sends_lines());
     let (faults, outcomes, heals, fields) = (
         fault_lines(),
         outcome_lines(),
@@ -53,6 +50,8 @@ fn tables(alloc: Global) -> Result<String, AllocError>
     );
     growth::format(
         alloc,
-        format_args!("{answers}{records}{messages}{sends}{faults}{outcomes}{heals}{fields}"),
+        format_args!(
+            "{answers}{records}{inputs}{messages}{sends}{faults}{outcomes}{heals}{fields}"
+        ),
     )
 }

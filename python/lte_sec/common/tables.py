@@ -1,4 +1,4 @@
-"""What the program's definitions number and name: answers, records, messages, faults, outcomes, and keys of a scenario.
+"""What the program's definitions number and name: answers, records, inputs, messages, faults, outcomes, and keys of a scenario.
 
 `tables.txt` is what the program `lte_tables` writes, which proves that each of them has its line; `python/check` compares the two.
 """
@@ -33,6 +33,11 @@ def records(of: str) -> dict[int, Form]:
         if on == of:
             found[int(kind)] = message, tuple((name, int(width)) for name, _, width in (field.rpartition(" ") for field in fields))
     return found
+
+
+def inputs(of: str) -> dict[int, str]:
+    """The names of the inputs of phone, station or core by the kinds of their frames."""
+    return {int(kind): name for who, kind, name in (row.split(" ") for row in rows("input")) if who == of}
 
 
 def sent() -> dict[tuple[str, str], str]:

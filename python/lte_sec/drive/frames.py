@@ -150,42 +150,41 @@ def shown(value: object) -> str:
     return str(value).replace(" ", "")
 
 
-# The frames of each role after the Setup: the name of a kind, and its fields. A field is a width, or a reader.
+# The fields of the frames of each role after the Setup, by their names; others have none. A field is a width, or a reader.
 KSI, STATION = ("ksi", 1, range(7)), ("station", 1, range(8))
 PDU, CELL = ("pdu", LONGEST_RECORD), ("cell", cell)
 TEXT, PACKET = ("text", LONGEST_TEXT), ("text", LONGEST_PACKET)
-BARE = {"phone": {0x10: "ServiceRequest", 0x11: "ResendComplete", 0x12: "GoIdle"}, "core": {0x20: "StartSmc", 0x22: "Release"},
-        "station": {0x31: "Command", 0x32: "Cancel", 0x33: "Ask"}}
-INPUTS: dict[str, dict[int, tuple[Any, ...]]] = {
+FIELDS: dict[str, dict[str, tuple[Any, ...]]] = {
     "phone": {
-        0x01: ("Auth", KSI, ("kasme", 32, None)),
-        0x02: ("Nas", PDU),
-        0x03: ("Air", STATION, ("air", 4, None), ("bearer", 1, RADIO), PDU),
-        0x13: ("SendUser", ("bearer", 1, DRBS), PACKET),
-        0x14: ("SendRrc", ("bearer", 1, SRBS), TEXT),
-        0x15: ("SendNas", TEXT),
-        0x16: ("Skip", ("bearer", 1, (0, *RADIO)), ("n", 4, None)),
+        "Auth": (KSI, ("kasme", 32, None)),
+        "Nas": (PDU,),
+        "Air": (STATION, ("air", 4, None), ("bearer", 1, RADIO), PDU),
+        "SendUser": (("bearer", 1, DRBS), PACKET),
+        "SendRrc": (("bearer", 1, SRBS), TEXT),
+        "SendNas": (TEXT,),
+        "Skip": (("bearer", 1, (0, *RADIO)), ("n", 4, None)),
     },
     "station": {
-        0x03: ("Air", ("air", 4, None), ("bearer", 1, RADIO), PDU),
-        0x04: ("S1", PDU),
-        0x05: ("X2", PDU),
-        0x13: ("SendUser", ("bearer", 1, DRBS), PACKET),
-        0x14: ("SendRrc", ("bearer", 1, SRBS), TEXT),
-        0x16: ("Skip", ("bearer", 1, RADIO), ("n", 4, None)),
-        0x30: ("Start", ("way", 1, range(3)), CELL),
+        "Air": (("air", 4, None), ("bearer", 1, RADIO), PDU),
+        "S1": (PDU,),
+        "X2": (PDU,),
+        "SendUser": (("bearer", 1, DRBS), PACKET),
+        "SendRrc": (("bearer", 1, SRBS), TEXT),
+        "Skip": (("bearer", 1, RADIO), ("n", 4, None)),
+        "Start": (("way", 1, range(3)), CELL),
     },
     "core": {
-        0x01: ("Auth", KSI, ("kasme", 32, None), ("caps", 2, None)),
-        0x02: ("Nas", PDU),
-        0x04: ("S1", PDU),
-        0x15: ("SendNas", TEXT),
-        0x16: ("Skip", ("bearer", 1, (0,)), ("n", 4, None)),
-        0x21: ("Connect", CELL),
+        "Auth": (KSI, ("kasme", 32, None), ("caps", 2, None)),
+        "Nas": (PDU,),
+        "S1": (PDU,),
+        "SendNas": (TEXT,),
+        "Skip": (("bearer", 1, (0,)), ("n", 4, None)),
+        "Connect": (CELL,),
     },
 }
-for _role, _bare in BARE.items():
-    INPUTS[_role].update({kind: (name,) for kind, name in _bare.items()})
+INPUTS: dict[str, dict[int, tuple[Any, ...]]] = {
+    role: {kind: (name, *fields.get(name, ())) for kind, name in tables.inputs(role).items()} for role, fields in FIELDS.items()
+}
 OCTETS = ("kasme", "caps")  # fields that are octets and no numbers
 KINDS: dict[str, int] = {form[0]: kind for forms in INPUTS.values() for kind, form in forms.items()}  # a name has one kind for all roles
 
