@@ -53,13 +53,18 @@ abbrev pub closed_word : Bool → List ℕ
 closed_word true = codes " closed"
 closed_word false = []
 
-abbrev pub never_word : Bool → List ℕ
-never_word true = codes " out-of-order"
-never_word false = []
+abbrev pub order_word : Bool → List ℕ
+order_word true = codes " out-of-order"
+order_word false = []
 
-unfoldable pub explained_text : ℕ → ℕ → Bool → Bool → List ℕ
-explained_text n all closed never =
-    codes "explained " ++ (decimal n ++ (codes " of " ++ (decimal all ++ (closed_word closed ++ (never_word never ++ codes "\n")))))
+abbrev pub place_word : Bool → List ℕ
+place_word true = codes " out-of-place"
+place_word false = []
+
+unfoldable pub explained_text : ℕ → ℕ → Bool → Bool → Bool → List ℕ
+explained_text n all closed unordered misplaced =
+    codes "explained "
+    ++ (decimal n ++ (codes " of " ++ (decimal all ++ (closed_word closed ++ (order_word unordered ++ (place_word misplaced ++ codes "\n"))))))
 
 -- the line of a text that is no question
 unfoldable pub bad_text : ℕ → List ℕ
@@ -70,11 +75,13 @@ pub record IsFound (question : Question) (text : List ℕ) : Type 0 where
   pub count : ℕ
   pub closed : Bool
   pub finds : Finds question count closed
-  pub never : Bool
-  pub is_never : never ≡ true → IsNeverMore question count
+  pub unordered : Bool
+  pub misplaced : Bool
+  pub by_order : unordered ≡ true → IsNeverMore question count
+  pub by_place : misplaced ≡ true → IsNeverMore question count
   pub moves : List (Told Move)
   pub tells : TellsIf question.moves question count moves
-  pub told : text ≡ explained_text count (length question.capture) closed never ++ moves_text moves
+  pub told : text ≡ explained_text count (length question.capture) closed unordered misplaced ++ moves_text moves
 
 -- a question that was searched
 pub record IsExplained (octets text : List ℕ) : Type 0 where

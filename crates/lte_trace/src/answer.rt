@@ -2,7 +2,7 @@
 ghost use Rattle.std.specs.Prelude.{◌≡◌, ◌++◌, ◌≤◌, true, length, Ok, Err, IfOk, OnErr};
 ghost use Rattle.std.specs.String.{string_bytes};
 ghost use Rattle.growth.specs.Growth.{WasRefused};
-ghost use Rattle.lte_trace.specs.Answer.{Finds, HasHistory, IsAnswer, IsFound, IsTooLarge, IsWitness, TellsIf, explained_text, bad_text, closed_word, never_word, IsNeverMore};
+ghost use Rattle.lte_trace.specs.Answer.{Finds, HasHistory, IsAnswer, IsFound, IsTooLarge, IsWitness, TellsIf, explained_text, bad_text, closed_word, order_word, place_word, IsNeverMore};
 ghost use Rattle.lte_trace.specs.Moves.{moves_text};
 ghost use Rattle.trace_text.specs.Question.{nothing};
 ghost use Rattle.trace_text.specs.Text.{reading_of};
@@ -10,7 +10,7 @@ ghost use Rattle.trace_text.specs.Text.{reading_of};
 use crate::moves::add_moves;
 use std::alloc::{AllocError, Global};
 use trace_keys::Net;
-use trace_order::is_never;
+use trace_order::{is_misplaced, is_never};
 use trace_plain::{Found, Told, Unsearched, explained, way_to};
 use trace_text::{Question, TextFault, moves_of, read_lines};
 
@@ -85,14 +85,12 @@ fn found(alloc: Global, question: &Question) -> Result<Vec<u8>, Unsearched>
 {
     let found = search(alloc, question)?;
     let told = told(alloc, question, found.count)?;
-    let never = never(alloc, question, found.count)?;
-    let text = lines(
-        alloc,
-        found,
-        never,
-        question.capture().len(),
-        told.as_slice(),
-    )?;
+    let never = Never {
+        unordered: unordered(alloc, question, found.count)?,
+        misplaced: misplaced(alloc, question, found.count)?,
+    };
+    let all = question.capture().len();
+    let text = lines(alloc, found, never, all, told.as_slice())?;
     Ok(text)
 }
 
@@ -128,8 +126,17 @@ fn witness(alloc: Global, question: &Question, count: usize) -> Result<Vec<Told>
     )
 }
 
-// Whether it is known that no history shows one sighting more.
-fn never(alloc: Global, question: &Question, count: usize) -> Result<bool, AllocError>
+// Why no history shows one sighting more, where that is known.
+#[derive(Clone, Copy, Drop)]
+struct Never {
+    // Its NH is not further on than the last one.
+    unordered: bool,
+    // Its key may not go there.
+    misplaced: bool,
+}
+
+// Whether it is known by the NHs of their connection.
+fn unordered(alloc: Global, question: &Question, count: usize) -> Result<bool, AllocError>
     requires { count ≤ length question.now.capture }
     ensures never { IfOk result (λ never. never ≡ true → IsNeverMore question.now count) }
     ensures refused { OnErr result WasRefused }
@@ -144,6 +151,24 @@ fn never(alloc: Global, question: &Question, count: usize) -> Result<bool, Alloc
         question.covered(),
         family.as_slice(),
         shown,
+        sight,
+    ))
+}
+
+// Whether it is known by the key of that sighting alone.
+fn misplaced(alloc: Global, question: &Question, count: usize) -> Result<bool, AllocError>
+    requires { count ≤ length question.now.capture }
+    ensures never { IfOk result (λ never. never ≡ true → IsNeverMore question.now count) }
+    ensures refused { OnErr result WasRefused }
+{
+    let Some(sight) = question.capture().get(count) else {
+        return Ok(false);
+    };
+    let family = moves_of(alloc, question)?;
+    Ok(is_misplaced(
+        question.kasmes(),
+        family.as_slice(),
+        question.clues(),
         sight,
     ))
 }
@@ -171,18 +196,19 @@ fn search(alloc: Global, question: &Question) -> Result<Found, Unsearched>
 fn explained_line(
     alloc: Global,
     found: Found,
-    never: bool,
+    never: Never,
     all: usize,
 ) -> Result<String, AllocError>
-    ensures text { IfOk result (λ text. string_bytes text ≡ explained_text found.count all found.closed never) }
+    ensures text { IfOk result (λ text. string_bytes text ≡ explained_text found.count all found.closed never.unordered never.misplaced) }
     ensures refused { OnErr result WasRefused }
 {
     let count = found.count;
     let closed = closed_word(found.closed);
-    let never = never_word(never);
+    let order = order_word(never.unordered);
+    let place = place_word(never.misplaced);
     growth::format(
         alloc,
-        format_args!("explained {count} of {all}{closed}{never}\n"),
+        format_args!("explained {count} of {all}{closed}{order}{place}\n"),
     )
 }
 
@@ -190,11 +216,11 @@ fn explained_line(
 fn lines(
     alloc: Global,
     found: Found,
-    never: bool,
+    never: Never,
     all: usize,
     told: &[Told],
 ) -> Result<Vec<u8>, AllocError>
-    ensures text { IfOk result (λ text. text.items ≡ explained_text found.count all found.closed never ++ moves_text told.now) }
+    ensures text { IfOk result (λ text. text.items ≡ explained_text found.count all found.closed never.unordered never.misplaced ++ moves_text told.now) }
     ensures refused { OnErr result WasRefused }
 {
     let line = explained_line(alloc, found, never, all)?;
@@ -209,10 +235,16 @@ fn closed_word(closed: bool) -> &'static str
     if closed { " closed" } else { "" }
 }
 
-fn never_word(never: bool) -> &'static str
-    ensures { result.now ≡ never_word never }
+fn order_word(unordered: bool) -> &'static str
+    ensures { result.now ≡ order_word unordered }
 {
-    if never { " out-of-order" } else { "" }
+    if unordered { " out-of-order" } else { "" }
+}
+
+fn place_word(misplaced: bool) -> &'static str
+    ensures { result.now ≡ place_word misplaced }
+{
+    if misplaced { " out-of-place" } else { "" }
 }
 
 // The line of a text that is no question.

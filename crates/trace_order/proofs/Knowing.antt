@@ -114,11 +114,11 @@ all_tapped covered (first ∷ family) h move (inr i) =
     all_tapped covered family (parts (begins_seen covered first) (all_seen covered family) h).1 move i
 
 -- KASMEs as terms, by their places
-roots_from : ℕ → List (List ℕ) → List Term
+pub roots_from : ℕ → List (List ℕ) → List Term
 roots_from n [] = []
 roots_from n (octets ∷ kasmes) = Root n octets ∷ roots_from (suc n) kasmes
 
-roots_are : (n : ℕ) (kasmes : List (List ℕ)) → map value_of (roots_from n kasmes) ≡ kasmes
+pub roots_are : (n : ℕ) (kasmes : List (List ℕ)) → map value_of (roots_from n kasmes) ≡ kasmes
 unfolding roots_from
 roots_are n [] = refl
 roots_are n (octets ∷ kasmes) = ap (λ rest. octets ∷ rest) (roots_are (suc n) kasmes)

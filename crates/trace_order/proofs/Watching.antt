@@ -14,7 +14,7 @@ use Rattle.trace_terms.proofs.Histories.{same_done}
 use Rattle.trace_order.specs.Order.{Follows, OrderAt, InOrder, IsSeenAs, IsExact, IsTapped, AllBeginsSeen, last_by, last_nh, nh_of, IsNext, Coincidence}
 use Rattle.trace_order.proofs.Chains.{Keeps, KeptAt, BroughtAt, WentBy, Went, went}
 
-nothing : {X P : Type 0} (x : X) → None ≡ Some x → P
+pub nothing : {X P : Type 0} (x : X) → None ≡ Some x → P
 nothing x e = let no : ⊥ = cc in absurd no
 
 -- what a move that is lawful in values was in terms
@@ -36,13 +36,13 @@ own_of covers last (Some done) end sent e w =
       went = subst (λ n. WentBy covers last done.sent n.serving) (ap (λ d. d.net) same) w;
     }
 
-one_pair : (a b : NumberedKey (List ℕ) ℕ) → Some a ≡ Some b → a ≡ b
+pub one_pair : (a b : NumberedKey (List ℕ) ℕ) → Some a ≡ Some b → a ≡ b
 one_pair a b e = cc
 
-one_sight : (a b : Sight (List ℕ)) → Some a ≡ Some b → a ≡ b
+pub one_sight : (a b : Sight (List ℕ)) → Some a ≡ Some b → a ≡ b
 one_sight a b e = cc
 
-pair_is : (own : Option (NumberedKey Term ℕ)) (sent seen : Option (NumberedKey (List ℕ) ℕ))
+pub pair_is : (own : Option (NumberedKey Term ℕ)) (sent seen : Option (NumberedKey (List ℕ) ℕ))
     → map_pair value_of (λ n. n) own ≡ sent
     → (seen ≡ None) ⊎ (seen ≡ sent)
     → (seen ≡ None) ⊎ (seen ≡ map_pair value_of (λ n. n) own)
@@ -189,7 +189,7 @@ two_keys (x ∷ capture) sight key last before after agrees is brings order =
     (λ next ok rest. two_keys capture sight next (last_by last x.at x.pair) before after ok is brings rest)
 
 -- two terms are one, or not
-one_or_not : (a b : Term) (t : Bool) → same_term a b ≡ t → (a ≡ b) ⊎ (a ≢ b)
+pub one_or_not : (a b : Term) (t : Bool) → same_term a b ≡ t → (a ≡ b) ⊎ (a ≢ b)
 one_or_not a b true e = inl ((same_term-Decides a b).0 e)
 one_or_not a b false e = inr (λ same. clash (sym e ∙ (same_term-Decides a b).1 same))
 

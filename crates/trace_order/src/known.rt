@@ -25,7 +25,7 @@ pub struct Known {
 }
 
 // The NH behind a key.
-fn next_nh(root: &Kasme, sync: &Kenb) -> Kenb
+pub(crate) fn next_nh(root: &Kasme, sync: &Kenb) -> Kenb
     ensures { result ≡ kdf root.now (KdfInput.Nh sync.now) }
 {
     let (nh, _derived) = root.nh_first(sync);

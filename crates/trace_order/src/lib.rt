@@ -1,6 +1,8 @@
 //! The NH keys of one phone come in order, however many moves go unseen.
 #![tactic(auto)]
 
+mod clues;
+mod kinds;
 mod known;
 mod never;
 
@@ -16,6 +18,8 @@ ghost use Rattle.trace_keys.specs.Moved.{moved};
 ghost use Rattle.trace_keys.specs.declared.moves.Move.{Move};
 ghost use Rattle.trace_order.specs.Order.{IsExact, AllBeginsSeen, InOrder, Follows, Coincidence, last_nh, nh_of};
 
+pub use clues::{Clue, Shape};
+pub use kinds::is_misplaced;
 pub use known::{Known, MOST_NUMBER};
 pub use never::is_never;
 

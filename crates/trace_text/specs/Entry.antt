@@ -6,8 +6,10 @@ use Rattle.key_model.specs.HandoverTable.{NumberedKey}
 use Rattle.text_lines.specs.Words.{number_of, hex_octets}
 use Rattle.trace_keys.specs.{declared.moves.Where.Where}
 use Rattle.trace_keys.specs.declared.moves.Where.TheVariants.{Setup, Change, Took, Answer, Asked, Request, Over}
+use Rattle.trace_order.specs.declared.{known.Known.Known}
+use Rattle.trace_order.specs.declared.clues.Clue.TheVariants.{Chain, Star}
 use Rattle.trace_text.specs.declared.{entries.Entry.Entry}
-use Rattle.trace_text.specs.declared.entries.Entry.TheVariants.{Air, Moves, Bound, First, Kasme, Count, Cell, Covers, Seen}
+use Rattle.trace_text.specs.declared.entries.Entry.TheVariants.{Air, Moves, Bound, First, Kasme, Count, Cell, Covers, Clue, Seen}
 
 -- a number below a limit
 abbrev pub below : ℕ → List ℕ → Option ℕ
@@ -17,6 +19,11 @@ below limit word = option_and_then (λ n. if nat_lt n limit then Some n else Non
 abbrev pub cell_of : List ℕ → List ℕ → Option Place
 cell_of pci earfcn = option_and_then (λ p. option_and_then (λ e.
     if nat_le p greatest_pci && nat_le e greatest_earfcn then Some (record { pci = p; earfcn = e }) else None) (number_of earfcn)) (number_of pci)
+
+-- a key of a chain: its KASME by its place, the COUNT of its KeNB, and its number
+abbrev pub known_of : List ℕ → List ℕ → List ℕ → Option Known
+known_of kasme count number = option_and_then (λ k. option_and_then (λ c. option_map (λ n. record { kasme = k; count = c; number = n })
+    (below 256 number)) (below (2 ^ 24) count)) (below 256 kasme)
 
 -- a key that goes without an NCC, and one with it
 abbrev pub kenb_of : List ℕ → Option (NumberedKey (List ℕ) ℕ)
@@ -77,6 +84,7 @@ of_three name first second =
     option_and_then (λ k. option_map (λ n. Count (record { kasme = k; count = n })) (below (2 ^ 24) second)) (below 256 first)
     else if bytes_eq name (codes "covers") then option_map Covers (place_in first second)
     else if bytes_eq name (codes "any") then option_map any_at (place_in first second)
+    else if bytes_eq name (codes "star") then option_map (λ c. Clue (Star c)) (cell_of first second)
     else if bytes_eq name (codes "setup") then
     option_and_then (λ s. option_map (seen_at (Setup s)) (kenb_of second)) (below 256 first)
     else if bytes_eq name (codes "change") then
@@ -89,6 +97,7 @@ of_four name first second third =
     option_and_then (λ s. option_map (λ c. Cell (record { station = s; cell = c })) (cell_of second third)) (below 256 first)
     else if bytes_eq name (codes "covers") then option_map Covers (over_in first second third)
     else if bytes_eq name (codes "any") then option_map any_at (over_in first second third)
+    else if bytes_eq name (codes "key") then option_map (λ k. Clue (Chain k)) (known_of first second third)
     else if bytes_eq name (codes "answer") then
     option_and_then (λ s. option_map (seen_at (Answer s)) (pair_of second third)) (below 256 first)
     else if bytes_eq name (codes "request") then

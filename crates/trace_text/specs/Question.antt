@@ -4,17 +4,19 @@ use Rattle.trace_keys.specs.declared.{moves.Where.Where, moves.Move.Move}
 use Rattle.trace_keys.specs.declared.moves.Unanswered.TheVariants.{Refused, Lost, Given}
 use Rattle.trace_keys.specs.declared.moves.Move.TheVariants.{Renew, Offer, Take, Switch, Ask, Prepare, Require, Arrive, Cancel, Refresh, Leave}
 use Rattle.trace_keys.specs.Net.{Sight}
+use Rattle.trace_order.specs.declared.clues.Clue.{Clue as OneClue}
 use Rattle.trace_text.specs.declared.{entries.Site.Site, entries.Due.Due, entries.Entry.Entry}
-use Rattle.trace_text.specs.declared.entries.Entry.TheVariants.{Air, Moves, Bound, First, Kasme, Count, Cell, Covers, Seen}
+use Rattle.trace_text.specs.declared.entries.Entry.TheVariants.{Air, Moves, Bound, First, Kasme, Count, Cell, Covers, Clue, Seen}
 
--- the KASMEs, the cells, the COUNTs at which a KeNB may be made, whether a core may step at once, where taps are, and what they have; how
--- many moves may go unseen between two sightings, whether moves over the air may, and whether the moves that explain are to be told
+-- the KASMEs, the cells, the COUNTs at which a KeNB may be made, whether a core may step at once, where taps are, which keys are known, and what
+-- taps have; how many moves may go unseen between two sightings, whether moves over the air may, and whether the moves that explain are to be told
 pub record Question : Type 0 where
   pub kasmes : List (List ℕ)
   pub sites : List Site
   pub dues : List Due
   pub firsts : List Bool
   pub covered : List Where
+  pub clues : List OneClue
   pub capture : List (Sight (List ℕ))
   pub bound : ℕ
   pub air : Bool
@@ -22,7 +24,7 @@ pub record Question : Type 0 where
 
 -- a question of nothing
 abbrev pub nothing : Question
-nothing = record { kasmes = []; sites = []; dues = []; firsts = []; covered = []; capture = []; bound = 0; air = false; moves = false }
+nothing = record { kasmes = []; sites = []; dues = []; firsts = []; covered = []; clues = []; capture = []; bound = 0; air = false; moves = false }
 
 -- with one line more
 abbrev pub with_entry : Question → Entry → Question
@@ -34,6 +36,7 @@ with_entry q (Kasme key) = record q { kasmes = q.kasmes ++ key ∷ [] }
 with_entry q (Count due) = record q { dues = q.dues ++ due ∷ [] }
 with_entry q (Cell site) = record q { sites = q.sites ++ site ∷ [] }
 with_entry q (Covers at) = record q { covered = q.covered ++ at ∷ [] }
+with_entry q (Clue clue) = record q { clues = q.clues ++ clue ∷ [] }
 with_entry q (Seen sight) = record q { capture = q.capture ++ sight ∷ [] }
 
 -- the moves of a cell: a handover to it, over X2 or S1, where the phone may come or another target stays; and over the air

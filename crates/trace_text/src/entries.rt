@@ -1,5 +1,6 @@
 use annex_a_keys::{Cell as OneCell, Kasme as OneKasme};
 use trace_keys::{Sight, Where};
+use trace_order::Clue as OneClue;
 
 /// A cell and its station.
 #[derive(Clone, Copy, Drop)]
@@ -38,6 +39,8 @@ pub enum Entry {
     Cell(Site),
     /// `covers`: where a tap is.
     Covers(Where),
+    /// `key` and `star`: a key that is known.
+    Clue(OneClue),
     /// What a tap has.
     Seen(Sight),
 }

@@ -8,6 +8,7 @@ use annex_a_keys::Kasme;
 use std::alloc::{AllocError, Global};
 use std::marker::Model;
 use trace_keys::{Sight, Where};
+use trace_order::Clue;
 
 /// A question: what a capture shows of the keys of one phone, and which moves may have been.
 #[derive(Drop)]
@@ -17,6 +18,7 @@ pub struct Question {
     pub(crate) dues: Vec<Due>,
     pub(crate) firsts: Vec<bool>,
     pub(crate) covered: Vec<Where>,
+    pub(crate) clues: Vec<Clue>,
     pub(crate) capture: Vec<Sight>,
     pub(crate) bound: u32,
     pub(crate) air: bool,
@@ -34,6 +36,7 @@ impl Model for Question {
       dues = q.dues.items;
       firsts = q.firsts.items;
       covered = q.covered.items;
+      clues = q.clues.items;
       capture = q.capture.items;
       bound = q.bound;
       air = q.air;
@@ -52,6 +55,7 @@ impl Question {
             dues: Vec::new(alloc),
             firsts: Vec::new(alloc),
             covered: Vec::new(alloc),
+            clues: Vec::new(alloc),
             capture: Vec::new(alloc),
             bound: 0,
             air: false,
@@ -73,7 +77,14 @@ impl Question {
         self.covered.as_slice()
     }
 
-    /// What they have.
+    /// The keys that are known.
+    pub fn clues(&self) -> &[Clue]
+        ensures { result.now ≡ self.now.clues }
+    {
+        self.clues.as_slice()
+    }
+
+    /// What taps have.
     pub fn capture(&self) -> &[Sight]
         ensures { result.now ≡ self.now.capture }
     {
@@ -108,6 +119,7 @@ impl Question {
             Entry::Count(due) => push(&mut self.dues, *due)?,
             Entry::Cell(site) => push(&mut self.sites, *site)?,
             Entry::Covers(at) => push(&mut self.covered, *at)?,
+            Entry::Clue(clue) => push(&mut self.clues, *clue)?,
             Entry::Seen(sight) => push(&mut self.capture, *sight)?,
         }
         Ok(())

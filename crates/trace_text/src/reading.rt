@@ -9,6 +9,7 @@ use annex_a_keys::{Cell, Kasme, Kenb};
 use std::alloc::{AllocError, Global};
 use text_lines::{first_words, hex_octets, number};
 use trace_keys::{Numbered, Sight, Where};
+use trace_order::{Clue, Known};
 
 // The line that a text spells. No line has more than five words.
 pub(crate) fn read_entry(alloc: Global, line: &[u8]) -> Result<Option<Entry>, AllocError>
@@ -86,6 +87,9 @@ fn of_three(name: &[u8], first: &[u8], second: &[u8]) -> Option<Entry>
     if name == b"any".as_slice() {
         return Some(any_at(place_in(first, second)?));
     }
+    if name == b"star".as_slice() {
+        return Some(Entry::Clue(Clue::Star(cell(first, second)?)));
+    }
     if name == b"setup".as_slice() {
         let station = place(first)?;
         return Some(seen_at(Where::Setup(station), kenb(second)?));
@@ -112,6 +116,9 @@ fn of_four(name: &[u8], first: &[u8], second: &[u8], third: &[u8]) -> Option<Ent
     }
     if name == b"any".as_slice() {
         return Some(any_at(over_in(first, second, third)?));
+    }
+    if name == b"key".as_slice() {
+        return Some(Entry::Clue(Clue::Chain(known(first, second, third)?)));
     }
     if name == b"answer".as_slice() {
         let station = place(first)?;
@@ -161,6 +168,20 @@ fn place(word: &[u8]) -> Option<u8>
     ensures { result ≡ by.below 256 word.now }
 {
     u8::try_from(below(256, word)?).ok()
+}
+
+// A key of a chain.
+fn known(kasme: &[u8], count: &[u8], number: &[u8]) -> Option<Known>
+    ensures { result ≡ by.known_of kasme.now count.now number.now }
+{
+    let kasme = place(kasme)?;
+    let count = below(1 << 24, count)?;
+    let number = below(256, number)?;
+    Some(Known {
+        kasme,
+        count,
+        number,
+    })
 }
 
 // A cell by its PCI and EARFCN-DL.
