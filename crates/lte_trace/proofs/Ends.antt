@@ -6,13 +6,13 @@ use Rattle.edge_io.proofs.Ending.{feed, is_lines, lines_both, on}
 use Rattle.trace_rules.specs.Told.{Told}
 use Rattle.trace_keys.specs.declared.moves.Move.{Move}
 use Rattle.lte_trace.specs.Moves.{seen_word, move_text, told_text, moves_text}
-use Rattle.lte_trace.specs.{declared.answer.Ends.Ends, Answer.IsAnswer, Answer.explained_text, Answer.bad_text, Answer.closed_word, Answer.order_word, Answer.place_word}
+use Rattle.lte_trace.specs.{declared.answer.Ends.Ends, declared.answer.Never.Never, Answer.IsAnswer, Answer.explained_text, Answer.bad_text, Answer.closed_word, Answer.order_word, Answer.place_word, Answer.reach_word}
 use Rattle.lte_trace.specs.declared.answer.Ends.TheVariants.{Explained, Refused, TooMany}
 
-explained_ends : (n all : ℕ) (closed unordered misplaced : Bool) → EndsLine (explained_text n all closed unordered misplaced)
+explained_ends : (n all : ℕ) (closed : Bool) (never : Never) → EndsLine (explained_text n all closed never)
 unfolding explained_text
-explained_ends n all closed unordered misplaced =
-    on (codes "explained ") _ (on (decimal n) _ (on (codes " of ") _ (on (decimal all) _ (on (closed_word closed) _ (on (order_word unordered) _ (on (place_word misplaced) _ feed))))))
+explained_ends n all closed never =
+    on (codes "explained ") _ (on (decimal n) _ (on (codes " of ") _ (on (decimal all) _ (on (closed_word closed) _ (on (order_word never.unordered) _ (on (place_word never.misplaced) _ (on (reach_word never.beyond) _ feed)))))))
 
 bad_ends : (line : ℕ) → EndsLine (bad_text line)
 unfolding bad_text
@@ -30,8 +30,8 @@ pub answer_is : (octets : List ℕ) (end : Ends) (text : List ℕ) → IsAnswer 
 answer_is octets Explained text is =
     let found = is.found in
     let all = length is.question.capture in
-    let line = explained_text found.count all found.closed found.unordered found.misplaced in
+    let line = explained_text found.count all found.closed found.never in
     subst (λ t. are_lines t ≡ true) (sym found.told)
-    (lines_both line (moves_text found.moves) (is_lines line (explained_ends found.count all found.closed found.unordered found.misplaced)) (moves_end found.moves))
+    (lines_both line (moves_text found.moves) (is_lines line (explained_ends found.count all found.closed found.never)) (moves_end found.moves))
 answer_is octets Refused text is = subst (λ t. are_lines t ≡ true) (sym is.told) (is_lines _ (bad_ends is.line))
 answer_is octets TooMany text is = subst (λ t. are_lines t ≡ true) (sym is.told) refl

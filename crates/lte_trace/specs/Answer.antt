@@ -8,7 +8,7 @@ use Rattle.trace_plain.specs.{Explained.ExplainedTo, Kept.TooManyNets, Sights.fi
 use Rattle.trace_order.specs.Order.{Coincidence}
 use Rattle.trace_text.specs.{Question.Question, Question.moves_of, Text.reading_of}
 use Rattle.lte_trace.specs.Moves.{moves_text}
-use Rattle.lte_trace.specs.declared.answer.Ends.{Ends}
+use Rattle.lte_trace.specs.declared.{answer.Ends.Ends, answer.Never.Never}
 use Rattle.lte_trace.specs.declared.answer.Ends.TheVariants.{Explained, Refused, TooMany}
 
 -- a phone that is not connected, and no KeNB was made
@@ -61,10 +61,17 @@ abbrev pub place_word : Bool → List ℕ
 place_word true = codes " out-of-place"
 place_word false = []
 
-unfoldable pub explained_text : ℕ → ℕ → Bool → Bool → Bool → List ℕ
-explained_text n all closed unordered misplaced =
+abbrev pub reach_word : Bool → List ℕ
+reach_word true = codes " out-of-reach"
+reach_word false = []
+
+unfoldable pub explained_text : ℕ → ℕ → Bool → Never → List ℕ
+explained_text n all closed never =
     codes "explained "
-    ++ (decimal n ++ (codes " of " ++ (decimal all ++ (closed_word closed ++ (order_word unordered ++ (place_word misplaced ++ codes "\n"))))))
+    ++ (decimal n
+    ++ (codes " of "
+    ++ (decimal all
+    ++ (closed_word closed ++ (order_word never.unordered ++ (place_word never.misplaced ++ (reach_word never.beyond ++ codes "\n")))))))
 
 -- the line of a text that is no question
 unfoldable pub bad_text : ℕ → List ℕ
@@ -75,13 +82,13 @@ pub record IsFound (question : Question) (text : List ℕ) : Type 0 where
   pub count : ℕ
   pub closed : Bool
   pub finds : Finds question count closed
-  pub unordered : Bool
-  pub misplaced : Bool
-  pub by_order : unordered ≡ true → IsNeverMore question count
-  pub by_place : misplaced ≡ true → IsNeverMore question count
+  pub never : Never
+  pub by_order : never.unordered ≡ true → IsNeverMore question count
+  pub by_place : never.misplaced ≡ true → IsNeverMore question count
+  pub by_reach : never.beyond ≡ true → IsNeverMore question count
   pub moves : List (Told Move)
   pub tells : TellsIf question.moves question count moves
-  pub told : text ≡ explained_text count (length question.capture) closed unordered misplaced ++ moves_text moves
+  pub told : text ≡ explained_text count (length question.capture) closed never ++ moves_text moves
 
 -- a question that was searched
 pub record IsExplained (octets text : List ℕ) : Type 0 where

@@ -2,7 +2,7 @@
 ghost use Rattle.std.specs.Prelude.{◌≡◌, ◌++◌, ◌≤◌, true, length, Ok, Err, IfOk, OnErr};
 ghost use Rattle.std.specs.String.{string_bytes};
 ghost use Rattle.growth.specs.Growth.{WasRefused};
-ghost use Rattle.lte_trace.specs.Answer.{Finds, HasHistory, IsAnswer, IsFound, IsTooLarge, IsWitness, TellsIf, explained_text, bad_text, closed_word, order_word, place_word, IsNeverMore};
+ghost use Rattle.lte_trace.specs.Answer.{Finds, HasHistory, IsAnswer, IsFound, IsTooLarge, IsWitness, TellsIf, explained_text, bad_text, closed_word, order_word, place_word, reach_word, IsNeverMore};
 ghost use Rattle.lte_trace.specs.Moves.{moves_text};
 ghost use Rattle.trace_text.specs.Question.{nothing};
 ghost use Rattle.trace_text.specs.Text.{reading_of};
@@ -10,7 +10,7 @@ ghost use Rattle.trace_text.specs.Text.{reading_of};
 use crate::moves::add_moves;
 use std::alloc::{AllocError, Global};
 use trace_keys::Net;
-use trace_order::{is_misplaced, is_never};
+use trace_order::{is_beyond, is_misplaced, is_never};
 use trace_plain::{Found, Told, Unsearched, explained, way_to};
 use trace_text::{Question, TextFault, moves_of, read_lines};
 
@@ -88,6 +88,7 @@ fn found(alloc: Global, question: &Question) -> Result<Vec<u8>, Unsearched>
     let never = Never {
         unordered: unordered(alloc, question, found.count)?,
         misplaced: misplaced(alloc, question, found.count)?,
+        beyond: beyond(alloc, question, found.count)?,
     };
     let all = question.capture().len();
     let text = lines(alloc, found, never, all, told.as_slice())?;
@@ -126,13 +127,15 @@ fn witness(alloc: Global, question: &Question, count: usize) -> Result<Vec<Told>
     )
 }
 
-// Why no history shows one sighting more, where that is known.
+/// Why no history shows one sighting more, where that is known.
 #[derive(Clone, Copy, Drop)]
-struct Never {
-    // Its NH is not further on than the last one.
-    unordered: bool,
-    // Its key may not go there.
-    misplaced: bool,
+pub struct Never {
+    /// Its NH is not further on than the last one.
+    pub unordered: bool,
+    /// No message there carries its key.
+    pub misplaced: bool,
+    /// Its NH is further on than the steps since the last one.
+    pub beyond: bool,
 }
 
 // Whether it is known by the NHs of their connection.
@@ -173,6 +176,26 @@ fn misplaced(alloc: Global, question: &Question, count: usize) -> Result<bool, A
     ))
 }
 
+// Whether it is known by the steps of the core.
+fn beyond(alloc: Global, question: &Question, count: usize) -> Result<bool, AllocError>
+    requires { count ≤ length question.now.capture }
+    ensures never { IfOk result (λ never. never ≡ true → IsNeverMore question.now count) }
+    ensures refused { OnErr result WasRefused }
+{
+    let Some(sight) = question.capture().get(count) else {
+        return Ok(false);
+    };
+    let family = moves_of(alloc, question)?;
+    let before = &question.capture()[..count];
+    Ok(is_beyond(
+        question.kasmes(),
+        question.covered(),
+        family.as_slice(),
+        before,
+        sight,
+    ))
+}
+
 // How far a question is explained.
 fn search(alloc: Global, question: &Question) -> Result<Found, Unsearched>
     ensures found { IfOk result (λ e. Finds question.now e.count e.closed) }
@@ -199,16 +222,17 @@ fn explained_line(
     never: Never,
     all: usize,
 ) -> Result<String, AllocError>
-    ensures text { IfOk result (λ text. string_bytes text ≡ explained_text found.count all found.closed never.unordered never.misplaced) }
+    ensures text { IfOk result (λ text. string_bytes text ≡ explained_text found.count all found.closed never) }
     ensures refused { OnErr result WasRefused }
 {
     let count = found.count;
     let closed = closed_word(found.closed);
     let order = order_word(never.unordered);
     let place = place_word(never.misplaced);
+    let reach = reach_word(never.beyond);
     growth::format(
         alloc,
-        format_args!("explained {count} of {all}{closed}{order}{place}\n"),
+        format_args!("explained {count} of {all}{closed}{order}{place}{reach}\n"),
     )
 }
 
@@ -220,7 +244,7 @@ fn lines(
     all: usize,
     told: &[Told],
 ) -> Result<Vec<u8>, AllocError>
-    ensures text { IfOk result (λ text. text.items ≡ explained_text found.count all found.closed never.unordered never.misplaced ++ moves_text told.now) }
+    ensures text { IfOk result (λ text. text.items ≡ explained_text found.count all found.closed never ++ moves_text told.now) }
     ensures refused { OnErr result WasRefused }
 {
     let line = explained_line(alloc, found, never, all)?;
@@ -245,6 +269,12 @@ fn place_word(misplaced: bool) -> &'static str
     ensures { result.now ≡ place_word misplaced }
 {
     if misplaced { " out-of-place" } else { "" }
+}
+
+fn reach_word(beyond: bool) -> &'static str
+    ensures { result.now ≡ reach_word beyond }
+{
+    if beyond { " out-of-reach" } else { "" }
 }
 
 // The line of a text that is no question.

@@ -14,7 +14,7 @@ use Rattle.trace_order.specs.Order.{IsSeenAs, IsExact, Coincidence}
 use Rattle.trace_order.specs.Known.{IsNever}
 use Rattle.trace_order.specs.Kinds.{shape_of, may_carry, IsCarried, CarriesAt, AllCarry, IsPlaced}
 use Rattle.trace_order.specs.declared.clues.Placed.{Placed}
-use Rattle.trace_order.proofs.Kinds.{Holds, MayAt, MaySend, Sends, sends}
+use Rattle.trace_order.proofs.Sending.{Holds, MayAt, MaySend, Sends, sends}
 use Rattle.trace_order.proofs.Knowing.{fits_exact, roots_from, roots_are}
 use Rattle.trace_order.proofs.Watching.{nothing, one_pair, one_sight, pair_is, one_or_not}
 
@@ -80,7 +80,7 @@ one_of : (family : List Move) (at : Where) (pair : NumberedKey (List ℕ) ℕ) (
     → may_carry family at placed.shape placed.ncc ≡ false
     → IsCarried family at pair
     → Coincidence
-one_of family at pair placed is no carried = by_case (one_or_not carried.key is.term (same_term carried.key is.term) refl)
+one_of family at pair placed is bad carried = by_case (one_or_not carried.key is.term (same_term carried.key is.term) refl)
   where
     by_case : (carried.key ≡ is.term) ⊎ (carried.key ≢ is.term) → Coincidence
     by_case (inr differ) = record { one = carried.key; other = is.term; differ = differ; same = carried.value ∙ sym is.value }
@@ -88,14 +88,14 @@ one_of family at pair placed is no carried = by_case (one_or_not carried.key is.
         let may : may_carry family at placed.shape placed.ncc ≡ true =
         subst (λ s. may_carry family at s placed.ncc ≡ true) (ap shape_of same ∙ is.shape)
         (subst (λ n. may_carry family at (shape_of carried.key) n ≡ true) is.ncc carried.may) in
-        clash (sym no ∙ may)
+        clash (sym bad ∙ may)
 
 pub never_placed : (kasmes : List (List ℕ)) (covered : List Where) (family : List Move) (capture : List (Sight (List ℕ))) (sight : Sight (List ℕ)) (pair : NumberedKey (List ℕ) ℕ) (placed : Placed)
     → sight.pair ≡ Some pair
     → IsPlaced pair placed
     → may_carry family sight.at placed.shape placed.ncc ≡ false
     → IsNever kasmes covered family capture sight
-never_placed kasmes covered family capture sight pair placed brings is no bound left kasme count moves fam h =
+never_placed kasmes covered family capture sight pair placed brings is bad bound left kasme count moves fam h =
     let net : Net Term ℕ = record { kasme = kasme; count = count; serving = None } in
     let roots = roots_from 0 kasmes in
     let covers = is_covered covered in
@@ -104,4 +104,4 @@ never_placed kasmes covered family capture sight pair placed brings is no bound 
     let carry =
     all_carry roots fits covers fits_exact family bound left net moves all fam tt
     (to_here term_reading octet_reading value_of ncc_of values_carry roots fits covers bound left _ net moves all refl here) in
-    one_of family sight.at pair placed is no (subst (CarriesAt family sight.at) brings (last_carries family capture sight carry))
+    one_of family sight.at pair placed is bad (subst (CarriesAt family sight.at) brings (last_carries family capture sight carry))

@@ -88,7 +88,7 @@ fits_exact sent seen e =
     record { at = one_where sent.at seen.at p.0; pair = exact_pair sent.pair seen.pair p.1 }
 
 -- the taps of each move
-is_tapped : (covered : List Where) (at : Where) → has_tap covered at ≡ true → IsTapped (is_covered covered) at
+pub is_tapped : (covered : List Where) (at : Where) → has_tap covered at ≡ true → IsTapped (is_covered covered) at
 is_tapped covered at h sight e = ap (has_tap covered) e ∙ h
 
 seen_by : (covered : List Where) (move : Move) → begins_seen covered move ≡ true → BeginsSeen (is_covered covered) move

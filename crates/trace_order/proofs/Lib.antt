@@ -1,5 +1,8 @@
 pub mod Chains
 pub mod Watching
 pub mod Knowing
-pub mod Kinds
+pub mod Sending
 pub mod Carrying
+pub mod Steps
+pub mod Reaching
+pub mod Making

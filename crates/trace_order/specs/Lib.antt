@@ -1,3 +1,4 @@
 pub mod Order
 pub mod Known
 pub mod Kinds
+pub mod Reach

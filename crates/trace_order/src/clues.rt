@@ -52,20 +52,29 @@ fn nh_at(root: &Kasme, kenb: &Kenb, number: u32) -> Kenb
     sync
 }
 
-// The key of a chain.
-fn of_chain(kasmes: &[Kasme], known: &Known) -> Option<Made>
-    ensures { IfSome result IsMade }
+// The key of a chain of this KASME.
+fn under(root: &Kasme, known: &Known) -> Made
+    ensures { IsMade result }
 {
-    let root = kasmes.get(known.kasme as usize)?;
     let (kenb, _derived) = root.kenb(known.count);
     let key = nh_at(root, &kenb, known.number);
-    Some(Made {
+    Made {
         key,
         shape: Shape {
             number: known.number,
             last: None,
         },
-    })
+    }
+}
+
+// The key of a chain.
+fn of_chain(kasmes: &[Kasme], known: &Known) -> Option<Made>
+    ensures { IfSome result IsMade }
+{
+    match kasmes.get(known.kasme as usize) {
+        Some(root) => Some(under(root, known)),
+        None => None,
+    }
 }
 
 // KeNB* for a cell.

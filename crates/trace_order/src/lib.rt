@@ -5,6 +5,7 @@ mod clues;
 mod kinds;
 mod known;
 mod never;
+mod reach;
 
 ghost use Rattle.std.specs.Prelude.{◌≡◌, ℕ, Bool, List, [], ◌∷◌, ◌++◌, map, None, Some};
 ghost use Rattle.key_model.specs.Reading.{octet_reading};
@@ -22,6 +23,7 @@ pub use clues::{Clue, Shape};
 pub use kinds::is_misplaced;
 pub use known::{Known, MOST_NUMBER};
 pub use never::is_never;
+pub use reach::is_beyond;
 
 /// What a lawful history shows of NHs is in order, of whatever of these moves and however many of them go unseen, over the air too: if
 /// the KeNBs that begin a connection and the key changes that are taken are covered, each NH is of the chain of the one before, and

@@ -9,7 +9,7 @@ use trace_keys::{Move, Numbered, Sight, Where};
 use trace_plain::has_tap;
 
 // The NH of a message that brings one.
-fn nh_of(at: &Where, pair: &Option<Numbered>) -> Option<Numbered>
+pub(crate) fn nh_of(at: &Where, pair: &Option<Numbered>) -> Option<Numbered>
     ensures { result ≡ order.nh_of at.now pair.now }
 {
     match at {
@@ -43,7 +43,7 @@ fn last_by(last: Option<Numbered>, at: &Where, pair: &Option<Numbered>) -> Optio
 }
 
 // The last NH that was looked at since a chain began.
-fn last_nh(capture: &[Sight]) -> Option<Numbered>
+pub(crate) fn last_nh(capture: &[Sight]) -> Option<Numbered>
     ensures { result ≡ order.last_nh None capture.now }
 {
     let mut last = None;

@@ -47,10 +47,10 @@ abbrev pub Holds : Option (Serving Term ℕ) → Type 0
 Holds None = Unit {0}
 Holds (Some s) = HoldsIn s
 
-step_is : (core : ChainState Term ℕ) → ChainIs core → ChainIs (stepped term_reading core)
+pub step_is : (core : ChainState Term ℕ) → ChainIs core → ChainIs (stepped term_reading core)
 step_is core k = omega (arith, k)
 
-chain_is : (root : Term) (count : ℕ) (early : Bool) → ChainIs (chain_of term_reading root (Kenb root count) early)
+pub chain_is : (root : Term) (count : ℕ) (early : Bool) → ChainIs (chain_of term_reading root (Kenb root count) early)
 chain_is root count false = refl
 chain_is root count true = omega arith
 
@@ -91,8 +91,17 @@ is_for_it station cell goes =
     both (nat_eq station station) (nat_eq cell.pci cell.pci && nat_eq cell.earfcn cell.earfcn) (is_same station station refl)
     (both (nat_eq cell.pci cell.pci) (nat_eq cell.earfcn cell.earfcn) (is_same cell.pci cell.pci refl) (is_same cell.earfcn cell.earfcn refl))
 
+not_zero : (n : ℕ) → not (nat_eq (suc n) 0) ≡ true
+not_zero n = by_case (nat_eq (suc n) 0) refl
+  where
+    by_case : (b : Bool) → nat_eq (suc n) 0 ≡ b → not b ≡ true
+    by_case false e = refl
+    by_case true e = let same : suc n ≡ 0 = (Decides-eqb (suc n) 0).0 e in let none : ⊥ = omega (arith, same) in absurd none
+
 nh_is : (root sync : Term) (number : ℕ) → number ≡ suc (chain_number sync) → is_nh (shape_of (Nh root sync)) (ncc_of number) ≡ true
-nh_is root sync number e = is_same (ncc_of number) (ncc_of (suc (chain_number sync))) (ap ncc_of e)
+nh_is root sync number e =
+    both (not (nat_eq (suc (chain_number sync)) 0)) (nat_eq (ncc_of number) (ncc_of (suc (chain_number sync)))) (not_zero (chain_number sync))
+    (is_same (ncc_of number) (ncc_of (suc (chain_number sync))) (ap ncc_of e))
 
 module _ (family : List Move) where
   -- a key may go there
