@@ -10,7 +10,8 @@ from unittest import mock
 from lte_sec.judge import lawful
 from lte_sec.captures.capture_files import read
 from lte_sec.common.causes import Cause, has, told
-from lte_sec.common.report import DIFFERS, KEYS, UNKNOWN
+from lte_sec.common.report import DIFFERS, KEYS, UNKNOWN, Line
+from lte_sec.common.terms import NONE, Key
 from lte_sec.judge.account import Account
 from lte_sec.judge.trace import Trace
 
@@ -98,6 +99,25 @@ class Blames(unittest.TestCase):
             self.assertTrue(any(line.split()[0] == word for line in first), word)
         self.assertIn("any over", asked.questions[-1])  # type: ignore[attr-defined]
 
+    def test_a_question_has_how_a_blamed_key_is_made(self) -> None:
+        phone = lawful.Phone(traced("B1-star-earfcn"), [])
+        derivations = phone.trace.derivations
+        kenb = derivations.kenb(0, 7)
+        nh = derivations.next_nh(0, derivations.next_nh(0, kenb))
+        star = derivations.star(derivations.star(nh, 10, 100), 503, 262143)
+        for key, wanted in (
+            (kenb, ["key 0 7 0"]),
+            (nh, ["key 0 7 2"]),
+            (star, ["key 0 7 2", "star 10 100", "star 503 262143"]),
+            (derivations.star(kenb, 504, 100), []),
+            (derivations.next_nh(0, star), []),
+            (derivations.algorithm(kenb, 1, 2), []),
+            (Key(bytes(32), NONE), []),
+        ):
+            phone.sightings = [lawful.Sighting("over 0 1", value=Line("1", "HandoverRequest", "KeNB*", DIFFERS, key=key))]
+            phone.question(1, True)
+            self.assertEqual(wanted, [*phone.clues()], key.form)
+
     def test_a_blame_whose_message_no_history_has_is_not_confirmed(self) -> None:
         trace = traced("B1-star-earfcn")
         with mock.patch.object(lawful.Program, "ask", return_value=lawful.Found(1, True)):
@@ -134,7 +154,7 @@ class Blames(unittest.TestCase):
     def test_the_answer_of_a_program(self) -> None:
         with tempfile.TemporaryDirectory() as folder:
             program = Path(folder) / "program"
-            for text, status, wanted in (("explained 3 of 4 closed", 0, lawful.Found(3, True)), ("explained 1 of 4\nseen switch", 0, lawful.Found(1, False, ("seen switch",))), ("explained 4 of 4", 0, lawful.Found(4, False)), ("explained 2 of 4 closed out-of-order", 0, lawful.Found(2, True, (), True)), ("explained 2 of 4 out-of-order", 0, lawful.Found(2, False, (), True)), ("bad line 1", 3, None), ("", 12, None)):
+            for text, status, wanted in (("explained 3 of 4 closed", 0, lawful.Found(3, True)), ("explained 1 of 4\nseen switch", 0, lawful.Found(1, False, ("seen switch",))), ("explained 4 of 4", 0, lawful.Found(4, False)), ("explained 2 of 4 closed out-of-order", 0, lawful.Found(2, True, (), True)), ("explained 2 of 4 out-of-order", 0, lawful.Found(2, False, (), True)), ("explained 2 of 4 out-of-place", 0, lawful.Found(2, False, (), True)), ("explained 2 of 4 closed out-of-order out-of-reach", 0, lawful.Found(2, True, (), True)), ("bad line 1", 3, None), ("", 12, None)):
                 program.write_text(f"#!/bin/sh\ncat >/dev/null\necho '{text}'\nexit {status}\n")
                 program.chmod(0o700)
                 with mock.patch.dict(os.environ, {lawful.VARIABLE: f"proved {program}"}):

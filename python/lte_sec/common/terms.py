@@ -89,6 +89,14 @@ class Term:
             term = term.above
         return term if term is None or term.kind == "kenb" else term.above
 
+    @property
+    def is_of_station(self) -> bool:
+        """Whether it is a KeNB, an NH of its chain, or a KeNB* of one."""
+        term: Term = self
+        while term.kind == "star" and term.above is not None:
+            term = term.above
+        return term.kind == "kenb" or term.kind == "nh" and term.above is not None and term.above.kind == "kenb"
+
     def told(self) -> Term:
         """The same as its text tells it: an NH by its number alone, whatever KeNB its chain begins at."""
         below, term = [], self

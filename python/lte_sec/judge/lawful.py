@@ -12,10 +12,11 @@ from collections.abc import Iterable, Iterator
 from dataclasses import dataclass, field, replace
 from pathlib import Path
 
+from ..captures.cells import is_cell
 from ..captures.coverage import DOWN, UP
 from ..common.causes import Cause, Why, has
 from ..common.report import DIFFERS, KEYS, UNKNOWN, Line, unknown_line
-from ..common.terms import counted
+from ..common.terms import Key, counted, numbered
 from .account import Account, Seen
 from .trace import Trace
 
@@ -26,7 +27,8 @@ MOST = 256  # stations, or KASMEs
 SECONDS = 60.0  # for one question
 VARIABLE = "LTE_SEC_TRACE"  # `proved` or `unproved`, and the path of the program: the launcher says it
 NOT_BUILT = "blames of keys are not confirmed by proof: the program lte_trace is not built (./lte_sec --prove builds it)"
-OUT_OF_ORDER = "out-of-order"  # said of a message whose NH is not further on in its chain than the last one
+NEVER = ("out-of-order", "out-of-place", "out-of-reach")  # said of a message that no history gives, of any length
+MOST_STEPS = 255  # of a chain, to a key whose derivation is told
 MOST_TOLD = 8  # moves of such a history that are told
 ANSWERED = {"PathSwitchRequestAcknowledge": "PathSwitchRequest", "UEContextSuspendResponse": "UEContextSuspendRequest", "UEContextResumeResponse": "UEContextResumeRequest", "HandoverRequest": "HandoverRequired"}
 TAKEN = "UEContextModificationResponse"
@@ -48,7 +50,7 @@ class Found:
     explained: int
     closed: bool
     moves: tuple[str, ...] = ()  # of that history, if they were asked for
-    never: bool = False  # no number of unseen moves gives one more, over the air neither: its NH is not further on in its chain than the last one
+    never: bool = False  # no number of unseen moves gives one more, over the air neither
 
 
 @dataclass(frozen=True)
@@ -66,7 +68,7 @@ class Program:
             return None
         first, *moves = ran.stdout.splitlines() or [""]
         words = first.split()
-        return Found(int(words[1]), "closed" in words, tuple(moves), OUT_OF_ORDER in words) if ran.returncode == 0 and words[:1] == ["explained"] else None
+        return Found(int(words[1]), "closed" in words, tuple(moves), not set(NEVER).isdisjoint(words)) if ran.returncode == 0 and words[:1] == ["explained"] else None
 
 
 def program() -> Program | None:
@@ -188,10 +190,21 @@ class Phone:
             for kasme, count in last.items():
                 yield from ((kasme, more) for more in range(count, count + COUNTS))
 
+    def found(self) -> list[Key]:
+        """The blamed keys whose derivation is found, from a KeNB on."""
+        keys = (one.value.key for one in self.sightings if one.value is not None and one.value.key is not None)
+        return [key for key in keys if key.kasme >= 0 and key.term.is_of_station and numbered(key.term) <= MOST_STEPS and all(is_cell(*one) for one in key.term.cells())]
+
+    def clues(self) -> Iterator[str]:
+        """How these are made. The program makes them itself, so that it need not believe it."""
+        for key in self.found():
+            yield f"key {self.kasmes[key.kasme]} {counted(key.term.base())} {numbered(key.term)}"
+            yield from (f"star {pci} {earfcn}" for pci, earfcn in reversed(key.term.cells()))
+
     def moves(self) -> Iterator[str]:
         """The KASMEs, COUNTs and cells of which moves are made."""
         due = dict.fromkeys(self.counts())
-        for kasme in dict.fromkeys(kasme for kasme, _ in due):
+        for kasme in dict.fromkeys([*(kasme for kasme, _ in due), *(key.kasme for key in self.found())]):
             self.kasmes[kasme] = len(self.kasmes)
             yield f"kasme {self.trace.derivations.kasmes[kasme].value.hex()}"
         for name, number in self.numbers.found.items():
@@ -217,7 +230,7 @@ class Phone:
 
     def fits(self) -> bool:
         """Whether the program takes a question of so many stations and KASMEs."""
-        return len(self.numbers.found) <= MOST and len({kasme for kasme, _ in self.counts()}) <= MOST
+        return len(self.numbers.found) <= MOST and len({*(kasme for kasme, _ in self.counts()), *(key.kasme for key in self.found())}) <= MOST
 
     def ask(self, taken: Program, told: bool = False) -> Found | None:
         """The answer to the question of all messages, with as many unseen moves as it can be searched with."""
@@ -230,7 +243,7 @@ class Phone:
 
     def question(self, bound: int, air: bool, upto: int | None = None, told: bool = False) -> str:
         self.kasmes = {}
-        head = [*self.moves(), *self.taps(), f"bound {bound}", *(["air"] if air else []), *(["moves"] if told else [])]
+        head = [*self.moves(), *self.clues(), *self.taps(), f"bound {bound}", *(["air"] if air else []), *(["moves"] if told else [])]
         return "\n".join([*head, *(one.line for one in self.sightings[:upto])]) + "\n"
 
 
