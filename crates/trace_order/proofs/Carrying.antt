@@ -1,7 +1,7 @@
 -- Each key of a history is of the kind of its message.
-use Rattle.std.proofs.Common.{◌≡◌, ◌≢◌, ℕ, Bool, true, false, Option, None, Some, List, [], ◌∷◌, ◌++◌, map, ◌⊎◌, inl, inr, refl, sym, ap, subst, ◌∙◌}
+use Rattle.std.proofs.Common.{◌≡◌, ◌≢◌, ℕ, Bool, true, false, Option, None, Some, List, [], ◌∷◌, ◌++◌, ◌⊎◌, inl, inr, refl, sym, ap, subst, ◌∙◌}
 use Rattle.key_model.specs.{Term.Term, Term.same_term, Chain.ncc_of, Value.value_of, Reading.term_reading, Reading.octet_reading, HandoverTable.NumberedKey}
-use Rattle.key_model.proofs.{TermFacts.same_term-Decides, ReadingFacts.values_carry}
+use Rattle.key_model.proofs.{ReadingFacts.values_carry}
 use Rattle.nh_chain.specs.Station.{map_pair}
 use Rattle.trace_rules.specs.{Rules.Done, Rules.AreIn, History.History, History.ends, History.unseen, History.shown}
 use Rattle.trace_keys.specs.declared.{moves.Where.Where, moves.Move.Move}

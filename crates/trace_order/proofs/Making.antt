@@ -1,5 +1,5 @@
 -- Keys of clues.
-use Rattle.std.proofs.Common.{◌≡◌, ℕ, zero, suc, Option, None, Some, List, [], get_or, refl, sym, ap, ◌∙◌}
+use Rattle.std.proofs.Common.{◌≡◌, ℕ, zero, suc, None, Some, List, [], get_or, refl, sym, ap, ◌∙◌}
 use Rattle.hmac_kdf.specs.{declared.input.KdfInput.KdfInput, Kdf.kdf}
 use Rattle.annex_a_keys.specs.Cell.{Place}
 use Rattle.key_model.specs.{Term.Term, Term.Root, Term.Kenb, Term.Nh, Term.Star, Term.Alg, Chain.nh, Number.chain_number, Value.value_of, HandoverTable.NumberedKey}
@@ -7,7 +7,7 @@ use Rattle.key_model.proofs.TermFacts.{chain_number_nh}
 use Rattle.trace_order.specs.Known.{term_of}
 use Rattle.trace_order.specs.Kinds.{shape_of, IsMade}
 use Rattle.trace_order.specs.Reach.{IsNumber}
-use Rattle.trace_order.specs.declared.{clues.Made.Made, clues.Shape.Shape, known.Known.Known}
+use Rattle.trace_order.specs.declared.{clues.Made.Made, known.Known.Known}
 
 number_is : (t : Term) → (shape_of t).number ≡ chain_number t
 number_is (Root r octets) = refl

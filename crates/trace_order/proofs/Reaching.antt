@@ -1,10 +1,10 @@
 -- How far NHs are along a history.
-use Rattle.std.proofs.Common.{◌≡◌, ◌≢◌, ℕ, suc, ◌+◌, ◌≤◌, ◌<◌, Bool, true, false, Option, None, Some, List, [], ◌∷◌, ◌++◌, map, ◌⊎◌, inl, inr, refl, sym, ap, subst, ◌∙◌, arith}
+use Rattle.std.proofs.Common.{◌≡◌, ◌≢◌, ℕ, suc, ◌+◌, ◌≤◌, ◌<◌, Bool, true, Option, None, Some, List, [], ◌∷◌, ◌++◌, ◌⊎◌, inl, inr, refl, sym, ap, subst, ◌∙◌, arith}
 use Rattle.std.specs.Prelude.{◌&&◌, not}
 use Rattle.key_model.specs.{Term.Term, Term.same_term, Chain.ncc_of, Number.chain_number, Value.value_of, Reading.term_reading, Reading.octet_reading, HandoverTable.NumberedKey}
 use Rattle.key_model.proofs.ReadingFacts.{values_carry}
 use Rattle.nh_chain.specs.Station.{map_pair}
-use Rattle.trace_rules.specs.{Rules.Done, Rules.is_unseen, Rules.IsIn, Rules.AreIn, History.History, History.ends, History.unseen, History.shown}
+use Rattle.trace_rules.specs.{Rules.Done, Rules.is_unseen, Rules.AreIn, History.History, History.ends, History.unseen, History.shown}
 use Rattle.trace_keys.specs.declared.{moves.Where.Where, moves.Move.Move}
 use Rattle.trace_keys.specs.declared.moves.Where.TheVariants.{Setup, Change, Took, Answer, Asked, Request, Over}
 use Rattle.trace_keys.specs.declared.moves.Move.TheVariants.{Renew, Offer, Take, Switch, Ask, Prepare, Require, Arrive, Cancel, Refresh, Leave}
@@ -15,8 +15,8 @@ use Rattle.trace_terms.proofs.Histories.{same_done, to_here}
 use Rattle.trace_plain.specs.Sights.{fits, has_tap, is_covered}
 use Rattle.trace_order.specs.Order.{IsSeenAs, IsExact, IsTapped, Coincidence, last_by, last_nh, nh_of}
 use Rattle.trace_order.specs.Known.{IsNever}
-use Rattle.trace_order.specs.Reach.{IsReached, ReachAt, InReach, StepsAt, StepsSeen, AllStepsSeen, steps_at, steps_seen, all_steps, steps_by, steps_from, IsNumber, IsFrom, IsTooFar}
-use Rattle.trace_order.proofs.Steps.{Reaches, ReachesAt, BringsAt, StepsBy, Stepped, ReachIn, steps}
+use Rattle.trace_order.specs.Reach.{ReachAt, InReach, StepsAt, StepsSeen, AllStepsSeen, steps_at, steps_seen, all_steps, steps_by, steps_from, IsNumber, IsFrom, IsTooFar}
+use Rattle.trace_order.proofs.Steps.{Reaches, ReachesAt, BringsAt, StepsBy, Stepped, steps}
 use Rattle.trace_order.proofs.Knowing.{fits_exact, is_tapped, roots_from, roots_are}
 use Rattle.trace_order.proofs.Watching.{nothing, one_pair, one_sight, pair_is, one_or_not}
 

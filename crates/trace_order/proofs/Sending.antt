@@ -1,20 +1,18 @@
 -- What each move sends is a key of the kind of its message, with its NCC, for a cell of its target.
-use Rattle.std.proofs.Common.{◌≡◌, ℕ, suc, ◌+◌, Bool, true, false, Option, None, Some, List, [], ◌∷◌, ◌⊎◌, inl, inr, refl, sym, ap, subst, ◌∙◌, arith}
+use Rattle.std.proofs.Common.{◌≡◌, ℕ, suc, ◌+◌, Bool, true, false, Option, None, Some, List, [], ◌∷◌, inl, inr, refl, sym, ap, ◌∙◌, arith}
 use Rattle.std.specs.Prelude.{slice_get, if◌then◌else◌, ◌&&◌, ◌||◌, not, nat_eq, nat_lt}
 use Rattle.std.specs.List.{list_any}
 use Rattle.std.proofs.lemmas.Bool.Decides.{Decides-eqb}
 use Rattle.annex_a_keys.specs.Cell.{Place}
-use Rattle.key_model.specs.{Term.Term, Term.Kenb, Term.Nh, Term.Star, Chain.ncc_of, Number.chain_number, Reading.term_reading, HandoverTable.NumberedKey}
-use Rattle.nh_chain.specs.Chain.{ChainState, stepped, present_pair}
+use Rattle.key_model.specs.{Term.Term, Term.Kenb, Term.Nh, Chain.ncc_of, Number.chain_number, Reading.term_reading, HandoverTable.NumberedKey}
+use Rattle.nh_chain.specs.Chain.{ChainState, stepped}
 use Rattle.nh_chain.specs.Station.{opened, base_of, pair_after, restored_if}
 use Rattle.trace_rules.specs.Rules.{Done, IsIn}
 use Rattle.trace_keys.specs.declared.{moves.Where.Where, moves.Move.Move, moves.Unanswered.Unanswered}
-use Rattle.trace_keys.specs.declared.moves.Where.TheVariants.{Setup, Change, Took, Answer, Asked, Request, Over}
 use Rattle.trace_keys.specs.declared.moves.Unanswered.TheVariants.{Refused, Lost, Given}
 use Rattle.trace_keys.specs.declared.moves.Move.TheVariants.{Renew, Offer, Take, Switch, Ask, Prepare, Require, Arrive, Cancel, Refresh, Leave}
 use Rattle.trace_keys.specs.Net.{Target, Offer as OfferOf, Serving, Net, Sight}
-use Rattle.trace_keys.specs.Moved.{count_limit, is_fresh, chain_of, connected, target_of, renewed, begins, offered, offers, took, taken_on, unanswered, may_come, prepared, required, arrived, cancelled, moved_in, if_connected, moved}
-use Rattle.trace_order.specs.declared.{clues.Shape.Shape}
+use Rattle.trace_keys.specs.Moved.{count_limit, is_fresh, chain_of, target_of, renewed, begins, offered, offers, took, taken_on, unanswered, may_come, prepared, required, arrived, cancelled, moved_in, if_connected, moved}
 use Rattle.trace_order.specs.Kinds.{shape_of, is_for, has_cell, is_nh, may_carry}
 
 -- a key has the number that is written beside it

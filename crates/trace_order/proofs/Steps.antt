@@ -1,5 +1,5 @@
 -- How far the core is with its chain behind each move.
-use Rattle.std.proofs.Common.{◌≡◌, ℕ, suc, ◌+◌, ◌≤◌, Bool, true, false, Option, None, Some, List, refl, arith}
+use Rattle.std.proofs.Common.{ℕ, suc, ◌+◌, ◌≤◌, Bool, true, false, Option, None, Some, List, arith}
 use Rattle.std.specs.Prelude.{slice_get, if◌then◌else◌, ◌&&◌, not, nat_eq, nat_lt}
 use Rattle.annex_a_keys.specs.Cell.{Place}
 use Rattle.key_model.specs.{Term.Term, Term.Kenb, Number.chain_number, Reading.term_reading, HandoverTable.NumberedKey}

@@ -1,9 +1,9 @@
 -- Which key a message may carry, by where it goes: its kind, the NCC beside it, and the cell that it is for.
-use Rattle.std.specs.Prelude.{◌≡◌, ℕ, suc, Bool, true, false, ◌&&◌, not, nat_eq, Option, None, Some, List, [], ◌∷◌}
+use Rattle.std.specs.Prelude.{◌≡◌, ℕ, Bool, true, false, ◌&&◌, not, nat_eq, Option, None, Some, List, [], ◌∷◌}
 use Rattle.std.specs.Option.{is_none}
 use Rattle.std.specs.List.{list_any}
 use Rattle.annex_a_keys.specs.Cell.{Place}
-use Rattle.key_model.specs.{Term.Term, Term.Root, Term.Kenb, Term.Nh, Term.Star, Term.Alg, Chain.ncc_of, Number.chain_number, Value.value_of, HandoverTable.NumberedKey}
+use Rattle.key_model.specs.{Term.Term, Term.Star, Chain.ncc_of, Number.chain_number, Value.value_of, HandoverTable.NumberedKey}
 use Rattle.trace_keys.specs.declared.{moves.Where.Where, moves.Move.Move}
 use Rattle.trace_keys.specs.declared.moves.Where.TheVariants.{Setup, Change, Took, Answer, Asked, Request, Over}
 use Rattle.trace_keys.specs.declared.moves.Move.TheVariants.{Prepare}

@@ -18,6 +18,8 @@ ghost use Rattle.trace_keys.specs.Net.{Net, Sight};
 ghost use Rattle.trace_keys.specs.Moved.{moved};
 ghost use Rattle.trace_keys.specs.declared.moves.Move.{Move};
 ghost use Rattle.trace_order.specs.Order.{IsExact, AllBeginsSeen, InOrder, Follows, Coincidence, last_nh, nh_of};
+ghost use Rattle.trace_order.specs.Kinds.{AllCarry};
+ghost use Rattle.trace_order.specs.Reach.{AllStepsSeen, InReach};
 
 pub use clues::{Clue, Shape};
 pub use kinds::is_misplaced;
@@ -45,4 +47,21 @@ pub fn known_nhs_follow()
         value_of before ≡ last.key → value_of after ≡ next.key → ¬ Follows before after →
         History (moved octet_reading (map value_of kasmes)) fits covers bound left (record { kasme = kasme; count = count; serving = None }) moves (capture ++ sight ∷ []) →
         Coincidence }
+{}
+
+/// Each key that a lawful history shows is one that its message may carry, with its NCC: of the kind of its place, and for a cell of its
+/// target. This holds whichever taps there are.
+pub fn each_key_may_be_carried()
+    ensures { (kasmes : List Term) (fits : Sight (List ℕ) → Sight (List ℕ) → Bool) (covers : Sight (List ℕ) → Bool) (family : List Move) (bound left kasme count : ℕ) (moves : List Move) (capture : List (Sight (List ℕ))) →
+        IsExact fits → AreIn moves family →
+        History (moved octet_reading (map value_of kasmes)) fits covers bound left (record { kasme = kasme; count = count; serving = None }) moves capture →
+        AllCarry family capture }
+{}
+
+/// If each step of the chain is covered, each NH is at most so many steps further on than the one before as the core was asked for.
+pub fn nhs_stay_in_reach()
+    ensures { (kasmes : List Term) (fits : Sight (List ℕ) → Sight (List ℕ) → Bool) (covers : Sight (List ℕ) → Bool) (family : List Move) (bound left kasme count : ℕ) (moves : List Move) (capture : List (Sight (List ℕ))) →
+        IsExact fits → AllStepsSeen covers family → AreIn moves family →
+        History (moved octet_reading (map value_of kasmes)) fits covers bound left (record { kasme = kasme; count = count; serving = None }) moves capture →
+        InReach 1 capture }
 {}

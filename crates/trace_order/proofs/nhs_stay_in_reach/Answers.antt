@@ -1,0 +1,13 @@
+use Rattle.std.proofs.Common.{ℕ, None, refl, arith}
+use Rattle.key_model.specs.{Term.Term, Value.value_of, Chain.ncc_of, Reading.term_reading, Reading.octet_reading}
+use Rattle.key_model.proofs.ReadingFacts.{values_carry}
+use Rattle.trace_keys.specs.Net.{Net}
+use Rattle.trace_terms.proofs.Histories.{to_here}
+use Rattle.trace_order.proofs.Reaching.{in_reach}
+use Rattle.trace_order.proofs.nhs_stay_in_reach.Goals as goal
+
+pub returns : goal.returns
+returns c = λ kasmes fits covers family bound left kasme count moves capture exact tapped fam h.
+    let net : Net Term ℕ = record { kasme = kasme; count = count; serving = None } in
+    in_reach kasmes fits covers exact family tapped bound left net moves capture 1 (omega arith) fam tt
+    (to_here term_reading octet_reading value_of ncc_of values_carry kasmes fits covers bound left _ net moves capture refl h)
