@@ -14,7 +14,7 @@ from typing import Any
 from unittest import mock
 
 from lte_sec.drive import differences, drive_word as drive
-from lte_sec.runs import demands, documents as documents_module, verdict
+from lte_sec.runs import demands, documents as documents_module, kenb_changes, verdict
 from lte_sec.traces import wireshark, trace_words as words
 from lte_sec.traces.repeats import first_repeat
 from lte_sec.runs.scenarios import table_of
@@ -51,7 +51,7 @@ def documents() -> Iterator[tuple[str, Any]]:
     """Documents of the examples, each with the name of its schema."""
     for file in sorted((EXAMPLES / "run").glob("*.out")):
         if file.stem not in NO_REPORTS:
-            with contextlib.suppress(verdict.NoReport):
+            with contextlib.suppress(kenb_changes.NoReport):
                 yield "verdict", json.loads(json.dumps(verdict.judged(file.read_text()).document()))
     yield "drive", drive.document(8, ["0 both done"], differences.Difference(None, "core", ["answer: wanted 0 (done), got 1 (NoContext)"]), None)
     yield "drive", drive.document(6, [], None, {"step": 3, "actor": "phone", "how": "it was silent"})

@@ -3,7 +3,7 @@ import pathlib
 import re
 import unittest
 
-from lte_sec.runs import verdict
+from lte_sec.runs import kenb_changes, verdict
 
 EXAMPLES = pathlib.Path(__file__).resolve().parent.parent.parent / "examples"
 NOTHING = ["no handover and no key change", "nothing to judge"]
@@ -28,7 +28,7 @@ class Verdicts(unittest.TestCase):
         told: dict[int, set[str]] = {0: set(), 1: set(), 3: set()}
         for file in [*EXAMPLES.glob("run/*.out"), *EXAMPLES.glob("worked/*.out"), *EXAMPLES.glob("two/*.out")]:
             if file.stem in ("coincidence", "no-scenario"):
-                self.assertRaises(verdict.NoReport, verdict.judged, file.read_text())
+                self.assertRaises(kenb_changes.NoReport, verdict.judged, file.read_text())
             else:
                 told[verdict.judged(file.read_text()).status].add(file.stem)
         self.assertLessEqual({"complete-lost", "eight-ahead", "eight-preparations", "key-change-overtaken"}, told[1])
@@ -104,19 +104,19 @@ class Verdicts(unittest.TestCase):
         self.assertEqual(first, document["items"][0])  # type: ignore[index]
 
     def test_other_texts_are_no_reports(self) -> None:
-        self.assertRaisesRegex(verdict.NoReport, "it is a scenario", verdict.judged, (EXAMPLES / "run" / "ordinary.toml").read_text())
+        self.assertRaisesRegex(kenb_changes.NoReport, "it is a scenario", verdict.judged, (EXAMPLES / "run" / "ordinary.toml").read_text())
         ordinary = report("run/ordinary")
         for text in ("", "end 0 0\n", ordinary[:500], ordinary.replace("\n5 station", "\n7 station"), ordinary[:-200], ordinary.replace("row 5", "row 6")):
-            self.assertRaises(verdict.NoReport, verdict.judged, text)
+            self.assertRaises(kenb_changes.NoReport, verdict.judged, text)
 
     def test_octets_that_are_no_text_are_no_report(self) -> None:
-        self.assertRaisesRegex(verdict.NoReport, "it is no text, since octet ff in line 2 is not UTF-8", verdict.text_of, b"0 both done\n\xff")
-        self.assertRaisesRegex(verdict.NoReport, "it is empty", verdict.judged, "")
+        self.assertRaisesRegex(kenb_changes.NoReport, "it is no text, since octet ff in line 2 is not UTF-8", verdict.text_of, b"0 both done\n\xff")
+        self.assertRaisesRegex(kenb_changes.NoReport, "it is empty", verdict.judged, "")
 
     def test_the_page_names_each_outcome(self) -> None:
         page = (EXAMPLES.parent / "docs" / "SCENARIOS.md").read_text()
         table = page[page.index("## Verdicts"):].split("\n## ")[0]
-        for outcome in verdict.Outcome:
+        for outcome in kenb_changes.Outcome:
             self.assertTrue(re.search(rf"^\| {re.escape(outcome.value)} \|", table, re.M), outcome)
 
 

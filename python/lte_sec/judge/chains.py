@@ -7,7 +7,7 @@ from ..captures.decoding import Message
 from ..common import mistakes as reasons
 from ..common.causes import Cause
 from ..common.terms import NONE, UP, Key, counted, numbered
-from ..nas.nas_book import NOT_GIVEN
+from ..nas.findings import NOT_GIVEN
 from .histories import CHAIN, UNKNOWN_KEY, Chain, History, Numbered, PhoneKeys
 from .kenbs import KenbJudge
 from .state import Connection, Undecided

@@ -9,7 +9,7 @@ from ..common.pairs import paired
 from ..common.report import DIFFERS
 from ..common.terms import UP, Key, counted
 from ..nas.contexts import NasSide, Trigger
-from ..nas.nas_book import LOST_MODE, NOT_GIVEN
+from ..nas.findings import LOST_MODE, NOT_GIVEN
 from .histories import Chain, Held, History, PhoneKeys, merged
 from .keylines import KeyLines
 from .state import Connection

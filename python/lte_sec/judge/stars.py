@@ -13,7 +13,7 @@ from ..captures.decoding import Message
 from ..common import mistakes as reasons
 from ..common.causes import Cause, Why
 from ..common.terms import Key, unknown
-from ..nas.nas_book import NOT_GIVEN
+from ..nas.findings import NOT_GIVEN
 from .chains import LOST_CHANGE, ChainJudge
 from .histories import CHAIN, Chain, Held, History, Numbered, PhoneKeys, renewed
 from .moves import ANYWHERE

@@ -21,9 +21,10 @@ from .account import Account, Membership, Use, account
 from .attempts import ANY_CORE, Leg
 from .choices import Choices, Offer, Tape
 from .grounds import Grounds, within, without
-from .handovers import WAITING, Handovers
+from .handovers import Handovers
 from .key_judge import KeyJudge
 from .line_store import LinesInOrder
+from .s1_handovers import WAITING
 from .state import Connection
 
 FROM_PHONE = ("InitialUEMessage", "UplinkNASTransport")

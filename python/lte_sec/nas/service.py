@@ -13,8 +13,9 @@ from ..common.report import DIFFERS, RIGHT, UNKNOWN
 from ..common.terms import COMPUTED, DOWN, UP
 from .contexts import FOREIGN, EpsSecurityContext, Life, NasSeen, NasSide, Trigger
 from .counts import SHORT_WRAP, near
+from .findings import LOST_MODE, NOT_GIVEN, is_fault
 from .modes import ModeBook
-from .nas_book import LOST_MODE, NEW, NOT_GIVEN, Later, is_fault
+from .nas_book import NEW, Later
 
 BESIDE = 2  # COUNTs before and behind that of a request whose KeNB is sought
 SIZE = 4  # octets of a Service Request

@@ -8,10 +8,10 @@ from ..captures.cells import Cell
 from ..common.causes import Cause
 from ..common.report import DIFFERS
 from ..common.terms import NONE, counted
-from ..nas.nas_book import NOT_GIVEN
+from ..nas.findings import NOT_GIVEN
 from .chain_steps import ReplayedConnection, kenb, star
-from .handover_steps import HandoverSteps
 from .recording import KeySeen, Met
+from .s1_steps import S1Steps
 from .script import At
 
 FAR = 200  # messages of a connection that are looked at behind one
@@ -35,7 +35,7 @@ def due(key: KeySeen | None) -> tuple[str, int] | None:
 
 
 @dataclass
-class ConnectionSteps(HandoverSteps):
+class ConnectionSteps(S1Steps):
     """What the run has of connections, too."""
 
     met: list[Met] = field(default_factory=list)

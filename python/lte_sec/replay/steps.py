@@ -8,7 +8,7 @@ from ..captures.cells import Cell
 from ..common.causes import Cause, Why
 from ..common.report import DIFFERS, RIGHT
 from ..common.terms import NONE, Term, counted, numbered
-from ..nas.nas_book import NOT_GIVEN
+from ..nas.findings import NOT_GIVEN
 from .chain_steps import ReplayedConnection, above, kenb, nh
 from .connection_steps import ConnectionSteps, due, without
 from .recording import KeySeen, Met

@@ -10,8 +10,8 @@ from dataclasses import dataclass
 from ..runs.courses import Course, Item
 from ..runs.messages import Names
 from ..runs.run_report import NotedKey, StepLine
-from ..runs.verdict import KenbChange as Told
-from ..runs.verdict import Report
+from ..runs.kenb_changes import KenbChange as Told
+from ..runs.kenb_changes import Report
 
 ANSWER, REQUEST, COMPLETE = "Path Switch Request Acknowledge", "Path Switch Request", "RRC Reconfiguration Complete"
 # What begins another context or chain at a station, or ends the one that it has.

@@ -8,11 +8,11 @@ from typing import Protocol
 from ..common import tables
 from ..common.pairs import paired
 from ..runs.courses import Course, Item
+from ..runs.kenb_changes import Outcome, connected, items, read
 from ..runs.messages import Names
 from ..runs.run_report import StepLine, behind_end, rows_of
 from ..runs.scenarios import Scenario
 from ..runs.variants import Fault
-from ..runs.verdict import Outcome, connected, items, read
 from . import probe
 from .dropped_pairs import Dropped
 from .probe import named

@@ -17,11 +17,12 @@ from ..common.options import Words
 from ..common.terms import TraceError
 from ..pages import page as pages
 from ..pages.trace_page import GLYPHS, WORST, Json
+from ..runs.kenb_changes import NOT_MADE, NoReport, Outcome
 from ..runs.ladders import CLAUSES, held_by, inputs_of, kind_of, names_of, title_of
 from ..runs.remarks import frames_of
 from ..runs.run_report import rows_of
 from ..runs.scenarios import NoScenario, read
-from ..runs.verdict import NOT_MADE, NoReport, Outcome, judged
+from ..runs.verdict import judged
 from .chart import lanes_of, name_of, stage, steps_of
 
 VERSION = 1  # of the document
