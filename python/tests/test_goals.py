@@ -20,18 +20,17 @@ from lte_sec.whatif.outcomes import About
 from lte_sec.whatif.study import Variant
 from lte_sec.runs.variants import KINDS, Fault
 
-from . import test_what_if
-from .test_what_if import EXAMPLES, TOP, called, octets
+from .studied import EXAMPLES, TOP, called, octets, program, programs
 
 SMALL = EXAMPLES / "run/smc-complete-lost.toml"
 
 
 def setUpModule() -> None:
-    test_what_if.setUpModule()
+    programs()
 
 
 def sets_of(scenario: str, faults: int, *kinds: str) -> list[Listed]:
-    return list(Lists(test_what_if.VARIANTS, octets(scenario), kinds or KINDS, False).all(faults, None, 1))
+    return list(Lists(program("lte_variants"), octets(scenario), kinds or KINDS, False).all(faults, None, 1))
 
 
 class Goals(unittest.TestCase):
@@ -71,7 +70,7 @@ class Goals(unittest.TestCase):
         """Eight messages at most are named; each choice is listed once, in its order, and the shares have all of them."""
         steps = ("11", "12", "14", "15", "16", "17")
         for faults in (4, 6):
-            lists = Lists(test_what_if.VARIANTS, octets("run/ordinary"), ("lost",), False, steps)
+            lists = Lists(program("lte_variants"), octets("run/ordinary"), ("lost",), False, steps)
             listed = [one.faults for one in lists.all(faults, None, 1)]
             self.assertEqual(listed, sorted(set(listed), key=lambda them: [int(fault.item) for fault in them]))
             self.assertEqual([one.faults for one in lists.all(faults, None, 3)], listed)

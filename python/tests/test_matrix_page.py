@@ -14,18 +14,17 @@ from lte_sec.pages import page as pages
 from lte_sec.whatif.what_if_document import from_json, to_json
 from lte_sec.whatif.outcomes import WORDS
 
-from . import test_what_if
 from .browser import found
 from .page_checks import document_of, faults_of
 from .test_browser import PANEL, SIDEWAYS, InBrowser
 from .test_pages import HOSTILE, spoil
-from .test_what_if import EXAMPLES, called
+from .studied import EXAMPLES, called, programs
 
 SCENARIO = EXAMPLES / "what-if/two-path-switches.toml"
 
 
 def setUpModule() -> None:
-    test_what_if.setUpModule()
+    programs()
 
 
 @functools.cache

@@ -13,18 +13,17 @@ from lte_sec.whatif import run_page as ran
 from lte_sec.runs.run_report import rows_of
 from lte_sec.runs.run_report import StepLine
 
-from . import test_what_if
 from .browser import found
 from .page_checks import document_of, faults_of, wrong_keys
 from .test_browser import PANEL, SIDEWAYS, InBrowser
 from .test_pages import HOSTILE, spoil
-from .test_what_if import EXAMPLES, TOP
+from .studied import EXAMPLES, TOP, programs
 
 RUNS = EXAMPLES / "run"
 
 
 def setUpModule() -> None:
-    test_what_if.setUpModule()
+    programs()
 
 
 def told(name: str) -> dict[str, Any]:

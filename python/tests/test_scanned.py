@@ -11,7 +11,7 @@ from lte_sec.captures.capture_files import messages
 from lte_sec.captures.decoding import Message
 from lte_sec.captures.layers import of_packet
 from lte_sec.captures.packets import cut
-from lte_sec.captures.scanner import BEGINS, of_lines, scanned
+from lte_sec.captures.scanner import of_lines, scanned
 from lte_sec.common.terms import TraceError
 
 from .test_spoilt import NAMES, stored
@@ -37,11 +37,6 @@ def told(text: str, by_lines: bool) -> list[Message] | str:
         return str(fault)
 
 
-def by_lines_alone(text: str) -> Message | None:
-    begins = BEGINS.search(text)
-    return scanned(text, begins.start(), "", "it") if begins else None
-
-
 class Scanned(unittest.TestCase):
     def test_lines_tell_what_all_of_the_json_tells(self) -> None:
         for name in EVERY:
@@ -51,7 +46,7 @@ class Scanned(unittest.TestCase):
 
     def test_most_packets_are_read_by_their_lines(self) -> None:
         """All but the setups of X2, which tell cells."""
-        read = [by_lines_alone(text) for text in packets("C")]
+        read = [scanned(text, "", "it") for text in packets("C")]
         self.assertEqual(([message is None for message in read].count(True), len(read)), (2, 77))
 
     def test_values_that_are_none_end_alike(self) -> None:
@@ -74,7 +69,7 @@ class Scanned(unittest.TestCase):
         for what, other in others.items():
             with self.subTest(what=what):
                 self.assertTrue(other != text)
-                self.assertIsNone(by_lines_alone(other))
+                self.assertIsNone(scanned(other, "", "it"))
                 self.assertEqual(told(other, True), told(other, False))
 
     def test_pieces_of_any_size_are_the_same_packets(self) -> None:

@@ -14,11 +14,11 @@ from lte_sec.judge.reading import check
 from lte_sec.common.report import DIFFERS, UNKNOWN, Line
 from lte_sec.common.terms import Derivations, Kasme
 
+from .message_situations import able, begun, command_without_ncc, null_integrity, prepared, replays, secondary_keys, sound, turned, with_message
 from .simulated import CALLS, CELLS, World
 from .situations import (
-    KASMES, Made, able, again, alike, attach_without_commands, begun, command_without_ncc, first_nh, foreign, gap, high, null_integrity, other_cell,
-    other_cell_over_s1, pool, prepared, refreshed, replays, resumed_with_another_key, secondary_keys, sound, suspended, through_cells, turned,
-    unknown_kasme, with_message, without_commands,
+    KASMES, Made, again, alike, attach_without_commands, first_nh, foreign, gap, high, other_cell, other_cell_over_s1, pool, refreshed,
+    resumed_with_another_key, suspended, through_cells, unknown_kasme, without_commands,
 )
 
 PAGE = Path(__file__).resolve().parents[2] / "docs" / "TRACES.md"

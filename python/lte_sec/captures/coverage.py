@@ -61,7 +61,10 @@ class Coverage:
     stations: dict[str, None] = field(default_factory=dict)  # all that the trace names, in order
     presupposed: set[tuple[str, str]] = field(default_factory=set)  # directions of S1 in which something was sent, as a message of the other shows
 
+    answered: dict[tuple[str, str], bool] = field(default_factory=dict, init=False, repr=False, compare=False)  # of S1, as it is asked for each message
+
     def s1_seen(self, station: str, way: str, number: int = 1) -> None:
+        self.answered.clear()
         self.s1_counts[station, way] += number
         self.stations.setdefault(station)
 
@@ -75,6 +78,12 @@ class Coverage:
         return all(self.s1_way(station, way) for way in ways or WAYS)
 
     def s1_way(self, station: str, way: str) -> bool:
+        found = self.answered.get((station, way))
+        if found is None:
+            found = self.answered[station, way] = self.s1_way_of(station, way)
+        return found
+
+    def s1_way_of(self, station: str, way: str) -> bool:
         if any(one.of_s1(station, way) for one in self.lacks):
             return False
         if any(one.of_s1(station, way) for one in self.covers):

@@ -187,6 +187,9 @@ def reestablishments(radio: Radio) -> list[Reestablishment]:
             for one in items.values() if {"cellIdentity", "key_eNodeB_Star", "shortMAC_I"} <= set(one)]
 
 
+TOLD = ("targetPhysCellId", "nextHopChainingCount", "dl_CarrierFreq", "dl_CarrierFreq_v9e0", "keyChangeIndicator")  # what a command tells
+
+
 def command(radio: Radio, whole: bytes) -> Command | None:
     """The handover command among RRC values, or None."""
     found: dict[str, int] = {}

@@ -2,12 +2,14 @@
 from __future__ import annotations
 
 import json
+import re
 from collections.abc import Iterable, Iterator
 
 from ..common.terms import TraceError
 from .decoding import Pairs, is_tree
 
 FIRST, LAST = "  {", "  }"  # lines in which a packet begins and ends
+ENDS = re.compile("\n" + LAST)  # which is sought faster so than by `find`, as a packet is blanks for the most part
 CHUNK = 1 << 16  # octets of what tshark prints that are read at once
 READS = json.JSONDecoder(object_pairs_hook=list).decode
 
@@ -25,7 +27,8 @@ class Cutter:
         """The packets that are whole with this piece."""
         text, at, mark = self.text + piece, 0, 0
         while True:
-            mark = text.find("\n" + LAST, max(at, self.looked)) if self.inside else at
+            ends = ENDS.search(text, max(at, self.looked)) if self.inside else None
+            mark = at if not self.inside else -1 if ends is None else ends.start()
             end = text.find("\n", mark + self.inside) if mark >= 0 else -1
             if end < 0 and not (is_last and 0 <= mark < len(text)):
                 break

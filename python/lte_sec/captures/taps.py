@@ -48,16 +48,17 @@ class SecondTaps:
         self.told[capture] += 1
         self.is_sure &= time - APART > self.gone
         self.newest = max(self.newest, time)
-        before = self.last.get(hash(key))
+        mark = hash(key)
+        before = self.last.get(mark)
         first = self.messages[before[0]] if before is not None and 0 <= time - before[1] <= APART else None
         if first is not None and alike(first) == key:
             if capture_of(first) == capture:
                 self.same.append((place, capture))
             else:
                 self.elsewhere.append(place)
-            self.last.pop(hash(key))  # a third one begins anew
+            self.last.pop(mark)  # a third one begins anew
         else:
-            self.last[hash(key)] = place, time
+            self.last[mark] = place, time
         if self.is_bounded and len(self.last) > self.most:
             self.forget()
 

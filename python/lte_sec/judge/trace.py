@@ -74,18 +74,24 @@ class Trace(Handovers):
             before, self.at, self.cells.now = len(self.judge.lines), place, place
             self.one(message, place)
             self.left_over(message, before)
-            self.weigh(place, before)
-            for line in self.judge.lines.since(before):
-                line.place = place if line.frame == message.frame else self.grounds.first.get(line.frame)
-            if place in self.owners and any(line.verdict == RIGHT for line in self.judge.lines.since(before)):
-                self.owners[place].proved = place
-            differing += sum(line.verdict == DIFFERS for line in self.judge.lines.since(before))
+            if len(self.judge.lines) > before:
+                differing += self.told_of(message, place, before)
             self.steps += 1
             if most is None:
                 self.judge.lines.settle(self.grounds.first.get)
             if most is not None and differing > most:
                 break
         self.steps += (self.tried - tried) // TRIES
+
+    def told_of(self, message: Message, place: int, before: int) -> int:
+        """Gives the lines of a message their place, and weighs them; how many differ."""
+        self.weigh(place, before)
+        lines = self.judge.lines.since(before)
+        for line in lines:
+            line.place = place if line.frame == message.frame else self.grounds.first.get(line.frame)
+        if place in self.owners and any(line.verdict == RIGHT for line in lines):
+            self.owners[place].proved = place
+        return sum(line.verdict == DIFFERS for line in lines)
 
     @property
     def tried(self) -> int:
