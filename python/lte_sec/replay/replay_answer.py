@@ -14,7 +14,7 @@ NO_TEXTS = "A scenario of a capture has KASME in it; its NAS texts are zeros"
 
 
 @dataclass
-class Part:
+class ReplayedPart:
     """A scenario of a phone: its number, as 1, or 1.2 where it has several; and the KASMEs of the phone."""
 
     number: str
@@ -28,7 +28,7 @@ class ReplayedCapture:
     """All that was replayed of a capture, and the keys that are of no phone."""
 
     captures: list[str]
-    parts: list[Part] = field(default_factory=list)
+    parts: list[ReplayedPart] = field(default_factory=list)
     others: list[ComparedKey] = field(default_factory=list)
     texts: bool = True
 
@@ -70,7 +70,7 @@ def key_of(one: ComparedKey) -> dict[str, object]:
     }
 
 
-def document_of(part: Part) -> dict[str, object]:
+def document_of(part: ReplayedPart) -> dict[str, object]:
     done = part.done
     return {
         "phone": part.number, "kasmes": part.kasmes, "file": part.file or None, "steps": len(done.course.items),
@@ -80,7 +80,7 @@ def document_of(part: Part) -> dict[str, object]:
     }
 
 
-def scenario_of(answer: ReplayedCapture, part: Part) -> str:
+def scenario_of(answer: ReplayedCapture, part: ReplayedPart) -> str:
     """The scenario as a text: above the steps of a message a remark with its frame."""
     script, course = part.done.script, part.done.course
     lines = [

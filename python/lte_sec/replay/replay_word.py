@@ -13,7 +13,7 @@ from ..traces.trace_words import TraceWords, noted, traced
 from .comparison import ComparedKey, ReplayVerdict, compared
 from .phones import CapturedPhone, first_ncc, phones_of
 from .recording import Met, RecordedTrace, record
-from .replay_answer import NO_TEXTS, SECRETS, Part, ReplayedCapture, scenario_of
+from .replay_answer import NO_TEXTS, SECRETS, ReplayedCapture, ReplayedPart, scenario_of
 from .script import CELLS, STATIONS, Script
 from .steps import Steps, triggers_of
 
@@ -68,7 +68,7 @@ def replayed(program: str, found: RecordedTrace, captures: list[str], texts: boo
         for place, steps in enumerate(scenarios, 1):
             capabilities(steps, phone)
             done = compared(steps.script, steps.script.run(program), steps.rows, found.kasmes)
-            answer.parts.append(Part(str(number) if len(scenarios) == 1 else f"{number}.{place}", phone.kasmes, done))
+            answer.parts.append(ReplayedPart(str(number) if len(scenarios) == 1 else f"{number}.{place}", phone.kasmes, done))
     for met in others:
         if met.key is not None:
             why = Cause.OF_NO_PHONE if met.connection is None else Cause.NOT_GIVEN

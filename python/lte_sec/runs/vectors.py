@@ -16,7 +16,7 @@ from ..common.pairs import paired
 from ..common.terms import TraceError
 
 VERSION, MOST, USUAL, SEEDS = 1, 100_000, 1000, 2**32
-Fields = dict[str, str]
+CalcFields = dict[str, str]
 
 # Why a test is invalid: what was done, and what a receiver must find.
 FLAGS = {
@@ -32,14 +32,14 @@ class DrawnCase:
     """A test before it is answered: the line of calc and its fields; why it is invalid; how a message is made first, and spoilt."""
 
     word: str
-    fields: Fields
+    fields: CalcFields
     comment: str
     flag: str | None = None
-    seal: tuple[str, Fields] | None = None
+    seal: tuple[str, CalcFields] | None = None
     spoil: Callable[[bytes], bytes] = bytes
 
 
-def line_of(word: str, fields: Fields) -> str:
+def line_of(word: str, fields: CalcFields) -> str:
     return " ".join([word, *(value or "-" for value in fields.values())])
 
 

@@ -11,7 +11,7 @@ from collections.abc import Callable
 
 from ..common.options import WrongWords
 from ..common.pairs import paired
-from .vectors import GROUPS, Draws, Fields, answers, line_of
+from .vectors import GROUPS, CalcFields, Draws, answers, line_of
 
 VERSION = "1"
 Test = dict[str, object]
@@ -28,7 +28,7 @@ def derivation(code: int, *parameters: bytes) -> bytes:
     return bytes([code]) + b"".join(one + len(one).to_bytes(2, "big") for one in parameters)
 
 
-def key_and_text(word: str, fields: Fields) -> tuple[bytes, bytes]:
+def key_and_text(word: str, fields: CalcFields) -> tuple[bytes, bytes]:
     """The key and S of a derivation (TS 33.401 A.2 to A.7)."""
     key = bytes.fromhex(fields["ck"] + fields["ik"] if word == "kasme" else fields["key"] if "key" in fields else fields["kasme"])
     if word == "kasme":
@@ -42,21 +42,21 @@ def key_and_text(word: str, fields: Fields) -> tuple[bytes, bytes]:
     return key, derivation(0x15, of_number(fields["type"], 1), of_number(fields["id"], 1))
 
 
-def iv(fields: Fields) -> str:
+def iv(fields: CalcFields) -> str:
     """COUNT, BEARER and DIRECTION, as 128-EEA2 and 128-EIA2 begin with them (TS 33.401 B.1.3, B.2.3)."""
     return (of_number(fields["count"], 4) + bytes([int(fields["bearer"]) << 3 | (fields["direction"] == "downlink") << 2, 0, 0, 0])).hex()
 
 
-def of_derivation(word: str, fields: Fields, answer: str) -> Test:
+def of_derivation(word: str, fields: CalcFields, answer: str) -> Test:
     key, text = key_and_text(word, fields)
     return {"key": key.hex(), "msg": text.hex(), "tag": answer}
 
 
-def of_cipher(word: str, fields: Fields, answer: str) -> Test:
+def of_cipher(word: str, fields: CalcFields, answer: str) -> Test:
     return {"key": fields["key"], "iv": iv(fields), "msg": fields["text"], "ct": "" if answer == "-" else answer}
 
 
-def of_mac(word: str, fields: Fields, answer: str) -> Test:
+def of_mac(word: str, fields: CalcFields, answer: str) -> Test:
     return {"key": fields["key"], "iv": iv(fields), "msg": fields["text"], "tag": answer}
 
 
@@ -68,7 +68,7 @@ class Kind:
     schema: str
     group: dict[str, object]
     words: tuple[str, ...]
-    test: Callable[[str, Fields, str], Test]
+    test: Callable[[str, CalcFields, str], Test]
 
 
 CIPHERS, MACS = ("SNOW3G", "AES-CTR", "ZUC"), ("SNOW3G", "AES-CMAC", "ZUC")
