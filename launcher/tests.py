@@ -21,6 +21,7 @@ import calc  # noqa: E402
 import ladder  # noqa: E402
 import pages  # noqa: E402
 from lte_sec.runs import document, scenario_faults, scenario_fields  # noqa: E402
+from lte_sec.traces import trace_words  # noqa: E402
 
 EXAMPLES = TOP / "examples"
 SETUP = 'phone = { caps = "a020" }\nstation = [{ id = 0, cells = [[10, 100]] }, { id = 1, cells = [[11, 101]] }]\n'
@@ -275,9 +276,8 @@ class Installed(unittest.TestCase):
             self.assertIn(told["error"].split("no ")[0], ran.stderr.decode(), word)
 
     def test_each_option_that_is_taken_is_in_the_table(self) -> None:
-        package = TOP / "python" / "lte_sec"
         of = {word.name: {name.split()[0] for name, _ in word.below if name.startswith("--")} for word in self.WORDS}
-        for name, usage in re.findall(r'^    "([\w-]+)": "(.*)",$', (package / "traces/trace_words.py").read_text(), re.MULTILINE):
+        for name, usage in trace_words.USAGE.items():
             self.assertEqual(set(re.findall(r"--[a-z-]+", usage)), of[name], name)
 
     def test_each_option_of_the_table_is_asked_for(self) -> None:

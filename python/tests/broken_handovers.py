@@ -5,7 +5,8 @@ from collections.abc import Callable
 
 from lte_sec.captures.decoding import Command
 
-from .networks import CELL, ENB1, ENB2, ENB2_SECOND, ENB3, Context, Network, attached, broken, chain, star
+from .nas_messages import Context
+from .networks import CELL, ENB1, ENB2, ENB2_SECOND, ENB3, Network, attached, broken, chain, star
 from .simulated import CALLS
 from .standin import kdf
 

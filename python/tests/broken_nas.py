@@ -3,9 +3,10 @@ from __future__ import annotations
 
 from collections.abc import Callable
 
-from .networks import (
-    ATTACH, COMPLETE, COMPLETE_IMEI, DOWN, ENB1, INFORMATION, UP, UPDATE_ACCEPT, UPDATE_ACTIVE, UPDATED, UPLINK, Body, Context, Mac, Network, accept, attached, broken,
+from .nas_messages import (
+    ATTACH, COMPLETE, COMPLETE_IMEI, DOWN, INFORMATION, UP, UPDATED, UPDATE_ACCEPT, UPDATE_ACTIVE, UPLINK, Body, Context, Mac, accept,
 )
+from .networks import ENB1, Network, attached, broken
 from .simulated import CALLS
 from .standin import kdf
 

@@ -17,7 +17,7 @@ from lte_sec.judge.reading import check
 from lte_sec.common.report import DIFFERS, UNKNOWN, Line
 from lte_sec.common.terms import Derivations, Kasme
 
-from . import broken_handovers, broken_nas, sound_handovers, sound_modes, sound_phones, test_faults, test_simulated, test_situations
+from . import broken_handovers, broken_nas, sound_handovers, sound_modes, sound_phones, sound_worlds, test_faults, test_simulated, test_situations
 from .networks import BROKEN, SITES, SOUND, Network
 from .simulated import CALLS, World
 from .situations import KASMES
@@ -72,7 +72,7 @@ def of_network(name: str, network: Network) -> Case:
     return Case(name, network.messages, [Kasme(one.name, one.kasme) for one in network.contexts], network.faults[0] if network.faults else "")
 
 
-WORLDS: dict[str, Callable[[], World]] = {**test_simulated.SOUND, **{name: one.sound for name, one in test_situations.SITUATIONS.items()}, **test_faults.SOUND}
+WORLDS: dict[str, Callable[[], World]] = {**sound_worlds.SOUND, **{name: one.sound for name, one in test_situations.SITUATIONS.items()}, **test_faults.SOUND}
 
 
 def sound_cases() -> Iterator[Case]:

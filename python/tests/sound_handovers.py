@@ -3,8 +3,9 @@ from __future__ import annotations
 
 from lte_sec.captures.decoding import Command
 
+from .nas_messages import UPDATE, UPDATED, UPDATE_ACCEPT, Context, kasme_of
 from .networks import (
-    CELL, CORE, ENB1, ENB2, ENB2_SECOND, END, FIRST, GATEWAY, HOME1, HOME2, HOME_END, UPDATE, UPDATE_ACCEPT, UPDATED, Context, Network, attached, chain, kasme_of, sound, star,
+    CELL, CORE, ENB1, ENB2, ENB2_SECOND, END, FIRST, GATEWAY, HOME1, HOME2, HOME_END, Network, attached, chain, sound, star,
 )
 
 

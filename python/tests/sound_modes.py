@@ -1,7 +1,10 @@
 """Conformant networks: authentications, Security Mode exchanges and algorithms."""
 from __future__ import annotations
 
-from .networks import ATTACH, ATTACHED, AUTHENTICATED, CORE_2, DOWN, ENB1, ENB2, INFORMATION, UP, UPDATE_ACCEPT, UPDATE_ACTIVE, UPDATED, Context, Network, accept, attached, authentication, chain, sound, star
+from .nas_messages import (
+    ATTACH, ATTACHED, AUTHENTICATED, DOWN, INFORMATION, UP, UPDATED, UPDATE_ACCEPT, UPDATE_ACTIVE, Context, accept, authentication,
+)
+from .networks import CORE_2, ENB1, ENB2, Network, attached, chain, sound, star
 
 
 def begun(phone: Context, authenticated: bool = False) -> Network:

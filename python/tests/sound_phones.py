@@ -3,9 +3,10 @@ from __future__ import annotations
 
 import copy
 
-from .networks import (
-    ATTACH, ATTACHED, AUTHENTICATED, CORE, CORE_2, DOWN, ENB1, ENB2, END, UP, UPDATE, UPDATE_ACCEPT, UPDATE_ACTIVE, UPDATED, Context, Network, accept, attached, authentication, chain, kasme_of, reallocation, sound, star,
+from .nas_messages import (
+    ATTACH, ATTACHED, AUTHENTICATED, DOWN, UP, UPDATE, UPDATED, UPDATE_ACCEPT, UPDATE_ACTIVE, Context, accept, authentication, kasme_of, reallocation,
 )
+from .networks import CORE, CORE_2, ENB1, ENB2, END, Network, attached, chain, sound, star
 
 EMERGENCY = ATTACH[:2] + b"\x76" + ATTACH[3:]
 

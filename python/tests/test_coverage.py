@@ -17,7 +17,7 @@ from lte_sec.common.terms import Derivations, Kasme, TraceError
 
 from .simulated import CALLS, CELLS, ENDS, World
 from .situations import numbered, without_commands
-from .test_simulated import ENB1, ENB2, ENB3, KASMES, attached
+from .sound_worlds import ENB1, ENB2, ENB3, KASMES, attached
 
 
 def seen(messages: list[Message], said: Said = Said()) -> Account:

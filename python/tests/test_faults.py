@@ -10,9 +10,9 @@ from lte_sec.common.report import DIFFERS, Line
 from lte_sec.common.terms import Derivations, Kasme
 
 from .faulty import (
-    Made, LONG, accepted_again, begins_there, behind_a_reject, commanded_again, eea2, header_1_up, kdf, key_by, keys, lacking, mac_by, mac_without_overflow, null_integrity, other_algorithm, renewed, replayed,
-    service_at, setup_again, short_mac_at, text_by, tracked, tracking_ciphered,
+    LONG, Made, accepted_again, begins_there, eea2, header_1_up, kdf, key_by, keys, mac_by, mac_without_overflow, replayed, service_at, setup_again, short_mac_at, text_by, tracked, tracking_ciphered,
 )
+from .faulty_modes import behind_a_reject, commanded_again, lacking, null_integrity, other_algorithm, renewed
 from .simulated import CALLS, CELLS, World
 from .situations import ENB1, ENB2, KASMES, attached
 

@@ -21,7 +21,8 @@ from lte_sec.common.causes import Cause
 from lte_sec.judge.trace import Trace
 
 from . import broken_handovers, broken_nas, sound_handovers, sound_phones
-from .networks import BROKEN, END, ENB1, ENB2, SITES, Context, Network, attached, chain, star
+from .nas_messages import Context
+from .networks import BROKEN, ENB1, ENB2, END, SITES, Network, attached, chain, star
 from .crowds import crowd
 from .simulated import CALLS, CELLS
 

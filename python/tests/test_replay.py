@@ -31,7 +31,8 @@ from . import simulated
 from .lost_answers import made
 from .simulated import CALLS, CELLS, Phone, World
 from .situations import KASMES as SITUATED
-from .test_simulated import BROKEN, KASMES, SOUND
+from .sound_worlds import KASMES, SOUND
+from .test_simulated import BROKEN
 from .test_situations import SITUATIONS
 
 TOP = Path(__file__).resolve().parents[2]

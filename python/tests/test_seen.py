@@ -15,7 +15,7 @@ from lte_sec.common.terms import Derivations, Kasme
 from lte_sec.traces.trace_document import as_json, comments, lines
 
 from .simulated import CALLS, CELLS, ENDS, Phone, World
-from .test_simulated import ENB1, ENB2, ENB3, KASMES
+from .sound_worlds import ENB1, ENB2, ENB3, KASMES
 
 HOSTILE = "enb1\nframe 1 NAS differs\ud800\u202e"
 

@@ -17,7 +17,7 @@ from . import test_faults, test_simulated
 from .in_views import WORLDS
 from .simulated import CALLS, CELLS
 from .situations import KASMES
-from .test_simulated import late_answer
+from .sound_worlds import late_answer
 
 EVERY = 1 if os.environ.get("EVERY_PLACE") else 7  # the gate tries a sample
 LONG = 100  # messages; longer worlds say the same again and again
