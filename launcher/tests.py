@@ -283,7 +283,7 @@ class Installed(unittest.TestCase):
     def test_each_option_of_the_table_is_asked_for(self) -> None:
         for name, files in (
             ("check-trace", ["trace_words"]), ("explain", ["trace_words"]), ("wireshark", ["trace_words"]), ("vectors", ["trace_words"]), ("replay", ["trace_words", "replay_word"]), ("what-if", ["what_if_word"]), ("repeats", ["trace_words"]),
-            ("verdict", ["verdict"]), ("draw", ["run_page"]), ("drive", ["drive_word", "suite_word", "generate"]), ("demands", ["demands"]),
+            ("verdict", ["verdict"]), ("draw", ["run_page"]), ("drive", ["drive_options", "drive_word", "suite_word", "generate"]), ("demands", ["demands"]),
         ):
             texts = "".join(next((TOP / "python/lte_sec").rglob(f"{file}.py")).read_text() for file in files)
             asked = set(re.findall(r'"(--[a-z-]+)"', texts)) | {"--suite"}

@@ -4,7 +4,7 @@ import sys
 import unittest
 from unittest import mock
 
-from lte_sec.drive import differences, drive_word as drive, frames, patient
+from lte_sec.drive import differences, drive_options, drive_word as drive, frames, patient
 from lte_sec.common import ending
 from lte_sec.common.options import WrongWords
 
@@ -54,7 +54,7 @@ class Drive(unittest.TestCase):
 
     def test_commands_become_variables_with_a_word_in_each_line(self) -> None:
         with mock.patch("shutil.which", lambda name: f"/bin/{name}"):
-            found = drive.DriveOptions.read(["--phone", "actor 'two words'", "--station", "3=actor", "--station", "any", "--core", "a b"]).more
+            found = drive_options.DriveOptions.read(["--phone", "actor 'two words'", "--station", "3=actor", "--station", "any", "--core", "a b"]).more
         self.assertEqual(found, {"LTE_SEC_PHONE": "/bin/actor\ntwo words", "LTE_SEC_STATION_3": "/bin/actor", "LTE_SEC_STATION": "/bin/any", "LTE_SEC_CORE": "/bin/a\nb"})
 
     def test_an_actor_that_failed_is_told_with_its_step_and_how(self) -> None:
@@ -76,7 +76,7 @@ class Drive(unittest.TestCase):
 
     def test_a_report_that_cannot_be_written_is_status_5_also_where_the_program_ended_before(self) -> None:
         for lines in ("0 both done", "0 both done\\n1 core done"):
-            run = drive.Run([sys.executable, "-c", f"print('{lines}')"], drive.DriveOptions({}))
+            run = drive.Run([sys.executable, "-c", f"print('{lines}')"], drive_options.DriveOptions({}))
             with mock.patch("lte_sec.drive.drive_word.put", side_effect=OSError):
                 self.assertEqual(ending.WRITING, drive.answered(run))
             assert run.driven and run.driven.process.stderr
@@ -91,10 +91,10 @@ class Drive(unittest.TestCase):
         driven.process.stderr.close()
 
     def test_the_words_of_a_call(self) -> None:
-        found = drive.DriveOptions.read(["--timeout", "2.5", "--phone", sys.executable, "--json"])
+        found = drive_options.DriveOptions.read(["--timeout", "2.5", "--phone", sys.executable, "--json"])
         self.assertEqual((2.5, True, [sys.executable]), (found.seconds, found.is_json, found.more["LTE_SEC_PHONE"].split("\n")))
         for word in ("0", "-1", "soon"):
-            self.assertRaisesRegex(WrongWords, "--timeout needs a number of seconds above 0", drive.DriveOptions.read, ["--timeout", word])
+            self.assertRaisesRegex(WrongWords, "--timeout needs a number of seconds above 0", drive_options.DriveOptions.read, ["--timeout", word])
 
     def test_frames_are_counted_as_they_come(self) -> None:
         frames_of = patient.Frames()
@@ -127,7 +127,7 @@ class Drive(unittest.TestCase):
         self.assertEqual({"error": "memory ran out", "status": 1, "report": []}, drive.no_answer(1, [], "a program", b""))
 
     def test_the_program_is_given_the_whole_scenario(self) -> None:
-        run = drive.Run([sys.executable, "-c", "import sys; print(len(sys.stdin.read()))"], drive.DriveOptions({}, True), b"x" * 100_000)
+        run = drive.Run([sys.executable, "-c", "import sys; print(len(sys.stdin.read()))"], drive_options.DriveOptions({}, True), b"x" * 100_000)
         with mock.patch("lte_sec.drive.drive_word.put"):
             status, driven = run.run()
             driven.tell()
@@ -141,15 +141,15 @@ class Drive(unittest.TestCase):
     def test_wrong_commands_are_told(self) -> None:
         for command in ("", "'", "no-such-program-anywhere", "a\nb"):
             with self.assertRaises(WrongWords):
-                drive.variable("--core", command)
+                drive_options.variable("--core", command)
 
     def test_a_station_that_cannot_be_is_told_with_those_that_can(self) -> None:
         for command in ("8=cat", "10=cat", "12=cat", "9=python3 actor.py"):
-            self.assertRaisesRegex(WrongWords, "there is no station .*: --station N=CMD takes N 0 to 7", drive.variable, "--station", command)
+            self.assertRaisesRegex(WrongWords, "there is no station .*: --station N=CMD takes N 0 to 7", drive_options.variable, "--station", command)
 
     def test_a_path_is_made_whole(self) -> None:
         with mock.patch("shutil.which", lambda name: name):
-            self.assertEqual(drive.variable("--phone", "./a"), ("LTE_SEC_PHONE", os.path.abspath("a")))
+            self.assertEqual(drive_options.variable("--phone", "./a"), ("LTE_SEC_PHONE", os.path.abspath("a")))
 
 
 if __name__ == "__main__":

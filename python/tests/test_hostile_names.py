@@ -8,7 +8,7 @@ import unittest
 from collections.abc import Callable
 from dataclasses import dataclass, replace
 
-from lte_sec.judge import lawful
+from lte_sec.judge.questions import Phone as AskedPhone
 from lte_sec.common.causes import Cause
 from lte_sec.captures.cells import Cells
 from lte_sec.captures.decoding import Message
@@ -83,7 +83,7 @@ def replayed(trace: Trace) -> list[tuple[object, ...]]:
 def questions(trace: Trace) -> list[str]:
     """What is asked of each phone."""
     phones = sorted({one.phone for one in trace.seen.messages if one.phone is not None})
-    return [lawful.Phone(trace, [one for one in trace.seen.messages if one.phone == number]).question(1, True) for number in phones]
+    return [AskedPhone(trace, [one for one in trace.seen.messages if one.phone == number]).question(1, True) for number in phones]
 
 
 class HostileNames(unittest.TestCase):

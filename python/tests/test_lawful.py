@@ -7,7 +7,7 @@ import unittest
 from pathlib import Path
 from unittest import mock
 
-from lte_sec.judge import lawful
+from lte_sec.judge import lawful, questions
 from lte_sec.captures.capture_files import read
 from lte_sec.common.causes import Cause, has, told
 from lte_sec.common.report import DIFFERS, KEYS, UNKNOWN, Line
@@ -26,7 +26,7 @@ def traced(name: str) -> Trace:
     return judged(name, list(read(TRACES / f"{name}.json.gz")))
 
 
-class Says(lawful.Program):
+class Says(questions.Program):
     """A program that finds a history for all messages but those with these keys."""
 
     def __init__(self, *wrong: str, closed: bool = True, never: bool = False):
@@ -36,12 +36,12 @@ class Says(lawful.Program):
         object.__setattr__(self, "closed", closed)
         object.__setattr__(self, "questions", [])
 
-    def ask(self, question: str) -> lawful.Found | None:
+    def ask(self, question: str) -> questions.Found | None:
         self.questions.append(question)  # type: ignore[attr-defined]
         shown = [line for line in question.splitlines() if line.split()[0] in SIGHTINGS]
         bad = [place for place, line in enumerate(shown) if any(key in line for key in self.wrong)]  # type: ignore[attr-defined]
         moves = ("unseen arrive", "unseen prepare 0 10 100 last", *("seen switch" for _ in shown)) if "moves" in question.splitlines() else ()
-        return lawful.Found(bad[0] if bad else len(shown), self.closed, moves, bool(bad) and self.never)  # type: ignore[attr-defined]
+        return questions.Found(bad[0] if bad else len(shown), self.closed, moves, bool(bad) and self.never)  # type: ignore[attr-defined]
 
 
 def blamed(seen: Account) -> list[str]:
@@ -75,7 +75,7 @@ class Blames(unittest.TestCase):
             self.assertIn("with the arrival at the target, a handover over X2 prepared at ", reason)
 
     def test_the_moves_of_a_history_are_told_in_words(self) -> None:
-        phone = lawful.Phone(traced("B1-star-earfcn"), [])
+        phone = questions.Phone(traced("B1-star-earfcn"), [])
         phone.numbers.of("eNB 7")
         said = [*phone.grounds(["unseen arrive", "seen renew 0 3 1 0 10 100 taken", "unseen ask lost", *["unseen switch"] * 8, "seen prepare 0 10 100 besides"])]
         self.assertEqual(f"{NOT_FOUND}, with no unseen move", told(said[0]))
@@ -100,7 +100,7 @@ class Blames(unittest.TestCase):
         self.assertIn("any over", asked.questions[-1])  # type: ignore[attr-defined]
 
     def test_a_question_has_how_a_blamed_key_is_made(self) -> None:
-        phone = lawful.Phone(traced("B1-star-earfcn"), [])
+        phone = questions.Phone(traced("B1-star-earfcn"), [])
         derivations = phone.trace.derivations
         kenb = derivations.kenb(0, 7)
         nh = derivations.next_nh(0, derivations.next_nh(0, kenb))
@@ -114,28 +114,28 @@ class Blames(unittest.TestCase):
             (derivations.algorithm(kenb, 1, 2), []),
             (Key(bytes(32), NONE), []),
         ):
-            phone.sightings = [lawful.Sighting("over 0 1", value=Line("1", "HandoverRequest", "KeNB*", DIFFERS, key=key))]
+            phone.sightings = [questions.Sighting("over 0 1", value=Line("1", "HandoverRequest", "KeNB*", DIFFERS, key=key))]
             phone.question(1, True)
             self.assertEqual(wanted, [*phone.clues()], key.form)
 
     def test_a_blame_whose_message_no_history_has_is_not_confirmed(self) -> None:
         trace = traced("B1-star-earfcn")
-        with mock.patch.object(lawful.Program, "ask", return_value=lawful.Found(1, True)):
-            seen = lawful.confirmed(trace, lawful.Program("", True))
+        with mock.patch.object(questions.Program, "ask", return_value=questions.Found(1, True)):
+            seen = lawful.confirmed(trace, questions.Program("", True))
         self.assertEqual(blamed(trace.seen), blamed(seen))
         self.assertNotIn("confirmed by proof", seen.head[-1])
         self.assertIn("not confirmed", seen.head[-1])
 
     def test_a_search_that_is_given_up_confirms_nothing(self) -> None:
         trace = traced("B1-star-earfcn")
-        with mock.patch.object(lawful.Program, "ask", return_value=None):
-            seen = lawful.confirmed(trace, lawful.Program("", True))
+        with mock.patch.object(questions.Program, "ask", return_value=None):
+            seen = lawful.confirmed(trace, questions.Program("", True))
         self.assertEqual(blamed(trace.seen), blamed(seen))
         self.assertIn("not confirmed", seen.head[-1])
 
     def test_where_a_search_is_given_up_fewer_moves_go_unseen(self) -> None:
         class Gives(Says):
-            def ask(self, question: str) -> lawful.Found | None:
+            def ask(self, question: str) -> questions.Found | None:
                 return None if "bound 2" in question.splitlines() else super().ask(question)
 
         trace = traced("B1-star-earfcn")
@@ -146,7 +146,7 @@ class Blames(unittest.TestCase):
         self.assertIn("with at most 1 unseen move between", seen.head[-1])
 
     def test_where_the_program_is_not_built_the_head_says_so(self) -> None:
-        with mock.patch.dict(os.environ, {lawful.VARIABLE: ""}):
+        with mock.patch.dict(os.environ, {questions.VARIABLE: ""}):
             self.assertEqual(lawful.NOT_BUILT, lawful.confirmed(traced("B1-star-earfcn")).head[-1])
             trace = traced("A")
             self.assertIs(trace.seen, lawful.confirmed(trace))
@@ -154,14 +154,14 @@ class Blames(unittest.TestCase):
     def test_the_answer_of_a_program(self) -> None:
         with tempfile.TemporaryDirectory() as folder:
             program = Path(folder) / "program"
-            for text, status, wanted in (("explained 3 of 4 closed", 0, lawful.Found(3, True)), ("explained 1 of 4\nseen switch", 0, lawful.Found(1, False, ("seen switch",))), ("explained 4 of 4", 0, lawful.Found(4, False)), ("explained 2 of 4 closed out-of-order", 0, lawful.Found(2, True, (), True)), ("explained 2 of 4 out-of-order", 0, lawful.Found(2, False, (), True)), ("explained 2 of 4 out-of-place", 0, lawful.Found(2, False, (), True)), ("explained 2 of 4 closed out-of-order out-of-reach", 0, lawful.Found(2, True, (), True)), ("bad line 1", 3, None), ("", 12, None)):
+            for text, status, wanted in (("explained 3 of 4 closed", 0, questions.Found(3, True)), ("explained 1 of 4\nseen switch", 0, questions.Found(1, False, ("seen switch",))), ("explained 4 of 4", 0, questions.Found(4, False)), ("explained 2 of 4 closed out-of-order", 0, questions.Found(2, True, (), True)), ("explained 2 of 4 out-of-order", 0, questions.Found(2, False, (), True)), ("explained 2 of 4 out-of-place", 0, questions.Found(2, False, (), True)), ("explained 2 of 4 closed out-of-order out-of-reach", 0, questions.Found(2, True, (), True)), ("bad line 1", 3, None), ("", 12, None)):
                 program.write_text(f"#!/bin/sh\ncat >/dev/null\necho '{text}'\nexit {status}\n")
                 program.chmod(0o700)
-                with mock.patch.dict(os.environ, {lawful.VARIABLE: f"proved {program}"}):
-                    found = lawful.program()
+                with mock.patch.dict(os.environ, {questions.VARIABLE: f"proved {program}"}):
+                    found = questions.program()
                 assert found is not None
                 self.assertEqual(wanted, found.ask("bound 0\n"), text)
-        self.assertIsNone(lawful.Program(str(program), True).ask(""))
+        self.assertIsNone(questions.Program(str(program), True).ask(""))
 
 
 if __name__ == "__main__":

@@ -12,8 +12,6 @@ import json
 import os
 import pathlib
 import re
-import shlex
-import shutil
 import signal
 import subprocess
 import sys
@@ -25,7 +23,8 @@ from typing import IO
 from lte_sec.runs import scenarios
 from lte_sec.drive.differences import Difference, difference_of, place_of, steps_of, with_mistake
 from lte_sec.common.ending import HEAD, READING, WRITING, InputFails, answers
-from lte_sec.common.options import Words, WrongWords
+from lte_sec.common.options import WrongWords
+from lte_sec.drive.drive_options import STATIONS, DriveOptions
 from lte_sec.drive.patient import TURN, Relays
 from lte_sec.drive.peers import TO_SAY, PeerFault
 
@@ -35,58 +34,10 @@ ANSWERS = (0, FAULT, 7, DIFFERS_AT)  # statuses with a report
 NO_ANSWER = {1: "memory ran out", READING: "reading the input failed", 9: "the input has more than 16,777,216 octets"}
 MOST = 16_777_216  # octets of a scenario
 REASONS = pathlib.Path(__file__).resolve().parents[3] / "launcher" / "reasons"
-OPTIONS = {"--phone": "LTE_SEC_PHONE", "--station": "LTE_SEC_STATION", "--core": "LTE_SEC_CORE"}
-STATIONS = [str(number) for number in range(8)]
 OTHER = re.compile(rb"lte_sec: (phone|core|station [0-7]): (.*)\n")  # how an actor failed before its first reply
 FAILED = re.compile(rb"lte_sec: (phone|core|station [0-7]): it gave no whole reply: .*\n")
 TOLD = re.compile(rb"lte_sec: (phone|core|station [0-7]): its reply differs\n")
 REST = re.compile(rb"lte_sec: (?:phone|core|station [0-7]): it had still to say ([0-9a-f]+)\n")
-
-
-@dataclasses.dataclass
-class DriveOptions:
-    """What the words ask for: the variables of commands, and for how long an actor may be silent where it is not the program that says so."""
-
-    more: dict[str, str]
-    is_json: bool = False
-    seconds: float | None = None
-
-    @classmethod
-    def read(cls, words: list[str]) -> DriveOptions:
-        given = Words.read("drive", words)
-        return cls(variables(given), given.has("--json"), [None, *map(seconds, given.options["--timeout"])][-1])
-
-
-def seconds(word: str) -> float:
-    """The value of --timeout."""
-    if not re.fullmatch(r"[0-9]+(\.[0-9]+)?", word) or float(word) == 0:
-        raise WrongWords(f"--timeout needs a number of seconds above 0, and not '{word}'")
-    return float(word)
-
-
-def variables(words: Words) -> dict[str, str]:
-    """The variables of the commands of actors."""
-    return dict(variable(option, command) for option in OPTIONS for command in words.options[option])
-
-
-def variable(option: str, command: str) -> tuple[str, str]:
-    """The variable of an actor's command, and its value."""
-    name = OPTIONS[option]
-    station = re.fullmatch(r"(\d+)=(.*)", command, re.S) if option == "--station" else None
-    if station:
-        if station[1] not in STATIONS:
-            raise WrongWords(f"there is no station {station[1]}: --station N=CMD takes N {STATIONS[0]} to {STATIONS[-1]}")
-        name, command = f"{name}_{station[1]}", station[2]
-    try:
-        parts = shlex.split(command)
-    except ValueError as why:
-        raise WrongWords(f"{option} '{command}': {why}") from None
-    if not parts or "\n" in command:
-        raise WrongWords(f"{option} needs a command in one line")
-    path = shutil.which(parts[0])
-    if path is None:
-        raise WrongWords(f"{option}: there is no program {parts[0]} that can be run")
-    return name, "\n".join([os.path.abspath(path), *parts[1:]])
 
 
 # A shell between the program, which stops an actor that failed at once, and the actor, which may still be writing why it did.

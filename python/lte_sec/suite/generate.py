@@ -16,7 +16,7 @@ from pathlib import Path
 from ..common.options import Words, WrongWords
 from ..common.pairs import paired
 from ..common.terms import TraceError
-from ..drive import drive_word as drive
+from ..drive import drive_options, drive_word as drive
 from ..drive.network import NoRecord
 from ..runs.scenarios import Scenario, Step, setup_text, text, value
 from . import rows
@@ -58,14 +58,14 @@ def read_words(program: str, words: list[str]) -> GenerateOptions:
     if len(given.others) != 1 or not given.others[0].isdecimal() or int(given.others[0]) > MOST_SEED:
         raise WrongWords(f"drive --generate takes how many scenarios and a seed up to {MOST_SEED}, as --generate 20 7")
     count, seed = given.number("--generate", 1, MOST), int(given.others[0])
-    product = {name.removeprefix("LTE_SEC_").lower().replace("_", " "): command.split("\n") for name, command in drive.variables(given).items()}
+    product = {name.removeprefix("LTE_SEC_").lower().replace("_", " "): command.split("\n") for name, command in drive_options.variables(given).items()}
     return GenerateOptions(
         product=product or {actor: [program] for actor in rows.ACTORS},
         seeds=range(seed, min(seed + count, MOST_SEED + 1)),
         save=Path(given.last("--save")) if given.has("--save") else None,
         by_answer=given.has("--answers"),
         jobs=given.number("--jobs", 2 * (os.cpu_count() or 1), MOST_JOBS),
-        seconds=[drive.PATIENCE, *map(drive.seconds, given.options["--timeout"])][-1],
+        seconds=[drive.PATIENCE, *map(drive_options.seconds, given.options["--timeout"])][-1],
     )
 
 

@@ -14,7 +14,7 @@ import sys
 import time
 
 from lte_sec.suite import allowances as allowed, junit, rows, suite_page, suite_report
-from lte_sec.drive import drive_word as drive
+from lte_sec.drive import drive_options, drive_word as drive
 from lte_sec.pages import page as pages
 from lte_sec.runs import scenarios
 from lte_sec.drive.network import steps_of
@@ -65,7 +65,7 @@ def read_words(program: str, words: list[str]) -> SuiteOptions:
         raise WrongWords(f"drive --suite takes no FILE, as {given.others[0]}")
     if any(word != "done" for word in given.options["--answers"]):
         raise WrongWords("--answers takes done: a refusal is then the right one whatever its cause")
-    product = {name.removeprefix("LTE_SEC_").lower().replace("_", " "): command.split("\n") for name, command in drive.variables(given).items()}
+    product = {name.removeprefix("LTE_SEC_").lower().replace("_", " "): command.split("\n") for name, command in drive_options.variables(given).items()}
     if given.has("--html"):
         pages.writable(pathlib.Path(given.last("--html")))
     return SuiteOptions(
@@ -80,7 +80,7 @@ def read_words(program: str, words: list[str]) -> SuiteOptions:
         junit=given.last("--junit"),
         html=given.last("--html"),
         jobs=given.number("--jobs", 2 * (os.cpu_count() or 1), MOST_JOBS),
-        seconds=[drive.PATIENCE, *map(drive.seconds, given.options["--timeout"])][-1],
+        seconds=[drive.PATIENCE, *map(drive_options.seconds, given.options["--timeout"])][-1],
     )
 
 
