@@ -13,7 +13,6 @@ import xml.dom.minidom
 from pathlib import Path
 from typing import Any
 
-from lte_sec.runs import scenarios
 from lte_sec.whatif import what_if_word as what_if
 from lte_sec.whatif.what_if_document import Answer, from_json, merged, ranges, table, to_json
 from lte_sec.runs.courses import ProgramFails
@@ -35,28 +34,6 @@ HEALED = {
 
 def setUpModule() -> None:
     programs()
-
-
-class Scenarios(unittest.TestCase):
-    def test_a_setup_is_written_as_it_was_read(self) -> None:
-        setup = scenarios.table_of(b'phone = { caps = "a020" }\nnew = { deep = [{ "a b" = "c\\"d" }] }\n[core]\nfirst_ncc = 2\n[[station]]\nid = 0\ncells = [[1, 2]]\nheard = true\n')
-        self.assertEqual(scenarios.table_of(scenarios.setup_text(setup).encode()), setup)
-
-    def test_a_table_may_go_over_lines(self) -> None:
-        octets = (EXAMPLES / "run/wrong-ksi.toml").read_bytes()
-        over = octets.replace(b'{ do = "smc" }', b'{\n do = "smc",\n }')
-        self.assertNotEqual(over, octets)
-        self.assertEqual(scenarios.read(over), scenarios.read(octets))
-        self.assertEqual(launched(given=over).stdout, launched(given=octets).stdout)
-        with self.assertRaises(scenarios.NoScenario):
-            scenarios.read(b"a = [")
-
-    def test_a_scenario_is_run_as_it_stands(self) -> None:
-        for name in ("run/ordinary", "run/key-change", "worked/no-record", "what-if/ten-handovers"):
-            whole = study(name)
-            given = subprocess.run([program("lte_sec_app"), "run"], input=(EXAMPLES / f"{name}.toml").read_bytes(), capture_output=True).stdout.decode()
-            steps = given.splitlines()[: len(whole.original.items)]
-            self.assertEqual(whole.course.report.splitlines()[: len(steps)], steps)
 
 
 class Lines(unittest.TestCase):
