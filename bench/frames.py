@@ -1,4 +1,5 @@
-"""Random frames (docs/FRAMES.md), replies, and how a session must end, by the Python package's own reading of frames."""
+"""Random frames (docs/FRAMES.md), replies, and how a session must end, by the Python package's own reading of
+frames."""
 from __future__ import annotations
 
 import random
@@ -49,11 +50,11 @@ def ending(role: str, session: bytes) -> tuple[int, bytes]:
     """The status of a session and its line, by its octets."""
     place = 0
     while place < len(session):
-        size = int.from_bytes(session[place:place + 2], "big")
+        size = int.from_bytes(session[place : place + 2], "big")
         end = place + 2 + size
         if len(session) < place + 2 or size <= frames.LONGEST_BODY and end > len(session):
             return 10, b"bad frame %d 2\n" % place
-        if size > frames.LONGEST_BODY or not is_good(role, place == 0, session[place + 2:end]):
+        if size > frames.LONGEST_BODY or not is_good(role, place == 0, session[place + 2 : end]):
             return 10, b"bad frame %d %d\n" % (place, 3 if size > frames.LONGEST_BODY else 4)
         place = end
     return 0, b""
@@ -68,12 +69,40 @@ class Frames:
         self.next, self.conn, self.attempt = 1, 0, 0
         self.airs = [b"\0\0\0\1"]
         bodies: dict[str, dict[int, Callable[[], bytes]]] = {
-            "phone": {0x01: self.phone_auth, 0x02: self.pdu, 0x03: self.phone_air, 0x10: bytes, 0x11: bytes, 0x12: bytes,
-                      0x13: self.packet, 0x14: self.rrc, 0x15: self.text, 0x16: self.phone_skip},
-            "station-0": {0x03: self.station_air, 0x04: self.pdu, 0x05: self.pdu, 0x13: self.packet, 0x14: self.rrc,
-                          0x16: self.station_skip, 0x30: self.start, 0x31: bytes, 0x32: bytes, 0x33: bytes},
-            "core": {0x01: self.core_auth, 0x02: self.pdu, 0x04: self.pdu, 0x15: self.text, 0x16: self.core_skip,
-                     0x20: bytes, 0x21: self.cell, 0x22: bytes},
+            "phone": {
+                0x01: self.phone_auth,
+                0x02: self.pdu,
+                0x03: self.phone_air,
+                0x10: bytes,
+                0x11: bytes,
+                0x12: bytes,
+                0x13: self.packet,
+                0x14: self.rrc,
+                0x15: self.text,
+                0x16: self.phone_skip,
+            },
+            "station-0": {
+                0x03: self.station_air,
+                0x04: self.pdu,
+                0x05: self.pdu,
+                0x13: self.packet,
+                0x14: self.rrc,
+                0x16: self.station_skip,
+                0x30: self.start,
+                0x31: bytes,
+                0x32: bytes,
+                0x33: bytes,
+            },
+            "core": {
+                0x01: self.core_auth,
+                0x02: self.pdu,
+                0x04: self.pdu,
+                0x15: self.text,
+                0x16: self.core_skip,
+                0x20: bytes,
+                0x21: self.cell,
+                0x22: bytes,
+            },
         }
         self.bodies = bodies[role]
         self.pdus = {kind: [f[3:] for f in self.kept[1:] if f[2] == kind] for kind in self.bodies}
@@ -93,7 +122,9 @@ class Frames:
         return bytes([self.draws.choice(of)])
 
     def cell(self) -> bytes:
-        pci, earfcn = self.draws.choice([(10, 100), (11, 101), (self.draws.randrange(504), self.draws.randrange(262144))])
+        pci, earfcn = self.draws.choice(
+            [(10, 100), (11, 101), (self.draws.randrange(504), self.draws.randrange(262144))]
+        )
         return pci.to_bytes(2, "big") + earfcn.to_bytes(4, "big")
 
     def phone_auth(self) -> bytes:
@@ -142,7 +173,8 @@ class Frames:
         return self.renewed(frame[2], frame[3:]) if self.role == "station-0" else frame
 
     def renewed(self, kind: int, body: bytes) -> bytes:
-        """A kept frame of a station with numbers that it takes: a new connection, a new attempt, an address that it gave."""
+        """A kept frame of a station with numbers that it takes: a new connection, a new attempt, an address that it
+        gave."""
         if kind == 3:
             return framed(kind, self.draws.choice(self.airs) + body[4:])
         if kind in (4, 5):

@@ -1,4 +1,5 @@
-"""The generated scenarios of docs/SCENARIOS.md as texts, made from that page and not by the program, and one of many phones."""
+"""The generated scenarios of docs/SCENARIOS.md as texts, made from that page and not by the program, and one of many
+phones."""
 from __future__ import annotations
 
 import hashlib
@@ -76,10 +77,17 @@ def written(value: object) -> str:
 def of_fleet(count: int) -> str:
     """A scenario of 256 phones, with as many steps as go evenly into them."""
     phones = [table_of(scenario(count // PHONES, phone + 1).encode()) for phone in range(PHONES)]
-    lines = [f"fleet={{phones={PHONES}}}", f"phone={written(phones[0]['phone'])}", f"station={written(phones[0]['station'])}", "step=["]
+    lines = [
+        f"fleet={{phones={PHONES}}}",
+        f"phone={written(phones[0]['phone'])}",
+        f"station={written(phones[0]['station'])}",
+        "step=[",
+    ]
     for steps in zip(*(it["step"] for it in phones)):
         for phone, step in enumerate(steps):
-            own: dict[str, object] = {"kasme": hashlib.sha256(b"%d" % phone).hexdigest()} if step["do"] == "auth" else {}
+            own: dict[str, object] = (
+                {"kasme": hashlib.sha256(b"%d" % phone).hexdigest()} if step["do"] == "auth" else {}
+            )
             told: dict[str, object] = {"phone": phone, **step, **own}
             lines.append(written(told) + ",")
     return "\n".join([*lines, "]", ""])

@@ -1,4 +1,5 @@
-"""What a program takes: its seconds of processor and its peak memory, and, where valgrind or perf can count them, its instructions.
+"""What a program takes: its seconds of processor and its peak memory, and, where valgrind or perf can count them, its
+instructions.
 
 The peak is that of the program alone, since bench/parent.c starts it; a C compiler has to be on the path, as cc.
 """
@@ -69,7 +70,9 @@ def needs_proved() -> None:
 
 def taken(name: str = "lte_sec_app") -> Path:
     """The program of this name that the launcher takes, proved or not; it is built where it is not."""
-    ran = subprocess.run([TOP / "lte_sec", "--program", name], stdin=subprocess.DEVNULL, stdout=subprocess.PIPE, text=True)
+    ran = subprocess.run(
+        [TOP / "lte_sec", "--program", name], stdin=subprocess.DEVNULL, stdout=subprocess.PIPE, text=True
+    )
     if ran.returncode:
         sys.exit(1)
     return Path(ran.stdout.split(None, 1)[1].strip())
@@ -78,7 +81,9 @@ def taken(name: str = "lte_sec_app") -> Path:
 def compiled(folder: str, name: str, *words: object) -> Path | None:
     """The program of bench/NAME.c, or None where a header that it includes is not installed."""
     program = Path(folder) / name
-    ended = subprocess.run(["gcc", "-O2", "-o", program, BENCH / f"{name}.c", *map(str, words)], stderr=subprocess.PIPE, text=True)
+    ended = subprocess.run(
+        ["gcc", "-O2", "-o", program, BENCH / f"{name}.c", *map(str, words)], stderr=subprocess.PIPE, text=True
+    )
     if ended.returncode and "No such file" in ended.stderr:
         return None
     if ended.returncode:

@@ -1,6 +1,8 @@
-"""A capture of any length, as bench/traces judges it: phones that attach, come back, are handed over there and back, and are released.
+"""A capture of any length, as bench/traces judges it: phones that attach, come back, are handed over there and back,
+and are released.
 
-Packets of examples/traces/C.pcapng come again with the keys, MACs, COUNTs, NCCs and TSNs of other phones. All that they do is as the standard says.
+Packets of examples/traces/C.pcapng come again with the keys, MACs, COUNTs, NCCs and TSNs of other phones. All that they
+do is as the standard says.
 """
 from __future__ import annotations
 
@@ -22,10 +24,19 @@ PACKET, HEAD = 6, 28  # the type of a packet's block, and the octets before its 
 CHUNKS = 46  # where the chunks of SCTP begin behind Ethernet and IPv4
 SETUP = range(1, 19)  # the packets before the first phone
 ATTACH = (19, 22, 26, 29, 33, 36, 40, 43)
-SERVICE, THERE, BACK, SAID, RELEASE = (57, 61, 64), (68, 71, 73, 74, 75, 76), (83, 84, 85, 86, 87, 88), (89,), (47, 50, 54)
+SERVICE, THERE, BACK, SAID, RELEASE = (
+    (57, 61, 64),
+    (68, 71, 73, 74, 75, 76),
+    (83, 84, 85, 86, 87, 88),
+    (89,),
+    (47, 50, 54),
+)
 ATTACHED_IDS, IDS = (b"\x00\x65", b"\x00\x01"), (b"\x00\x69", b"\x00\x04")  # of core and station, in a release
 CELLS = {68: (301, 6300), 83: (10, 100)}  # those that handovers go to
-OLD = {**dict.fromkeys(ATTACH, "e61a3129c8e399d6dd3cec512a9c671da2004c5e8e780d3df853bb3055ee7cba"), 89: "c09e1984d7e44b4a11195c25108b76903c24684685ef257fddc399c34a55d4eb"}
+OLD = {
+    **dict.fromkeys(ATTACH, "e61a3129c8e399d6dd3cec512a9c671da2004c5e8e780d3df853bb3055ee7cba"),
+    89: "c09e1984d7e44b4a11195c25108b76903c24684685ef257fddc399c34a55d4eb",
+}
 NAS_COUNT = {29: 0, 33: 0, 36: 1, 43: 1, 89: 1}  # of the protected messages, as the packets have them
 FROM_PHONE = (19, 26, 33, 43, 57)
 TMSI = bytes.fromhex("c0000001")
@@ -38,7 +49,7 @@ def blocks(octets: bytes) -> Iterator[bytes]:
     at = 0
     while at < len(octets):
         size = struct.unpack_from("<I", octets, at + 4)[0]
-        yield octets[at:at + size]
+        yield octets[at : at + size]
         at += size
 
 
@@ -48,12 +59,12 @@ class Packet:
     def __init__(self, block: bytes):
         self.head = block[8:12]
         high, low, size = struct.unpack_from("<III", block, 12)
-        self.time, self.data = high << 32 | low, bytearray(block[HEAD:HEAD + size])
+        self.time, self.data = high << 32 | low, bytearray(block[HEAD : HEAD + size])
 
     def put(self, old: bytes, new: bytes) -> int:
         """Puts octets in place of others; answers where."""
         at = self.data.index(old, CHUNKS)
-        self.data[at:at + len(old)] = new
+        self.data[at : at + len(old)] = new
         return at
 
     def bits(self, first: int, ncc: int) -> None:
@@ -72,7 +83,13 @@ class Packet:
             tsns[way] = (tsns[way] + 1) % 2**32 if way in tsns else struct.unpack_from(">I", self.data, at + 4)[0]
             struct.pack_into(">I", self.data, at + 4, tsns[way])
         time = struct.pack("<II", self.time >> 32, self.time & 0xFFFFFFFF)
-        body = self.head + time + struct.pack("<II", len(self.data), len(self.data)) + self.data + bytes(-len(self.data) % 4)
+        body = (
+            self.head
+            + time
+            + struct.pack("<II", len(self.data), len(self.data))
+            + self.data
+            + bytes(-len(self.data) % 4)
+        )
         size = struct.pack("<I", len(body) + 12)
         return struct.pack("<I", PACKET) + size + body + size
 
@@ -131,7 +148,9 @@ class Network:
             packet.put(message.key, kenb)
         return packet
 
-    def handover(self, phone: Phone, turn: int, numbers: tuple[int, ...], chain: list[bytes], base: bytes, ncc: int) -> Iterator[Packet]:
+    def handover(
+        self, phone: Phone, turn: int, numbers: tuple[int, ...], chain: list[bytes], base: bytes, ncc: int
+    ) -> Iterator[Packet]:
         """The packets of a handover over X2, to a key that is made of this one; the core steps its chain."""
         request, command, answer = numbers[0], numbers[1], numbers[4]
         for number in numbers:

@@ -1,8 +1,9 @@
 #!/usr/bin/env python3
-"""Makes docs/DEMANDS.md of the demands in docs/demands: docs/demanded.py --write. Without it prints what is wrong with them, and ends with 1 where something is.
+"""Makes docs/DEMANDS.md of the demands in docs/demands: docs/demanded.py --write. Without it prints what is wrong with
+them, and ends with 1 where something is.
 
-Each definition, row, law, scenario, crate of vectors and module of tests that they name must be there, each row of the suite and each procedure be
-named, and what is covered have a test.
+Each definition, row, law, scenario, crate of vectors and module of tests that they name must be there, each row of the
+suite and each procedure be named, and what is covered have a test.
 """
 from __future__ import annotations
 
@@ -44,12 +45,18 @@ def is_defined(name: str) -> bool:
     place, _, word = name.partition(".")
     crate, _, file = place.partition("/")
     path = TOP / "crates" / crate / "specs" / f"{file}.antt"
-    return path.exists() and (not word or re.search(rf"^(?:\w+ )*{word}\b", path.read_text(encoding="utf-8"), re.MULTILINE) is not None)
+    return path.exists() and (
+        not word or re.search(rf"^(?:\w+ )*{word}\b", path.read_text(encoding="utf-8"), re.MULTILINE) is not None
+    )
 
 
 def functions() -> set[str]:
     """The functions of all crates, by which laws are named."""
-    return {name for file in TOP.glob("crates/*/src/**/*.rt") for name in re.findall(r"^ *pub fn (\w+)", file.read_text(encoding="utf-8"), re.MULTILINE)}
+    return {
+        name
+        for file in TOP.glob("crates/*/src/**/*.rt")
+        for name in re.findall(r"^ *pub fn (\w+)", file.read_text(encoding="utf-8"), re.MULTILINE)
+    }
 
 
 def rows_of(names: list[str]) -> list[str]:
@@ -71,11 +78,21 @@ def faults_of(demand: Demand, known: set[str], table: list[str]) -> Iterator[str
     """What is wrong with one demand."""
     evidence = demand.evidence
     yield from (f"there is no definition {name}" for name in evidence["by"] if not is_defined(name))
-    yield from (f"there is no row {name}" for name in rows_of(evidence["rows"]) if not any(begins(row, name) for row in table))
+    yield from (
+        f"there is no row {name}" for name in rows_of(evidence["rows"]) if not any(begins(row, name) for row in table)
+    )
     yield from (f"there is no law {name}" for name in evidence["law"] if name not in known)
     yield from (f"there is no scenario {name}" for name in evidence["scenario"] if not scenario(name).exists())
-    yield from (f"there is no crate {name}" for name in evidence["vectors"] if not (TOP / "crates" / name / "README.md").exists())
-    yield from (f"there is no module {name}" for name in evidence["trace"] if not (TOP / "python" / "tests" / f"{name}.py").exists())
+    yield from (
+        f"there is no crate {name}"
+        for name in evidence["vectors"]
+        if not (TOP / "crates" / name / "README.md").exists()
+    )
+    yield from (
+        f"there is no module {name}"
+        for name in evidence["trace"]
+        if not (TOP / "python" / "tests" / f"{name}.py").exists()
+    )
     if demand.state == "covered" and not any(evidence[kind] for kind in demands.TESTS):
         yield "it is covered, and no test is named"
     if demand.state in ("partly", "otherwise") and not evidence["remark"]:
@@ -95,11 +112,20 @@ def faults() -> Iterator[str]:
         return
     known, table = functions(), [str(row.visit) for row in rows.load(SUITE).rows]
     for demand in found:
-        yield from (f"docs/demands: {demand.clause} ({demand.text[:40]}..): {fault}" for fault in faults_of(demand, known, table))
+        yield from (
+            f"docs/demands: {demand.clause} ({demand.text[:40]}..): {fault}"
+            for fault in faults_of(demand, known, table)
+        )
     named = {kind: {name for demand in found for name in demand.evidence[kind]} for kind in demands.EVIDENCE}
     asked = rows_of(list(named["rows"]))
-    yield from (f"docs/demands: no demand names the row {row}" for row in table if not any(begins(row, name) for name in asked))
-    yield from (f"docs/demands: no demand names the procedure {file.stem}" for file in sorted(PROCEDURES.glob("*.toml")) if f"procedures/{file.stem}" not in named["scenario"])
+    yield from (
+        f"docs/demands: no demand names the row {row}" for row in table if not any(begins(row, name) for name in asked)
+    )
+    yield from (
+        f"docs/demands: no demand names the procedure {file.stem}"
+        for file in sorted(PROCEDURES.glob("*.toml"))
+        if f"procedures/{file.stem}" not in named["scenario"]
+    )
     if not PAGE.exists() or PAGE.read_text(encoding="utf-8") != page(found):
         yield "docs/DEMANDS.md is not what docs/demanded.py --write makes"
 
@@ -118,7 +144,12 @@ def row(demand: Demand) -> str:
 def page(found: list[Demand]) -> str:
     """The page."""
     counts = demands.counted(found)
-    lines = [HEAD, f"| {len(found)} demands | | |", "|---|---|---|", *(f"| {state} | {count} | {MEANS[state]} |" for state, count in counts.items())]
+    lines = [
+        HEAD,
+        f"| {len(found)} demands | | |",
+        "|---|---|---|",
+        *(f"| {state} | {count} | {MEANS[state]} |" for state, count in counts.items()),
+    ]
     for group in dict.fromkeys(demand.group for demand in found):
         lines += ["", f"## {group}", "", "| clause, of whom | demand | here |", "|---|---|---|"]
         lines += [row(demand) for demand in found if demand.group == group]
@@ -126,7 +157,13 @@ def page(found: list[Demand]) -> str:
     for demand in found:
         for name in demand.evidence["assurance"]:
             cases.setdefault(name, []).append(f"{demand.clause} ({demand.state})")
-    lines += ["", "## Test cases of security assurance", "", "| TS 33.116 (MME), TS 33.216 (eNB) | the demands beside it |", "|---|---|"]
+    lines += [
+        "",
+        "## Test cases of security assurance",
+        "",
+        "| TS 33.116 (MME), TS 33.216 (eNB) | the demands beside it |",
+        "|---|---|",
+    ]
     lines += [f"| {name} | {', '.join(dict.fromkeys(clauses))} |" for name, clauses in sorted(cases.items())]
     return "\n".join(lines) + "\n"
 

@@ -1,6 +1,6 @@
 #!/usr/bin/env python3
-"""The tables of records and of answers in FRAMES, made of what the program `lte_tables` writes, and the numbers of edits and of rows of the suite that pages tell: python3 docs/tabled.py writes
-them. docs/check compares."""
+"""The tables of records and of answers in FRAMES, made of what the program `lte_tables` writes, and the numbers of
+edits and of rows of the suite that pages tell: python3 docs/tabled.py writes them. docs/check compares."""
 import pathlib
 import re
 import sys
@@ -22,13 +22,19 @@ def row(*cells: str) -> str:
 def records(of: str, behind: str = "") -> Iterator[str]:
     """A row for each record: its kind and message, and its fields with their widths."""
     for kind, (message, fields) in sorted(tables.records(of).items()):
-        yield row(f"{kind:02x} {message}", ", ".join(f"{name} {width}" if width else name for name, width in fields if name != behind))
+        yield row(
+            f"{kind:02x} {message}",
+            ", ".join(f"{name} {width}" if width else name for name, width in fields if name != behind),
+        )
 
 
 def answers() -> Iterator[str]:
     """Rows of the answers of actors."""
     for first, after in zip(FIRST, (*FIRST[1:], tables.NETWORK)):
-        yield row(str(first), ", ".join(f"{number} {name}" for number, (name, _) in tables.ANSWERS.items() if first <= number < after))
+        yield row(
+            str(first),
+            ", ".join(f"{number} {name}" for number, (name, _) in tables.ANSWERS.items() if first <= number < after),
+        )
 
 
 # The rows below each head.
@@ -43,11 +49,18 @@ ROWS = {
 
 def many() -> dict[pathlib.Path, tuple[str, list[int]]]:
     """Of pages a sentence with # for each number, and these numbers."""
-    answers_of = [line.split()[0] for line in (TOP / "examples/suite/rows").read_text().splitlines() if line.startswith("    ")]
-    done, edits = answers_of.count("done"), [len(list(TOP.glob(each))) for each in ("crates/*/must-fail/*.edit", "misuse/edits/*/*.edit")]
+    answers_of = [
+        line.split()[0] for line in (TOP / "examples/suite/rows").read_text().splitlines() if line.startswith("    ")
+    ]
+    done, edits = answers_of.count("done"), [
+        len(list(TOP.glob(each))) for each in ("crates/*/must-fail/*.edit", "misuse/edits/*/*.edit")
+    ]
     return {
         README: ("tries # wrong bodies and runs every test; `misuse/edits/check` tries # more", edits),
-        SUITE: ("all #, each with its clauses: # are done, # are refusals", [len(answers_of), done, len(answers_of) - done]),
+        SUITE: (
+            "all #, each with its clauses: # are done, # are refusals",
+            [len(answers_of), done, len(answers_of) - done],
+        ),
     }
 
 
@@ -57,20 +70,28 @@ def with_numbers(text: str, sentence: str, numbers: list[int]) -> str:
     told = re.search(pattern, text)
     if told:
         for group, number in reversed(list(enumerate(numbers, 1))):
-            text = text[:told.start(group)] + str(number) + text[told.end(group):]
+            text = text[: told.start(group)] + str(number) + text[told.end(group) :]
     return text
 
 
 def with_tables(text: str) -> str:
     """FRAMES with its tables."""
     for head, rows in ROWS.items():
-        text = re.sub(rf"(?<=^{re.escape(head)}\n\|---\|---\|\n)(?:\|.*\n)*", "".join(f"{each}\n" for each in rows), text, flags=re.MULTILINE)
+        text = re.sub(
+            rf"(?<=^{re.escape(head)}\n\|---\|---\|\n)(?:\|.*\n)*",
+            "".join(f"{each}\n" for each in rows),
+            text,
+            flags=re.MULTILINE,
+        )
     return text
 
 
 def made() -> dict[pathlib.Path, str]:
     """The pages as they are made."""
-    return {FRAMES: with_tables(FRAMES.read_text()), **{page: with_numbers(page.read_text(), *told) for page, told in many().items()}}
+    return {
+        FRAMES: with_tables(FRAMES.read_text()),
+        **{page: with_numbers(page.read_text(), *told) for page, told in many().items()},
+    }
 
 
 def faults() -> Iterator[str]:

@@ -32,11 +32,13 @@ def of_hex(word: str) -> str | None:
 
 def octets(count: int) -> Check:
     """So many octets."""
+
     def check(word: str) -> str | None:
         wrong = of_hex(word)
         if wrong is None and len(word) != 2 * count:
             return f"has {len(word)} digit{'' if len(word) == 1 else 's'}; it must have {2 * count}"
         return wrong and f"{wrong}; it must have {2 * count} hex digits"
+
     return check
 
 
@@ -49,18 +51,23 @@ def text(most: int | None = None, exactly: int | None = None) -> Check:
         wrong = of_hex(digits) if word else "is empty"
         if wrong is None and len(digits) % 2:
             wrong = f"has {len(digits)} digits, an odd number"
-        if wrong is None and (exactly is not None and len(digits) != 2 * exactly or most is not None and len(digits) > 2 * most):
+        if wrong is None and (
+            exactly is not None and len(digits) != 2 * exactly or most is not None and len(digits) > 2 * most
+        ):
             wrong = f"has {len(digits) // 2:,} octets"
         return wrong and f"{wrong}; it must be {may}, two hex digits for each, or - for none"
+
     return check
 
 
 def number(low: int, high: int) -> Check:
     """A number in a range."""
+
     def check(word: str) -> str | None:
         if DECIMAL.fullmatch(word) and len(word) <= 10 and low <= int(word) <= high:
             return None
         return f"is '{word}'; it must be {low} to {high}, in decimal without sign or leading zero"
+
     return check
 
 
@@ -71,23 +78,49 @@ def word_of(words: list[str]) -> Check:
 
 def algorithms(word: str) -> str | None:
     """The identity of the encryption algorithm, or also that of integrity."""
-    return None if re.fullmatch(r"[0-3](/[0-3])?", word) else f"is '{word}'; it must be 0 to 3, or two of these with a slash, as 2/1 for 128-EEA2 and 128-EIA1"
+    return (
+        None
+        if re.fullmatch(r"[0-3](/[0-3])?", word)
+        else f"is '{word}'; it must be 0 to 3, or two of these with a slash, as 2/1 for 128-EEA2 and 128-EIA1"
+    )
 
 
 def or_any(check: Check) -> Check:
     """What may be `any`, too."""
+
     def checked(word: str) -> str | None:
         wrong = None if word == "any" else check(word)
         return wrong and f"{wrong}, or any"
+
     return checked
 
 
 KEY, CIPHER_KEY, NAS_COUNT, COUNT = octets(32), octets(16), number(0, 2**24 - 1), number(0, 2**32 - 1)
 COUNT_OR_ANY, ALGORITHMS_OR_ANY = or_any(NAS_COUNT), or_any(algorithms)
 FIELDS: dict[str, Check] = {
-    "ck": CIPHER_KEY, "ik": CIPHER_KEY, "plmn": octets(3), "sqn-xor-ak": octets(6), "kasme": KEY, "key": KEY, "sync": KEY, "count": COUNT, "bearer": number(0, 31), "direction": word_of(["uplink", "downlink"]), "text": text(), "pdu": text(),
-    "eea": algorithms, "eia": word_of(["0", "1", "2", "3"]), "bits": word_of(["7", "12", "15", "18"]), "ncc-in-use": number(0, 7), "ncc": number(0, 7), "pci": number(0, PCI), "earfcn": number(0, EARFCN),
-    "type": number(1, 6), "id": number(0, 15), "cell-identity": number(0, 2**28 - 1), "c-rnti": number(0, 2**16 - 1),
+    "ck": CIPHER_KEY,
+    "ik": CIPHER_KEY,
+    "plmn": octets(3),
+    "sqn-xor-ak": octets(6),
+    "kasme": KEY,
+    "key": KEY,
+    "sync": KEY,
+    "count": COUNT,
+    "bearer": number(0, 31),
+    "direction": word_of(["uplink", "downlink"]),
+    "text": text(),
+    "pdu": text(),
+    "eea": algorithms,
+    "eia": word_of(["0", "1", "2", "3"]),
+    "bits": word_of(["7", "12", "15", "18"]),
+    "ncc-in-use": number(0, 7),
+    "ncc": number(0, 7),
+    "pci": number(0, PCI),
+    "earfcn": number(0, EARFCN),
+    "type": number(1, 6),
+    "id": number(0, 15),
+    "cell-identity": number(0, 2**28 - 1),
+    "c-rnti": number(0, 2**16 - 1),
 }
 # The fields of each line, and of those that differ from the table above how.
 LINES: dict[str, tuple[str, dict[str, Check]]] = {
@@ -96,10 +129,16 @@ LINES: dict[str, tuple[str, dict[str, Check]]] = {
     "nh": ("kasme sync", {}),
     "star": ("key pci earfcn", {}),
     "alg": ("key type id", {}),
-    **{name: ("key count bearer direction text", {"key": CIPHER_KEY}) for name in ("eea1", "eea2", "eea3", "eia1", "eia2", "eia3")},
+    **{
+        name: ("key count bearer direction text", {"key": CIPHER_KEY})
+        for name in ("eea1", "eea2", "eea3", "eia1", "eia2", "eia3")
+    },
     "nas": ("kasme eea count direction pdu", {"eea": ALGORITHMS_OR_ANY, "count": COUNT_OR_ANY}),
     "seal-nas": ("kasme eea count direction type text", {"count": NAS_COUNT, "type": number(1, 4)}),
-    "service-request": ("kasme count pdu", {"count": COUNT_OR_ANY, "pdu": text(exactly=4), "eia": word_of(["0", "1", "2", "3", "any"])}),
+    "service-request": (
+        "kasme count pdu",
+        {"count": COUNT_OR_ANY, "pdu": text(exactly=4), "eia": word_of(["0", "1", "2", "3", "any"])},
+    ),
     "short-mac-i": ("key eia cell-identity pci c-rnti", {}),
     "srb": ("key eea count bearer direction pdu", {"eea": ALGORITHMS_OR_ANY, "pdu": text(most=8193)}),
     "seal-srb": ("key eea count bearer direction text", {"text": text(most=8188)}),
@@ -121,7 +160,11 @@ def first_fault(line: str) -> Bad | None:
     words = line.removesuffix("\r").split(" ")
     word = words[0]
     if word not in LINES:
-        why = "a line begins with its word, without a blank before it" if line.startswith(" ") else f"there is no line '{word}'{nearest(word, list(LINES)) or '; docs/CALC.md has all lines'}"
+        why = (
+            "a line begins with its word, without a blank before it"
+            if line.startswith(" ")
+            else f"there is no line '{word}'{nearest(word, list(LINES)) or '; docs/CALC.md has all lines'}"
+        )
         return Bad("word", why)
     names, others = LINES[word]
     needed = names.split(" ")
@@ -129,7 +172,13 @@ def first_fault(line: str) -> Bad | None:
         needed.append(MORE[word])
     if len(words) != 1 + len(needed):
         blanks = "; fields are parted by one blank, with none at the end" if "" in words else ""
-        return Bad("fields", f"{word} has {len(words) - 1} field{'' if len(words) == 2 else 's'}; it must have {len(needed)}: {names}{blanks}")
+        return Bad(
+            "fields",
+            (
+                f"{word} has {len(words) - 1} field{'' if len(words) == 2 else 's'}; it must have {len(needed)}: "
+                f"{names}{blanks}"
+            ),
+        )
     for name, given in zip(needed, words[1:]):
         if wrong := (FIELDS | others)[name](given):
             return Bad(name, f"{name} {wrong}")

@@ -1,4 +1,5 @@
-"""How each word ends where its input or its output fails: python3 launcher/failing.py. The statuses are those of the README's table."""
+"""How each word ends where its input or its output fails: python3 launcher/failing.py. The statuses are those of the
+README's table."""
 from __future__ import annotations
 
 import concurrent.futures
@@ -23,9 +24,14 @@ PAGE = pathlib.Path(tempfile.gettempdir()) / f"lte_sec-page-{os.getpid()}.html"
 READ_FAILS, WRITE_FAILS, INTERRUPTED = 4, 5, 130
 SECONDS = 600  # that a call may take, on a busy machine
 
-# Each word, as it is called, and its standard input where it reads that: those of the table read the file of their example.
+# Each word, as it is called, and its standard input where it reads that: those of the table read the file of their
+# example.
 READERS: dict[str, tuple[list[str | pathlib.Path], pathlib.Path]] = {
-    **{word.name: ([], TOP / word.example.split()[-1]) for word in pages.words() if word.behind.endswith("[FILE]") and not word.name.startswith("-")},
+    **{
+        word.name: ([], TOP / word.example.split()[-1])
+        for word in pages.words()
+        if word.behind.endswith("[FILE]") and not word.name.startswith("-")
+    },
     "calc --strict": ([], EXAMPLES / "calc/keys.txt"),
     "run --json": ([], SCENARIO),
     "drive --json": ([], SCENARIO),
@@ -74,18 +80,32 @@ def calls() -> Iterator[tuple[str, list[str | pathlib.Path], pathlib.Path | None
         yield word, [*word.split(), *words], None
 
 
-def ends(words: list[str | pathlib.Path], more: str, text: pathlib.Path | None, out: int | None = None) -> tuple[int, str]:
-    """The status of the launcher with these words, redirections of a shell and output, and what it says on standard error."""
+def ends(
+    words: list[str | pathlib.Path], more: str, text: pathlib.Path | None, out: int | None = None
+) -> tuple[int, str]:
+    """The status of the launcher with these words, redirections of a shell and output, and what it says on standard
+    error."""
     shell: list[str | pathlib.Path] = ["bash", "-c", f'set -o pipefail; "$@" {more}', "bash", TOP / "lte_sec", *words]
     with open(text or os.devnull, "rb") as given:
-        ran = subprocess.run(shell, stdin=given, stdout=subprocess.PIPE if out is None else out, stderr=subprocess.PIPE, text=True, timeout=SECONDS)
+        ran = subprocess.run(
+            shell,
+            stdin=given,
+            stdout=subprocess.PIPE if out is None else out,
+            stderr=subprocess.PIPE,
+            text=True,
+            timeout=SECONDS,
+        )
     return ran.returncode, ran.stderr
 
 
 def texts(room: pathlib.Path) -> dict[str, pathlib.Path]:
     """A file for each kind of text that no word takes, by the name of the kind."""
     made = {
-        "empty": b"", "cut": SCENARIO.read_bytes()[:200], "deep TOML": b"a = " + b"[" * 30_000, "deep JSON": b'{"a":' * 10_000, "not UTF-8": b"phone = \xff\xfe\n",
+        "empty": b"",
+        "cut": SCENARIO.read_bytes()[:200],
+        "deep TOML": b"a = " + b"[" * 30_000,
+        "deep JSON": b'{"a":' * 10_000,
+        "not UTF-8": b"phone = \xff\xfe\n",
     }
     for name, octets in made.items():
         (room / name).write_bytes(octets)
@@ -104,11 +124,22 @@ class Failing(unittest.TestCase):
     def tearDownClass(cls) -> None:
         PAGE.unlink(missing_ok=True)
 
-    def each(self, more: str, wanted: int, lines: int, words: list[tuple[str, list[str | pathlib.Path], pathlib.Path | None]], out: int | None = None) -> None:
+    def each(
+        self,
+        more: str,
+        wanted: int,
+        lines: int,
+        words: list[tuple[str, list[str | pathlib.Path], pathlib.Path | None]],
+        out: int | None = None,
+    ) -> None:
         with concurrent.futures.ThreadPoolExecutor() as pool:
             for (word, *_), (status, said) in zip(words, pool.map(lambda it: ends(it[1], more, it[2], out), words)):
                 with self.subTest(word=word, more=more):
-                    told = [line for line in said.splitlines() if "built without proof" not in line and " runs, " not in line]
+                    told = [
+                        line
+                        for line in said.splitlines()
+                        if "built without proof" not in line and " runs, " not in line
+                    ]
                     self.assertNotIn("Traceback", said)
                     self.assertEqual((wanted, lines), (status, sum(f"status {wanted}" in line for line in told)), said)
 
@@ -117,12 +148,15 @@ class Failing(unittest.TestCase):
         with concurrent.futures.ThreadPoolExecutor() as pool:
             wanted = list(pool.map(lambda it: ends(it[1], "", it[2])[0], words))
             for more in ("2>/dev/full", "2>&-"):
-                for (word, *_), status, (got, _) in zip(words, wanted, pool.map(lambda it: ends(it[1], more, it[2]), words)):
+                for (word, *_), status, (got, _) in zip(
+                    words, wanted, pool.map(lambda it: ends(it[1], more, it[2]), words)
+                ):
                     with self.subTest(word=word, more=more):
                         self.assertEqual(status, got)
 
     def test_what_is_no_text_ends_as_the_readme_says(self) -> None:
-        """Each word that reads a text, with each text that none takes: one that is empty, cut, deep, not UTF-8, or without an end."""
+        """Each word that reads a text, with each text that none takes: one that is empty, cut, deep, not UTF-8, or
+        without an end."""
         with tempfile.TemporaryDirectory() as room, concurrent.futures.ThreadPoolExecutor() as pool:
             made = texts(pathlib.Path(room))
             cases = [(word, words, name, file) for word, words, text in calls() if text for name, file in made.items()]
@@ -135,7 +169,12 @@ class Failing(unittest.TestCase):
         """Each word that reads a file which it is told, with each of these in its place."""
         with tempfile.TemporaryDirectory() as room, concurrent.futures.ThreadPoolExecutor() as pool:
             made = texts(pathlib.Path(room)) | {"folder": pathlib.Path(room), "nowhere": pathlib.Path(room) / "nowhere"}
-            cases = [(word, [str(file) if given in (SCENARIO, TRACE) else given for given in words], name) for word, words in OTHERS.items() if {SCENARIO, TRACE} & set(words) for name, file in made.items()]
+            cases = [
+                (word, [str(file) if given in (SCENARIO, TRACE) else given for given in words], name)
+                for word, words in OTHERS.items()
+                if {SCENARIO, TRACE} & set(words)
+                for name, file in made.items()
+            ]
             for (word, _, name), (status, said) in zip(cases, pool.map(lambda it: ends(it[1], "", None), cases)):
                 with self.subTest(word=word, file=name):
                     self.assertNotIn("Traceback", said)
@@ -150,7 +189,13 @@ class Failing(unittest.TestCase):
     def test_a_reader_that_has_read_enough_is_status_5_and_no_line(self) -> None:
         out = unread()
         try:
-            self.each("", WRITE_FAILS, 0, [it for it in calls() if it[0] in ("verdict", "vectors", "--help", "run --help", "check-trace")], out)
+            self.each(
+                "",
+                WRITE_FAILS,
+                0,
+                [it for it in calls() if it[0] in ("verdict", "vectors", "--help", "run --help", "check-trace")],
+                out,
+            )
         finally:
             os.close(out)
 
@@ -161,15 +206,26 @@ class Failing(unittest.TestCase):
         self.each("<.", READ_FAILS, 1, [it for it in calls() if it[2]])
 
     def test_an_interrupt_is_status_130_and_no_traceback(self) -> None:
-        tried: list[list[str | pathlib.Path]] = [["what-if", "--faults", "2", "--lines", SCENARIO], ["vectors", "--count", "1000"], ["verdict"]]
+        tried: list[list[str | pathlib.Path]] = [
+            ["what-if", "--faults", "2", "--lines", SCENARIO],
+            ["vectors", "--count", "1000"],
+            ["verdict"],
+        ]
         for words in tried:
             with self.subTest(words=words):
                 process = subprocess.Popen(
-                    [TOP / "lte_sec", *words], stdin=subprocess.PIPE, stdout=subprocess.PIPE, stderr=subprocess.PIPE, start_new_session=True,
-                    preexec_fn=lambda: signal.signal(signal.SIGINT, signal.SIG_DFL),  # what a script starts in the background ignores it
+                    [TOP / "lte_sec", *words],
+                    stdin=subprocess.PIPE,
+                    stdout=subprocess.PIPE,
+                    stderr=subprocess.PIPE,
+                    start_new_session=True,
+                    preexec_fn=lambda: signal.signal(
+                        signal.SIGINT, signal.SIG_DFL
+                    ),  # what a script starts in the background ignores it
                 )
                 assert process.stdin and process.stdout
-                # Its first octet, or that it takes more of a text than a pipe holds, tells that it is at work. What it writes is read no further, so it cannot end.
+                # Its first octet, or that it takes more of a text than a pipe holds, tells that it is at work. What it
+                # writes is read no further, so it cannot end.
                 if words == ["verdict"]:
                     process.stdin.write(REPORT.read_bytes() * 100)
                 else:

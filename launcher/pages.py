@@ -1,8 +1,9 @@
 #!/usr/bin/env python3
-"""Makes the man page and the completions for bash, zsh and fish of the table `words`, the schema of scenarios of the table of fields, and the words in that of what-if, and writes them where they belong: launcher/pages.py.
+"""Makes the man page and the completions for bash, zsh and fish of the table `words`, the schema of scenarios of the
+table of fields, and the words in that of what-if, and writes them where they belong: launcher/pages.py.
 
-`share` is laid out as below a prefix such as /usr, for whoever packages it. The exit statuses are those of README.md. A test wants
-both as they are made here.
+`share` is laid out as below a prefix such as /usr, for whoever packages it. The exit statuses are those of README.md. A
+test wants both as they are made here.
 """
 from __future__ import annotations
 
@@ -29,7 +30,9 @@ KINDS = tables.FAULTS
 OUTCOMES = [word.replace(" ", "-") for word in tables.OUTCOMES]
 # What may stand behind an option or a fixed argument, where it is one of a few.
 VALUES = {
-    "what-if --kinds": [",".join(some) for count in range(1, len(KINDS) + 1) for some in itertools.combinations(KINDS, count)],
+    "what-if --kinds": [
+        ",".join(some) for count in range(1, len(KINDS) + 1) for some in itertools.combinations(KINDS, count)
+    ],
     "what-if --bad": OUTCOMES,
     "what-if --faults": list("123"),
     "what-if --goal": OUTCOMES,
@@ -79,6 +82,7 @@ def values(word: str, option: str) -> list[str]:
 
 # The man page.
 
+
 def plain(text: str) -> str:
     """A text as roff has it."""
     return re.sub(r"^([.'])", r"\\&\1", text.replace("\\", "\\e").replace("-", "\\-"), flags=re.MULTILINE)
@@ -104,7 +108,9 @@ def entry(word: Word) -> list[str]:
 
 def statuses() -> list[str]:
     rows = re.findall(r"^\| ([0-9, ]+) \| (.*) \|$", (TOP / "README.md").read_text(), re.MULTILINE)
-    return [line for numbers, meaning in rows for line in (".TP", f"\\fB{numbers}\\fR", sentence(meaning.replace("`", "")))]
+    return [
+        line for numbers, meaning in rows for line in (".TP", f"\\fB{numbers}\\fR", sentence(meaning.replace("`", "")))
+    ]
 
 
 def man() -> str:
@@ -112,64 +118,109 @@ def man() -> str:
     lines = [
         '.\\" Made by launcher/pages.py of the table launcher/words.',
         f'.TH LTE_SEC 1 "" "lte_sec {(TOP / "VERSION").read_text().strip()}" "User Commands"',
-        ".SH NAME", "lte_sec \\- computes LTE access security (TS 33.401), and checks yours against it",
-        ".SH SYNOPSIS", ".B lte_sec", "\\fIWORD\\fR [\\fIARGUMENT\\fR].\\|.",
+        ".SH NAME",
+        "lte_sec \\- computes LTE access security (TS 33.401), and checks yours against it",
+        ".SH SYNOPSIS",
+        ".B lte_sec",
+        "\\fIWORD\\fR [\\fIARGUMENT\\fR].\\|.",
         ".SH DESCRIPTION",
-        "Computes from the key KASME on which keys a phone, its base stations and the core have, who can derive which, what each message",
-        "contains, and where two sides come apart. A word that reads a text reads the file that is named behind it, or standard input.",
+        (
+            "Computes from the key KASME on which keys a phone, its base stations and the core have, who can derive "
+            "which, what each message"
+        ),
+        (
+            "contains, and where two sides come apart. A word that reads a text reads the file that is named behind "
+            "it, or standard input."
+        ),
         "What the launcher itself says is on standard error.",
-        ".SH WORDS", *(line for word in all_words if not word.name.startswith("-") for line in entry(word)),
-        ".SH OPTIONS", *(line for word in all_words if word.name.startswith("-") for line in entry(word)),
-        ".SH EXIT STATUS", *statuses(),
-        ".SH ENVIRONMENT", ".TP", "\\fBLTE_SEC_LIBRARY\\fR", "The file of the library for the Python package, in place of library/built/liblte_sec.so.",
-        ".TP", "\\fBCC\\fR", "The C compiler that links the library, in place of cc.",
-        ".SH EXAMPLES", ".nf", *(plain(f"lte_sec {word.example}") for word in all_words if not word.name.startswith("-")), ".fi",
-        ".SH SEE ALSO", "README.md and docs/COMMANDS.md; docs/SCENARIOS.md, docs/CALC.md, docs/TRACES.md and docs/WHATIF.md on texts and answers",
+        ".SH WORDS",
+        *(line for word in all_words if not word.name.startswith("-") for line in entry(word)),
+        ".SH OPTIONS",
+        *(line for word in all_words if word.name.startswith("-") for line in entry(word)),
+        ".SH EXIT STATUS",
+        *statuses(),
+        ".SH ENVIRONMENT",
+        ".TP",
+        "\\fBLTE_SEC_LIBRARY\\fR",
+        "The file of the library for the Python package, in place of library/built/liblte_sec.so.",
+        ".TP",
+        "\\fBCC\\fR",
+        "The C compiler that links the library, in place of cc.",
+        ".SH EXAMPLES",
+        ".nf",
+        *(plain(f"lte_sec {word.example}") for word in all_words if not word.name.startswith("-")),
+        ".fi",
+        ".SH SEE ALSO",
+        (
+            "README.md and docs/COMMANDS.md; docs/SCENARIOS.md, docs/CALC.md, docs/TRACES.md and docs/WHATIF.md on "
+            "texts and answers"
+        ),
     ]
     return "\n".join(lines) + "\n"
 
 
 # The completions.
 
+
 def cases(rows: dict[str, str]) -> list[str]:
     """The lines of a `case`, one for all keys with the same answer."""
     answers = dict.fromkeys(rows.values())
-    return [f"        {' | '.join(key for key, value in rows.items() if value == answer)}) {answer} ;;" for answer in answers]
+    return [
+        f"        {' | '.join(key for key, value in rows.items() if value == answer)}) {answer} ;;"
+        for answer in answers
+    ]
 
 
 def completions() -> str:
     all_words = words()
-    behind = {f"1{word.name}": f"offered='{word.offered()}' takes='{takes(word.behind)}'" for word in all_words if word.below or takes(word.behind)}
+    behind = {
+        f"1{word.name}": f"offered='{word.offered()}' takes='{takes(word.behind)}'"
+        for word in all_words
+        if word.below or takes(word.behind)
+    }
     valued = {}
     for word in all_words:
         for option, _, argument in (name.partition(" ") for name, _ in word.below):
             if argument:
-                valued[f"'{word.name} {option}'"] = f"offered='{' '.join(VALUES.get(f'{word.name} {option}', []))}' takes='{takes(argument)}'"
+                valued[
+                    f"'{word.name} {option}'"
+                ] = f"offered='{' '.join(VALUES.get(f'{word.name} {option}', []))}' takes='{takes(argument)}'"
     names = " ".join(word.name for word in all_words)
-    return "\n".join([
-        "# Completions of lte_sec for bash: words, options, and files where one is taken. Made by launcher/pages.py of the table launcher/words.",
-        "# shellcheck shell=bash",
-        "_lte_sec() {",
-        "    local word=${COMP_WORDS[1]} before=${COMP_WORDS[COMP_CWORD - 1]} current=${COMP_WORDS[COMP_CWORD]} offered='' takes=''",
-        '    case $((COMP_CWORD > 1))$word in',
-        f"        0*) offered='{names} help' ;;",
-        f"        1help | 1--help | 1-h) offered='{names}' ;;",
-        *cases(behind),
-        "    esac",
-        "    # What follows an option that takes something.",
-        '    case "$word $before" in',
-        *cases(valued),
-        "    esac",
-        '    mapfile -t COMPREPLY < <(compgen -W "$offered" -- "$current")',
-        "    case $takes in",
-        '        file) mapfile -t -O ${#COMPREPLY[@]} COMPREPLY < <(compgen -f -- "$current") ;;',
-        '        folder) mapfile -t -O ${#COMPREPLY[@]} COMPREPLY < <(compgen -d -- "$current") ;;',
-        '        command) mapfile -t -O ${#COMPREPLY[@]} COMPREPLY < <(compgen -c -- "$current") ;;',
-        "    esac",
-        "    case $takes in file | folder) compopt -o filenames 2>/dev/null ;; esac",
-        "}",
-        "complete -F _lte_sec lte_sec",
-    ]) + "\n"
+    return (
+        "\n".join(
+            [
+                (
+                    "# Completions of lte_sec for bash: words, options, and files where one is taken. Made by "
+                    "launcher/pages.py of the table launcher/words."
+                ),
+                "# shellcheck shell=bash",
+                "_lte_sec() {",
+                (
+                    "    local word=${COMP_WORDS[1]} before=${COMP_WORDS[COMP_CWORD - 1]} "
+                    "current=${COMP_WORDS[COMP_CWORD]} offered='' takes=''"
+                ),
+                "    case $((COMP_CWORD > 1))$word in",
+                f"        0*) offered='{names} help' ;;",
+                f"        1help | 1--help | 1-h) offered='{names}' ;;",
+                *cases(behind),
+                "    esac",
+                "    # What follows an option that takes something.",
+                '    case "$word $before" in',
+                *cases(valued),
+                "    esac",
+                '    mapfile -t COMPREPLY < <(compgen -W "$offered" -- "$current")',
+                "    case $takes in",
+                '        file) mapfile -t -O ${#COMPREPLY[@]} COMPREPLY < <(compgen -f -- "$current") ;;',
+                '        folder) mapfile -t -O ${#COMPREPLY[@]} COMPREPLY < <(compgen -d -- "$current") ;;',
+                '        command) mapfile -t -O ${#COMPREPLY[@]} COMPREPLY < <(compgen -c -- "$current") ;;',
+                "    esac",
+                "    case $takes in file | folder) compopt -o filenames 2>/dev/null ;; esac",
+                "}",
+                "complete -F _lte_sec lte_sec",
+            ]
+        )
+        + "\n"
+    )
 
 
 def what_if() -> str:
@@ -177,16 +228,28 @@ def what_if() -> str:
     document = json.loads(WHAT_IF.read_text())
     variant = document["$defs"]["variant"]["properties"]
     variant["outcomes"]["items"]["properties"]["is"]["enum"] = list(tables.OUTCOMES)
-    for kind in (document["properties"]["tried"]["properties"]["kinds"]["items"], variant["faults"]["items"]["properties"]["kind"]):
+    for kind in (
+        document["properties"]["tried"]["properties"]["kinds"]["items"],
+        variant["faults"]["items"]["properties"]["kind"],
+    ):
         kind["enum"] = list(KINDS)
-    document["$defs"]["heals"]["properties"]["by"]["enum"] = [*(word for word in tables.HEALS if word != healing.NOTHING), None]
+    document["$defs"]["heals"]["properties"]["by"]["enum"] = [
+        *(word for word in tables.HEALS if word != healing.NOTHING),
+        None,
+    ]
     return json.dumps(document, indent=2) + "\n"
 
 
 def made() -> dict[pathlib.Path, str]:
     """The files, and what stands in each."""
     of_shells = {ZSH: shells.zsh(words(), takes, values), FISH: shells.fish(words(), takes, values)}
-    return {MAN: man(), COMPLETIONS: completions(), **of_shells, SCENARIO: schema.text_of(schema.scenario()) + "\n", WHAT_IF: what_if()}
+    return {
+        MAN: man(),
+        COMPLETIONS: completions(),
+        **of_shells,
+        SCENARIO: schema.text_of(schema.scenario()) + "\n",
+        WHAT_IF: what_if(),
+    }
 
 
 def main() -> None:

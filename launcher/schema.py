@@ -1,6 +1,8 @@
-"""The schema of scenarios for editors (JSON Schema 2020-12, of TOML), made of the table of fields. `pages.py` writes it.
+"""The schema of scenarios for editors (JSON Schema 2020-12, of TOML), made of the table of fields. `pages.py` writes
+it.
 
-It has what a table may hold, for run, fleet and two in one: which stations there are, and what only one of the three has, the program tells.
+It has what a table may hold, for run, fleet and two in one: which stations there are, and what only one of the three
+has, the program tells.
 """
 from __future__ import annotations
 
@@ -86,7 +88,16 @@ def scenario() -> Schema:
         "additionalProperties": False,
         "properties": {
             **tables,
-            "station": {"type": "array", "minItems": 1, "maxItems": MOST_STATIONS, "items": table_of([*SETUP["station"], OF_CORE])},
-            "step": {"type": "array", "maxItems": MOST_STEPS, "items": {"anyOf": [table for do, fields in STEPS.items() for table in steps_of(do, fields)]}},
+            "station": {
+                "type": "array",
+                "minItems": 1,
+                "maxItems": MOST_STATIONS,
+                "items": table_of([*SETUP["station"], OF_CORE]),
+            },
+            "step": {
+                "type": "array",
+                "maxItems": MOST_STEPS,
+                "items": {"anyOf": [table for do, fields in STEPS.items() for table in steps_of(do, fields)]},
+            },
         },
     }

@@ -31,11 +31,15 @@ def short(text: str) -> str:
 
 # fish
 
+
 def fish(words: Sequence[Word], takes: Takes, values: Values) -> str:
     lines = [f"# Completions of lte_sec for fish, {MADE}", "complete -c lte_sec -f"]
     for word in words:
         option = word.name.startswith("--")
-        lines.append(f"complete -c lte_sec -n __fish_use_subcommand {'-l ' + word.name[2:] if option else '-a ' + word.name} -d {fished(short(word.does))}")
+        lines.append(
+            f"complete -c lte_sec -n __fish_use_subcommand {'-l ' + word.name[2:] if option else '-a ' + word.name} "
+            f"-d {fished(short(word.does))}"
+        )
     for word in words:
         where = f"complete -c lte_sec -n '__fish_seen_subcommand_from {word.name}'"
         if takes(word.behind):
@@ -51,7 +55,11 @@ def fished(text: str) -> str:
 
 
 def fish_takes(kind: str) -> str:
-    return {"file": "-F", "folder": "-a '(__fish_complete_directories)'", "command": "-a '(__fish_complete_command)'"}.get(kind, "")
+    return {
+        "file": "-F",
+        "folder": "-a '(__fish_complete_directories)'",
+        "command": "-a '(__fish_complete_command)'",
+    }.get(kind, "")
 
 
 def fish_option(name: str, word: str, takes: Takes, values: Values) -> str:
@@ -65,10 +73,20 @@ def fish_option(name: str, word: str, takes: Takes, values: Values) -> str:
 
 # zsh
 
+
 def zsh(words: Sequence[Word], takes: Takes, values: Values) -> str:
     lines = ["#compdef lte_sec", f"# Completions of lte_sec for zsh, {MADE}", "local -a known", "known=("]
     lines += [f"    {quoted(word.name.replace(':', chr(92) + ':') + ':' + short(word.does))}" for word in words]
-    lines += [")", "if (( CURRENT == 2 )); then", "    _describe word known", "    return", "fi", "shift words", "(( CURRENT-- ))", "case $words[1] in"]
+    lines += [
+        ")",
+        "if (( CURRENT == 2 )); then",
+        "    _describe word known",
+        "    return",
+        "fi",
+        "shift words",
+        "(( CURRENT-- ))",
+        "case $words[1] in",
+    ]
     for word in words:
         specs = list(zsh_specs(word, takes, values))
         if specs:

@@ -64,7 +64,9 @@ class Mistakes(unittest.TestCase):
 
     def test_octets_that_are_no_text_are_named(self) -> None:
         ran = launched("run", given=b"phone = \xff")
-        self.assertEqual((b"refused text\n", b"lte_sec: line 1, column 9: octet ff is not UTF-8 text\n"), (ran.stdout, ran.stderr))
+        self.assertEqual(
+            (b"refused text\n", b"lte_sec: line 1, column 9: octet ff is not UTF-8 text\n"), (ran.stdout, ran.stderr)
+        )
 
     def test_a_text_that_is_read_from_its_middle_is_not_judged(self) -> None:
         with tempfile.TemporaryFile() as file:
@@ -84,10 +86,18 @@ class Texts(unittest.TestCase):
             self.assertEqual(tomllib.loads(file.read_text()), document.plain(document.read(file.read_bytes())), file)
 
     def test_inline_tables_may_go_over_lines(self) -> None:
-        self.assertEqual({"a": {"b": 1, "c": "\x1b"}}, document.plain(document.read(b'a = { b = 1, # of TOML 1.1\n  c = "\\e",\n}\n')))
+        self.assertEqual(
+            {"a": {"b": 1, "c": "\x1b"}},
+            document.plain(document.read(b'a = { b = 1, # of TOML 1.1\n  c = "\\e",\n}\n')),
+        )
 
     def test_examples_have_no_fault(self) -> None:
-        for room, kind in (("run", scenario_faults.RUN), ("worked", scenario_faults.RUN), ("fleet", scenario_faults.FLEET), ("two", scenario_faults.TWO)):
+        for room, kind in (
+            ("run", scenario_faults.RUN),
+            ("worked", scenario_faults.RUN),
+            ("fleet", scenario_faults.FLEET),
+            ("two", scenario_faults.TWO),
+        ):
             for file in EXAMPLES.glob(f"{room}/*.toml"):
                 scenario_faults.judge(document.read(file.read_bytes()), kind)
         for name in ("first", "chain", "algorithms"):
@@ -98,7 +108,7 @@ class Texts(unittest.TestCase):
         with self.assertRaises(document.TextFault) as caught:
             ladder.judge(text)
         self.assertEqual("refused line 4097", caught.exception.line)
-        ladder.judge(text[:text.rindex(b"kenb")])
+        ladder.judge(text[: text.rindex(b"kenb")])
 
 
 class Lines(unittest.TestCase):
@@ -107,7 +117,9 @@ class Lines(unittest.TestCase):
     def test_each_bad_line_has_a_reason_and_no_other(self) -> None:
         found = calc.faults((EXAMPLES / "calc" / "bad.txt").read_bytes())
         answers = (EXAMPLES / "calc" / "bad.out").read_text().splitlines()
-        self.assertEqual([answer for answer in answers if answer.startswith("bad ")], [f"bad {bad.what}" for _, _, bad in found])
+        self.assertEqual(
+            [answer for answer in answers if answer.startswith("bad ")], [f"bad {bad.what}" for _, _, bad in found]
+        )
         for name in ("keys", "pdus", "vectors"):
             self.assertEqual([], calc.faults((EXAMPLES / "calc" / f"{name}.txt").read_bytes()), name)
 
@@ -118,15 +130,22 @@ class Lines(unittest.TestCase):
 
     def test_reasons_are_said_for_a_file_and_a_pipe(self) -> None:
         text = b"# keys\nkenb 00 0\nkenb " + b"0" * 64 + b" 01\n"
-        said = "lte_sec: line 2: kasme has 2 digits; it must have 64\nlte_sec: line 3: count is '01'; it must be 0 to 16777215, in decimal without sign or leading zero\n"
+        said = (
+            "lte_sec: line 2: kasme has 2 digits; it must have 64\nlte_sec: line 3: count is '01'; it must be 0 "
+            "to 16777215, in decimal without sign or leading zero\n"
+        )
         with tempfile.NamedTemporaryFile() as file:
             file.write(text)
             file.flush()
             for ran in (launched("calc", given=text), launched("calc", file.name)):
-                self.assertEqual((3, b"bad kasme\nbad count\n", said), (ran.returncode, ran.stdout, ran.stderr.decode()))
+                self.assertEqual(
+                    (3, b"bad kasme\nbad count\n", said), (ran.returncode, ran.stdout, ran.stderr.decode())
+                )
 
     def test_an_answer_comes_before_the_next_line_is_given(self) -> None:
-        with subprocess.Popen([TOP / "lte_sec", "calc"], stdin=subprocess.PIPE, stdout=subprocess.PIPE, stderr=subprocess.PIPE) as process:
+        with subprocess.Popen(
+            [TOP / "lte_sec", "calc"], stdin=subprocess.PIPE, stdout=subprocess.PIPE, stderr=subprocess.PIPE
+        ) as process:
             assert process.stdin and process.stdout and process.stderr
             for _ in range(3):
                 process.stdin.write(b"kenb 00 0\n")
@@ -137,9 +156,13 @@ class Lines(unittest.TestCase):
 
     def test_the_mistake_of_a_mac_is_named_by_a_file_and_a_pipe(self) -> None:
         key = "000102030405060708090a0b0c0d0e0f101112131415161718191a1b1c1d1e1f"
-        text = f"# a remark\n\nkenb {key} 0\nnas {key} 2 0 downlink 270a76966105e7a452c4b5\nsrb {key} 2 102 0 downlink 06917edc43e7c2c10c\n".encode()
+        text = (
+            f"# a remark\n\nkenb {key} 0\nnas {key} 2 0 downlink 270a76966105e7a452c4b5\nsrb {key} 2 102 0 "
+            "downlink 06917edc43e7c2c10c\n"
+        ).encode()
         said = (
-            "lte_sec: line 4: the MAC is wrong: it is that of the other direction\nlte_sec: line 5: text and MAC are wrong: they are those of COUNT 70\n"
+            "lte_sec: line 4: the MAC is wrong: it is that of the other direction\nlte_sec: line 5: text and MAC are "
+            "wrong: they are those of COUNT 70\n"
             "lte_sec: status 1: 2 lines with a MAC that fails\n"
         )
         with tempfile.NamedTemporaryFile() as file:
@@ -151,9 +174,15 @@ class Lines(unittest.TestCase):
     def test_what_fits_a_line_that_opens_at_no_count_or_to_no_nas_message_is_said(self) -> None:
         key = "000102030405060708090a0b0c0d0e0f101112131415161718191a1b1c1d1e1f"
         text = f"nas {key} 2 any downlink 277b3eaa160546084a250c\nnas {key} 1 0 uplink 270a76966105e7a452c4b5\n"
-        one, two = "the MAC is wrong: it is that of the other direction, of 128-EIA2 at COUNT 1192965", "the text is no NAS message; it is one under EEA2"
+        one, two = (
+            "the MAC is wrong: it is that of the other direction, of 128-EIA2 at COUNT 1192965",
+            "the text is no NAS message; it is one under EEA2",
+        )
         ran = launched("calc", "--strict", given=text.encode())
-        self.assertEqual((1, f"lte_sec: line 1: {one}\nlte_sec: line 2: {two}\nlte_sec: status 1: 1 line with a MAC that fails\n"), (ran.returncode, ran.stderr.decode()))
+        self.assertEqual(
+            (1, f"lte_sec: line 1: {one}\nlte_sec: line 2: {two}\nlte_sec: status 1: 1 line with a MAC that fails\n"),
+            (ran.returncode, ran.stderr.decode()),
+        )
         ran = launched("calc", "--strict", given=text.splitlines(keepends=True)[1].encode())
         self.assertEqual((0, f"lte_sec: line 1: {two}\n"), (ran.returncode, ran.stderr.decode()))
 
@@ -164,7 +193,10 @@ class Lines(unittest.TestCase):
 
     def test_a_mac_that_fails_is_a_status_where_it_is_asked_for(self) -> None:
         key = "000102030405060708090a0b0c0d0e0f101112131415161718191a1b1c1d1e1f"
-        right, wrong = f"nas {key} 2 0 uplink 270a76966105e7a452c4b5\n".encode(), f"nas {key} 2 0 uplink 270a76966005e7a452c4b5\n".encode()
+        right, wrong = (
+            f"nas {key} 2 0 uplink 270a76966105e7a452c4b5\n".encode(),
+            f"nas {key} 2 0 uplink 270a76966005e7a452c4b5\n".encode(),
+        )
         cases: tuple[tuple[list[str], bytes, int, bytes], ...] = (
             (["--strict"], right, 0, b""),
             (["--strict"], right + wrong + wrong, 1, b"lte_sec: status 1: 2 lines with a MAC that fails\n"),
@@ -177,26 +209,36 @@ class Lines(unittest.TestCase):
 
 
 class Page(unittest.TestCase):
-    """The tables of docs/SCENARIOS.md say what may stand in each field, and what holds where it is left out, as messages do."""
+    """The tables of docs/SCENARIOS.md say what may stand in each field, and what holds where it is left out, as
+    messages do."""
 
     PAGE = (TOP / "docs" / "SCENARIOS.md").read_text()
     PLAIN = PAGE.replace("`", "")
 
     def rows(self, head: str, before: str = "") -> list[list[str]]:
         """The rows of the first table with this head behind a text, without marks of code."""
-        text = self.PLAIN[self.PLAIN.index(before):]
-        lines = text[text.index(head):].split("\n\n")[0].splitlines()[2:]
+        text = self.PLAIN[self.PLAIN.index(before) :]
+        lines = text[text.index(head) :].split("\n\n")[0].splitlines()[2:]
         return [[cell.strip() for cell in line.strip("|").split(" | ")] for line in lines]
 
     def tell(self, told: list[scenario_fields.Field], cell: str) -> None:
         """A cell names these fields in order, each in a part of its own, with what may stand there and when."""
-        shared = self.PLAIN[self.PLAIN.index("A station is"):self.PLAIN.index("| do | what happens | fields")]
-        parts = {names.split()[0].strip(","): names for names in re.sub(r"(\w+) and (\w+) (as for \w+)", r"\1 \3; \2 \3", cell).split("; ") if names}
+        shared = self.PLAIN[self.PLAIN.index("A station is") : self.PLAIN.index("| do | what happens | fields")]
+        parts = {
+            names.split()[0].strip(","): names
+            for names in re.sub(r"(\w+) and (\w+) (as for \w+)", r"\1 \3; \2 \3", cell).split("; ")
+            if names
+        }
         self.assertEqual(list(dict.fromkeys(field.name for field in told)), list(parts))
         for field in told:
-            part, may = parts[field.name], field.kind.may.replace("a number ", "").replace(" in quotes", "").replace('"', "")
+            part, may = parts[field.name], field.kind.may.replace("a number ", "").replace(" in quotes", "").replace(
+                '"', ""
+            )
             other = scenario_fields.STEPS[part.split(" as for ")[1]] if " as for " in part else []
-            self.assertTrue(may in part + shared or field.name in [it.name for it in other if it.kind.may == field.kind.may], (part, may))
+            self.assertTrue(
+                may in part + shared or field.name in [it.name for it in other if it.kind.may == field.kind.may],
+                (part, may),
+            )
             self.assertIn(f"or {field.left_out}" if field.left_out else "", part)
             self.assertTrue(not field.when or other or field.name == "bearer" or f" {field.when[0]} is " in part, part)
 
@@ -210,26 +252,49 @@ class Page(unittest.TestCase):
         self.assertEqual(sorted(scenario_fields.STEPS), sorted(seen))
 
     def test_the_setup_has_the_fields_of_the_page(self) -> None:
-        tables = {f"[{name}]": told for name, told in scenario_fields.SETUP.items()} | {"of phone": [scenario_fields.of_phone(2)], "of core": [scenario_fields.OF_CORE]}
+        tables = {f"[{name}]": told for name, told in scenario_fields.SETUP.items()} | {
+            "of phone": [scenario_fields.of_phone(2)],
+            "of core": [scenario_fields.OF_CORE],
+        }
         seen: dict[str, list[str]] = {name: [] for name in tables}
-        for where, extra in (("", ""), ("## Scenarios of a fleet", "of phone"), ("## Scenarios of two cores", "of core")):
+        for where, extra in (
+            ("", ""),
+            ("## Scenarios of a fleet", "of phone"),
+            ("## Scenarios of two cores", "of core"),
+        ):
             table = extra
             for name, field, cell, left_out in self.rows("| table | field | value", where):
-                table = next((it for it in tables if name and it in name), table) if name != "[[step]]" and extra != "of core" else extra
+                table = (
+                    next((it for it in tables if name and it in name), table)
+                    if name != "[[step]]" and extra != "of core"
+                    else extra
+                )
                 if field == "do":
                     continue
                 of = next(it for it in tables[table] if it.name == field)
                 seen[table].append(field)
                 self.assertEqual(of.left_out or "refused", left_out, field)
                 may = of.kind.may.replace("a number ", "").replace(" in quotes", "")
-                self.assertTrue(may in cell or extra == "of phone" or cell == "as for the core" and of in scenario_fields.SETUP["core"], (field, may))
+                self.assertTrue(
+                    may in cell
+                    or extra == "of phone"
+                    or cell == "as for the core"
+                    and of in scenario_fields.SETUP["core"],
+                    (field, may),
+                )
         self.assertEqual({name: [field.name for field in told] for name, told in tables.items()}, seen)
 
     def test_the_page_tells_how_many_there_may_be_and_the_lines_of_a_ladder(self) -> None:
-        for told in (f"[[station]], 1 to {scenario_fields.MOST_STATIONS} |", f"[[step]], at most {scenario_fields.MOST_STEPS:,} |", f"at most {ladder.MOST_LINES:,} lines"):
+        for told in (
+            f"[[station]], 1 to {scenario_fields.MOST_STATIONS} |",
+            f"[[step]], at most {scenario_fields.MOST_STEPS:,} |",
+            f"at most {ladder.MOST_LINES:,} lines",
+        ):
             self.assertIn(told, self.PLAIN)
         rows = self.rows("| line | needs | derives")
-        self.assertEqual([f"{kind} {' '.join(names)}" for kind, names in ladder.LINES.items()], [line for line, _, _ in rows])
+        self.assertEqual(
+            [f"{kind} {' '.join(names)}" for kind, names in ladder.LINES.items()], [line for line, _, _ in rows]
+        )
 
 
 class Installed(unittest.TestCase):
@@ -240,10 +305,16 @@ class Installed(unittest.TestCase):
     def completed(self, *given: str) -> list[str]:
         """What bash offers for the last of these words."""
         script = (
-            '. "$1" && shift && COMP_WORDS=(lte_sec "$@") COMP_CWORD=$# && read -ra registered < <(complete -p lte_sec)\n'
+            '. "$1" && shift && COMP_WORDS=(lte_sec "$@") COMP_CWORD=$# && read -ra '
+            "registered < <(complete -p lte_sec)\n"
             '"${registered[2]}"; for reply in "${COMPREPLY[@]}"; do echo "$reply"; done'
         )
-        ran = subprocess.run(["bash", "--norc", "-c", script, "bash", pages.COMPLETIONS, *given], capture_output=True, text=True, cwd=EXAMPLES)
+        ran = subprocess.run(
+            ["bash", "--norc", "-c", script, "bash", pages.COMPLETIONS, *given],
+            capture_output=True,
+            text=True,
+            cwd=EXAMPLES,
+        )
         self.assertEqual("", ran.stderr)
         return ran.stdout.splitlines()
 
@@ -255,17 +326,29 @@ class Installed(unittest.TestCase):
         if shutil.which("zsh"):
             self.assertEqual(b"", subprocess.run(["zsh", "-n", pages.ZSH], capture_output=True, check=True).stderr)
         if shutil.which("fish"):
-            for given, offered in (("ru", "run"), ("what-if --bad ke", "keys-differ"), ("draw me", "messages"), ("run --js", "--json"), ("--prov", "--prove")):
+            for given, offered in (
+                ("ru", "run"),
+                ("what-if --bad ke", "keys-differ"),
+                ("draw me", "messages"),
+                ("run --js", "--json"),
+                ("--prov", "--prove"),
+            ):
                 script = f"source {pages.FISH}; complete -C 'lte_sec {given}'"
                 ran = subprocess.run(["fish", "--no-config", "-c", script], capture_output=True, text=True)
                 self.assertIn(offered, [line.split("\t")[0] for line in ran.stdout.splitlines()], given)
 
     def test_each_word_that_is_answered_is_in_the_table(self) -> None:
         answered = re.findall(r"^does_(\w+)\(\)", (HERE / "answers").read_text(), re.MULTILINE)
-        own = set(re.findall(r"(?<=[ |])--[a-z]+(?= \||\))", (HERE / "answers").read_text().split("\nword=", 1)[1])) - {"--explain"}
-        self.assertEqual(({name.replace("_", "-") for name in answered}, own), (
-            {word.name for word in self.WORDS if not word.name.startswith("-")}, {word.name for word in self.WORDS if word.name.startswith("-")},
-        ))
+        own = set(re.findall(r"(?<=[ |])--[a-z]+(?= \||\))", (HERE / "answers").read_text().split("\nword=", 1)[1])) - {
+            "--explain"
+        }
+        self.assertEqual(
+            ({name.replace("_", "-") for name in answered}, own),
+            (
+                {word.name for word in self.WORDS if not word.name.startswith("-")},
+                {word.name for word in self.WORDS if word.name.startswith("-")},
+            ),
+        )
 
     def test_each_word_with_json_says_by_it_why_it_fails(self) -> None:
         for word in [word.name for word in self.WORDS if any(name == "--json" for name, _ in word.below)]:
@@ -282,12 +365,31 @@ class Installed(unittest.TestCase):
 
     def test_each_option_of_the_table_is_asked_for(self) -> None:
         for name, files in (
-            ("check-trace", ["trace_words"]), ("explain", ["trace_words"]), ("wireshark", ["trace_words"]), ("vectors", ["trace_words"]), ("replay", ["trace_words", "replay_word"]), ("what-if", ["what_if_word"]), ("repeats", ["trace_words"]),
-            ("verdict", ["verdict"]), ("draw", ["run_page"]), ("drive", ["drive_options", "drive_word", "suite_word", "generate"]), ("demands", ["demands"]),
+            ("check-trace", ["trace_words"]),
+            ("explain", ["trace_words"]),
+            ("wireshark", ["trace_words"]),
+            ("vectors", ["trace_words"]),
+            ("replay", ["trace_words", "replay_word"]),
+            ("what-if", ["what_if_word"]),
+            ("repeats", ["trace_words"]),
+            ("verdict", ["verdict"]),
+            ("draw", ["run_page"]),
+            ("drive", ["drive_options", "drive_word", "suite_word", "generate"]),
+            ("demands", ["demands"]),
         ):
             texts = "".join(next((TOP / "python/lte_sec").rglob(f"{file}.py")).read_text() for file in files)
             asked = set(re.findall(r'"(--[a-z-]+)"', texts)) | {"--suite"}
-            self.assertLessEqual({option.split()[0] for word in self.WORDS if word.name == name for option, _ in word.below if option.startswith("--")}, asked, name)
+            self.assertLessEqual(
+                {
+                    option.split()[0]
+                    for word in self.WORDS
+                    if word.name == name
+                    for option, _ in word.below
+                    if option.startswith("--")
+                },
+                asked,
+                name,
+            )
 
     def test_they_name_every_word_and_option(self) -> None:
         page = pages.MAN.read_text().replace("\\-", "-")
@@ -301,17 +403,28 @@ class Installed(unittest.TestCase):
 
     def test_files_folders_and_commands_are_completed_where_they_are_taken(self) -> None:
         for given, offered in (
-            (["ru"], ["run"]), (["what"], ["what-if"]), (["help", "che"], ["check-trace"]), (["run", "run/ord"], ["run/ordinary.out", "run/ordinary.toml"]),
-            (["serve", "p"], ["phone"]), (["draw", "messages", "run/ordinary.t"], ["run/ordinary.toml"]), (["what-if", "--save", "what-i"], ["what-if"]),
-            (["what-if", "--faults", ""], ["1", "2", "3"]), (["library", "lad"], ["ladder"]), (["explain", "--keys", "ladder/fi"], ["ladder/first.out", "ladder/first.txt"]),
-            (["check-trace", "--pl"], ["--plain"]), (["gen", ""], []), (["--program", "lte_c"], ["lte_calc"]),
+            (["ru"], ["run"]),
+            (["what"], ["what-if"]),
+            (["help", "che"], ["check-trace"]),
+            (["run", "run/ord"], ["run/ordinary.out", "run/ordinary.toml"]),
+            (["serve", "p"], ["phone"]),
+            (["draw", "messages", "run/ordinary.t"], ["run/ordinary.toml"]),
+            (["what-if", "--save", "what-i"], ["what-if"]),
+            (["what-if", "--faults", ""], ["1", "2", "3"]),
+            (["library", "lad"], ["ladder"]),
+            (["explain", "--keys", "ladder/fi"], ["ladder/first.out", "ladder/first.txt"]),
+            (["check-trace", "--pl"], ["--plain"]),
+            (["gen", ""], []),
+            (["--program", "lte_c"], ["lte_calc"]),
         ):
             self.assertEqual(offered, sorted(self.completed(*given)), given)
         self.assertIn("python3", self.completed("drive", "--phone", "python3"))
 
     def test_values_are_completed_where_there_are_few(self) -> None:
         for given, offered in (
-            (["what-if", "--bad", "keys"], ["keys-differ"]), (["what-if", "--kinds", "twice"], ["twice", "twice,again"]), (["serve", "station", "7"], ["7"]),
+            (["what-if", "--bad", "keys"], ["keys-differ"]),
+            (["what-if", "--kinds", "twice"], ["twice", "twice,again"]),
+            (["serve", "station", "7"], ["7"]),
             (["drive", "--answers", ""], ["done"]),
         ):
             self.assertEqual(offered, self.completed(*given), given)
@@ -322,7 +435,12 @@ class Installed(unittest.TestCase):
 
     @unittest.skipUnless(shutil.which("man"), "man is not here")
     def test_the_page_is_shown_without_a_warning(self) -> None:
-        ran = subprocess.run(["man", "--warnings", "-l", pages.MAN], capture_output=True, text=True, env={**os.environ, "LC_ALL": "C.UTF-8", "MANWIDTH": "200"})
+        ran = subprocess.run(
+            ["man", "--warnings", "-l", pages.MAN],
+            capture_output=True,
+            text=True,
+            env={**os.environ, "LC_ALL": "C.UTF-8", "MANWIDTH": "200"},
+        )
         self.assertEqual((0, ""), (ran.returncode, ran.stderr))
 
 
@@ -350,7 +468,9 @@ class Version(unittest.TestCase):
         self.assertIn(f"liblte_sec.so.{soname[1]}", page)
 
     def test_the_programs_are_those_of_the_table(self) -> None:
-        programs = [line.split(" | ") for line in (HERE / "programs").read_text().splitlines() if not line.startswith("#")]
+        programs = [
+            line.split(" | ") for line in (HERE / "programs").read_text().splitlines() if not line.startswith("#")
+        ]
         for word in (word for word in pages.words() if word.name in ("--proved", "--program")):
             self.assertEqual([(name, f"asks for the program of {answers}") for name, answers in programs], word.below)
 
@@ -368,14 +488,18 @@ class Pictures(unittest.TestCase):
 
     def test_a_long_text_is_shortened(self) -> None:
         octets = (EXAMPLES / "run/ordinary.toml").read_bytes()
-        long = re.sub(rb'(do = "user".*?text = ")[0-9a-f]*', lambda found: found[1] + b"0123456789" * 60, octets, count=1)
+        long = re.sub(
+            rb'(do = "user".*?text = ")[0-9a-f]*', lambda found: found[1] + b"0123456789" * 60, octets, count=1
+        )
         width, _, drawn = self.width_and_names(long)
         self.assertEqual(self.width_and_names(octets)[0], width)
         self.assertIn(">sends 0123456789012345.. (300 octets) on drb1<", drawn)
         self.assertIn(">opens to 0123456789012345.. (300 octets)<", drawn)
 
     def test_a_long_name_is_shortened(self) -> None:
-        width, _, drawn = self.width_and_names(b"# " + b"a scenario with a long name " * 20 + b"\n" + SETUP.encode() + b'step = [{ do = "idle" }]\n')
+        width, _, drawn = self.width_and_names(
+            b"# " + b"a scenario with a long name " * 20 + b"\n" + SETUP.encode() + b'step = [{ do = "idle" }]\n'
+        )
         self.assertLess(width, 1200)
         self.assertIn(" ..</text>", drawn)
 
@@ -392,11 +516,17 @@ class Verdicts(unittest.TestCase):
             ran = launched("verdict", EXAMPLES / "run" / f"{name}.out")
             self.assertEqual((status, last), (ran.returncode, ran.stdout.decode().splitlines()[-2:]), name)
         ran = launched("verdict", EXAMPLES / "fleet" / "two-phones.out")
-        self.assertEqual((3, b"lte_sec: this is not a report of run: it is one of fleet; sed -n 's/^0 //p' gives that of phone 0\n"), (ran.returncode, ran.stderr))
+        self.assertEqual(
+            (3, b"lte_sec: this is not a report of run: it is one of fleet; sed -n 's/^0 //p' gives that of phone 0\n"),
+            (ran.returncode, ran.stderr),
+        )
 
     def test_a_document_is_printed_for_machines(self) -> None:
         ran = launched("verdict", "--json", EXAMPLES / "run" / "cancelled-s1.out")
-        self.assertEqual((0, ["not commanded", "one key", "one key, not completed"]), (ran.returncode, [item["outcome"] for item in json.loads(ran.stdout)["items"]]))
+        self.assertEqual(
+            (0, ["not commanded", "one key", "one key, not completed"]),
+            (ran.returncode, [item["outcome"] for item in json.loads(ran.stdout)["items"]]),
+        )
 
 
 if __name__ == "__main__":

@@ -9,7 +9,10 @@ from lte_sec.runs.kinds import nearest
 ACTORS = ["phone", "station", "core"]
 # What follows these words, and of each part its name and what is wrong with another.
 BEHIND: dict[str, tuple[str, dict[str, Check]]] = {
-    "gen": ("two numbers, that of steps and the seed, as gen 100 7", {"the number of steps": number(1, 100_000), "the seed": number(0, 2**32 - 1)}),
+    "gen": (
+        "two numbers, that of steps and the seed, as gen 100 7",
+        {"the number of steps": number(1, 100_000), "the seed": number(0, 2**32 - 1)},
+    ),
     "serve station": ("one number 0 to 7", {"the station": number(0, 7)}),
     "serve phone": ("no more words", {}),
     "serve core": ("no more words", {}),

@@ -55,7 +55,9 @@ def packed(file: Path) -> Entry:
 
 def contents(part: str) -> Tree:
     """The files of the repository that belong to this part by the table `contents`."""
-    lines = [line.split(" | ") for line in (TOP / "package/contents").read_text().splitlines() if not line.startswith("#")]
+    lines = [
+        line.split(" | ") for line in (TOP / "package/contents").read_text().splitlines() if not line.startswith("#")
+    ]
     return {name: packed(TOP / name) for kind, path in lines if kind == part for name in known(path)}
 
 

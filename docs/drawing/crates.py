@@ -1,4 +1,5 @@
-"""The crates by the layers of docs/MAP.md, each layer a box. Lines join crates of one layer; those of other layers that a crate stands on are named in it."""
+"""The crates by the layers of docs/MAP.md, each layer a box. Lines join crates of one layer; those of other layers that
+a crate stands on are named in it."""
 from __future__ import annotations
 
 import math
@@ -17,16 +18,27 @@ Line = tuple[Point, Point]  # from a row to the one below
 Room = tuple[float, float, float, float]  # left, top, width and height
 
 CRATE, BETWEEN, LANE = 138, 14, 16  # the widths of a crate, of the room between two, and of a line that passes a row
-NAME, WORDS, LETTERS = 22, 11, 24  # the heights of a crate's name and of a line of small words, and the letters of such a line
-ROWS_APART, TITLE, EDGE = 30, 30, 14  # the room between rows, that of a layer's title, and that around and inside a layer
+NAME, WORDS, LETTERS = (
+    22,
+    11,
+    24,
+)  # the heights of a crate's name and of a line of small words, and the letters of such a line
+ROWS_APART, TITLE, EDGE = (
+    30,
+    30,
+    14,
+)  # the room between rows, that of a layer's title, and that around and inside a layer
 FILLS = ["#f3f0b5", "#cfe3ff", "#c9eef0", "#cdeed6", "#e3d9f7", "#f6d5e6", "#ffe8c7", "#d9e8c4", "#f5cfc5", "#e4e7eb"]
 # How the layers lie: parts side by side, the lower layer left, or parts from the lowest up
-PLACES: Part = ("up", [
-    ("across", ["Outside", "Keys and ciphers"]),
-    ("across", ["Protection and chain", ("up", ["Records", ("across", ["Machine", "Actors"])])]),
-    ("across", ["World", "Texts"]),
-    ("across", ["Commands", "Tests"]),
-])
+PLACES: Part = (
+    "up",
+    [
+        ("across", ["Outside", "Keys and ciphers"]),
+        ("across", ["Protection and chain", ("up", ["Records", ("across", ["Machine", "Actors"])])]),
+        ("across", ["World", "Texts"]),
+        ("across", ["Commands", "Tests"]),
+    ],
+)
 WIDEST = {"Tests": 4}  # so many crates in a row; elsewhere 6
 
 
@@ -53,7 +65,9 @@ def layers_of(page: str) -> dict[str, list[str]]:
         if line.startswith("### "):
             layers[line[4:]] = []
         elif line.startswith(("| [", "| `")):
-            layers[list(layers)[-1]] += re.findall(r"\[(\w+)\]\(", line.split("|")[1]) or re.findall(r"`(\w+)`", line.split("|")[1])
+            layers[list(layers)[-1]] += re.findall(r"\[(\w+)\]\(", line.split("|")[1]) or re.findall(
+                r"`(\w+)`", line.split("|")[1]
+            )
     return layers
 
 
@@ -69,12 +83,20 @@ def rows_from_below(crates: list[str], stands: dict[str, list[str]], widest: int
 
 def set_out(wanted: dict[Point, float], widths: Mapping[Point, float]) -> dict[Point, float]:
     """Places for the things of a row, in the order of the places wanted and as near to these as their widths allow."""
-    groups: list[tuple[list[Point], float, float]] = []  # those that touch: what is in it, its width, and where its left side is wanted
+    groups: list[
+        tuple[list[Point], float, float]
+    ] = []  # those that touch: what is in it, its width, and where its left side is wanted
     for point in sorted(wanted, key=lambda point: wanted[point]):
         groups.append(([point], widths[point], wanted[point] - widths[point] / 2))
         while len(groups) > 1 and groups[-2][2] + groups[-2][1] > groups[-1][2]:
             (points, width, left), (more, wider, right) = groups[-2:]
-            groups[-2:] = [(points + more, width + wider, (left * len(points) + (right - width) * len(more)) / (len(points) + len(more)))]
+            groups[-2:] = [
+                (
+                    points + more,
+                    width + wider,
+                    (left * len(points) + (right - width) * len(more)) / (len(points) + len(more)),
+                )
+            ]
     places = {}
     for points, _, left in groups:
         for point in points:
@@ -97,7 +119,8 @@ def closed(x_of: dict[Point, float], widths: Mapping[Point, float]) -> dict[Poin
 
 
 def lines_between(rows: list[list[str]], stands: dict[str, list[str]]) -> list[Line]:
-    """The lines from each row of a layer to the one below, between crates (name, row) and places where a line passes a row."""
+    """The lines from each row of a layer to the one below, between crates (name, row) and places where a line passes a
+    row."""
     row_of = {name: at for at, row in enumerate(rows) for name in row}
     lines = set[Line]()
     for name in row_of:
@@ -134,7 +157,16 @@ def picture_of(layers: dict[str, list[str]], stands: dict[str, list[str]]) -> st
     boxes = {name: Layer(name, crates, stands, fill) for (name, crates), fill in zip(layers.items(), FILLS)}
     picture, (width, height) = Picture(), size_of(PLACES, boxes)
     picture.text(20, 26, "The crates by layer", 16, weight="bold")
-    picture.text(20, 45, "A line goes down to a crate of the same layer that a crate stands on. Small words name those of lower layers, which are below or to the left.", 11, colour="#52606d")
+    picture.text(
+        20,
+        45,
+        (
+            "A line goes down to a crate of the same layer that a crate stands on. Small words name those of lower "
+            "layers, which are below or to the left."
+        ),
+        11,
+        colour="#52606d",
+    )
     picture.text(20, 60, "What a crate stands on only through another one is left out.", 11, colour="#52606d")
     place(PLACES, boxes, picture, (14, 74, width, height))
     return picture.svg("The crates by layer")
@@ -186,15 +218,23 @@ class Layer:
         self.name, self.fill = name, fill
         self.rows = rows_from_below(crates, stands, WIDEST.get(name, 6))
         self.lines = lines_between(self.rows, stands)
-        self.others = {one: textwrap.wrap(", ".join(other for other in stands[one] if other not in crates), LETTERS) for one in crates}
+        self.others = {
+            one: textwrap.wrap(", ".join(other for other in stands[one] if other not in crates), LETTERS)
+            for one in crates
+        }
         self.crates = {(one, at) for at, row in enumerate(self.rows) for one in row}
         self.x_of = self.set_out()
-        edges = {one: (x, x + CRATE) if one in self.crates else (x + (CRATE - LANE) / 2, x + (CRATE + LANE) / 2) for one, x in self.x_of.items()}
+        edges = {
+            one: (x, x + CRATE) if one in self.crates else (x + (CRATE - LANE) / 2, x + (CRATE + LANE) / 2)
+            for one, x in self.x_of.items()
+        }
         first = min(left for left, _ in edges.values())
         self.x_of = {one: x - first for one, x in self.x_of.items()}
         self.inner = max(right for _, right in edges.values()) - first
         self.heights = [NAME + 4 + WORDS * max(len(self.others[one]) for one in row) for row in self.rows]
-        self.width, self.height = self.inner + 2 * EDGE, TITLE + EDGE + sum(self.heights) + ROWS_APART * (len(self.rows) - 1)
+        self.width, self.height = self.inner + 2 * EDGE, TITLE + EDGE + sum(self.heights) + ROWS_APART * (
+            len(self.rows) - 1
+        )
 
     def set_out(self) -> dict[Point, float]:
         points = sorted(self.crates.union(*self.lines))
@@ -206,7 +246,12 @@ class Layer:
             x_of.update(set_out({point: CRATE * (place - len(row) / 2) for place, point in enumerate(row)}, widths))
         for turn in range(200):
             for row in levels if turn % 2 == 0 else levels[::-1]:
-                wanted = {point: math.fsum(x_of[other] for other in near[point]) / len(near[point]) if near[point] else x_of[point] for point in row}
+                wanted = {
+                    point: math.fsum(x_of[other] for other in near[point]) / len(near[point])
+                    if near[point]
+                    else x_of[point]
+                    for point in row
+                }
                 x_of.update(set_out(wanted, widths))
         return closed(x_of, widths)
 
@@ -220,7 +265,10 @@ class Layer:
             tops.append(round(below - high))
             below -= high + ROWS_APART
         for upper, lower in self.lines:
-            (x, low), (end, high) = ((round(self.x_of[one] + shift), self.edge_of(one, tops, side)) for one, side in ((upper, "bottom"), (lower, "top")))
+            (x, low), (end, high) = (
+                (round(self.x_of[one] + shift), self.edge_of(one, tops, side))
+                for one, side in ((upper, "bottom"), (lower, "top"))
+            )
             passes = [] if lower in self.crates else [(end, tops[lower[1]] + self.heights[lower[1]])]
             picture.line([(x, low), (end, high), *passes], PALE, arrow=False, width=1.1)
         for name, at in sorted(self.crates):

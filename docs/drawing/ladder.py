@@ -61,8 +61,23 @@ def draw(text: str, name: str) -> str:
 def picture_of(report: list[str], name: str) -> str:
     rows, picture = rows_of(report), Picture()
     picture.text(20, 26, name, 16, weight="bold")
-    picture.text(20, 45, "Each key stands right of or below the key it is derived from; dashed: the SYNC-input of an NH (TS 33.401 A.3 to A.7).", 11, colour="#52606d")
-    picture.text(20, 60, "Its first and last four octets, and who has held it: P phone, C core, S0 .. stations.", 11, colour="#52606d")
+    picture.text(
+        20,
+        45,
+        (
+            "Each key stands right of or below the key it is derived from; dashed: the SYNC-input of an NH (TS "
+            "33.401 A.3 to A.7)."
+        ),
+        11,
+        colour="#52606d",
+    )
+    picture.text(
+        20,
+        60,
+        "Its first and last four octets, and who has held it: P phone, C core, S0 .. stations.",
+        11,
+        colour="#52606d",
+    )
     y = 80
     for root in (row for row in rows.values() if row.word == "root"):
         chain = [row for row in rows.values() if row.word in ("kenb", "nh") and row.parent == root.number]
@@ -82,6 +97,14 @@ def picture_of(report: list[str], name: str) -> str:
                 picture.line([(x, places[sync.number] + height_of(sync)), (x, places[row.number])], dashed=True)
             elif sync.number in places:
                 x = 20 + STEP - 14
-                picture.line([(20 + STEP, places[sync.number] + 40), (x, places[sync.number] + 40), (x, places[row.number] + 40), (20 + STEP, places[row.number] + 40)], dashed=True)
+                picture.line(
+                    [
+                        (20 + STEP, places[sync.number] + 40),
+                        (x, places[sync.number] + 40),
+                        (x, places[row.number] + 40),
+                        (20 + STEP, places[row.number] + 40),
+                    ],
+                    dashed=True,
+                )
         y = max(below, at) + 10
     return picture.svg(name)

@@ -1,7 +1,7 @@
 """The messages of a report of `run`, with the scenario that was run.
 
-Each arrow is a delivery, at the step that brought it. A report does not say what a record is, so a message has its name by
-what made its sender send it.
+Each arrow is a delivery, at the step that brought it. A report does not say what a record is, so a message has its name
+by what made its sender send it.
 """
 from __future__ import annotations
 
@@ -18,14 +18,32 @@ from lte_sec.runs.run_report import NotedKey, StepLine, rows_of
 
 from . import NotDrawn
 
-KEY_FILLS = ["#cfe3ff", "#ffe8c7", "#cdeed6", "#f6d5e6", "#e3d9f7", "#f3f0b5", "#c9eef0", "#f5cfc5", "#d9e8c4", "#d7dbe0"]
+KEY_FILLS = [
+    "#cfe3ff",
+    "#ffe8c7",
+    "#cdeed6",
+    "#f6d5e6",
+    "#e3d9f7",
+    "#f3f0b5",
+    "#c9eef0",
+    "#f5cfc5",
+    "#d9e8c4",
+    "#d7dbe0",
+]
 
 
-LANE, LETTER, MARGIN = 262, 0.62, 880  # the distance between lanes; a letter's width by its size; the width of what stands above them
+LANE, LETTER, MARGIN = (
+    262,
+    0.62,
+    880,
+)  # the distance between lanes; a letter's width by its size; the width of what stands above them
 INJECTED = 104  # the length of an arrow that no actor sends; it stands right of the numbers of steps
 SCREEN, HEIGHT = 900, 44  # the actors' names stand again after so much, and take so much
 HEAD = (
-    "Each arrow is a delivery, at its step, with the number of the record. A key that an actor comes by or tells stands on its line,",
+    (
+        "Each arrow is a delivery, at its step, with the number of the record. A key that an actor comes by or tells "
+        "stands on its line,"
+    ),
     "with its kind, its row of the ladder, NCC and way. One number is one key.",
 )
 
@@ -49,7 +67,9 @@ def picture_of(report: list[str], scenario: Mapping[str, Any], name: str, frames
     right = x_of[lanes[-1]] + 150
     picture, drawn = Picture(), Steps(x_of, names_of(rows_of(report).values()))
     delivered = {step.came.record for step in steps if step.came}
-    picture.text(20, 26, textwrap.shorten(name, int(max(right, MARGIN) / LETTER / 16), placeholder=" .."), 16, weight="bold")
+    picture.text(
+        20, 26, textwrap.shorten(name, int(max(right, MARGIN) / LETTER / 16), placeholder=" .."), 16, weight="bold"
+    )
     for place, words in enumerate(HEAD):
         picture.text(20, 45 + 15 * place, words, 11, colour="#52606d")
     begin = y = screen = 78
@@ -67,9 +87,16 @@ def picture_of(report: list[str], scenario: Mapping[str, Any], name: str, frames
             picture.box(x_of[lane] - 52, head, 104, 26, "#e4e7eb")
             picture.text(x_of[lane], head + 17, lane, 12.5, weight="bold", anchor="middle")
     picture.put(drawn)
-    for text in report[len(steps):]:
+    for text in report[len(steps) :]:
         if " coincidence " in text:
-            picture.text(20, y + 16, text.split(" coincidence ")[0] + " coincidence: the run ends here", 12, colour=RED, weight="bold")
+            picture.text(
+                20,
+                y + 16,
+                text.split(" coincidence ")[0] + " coincidence: the run ends here",
+                12,
+                colour=RED,
+                weight="bold",
+            )
     picture.reach(right, y)
     return picture.svg(name)
 

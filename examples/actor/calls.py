@@ -1,6 +1,8 @@
-"""The six calls of TS 33.401 Annexes A and B that an actor makes: here its product's security library takes their place.
+"""The six calls of TS 33.401 Annexes A and B that an actor makes: here its product's security library takes their
+place.
 
-They are the proved ones of this repository where they are built (`./lte_sec library`), and else a reading in plain Python.
+They are the proved ones of this repository where they are built (`./lte_sec library`), and else a reading in plain
+Python.
 """
 from __future__ import annotations
 
@@ -18,12 +20,23 @@ UP, DOWN = 0, 1
 class Calls(Protocol):
     """Keys of 32 octets by Annex A; by Annex B what is ciphered, and MACs of 4 octets, under keys of 16."""
 
-    def kenb(self, kasme: bytes, count: int) -> bytes: ...
-    def nh(self, kasme: bytes, sync: bytes) -> bytes: ...
-    def kenb_star(self, key: bytes, pci: int, earfcn: int) -> bytes: ...
-    def algorithm_key(self, key: bytes, type: int, identity: int) -> bytes: ...
-    def eea2(self, key: bytes, count: int, bearer: int, direction: int, text: bytes) -> bytes: ...
-    def eia2(self, key: bytes, count: int, bearer: int, direction: int, text: bytes) -> bytes: ...
+    def kenb(self, kasme: bytes, count: int) -> bytes:
+        ...
+
+    def nh(self, kasme: bytes, sync: bytes) -> bytes:
+        ...
+
+    def kenb_star(self, key: bytes, pci: int, earfcn: int) -> bytes:
+        ...
+
+    def algorithm_key(self, key: bytes, type: int, identity: int) -> bytes:
+        ...
+
+    def eea2(self, key: bytes, count: int, bearer: int, direction: int, text: bytes) -> bytes:
+        ...
+
+    def eia2(self, key: bytes, count: int, bearer: int, direction: int, text: bytes) -> bytes:
+        ...
 
 
 def calls() -> Calls:

@@ -1,6 +1,6 @@
 #!/usr/bin/env python3
-"""A core that answers the ordinary scenario and keeps TS 33.401 7.2.8.1.1: it derives the NH of NCC 1 as it sets up a connection and
-keeps it, so the first pair that it sends has NCC 2. The scenario says so by `first_ncc = 2` in [core]:
+"""A core that answers the ordinary scenario and keeps TS 33.401 7.2.8.1.1: it derives the NH of NCC 1 as it sets up a
+connection and keeps it, so the first pair that it sends has NCC 2. The scenario says so by `first_ncc = 2` in [core]:
 
     ./lte_sec drive --core 'python3 examples/actor/core.py' examples/run/standard-core.toml
 
@@ -26,7 +26,8 @@ def number(count: int, octets: int) -> bytes:
 
 
 class Core:
-    """What the core has: cells, the last authentication, NAS keys, the connection, and the present pair of its chain."""
+    """What the core has: cells, the last authentication, NAS keys, the connection, and the present pair of its
+    chain."""
 
     def __init__(self, setup: Input):
         fields: dict[str, Any] = setup.fields
@@ -77,7 +78,9 @@ class Core:
         kenb = CALLS.kenb(kasme, self.trigger)
         self.trigger, self.ncc, self.sync = None, 1, CALLS.nh(kasme, kenb)
         record = b"\x20" + number(self.conn, 4) + spelled_cell(cell) + caps + kenb
-        return Reply(to=bytes([5, self.sites[cell]]), record=record, derived=(kenb, self.sync), note=Note(0, INITIAL, kenb))
+        return Reply(
+            to=bytes([5, self.sites[cell]]), record=record, derived=(kenb, self.sync), note=Note(0, INITIAL, kenb)
+        )
 
     def S1(self, pdu: bytes) -> Reply:
         """A Path Switch Request: the chain goes one step on, and the station gets that pair (TS 33.401 7.2.8.4.2)."""
@@ -85,7 +88,9 @@ class Core:
             raise NotImplementedError(f"not written yet: a record on S1, {pdu.hex()}")
         self.ncc, self.sync = (self.ncc + 1) % 8, CALLS.nh(self.auth[1], self.sync)
         record = b"\x23" + pdu[1:5] + pdu[6:10] + bytes([self.ncc]) + self.sync
-        return Reply(to=bytes([5, pdu[5]]), record=record, derived=(self.sync,), note=Note(self.ncc, CHAINED, self.sync))
+        return Reply(
+            to=bytes([5, pdu[5]]), record=record, derived=(self.sync,), note=Note(self.ncc, CHAINED, self.sync)
+        )
 
 
 if __name__ == "__main__":

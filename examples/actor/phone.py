@@ -3,8 +3,9 @@
 
     ./lte_sec drive --phone 'python3 examples/actor/phone.py' examples/run/ordinary.toml
 
-What a phone does in other scenarios is left to be written: it ends with a line that says what came. Where a MAC is wrong, or the
-message is not one of those, it answers with what docs/FRAMES.md says, so that a difference is found at its step.
+What a phone does in other scenarios is left to be written: it ends with a line that says what came. Where a MAC is
+wrong, or the message is not one of those, it answers with what docs/FRAMES.md says, so that a difference is found at
+its step.
 """
 from __future__ import annotations
 
@@ -126,7 +127,8 @@ class Phone:
         return self.packet(bearer, pdu) if bearer in DRBS else self.signalled(pdu)
 
     def secured(self, pdu: bytes) -> Reply:
-        """An RRC Security Mode Command (TS 36.331 5.3.4): its MAC is by the algorithms that it names; the Complete goes out plain."""
+        """An RRC Security Mode Command (TS 36.331 5.3.4): its MAC is by the algorithms that it names; the Complete goes
+        out plain."""
         text = pdu[1:-4]
         if text[:1] != b"\1":
             return self.unwritten("an RRC message", pdu)
@@ -135,17 +137,25 @@ class Phone:
         if refused:
             return refused
         self.radio, self.kenb = radio, None
-        return Reply(to=radio.to(SRB1), record=radio.srb(b"\2", is_ciphered=False), derived=radio.derived, note=Note(0, INITIAL, radio.kenb))
+        return Reply(
+            to=radio.to(SRB1),
+            record=radio.srb(b"\2", is_ciphered=False),
+            derived=radio.derived,
+            note=Note(0, INITIAL, radio.kenb),
+        )
 
     def signalled(self, pdu: bytes) -> Reply:
-        """A Reconfiguration with a handover (TS 33.401 7.2.8): the chain goes to its NCC, KeNB* is made for the cell, COUNTs begin again."""
+        """A Reconfiguration with a handover (TS 33.401 7.2.8): the chain goes to its NCC, KeNB* is made for the cell,
+        COUNTs begin again."""
         assert self.radio and self.auth
         text, refused = self.radio.srb_opened(pdu)
         if refused:
             return refused
         if text[:1] != b"\3":
             return self.unwritten("an RRC message", text)
-        pci, earfcn, ncc, eea, station, air = (int.from_bytes(text[a:b], "big") for a, b in ((1, 3), (3, 7), (7, 8), (8, 9), (9, 10), (10, 14)))
+        pci, earfcn, ncc, eea, station, air = (
+            int.from_bytes(text[a:b], "big") for a, b in ((1, 3), (3, 7), (7, 8), (8, 9), (9, 10), (10, 14))
+        )
         steps, base = [], self.radio.kenb
         while self.ncc != ncc:
             base = self.sync = CALLS.nh(self.auth[1], self.sync)
@@ -153,8 +163,12 @@ class Phone:
             steps.append(base)
         star = CALLS.kenb_star(base, pci, earfcn)
         self.radio = Radio(station, air, eea >> 4, star)
-        return Reply(to=self.radio.to(SRB1), record=self.radio.srb(b"\4"), derived=(*steps, star, *self.radio.derived),
-                     note=Note(ncc, VERTICAL if steps else HORIZONTAL, star))
+        return Reply(
+            to=self.radio.to(SRB1),
+            record=self.radio.srb(b"\4"),
+            derived=(*steps, star, *self.radio.derived),
+            note=Note(ncc, VERTICAL if steps else HORIZONTAL, star),
+        )
 
     def packet(self, bearer: int, pdu: bytes) -> Reply:
         """A user packet that came (TS 36.323 5.1.2): 12 bits of COUNT, no MAC."""
@@ -169,7 +183,9 @@ class Phone:
             return Reply(NOT_CONNECTED)
         counts = self.radio.counts[bearer]
         count, counts.send = counts.send, counts.send + 1
-        pdu = number(0x8000 | count % 4096, 2) + ciphered(self.radio.eea, self.radio.up_enc, count, (bearer & 0x7F) - 1, UP, text)
+        pdu = number(0x8000 | count % 4096, 2) + ciphered(
+            self.radio.eea, self.radio.up_enc, count, (bearer & 0x7F) - 1, UP, text
+        )
         return Reply(to=self.radio.to(bearer), record=pdu)
 
     def unwritten(self, what: str, octets: bytes) -> Reply:

@@ -1,8 +1,8 @@
 """A peer that only plays back: it answers the frames of a session of examples/serve with the replies kept there.
 
-Its words are a folder, a role, the number of an exchange and what is wrong there, and then the words of `serve`. It does
-this wrong where it serves that role, and puts its process's number into the folder. A run starts it often, so it brings in
-little.
+Its words are a folder, a role, the number of an exchange and what is wrong there, and then the words of `serve`. It
+does this wrong where it serves that role, and puts its process's number into the folder. A run starts it often, so it
+brings in little.
 """
 
 import contextlib

@@ -1,4 +1,5 @@
-"""An actor that is our own program behind words: it puts all words that it is given into a file, and becomes the program with the last three.
+"""An actor that is our own program behind words: it puts all words that it is given into a file, and becomes the
+program with the last three.
 
 Its words are the file and the program, then any words, then those of `serve`.
 """

@@ -1,5 +1,5 @@
-"""The phone of `examples/actor`, which is wrong in one way where RRC security begins. Its words are a folder, into which it puts the
-numbers of its processes, and what is wrong; and then those of `serve`."""
+"""The phone of `examples/actor`, which is wrong in one way where RRC security begins. Its words are a folder, into
+which it puts the numbers of its processes, and what is wrong; and then those of `serve`."""
 import dataclasses
 import os
 import pathlib
@@ -32,7 +32,9 @@ class WrongPhone(phone.Phone):
             time.sleep(12)
         if HOW == "turns":
             assert self.radio
-            return dataclasses.replace(reply, record=reply.record[:-4] + phone.CALLS.eia2(self.radio.rrc_int, 0, 0, DOWN, reply.record[:-4]))
+            return dataclasses.replace(
+                reply, record=reply.record[:-4] + phone.CALLS.eia2(self.radio.rrc_int, 0, 0, DOWN, reply.record[:-4])
+            )
         if HOW == "changes":
             return dataclasses.replace(reply, record=reply.record[:-1] + bytes([reply.record[-1] ^ 1]))
         return dataclasses.replace(reply, record=reply.record + b"\0") if HOW == "lengthens" else reply

@@ -80,7 +80,10 @@ STEPS: Faults = [
     ("do='auth',ksi=7", "wrong ksi"),
     ("do='auth',ksi=0", "missing kasme"),
     ("do='auth',ksi=0,kasme='00',caps=1", "wrong kasme"),
-    ("do='auth',ksi=6,kasme='00000000000000000000000000000000000000000000000000000000000000aB',caps='a02'", "wrong caps"),
+    (
+        "do='auth',ksi=6,kasme='00000000000000000000000000000000000000000000000000000000000000aB',caps='a02'",
+        "wrong caps",
+    ),
     ("do='smc',station=1", "unknown"),
     ("do='connect'", "missing cell"),
     ("do='connect',cell=[10]", "wrong cell"),
@@ -173,9 +176,7 @@ TWO_BEHIND_PHONE: Faults = [
     ("station=[{id=0,core='1',cells=[[0,0]]}]", "wrong core"),
     ("station=[{id=0,core=1,cells=[[0,0]]},{}]", "missing id"),
 ]
-TWO_STEPS: Faults = [
-    ("do='idle',phone=0", "unknown"),
-]
+TWO_STEPS: Faults = [("do='idle',phone=0", "unknown")]
 
 # What is no document.
 NO_DOCUMENTS = [b"phone", b"phone=1\nphone=2", b"caps='a020", b"n=9223372036854775808", b"\xff"]
@@ -193,8 +194,14 @@ def told() -> list[tuple[str, str, str]]:
     """The word, the text and the output of each that is refused."""
     setups = [("run", "", WHOLE), ("run", PHONE, BEHIND_PHONE), ("fleet", "", FLEETS), ("two", PHONE, TWO_BEHIND_PHONE)]
     steps = [("run", "", STEPS), ("fleet", FLEET, FLEET_STEPS), ("two", "", TWO_STEPS)]
-    found = [(word, before + text, f"refused setup {fault}\n") for word, before, faults in setups for text, fault in faults]
-    found += [(word, step_of(text, before), f"refused step 0 {fault}\n") for word, before, faults in steps for text, fault in faults]
+    found = [
+        (word, before + text, f"refused setup {fault}\n") for word, before, faults in setups for text, fault in faults
+    ]
+    found += [
+        (word, step_of(text, before), f"refused step 0 {fault}\n")
+        for word, before, faults in steps
+        for text, fault in faults
+    ]
     found += [("run", long_step(step, octets + 1), f"refused step 0 {fault}\n") for step, octets, fault in LONGEST]
     last = "[[step]]\ndo='idl'\n"
     found.append(("run", begun(199_999) + last, "refused step 199999 wrong do\n"))

@@ -11,6 +11,7 @@ BEGUN = f"0 {ROOT}{KENB}"
 @dataclasses.dataclass(frozen=True)
 class Case:
     """What is shown, the text, and the status and the output for it."""
+
     shown: str
     text: str
     status: int
@@ -48,12 +49,7 @@ ANSWERED = [
         "3 star 99b8d085ec4201335e225b2077c6f24719c68005564f4aae2e7d6ae6f057e20c\n"
         "4 star ee8a0346ac0962cfce383b8dc59c5ae3750e0120881dabb0537a26e48714214d\n",
     ),
-    Case(
-        "a root with a derived row's octets",
-        f"{ROOT}kenb 0 0\n{DERIVED}",
-        7,
-        f"{BEGUN}3 coincidence root 1\n",
-    ),
+    Case("a root with a derived row's octets", f"{ROOT}kenb 0 0\n{DERIVED}", 7, f"{BEGUN}3 coincidence root 1\n"),
     Case(
         "a derivation with a root's octets",
         f"{DERIVED}{ROOT}kenb 1 0\nkenb 1 1\n",
@@ -94,7 +90,8 @@ BAD_FIFTH = {
 LINE = f"kenb {ROOT[5:-1]} 0\n"
 ANSWER = KENB[7:]
 
-# Lines of `calc` with their answers: the last line needs no line feed, and a line may have 65,536 octets before its own.
+# Lines of `calc` with their answers: the last line needs no line feed, and a line may have 65,536 octets before its
+# own.
 CALCULATED = [
     Case("a last line without its line feed", f"{LINE}{LINE[:-1]}", 0, 2 * ANSWER),
     Case("a last line that is cut", f"{LINE}{LINE[:-2]}", 3, f"{ANSWER}bad count\n"),

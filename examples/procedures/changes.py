@@ -12,7 +12,10 @@ def chain(number: int, kasme: bytes = KASME) -> bytes:
 
 
 def within_twice() -> Procedure:
-    it = Procedure("the key is refreshed by handovers within the cell (7.2.9.3), and no pair is there: horizontal with NCC 0, twice")
+    it = Procedure(
+        "the key is refreshed by handovers within the cell (7.2.9.3), and no pair "
+        "is there: horizontal with NCC 0, twice"
+    )
     it.attach()
     key = star(FIRST, 0)
     it.within(0, 0, key, "horizontal")
@@ -22,7 +25,10 @@ def within_twice() -> Procedure:
 
 
 def within_with_a_pair() -> Procedure:
-    it = Procedure("a handover within the cell takes the pair of the path switch (7.2.8.4.2): vertical with NCC 2; X2 then horizontal, its answer NCC 3")
+    it = Procedure(
+        "a handover within the cell takes the pair of the path switch (7.2.8.4.2): vertical with NCC 2; X2 then "
+        "horizontal, its answer NCC 3"
+    )
     it.attach()
     it.over_x2(0, 1, 0, star(FIRST, 1), "horizontal")
     it.switch_path(2, chain(2))
@@ -34,7 +40,10 @@ def within_with_a_pair() -> Procedure:
 
 
 def answer_behind_a_handover_within() -> Procedure:
-    it = Procedure("the answer to a path switch comes behind a handover within the cell: by 7.2.8.4.2 the station stores its pair; here the request is void, and the answer Stale")
+    it = Procedure(
+        "the answer to a path switch comes behind a handover within the cell: by 7.2.8.4.2 the station stores its "
+        "pair; here the request is void, and the answer Stale"
+    )
     it.attach()
     it.over_x2(0, 1, 0, star(FIRST, 1), "horizontal")
     answer = it.switch_path(2, chain(2), answered=False)
@@ -44,7 +53,10 @@ def answer_behind_a_handover_within() -> Procedure:
 
 
 def answer_within_a_handover_within() -> Procedure:
-    it = Procedure("the answer comes while a handover within the cell is on its way: by 7.2.8.4.1 the unused pair is kept, and X2 is vertical with NCC 2; here the pair goes with the old context")
+    it = Procedure(
+        "the answer comes while a handover within the cell is on its way: by 7.2.8.4.1 the unused pair is kept, and "
+        "X2 is vertical with NCC 2; here the pair goes with the old context"
+    )
     it.attach()
     near = star(FIRST, 1)
     it.over_x2(0, 1, 0, near, "horizontal")
@@ -55,7 +67,10 @@ def answer_within_a_handover_within() -> Procedure:
 
 
 def eight_steps_and_nothing_lost() -> Procedure:
-    it = Procedure("no message is lost, and keys differ here: each target begins a handover within its cell before the answer to its path switch comes; by 7.2.8.4.1 each pair is kept, and each next handover is vertical")
+    it = Procedure(
+        "no message is lost, and keys differ here: each target begins a handover within its cell before the answer "
+        "to its path switch comes; by 7.2.8.4.1 each pair is kept, and each next handover is vertical"
+    )
     it.attach()
     key, number = FIRST, 0
     for turn in range(7):
@@ -66,7 +81,10 @@ def eight_steps_and_nothing_lost() -> Procedure:
         answer = it.deliver(request, Wanted(ncc=turn + 2, way="chained", key=chain(turn + 2)), sends=True)
         if turn < 6:
             key = star(key, target)
-            it.step(f'"intra", station = {target}, cell = {list(CELLS[target])}', Wanted(ncc=number, way="horizontal", key=key))
+            it.step(
+                f'"intra", station = {target}, cell = {list(CELLS[target])}',
+                Wanted(ncc=number, way="horizontal", key=key),
+            )
             release = it.deliver(answer, sends=True)
             it.step(f'"command", station = {target}', sends=True)
             it.deliver(wanted=Wanted(ncc=number, way="horizontal", key=key), sends=True)
@@ -80,7 +98,10 @@ def eight_steps_and_nothing_lost() -> Procedure:
 
 
 def new_kasme() -> Procedure:
-    it = Procedure("a new KASME while connected (7.2.9.2): KeNB of it and COUNT 0, KeNB* of that for the own cell, NCC 0; the chain begins anew")
+    it = Procedure(
+        "a new KASME while connected (7.2.9.2): KeNB of it and COUNT 0, KeNB* of that for the own cell, NCC 0; the "
+        "chain begins anew"
+    )
     it.attach()
     it.complete_nas()
     key = it.change_key(0)
@@ -105,14 +126,20 @@ def new_kasme_beside_a_pair() -> Procedure:
 
 
 def new_kenb_of_the_same_kasme() -> Procedure:
-    it = Procedure("a new KeNB of the KASME in use (7.2.9.2) begins with a NAS Security Mode Command in the context in use, which this core does not send")
+    it = Procedure(
+        "a new KeNB of the KASME in use (7.2.9.2) begins with a NAS Security Mode Command in the context in use, "
+        "which this core does not send"
+    )
     it.attach()
     it.command_nas(wanted=Wanted(departs=True))
     return it
 
 
 def new_kasme_before_a_path_switch() -> Procedure:
-    it = Procedure("a new KASME comes into use between the handover command and the path switch: by 7.2.10 the answer is of the old KASME, with NCC 2; here the request is of an old connection")
+    it = Procedure(
+        "a new KASME comes into use between the handover command and the path switch: by 7.2.10 the answer is of the "
+        "old KASME, with NCC 2; here the request is of an old connection"
+    )
     it.attach()
     request = it.over_x2(0, 1, 0, star(FIRST, 1), "horizontal")
     it.complete_nas()
@@ -121,7 +148,10 @@ def new_kasme_before_a_path_switch() -> Procedure:
 
 
 def path_switch_before_a_new_kasme() -> Procedure:
-    it = Procedure("the path switch comes before the Complete of a new KASME: its answer is of the old KASME, NCC 2 (7.2.10); then the key is changed at the new station")
+    it = Procedure(
+        "the path switch comes before the Complete of a new KASME: its answer is of the old KASME, NCC 2 (7.2.10); "
+        "then the key is changed at the new station"
+    )
     it.attach()
     it.over_x2(0, 1, 0, star(FIRST, 1), "horizontal")
     request = it.records - 1
@@ -137,7 +167,10 @@ def path_switch_before_a_new_kasme() -> Procedure:
 
 
 def new_kasme_before_s1() -> Procedure:
-    it = Procedure("a new KASME is in use for NAS when Handover Required comes: by 7.2.10 the handover goes on from the old KASME, with NCC 2; here the request is of an old connection")
+    it = Procedure(
+        "a new KASME is in use for NAS when Handover Required comes: by 7.2.10 the handover goes on from the old "
+        "KASME, with NCC 2; here the request is of an old connection"
+    )
     it.attach()
     required = it.begin_s1(0, 1)
     it.complete_nas()
@@ -146,7 +179,10 @@ def new_kasme_before_s1() -> Procedure:
 
 
 def new_kasme_within_s1() -> Procedure:
-    it = Procedure("the Complete of a new KASME comes between Handover Request and its acknowledgement: by 7.2.10 the handover goes on; here the acknowledgement is of an old connection")
+    it = Procedure(
+        "the Complete of a new KASME comes between Handover Request and its acknowledgement: by 7.2.10 the handover "
+        "goes on; here the acknowledgement is of an old connection"
+    )
     it.attach()
     it.begin_s1(0, 1, ncc=2, next_hop_key=chain(2))
     acknowledgement = it.deliver(wanted=Wanted(ncc=2, way="vertical", key=star(chain(2), 1)), sends=True)
@@ -156,7 +192,10 @@ def new_kasme_within_s1() -> Procedure:
 
 
 def pair_used_within_then_s1() -> Procedure:
-    it = Procedure("the pair of a path switch is used within the station, vertical with NCC 2; again within, horizontal with NCC 2; then S1 with NCC 3, and X2 horizontal with NCC 3")
+    it = Procedure(
+        "the pair of a path switch is used within the station, vertical with NCC 2; again within, horizontal with "
+        "NCC 2; then S1 with NCC 3, and X2 horizontal with NCC 3"
+    )
     it.attach()
     it.over_x2(0, 1, 0, star(FIRST, 1), "horizontal")
     it.switch_path(2, chain(2))
@@ -171,7 +210,10 @@ def pair_used_within_then_s1() -> Procedure:
 
 
 def bearer_count_at_its_end() -> Procedure:
-    it = Procedure("the COUNT of a DRB is at its end: the last is used, and no other (7.2.9.3); a handover within gives a new key, and COUNT 0")
+    it = Procedure(
+        "the COUNT of a DRB is at its end: the last is used, and no other (7.2.9.3); a handover within gives a new "
+        "key, and COUNT 0"
+    )
     it.attach()
     it.step('"skip", who = "phone", bearer = "drb1", n = 4294967295')
     it.step('"user", from = "phone", bearer = "drb1", text = "61"', sends=True)
@@ -194,7 +236,13 @@ def new_kasme_at_a_wide_earfcn() -> Procedure:
 
 
 def relocation_then_service_request() -> Procedure:
-    it = Procedure("S1 to another core; idle, and a Service Request there: NAS COUNTs went along, KeNB of COUNT 3; a new KASME there, and back over S1 with NCC 2 of its chain", cores=2)
+    it = Procedure(
+        (
+            "S1 to another core; idle, and a Service Request there: NAS COUNTs went along, KeNB of COUNT 3; a new "
+            "KASME there, and back over S1 with NCC 2 of its chain"
+        ),
+        cores=2,
+    )
     it.attach()
     it.message(2)
     it.over_s1(0, 1, 2, chain(2))
@@ -211,7 +259,9 @@ def relocation_then_service_request() -> Procedure:
 
 
 def two_new_kasmes() -> Procedure:
-    it = Procedure("two new KASMEs one after the other: each time KeNB of COUNT 0, KeNB* for the own cell and a new chain")
+    it = Procedure(
+        "two new KASMEs one after the other: each time KeNB of COUNT 0, KeNB* for the own cell and a new chain"
+    )
     it.attach()
     key = b""
     for ksi in (1, 2):
@@ -224,7 +274,9 @@ def two_new_kasmes() -> Procedure:
 
 
 def new_kasme_then_within() -> Procedure:
-    it = Procedure("a handover within behind a new KASME: horizontal of the new KeNB*, NCC 0; then S1 with NCC 2 of the new chain")
+    it = Procedure(
+        "a handover within behind a new KASME: horizontal of the new KeNB*, NCC 0; then S1 with NCC 2 of the new chain"
+    )
     it.attach()
     it.complete_nas()
     it.within(0, 0, star(it.change_key(0), 0), "horizontal")
@@ -234,7 +286,10 @@ def new_kasme_then_within() -> Procedure:
 
 
 def within_eleven_times() -> Procedure:
-    it = Procedure("eleven handovers within the cell without a pair: NCC stays 0; then X2 horizontal with NCC 0, and its answer has NCC 2")
+    it = Procedure(
+        "eleven handovers within the cell without a pair: NCC stays 0; then X2 "
+        "horizontal with NCC 0, and its answer has NCC 2"
+    )
     it.attach()
     key = FIRST
     for _ in range(11):
@@ -247,7 +302,13 @@ def within_eleven_times() -> Procedure:
 
 
 def relocation_while_a_command_is_open() -> Procedure:
-    it = Procedure("a handover over S1 to another core while a NAS Security Mode Command is open: the source core awaits the Complete (7.2.10); here it goes on", cores=2)
+    it = Procedure(
+        (
+            "a handover over S1 to another core while a NAS Security Mode Command is open: the source core awaits "
+            "the Complete (7.2.10); here it goes on"
+        ),
+        cores=2,
+    )
     it.attach()
     it.authenticate(1)
     it.command_nas()

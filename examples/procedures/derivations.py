@@ -37,7 +37,9 @@ def star(key: bytes, station: int) -> bytes:
     """KeNB* (A.5) of a KeNB or NH for the cell of this station."""
     cell = CELLS[station]
     octets = 2 if cell.earfcn < 65536 else 3
-    return kdf(key, b"\x13" + cell.pci.to_bytes(2, "big") + b"\0\2" + cell.earfcn.to_bytes(octets, "big") + bytes((0, octets)))
+    return kdf(
+        key, b"\x13" + cell.pci.to_bytes(2, "big") + b"\0\2" + cell.earfcn.to_bytes(octets, "big") + bytes((0, octets))
+    )
 
 
 def algorithm_key(key: bytes, kind: int, identity: int) -> bytes:

@@ -12,7 +12,9 @@ def chain(number: int) -> bytes:
 
 
 def x2_there_and_back() -> Procedure:
-    it = Procedure("X2 horizontal with NCC 0, whose answer has NCC 2; back vertical with NCC 2, whose answer has NCC 3 (7.2.8.4.2)")
+    it = Procedure(
+        "X2 horizontal with NCC 0, whose answer has NCC 2; back vertical with NCC 2, whose answer has NCC 3 (7.2.8.4.2)"
+    )
     it.attach()
     it.over_x2(0, 1, 0, star(FIRST, 1), "horizontal")
     it.switch_path(2, chain(2))
@@ -45,7 +47,10 @@ def x2_to_a_wide_earfcn() -> Procedure:
 
 
 def answer_lost() -> Procedure:
-    it = Procedure("the first answer to a path switch is lost: the next handover is horizontal, its answer has NCC 3, and the one behind it is vertical")
+    it = Procedure(
+        "the first answer to a path switch is lost: the next handover is horizontal, its answer has NCC 3, and the "
+        "one behind it is vertical"
+    )
     it.attach()
     near = star(FIRST, 1)
     it.over_x2(0, 1, 0, near, "horizontal")
@@ -83,7 +88,10 @@ def request_and_its_repetition() -> Procedure:
 
 
 def path_switch_never_answered() -> Procedure:
-    it = Procedure("a path switch is never answered, as after a Path Switch Request Failure: idle, and a Service Request of COUNT 1")
+    it = Procedure(
+        "a path switch is never answered, as after a Path Switch Request Failure: "
+        "idle, and a Service Request of COUNT 1"
+    )
     it.attach()
     it.over_x2(0, 1, 0, star(FIRST, 1), "horizontal")
     it.step('"idle"')
@@ -94,7 +102,13 @@ def path_switch_never_answered() -> Procedure:
 
 
 def core_with_ncc_1() -> Procedure:
-    it = Procedure("a scenario with first_ncc 1, which is not the standard: the first answer has the first NH; by 7.2.8.1.1 it has NCC 2 and the second NH", first_ncc=1)
+    it = Procedure(
+        (
+            "a scenario with first_ncc 1, which is not the standard: the first answer has the first NH; by 7.2.8.1.1 "
+            "it has NCC 2 and the second NH"
+        ),
+        first_ncc=1,
+    )
     it.attach()
     it.over_x2(0, 1, 0, star(FIRST, 1), "horizontal")
     it.deliver(wanted=Wanted(ncc=2, way="chained", key=chain(2), departs=True), sends=True)
@@ -102,7 +116,10 @@ def core_with_ncc_1() -> Procedure:
 
 
 def x2_to_another_core() -> Procedure:
-    it = Procedure("X2 to a station of another core: its Path Switch Request comes to a core that does not have the context", cores=2)
+    it = Procedure(
+        "X2 to a station of another core: its Path Switch Request comes to a core that does not have the context",
+        cores=2,
+    )
     it.attach()
     it.over_x2(0, 1, 0, star(FIRST, 1), "horizontal")
     it.deliver(wanted=Wanted(answer="NotHere"))
@@ -110,7 +127,9 @@ def x2_to_another_core() -> Procedure:
 
 
 def s1_then_x2() -> Procedure:
-    it = Procedure("S1: NCC 2, vertical at both ends (7.2.8.4.3); X2 from there horizontal with NCC 2, whose answer has NCC 3")
+    it = Procedure(
+        "S1: NCC 2, vertical at both ends (7.2.8.4.3); X2 from there horizontal with NCC 2, whose answer has NCC 3"
+    )
     it.attach()
     key = it.over_s1(0, 1, 2, chain(2))
     it.packet()
@@ -142,7 +161,10 @@ def s1_to_another_core() -> Procedure:
 
 
 def s1_cancelled() -> Procedure:
-    it = Procedure("S1 cancelled by its source: the chain stays where it is; X2 then horizontal with NCC 0, its answer NCC 3, then vertical with NCC 3")
+    it = Procedure(
+        "S1 cancelled by its source: the chain stays where it is; X2 then horizontal with NCC 0, its answer NCC 3, "
+        "then vertical with NCC 3"
+    )
     it.attach()
     it.begin_s1(0, 1, ncc=2, next_hop_key=chain(2))
     it.deliver(wanted=Wanted(ncc=2, way="vertical", key=star(chain(2), 1)), sends=True)
@@ -158,7 +180,10 @@ def s1_cancelled() -> Procedure:
 
 
 def s1_cancelled_beside_a_pair() -> Procedure:
-    it = Procedure("the source has the pair with NCC 2, and its S1 attempt with NCC 3 is cancelled: X2 then vertical with NCC 2, its answer NCC 4")
+    it = Procedure(
+        "the source has the pair with NCC 2, and its S1 attempt with NCC 3 is cancelled: X2 then vertical with NCC "
+        "2, its answer NCC 4"
+    )
     it.attach()
     it.over_x2(0, 1, 0, star(FIRST, 1), "horizontal")
     it.switch_path(2, chain(2))
@@ -171,7 +196,9 @@ def s1_cancelled_beside_a_pair() -> Procedure:
 
 
 def s1_beside_a_pair() -> Procedure:
-    it = Procedure("S1 from a station that has the unused pair with NCC 2: the target gets NCC 3, and the pair is never used")
+    it = Procedure(
+        "S1 from a station that has the unused pair with NCC 2: the target gets NCC 3, and the pair is never used"
+    )
     it.attach()
     it.over_x2(0, 1, 0, star(FIRST, 1), "horizontal")
     it.switch_path(2, chain(2))
@@ -183,7 +210,13 @@ def s1_beside_a_pair() -> Procedure:
 
 
 def x2_to_other_algorithms() -> Procedure:
-    it = Procedure("X2 from EEA2 to a station whose list has EEA0 first, and back: the target chooses (7.2.4.2.2); keys of the new identities", priorities={1: [0, 2]})
+    it = Procedure(
+        (
+            "X2 from EEA2 to a station whose list has EEA0 first, and back: the target chooses (7.2.4.2.2); keys of "
+            "the new identities"
+        ),
+        priorities={1: [0, 2]},
+    )
     it.attach()
     near, back = star(FIRST, 1), star(chain(2), 0)
     it.over_x2(0, 1, 0, near, "horizontal")
@@ -192,12 +225,24 @@ def x2_to_other_algorithms() -> Procedure:
     it.over_x2(1, 0, 2, back, "vertical")
     it.switch_path(3, chain(3))
     it.packet()
-    it.rows = [algorithm_key(near, 3, 0), algorithm_key(near, 4, 2), algorithm_key(near, 5, 0), *(algorithm_key(back, kind, 2) for kind in (3, 4, 5))]
+    it.rows = [
+        algorithm_key(near, 3, 0),
+        algorithm_key(near, 4, 2),
+        algorithm_key(near, 5, 0),
+        *(algorithm_key(back, kind, 2) for kind in (3, 4, 5)),
+    ]
     return it
 
 
 def s1_to_a_station_without_algorithm() -> Procedure:
-    it = Procedure("S1 to a station that has no algorithm in common fails, and is cancelled: the core has stepped, X2 is horizontal with NCC 0 and its answer has NCC 3", caps="8020", priorities={1: [2]})
+    it = Procedure(
+        (
+            "S1 to a station that has no algorithm in common fails, and is cancelled: the core has stepped, X2 is "
+            "horizontal with NCC 0 and its answer has NCC 3"
+        ),
+        caps="8020",
+        priorities={1: [2]},
+    )
     it.attach()
     it.begin_s1(0, 1, ncc=2, next_hop_key=chain(2))
     it.deliver(wanted=Wanted(answer="NoAlgorithm"))
@@ -212,7 +257,10 @@ def s1_to_a_station_without_algorithm() -> Procedure:
 
 
 def source_never_released() -> Procedure:
-    it = Procedure("the release at the source is lost each time: back at a station that has an old context, vertical with NCC 2, and on with NCC 3")
+    it = Procedure(
+        "the release at the source is lost each time: back at a station that has an old context, vertical with NCC "
+        "2, and on with NCC 3"
+    )
     it.attach()
     key, way = FIRST, "horizontal"
     for turn, (source, target) in enumerate(((0, 1), (1, 0), (0, 1))):
@@ -225,7 +273,10 @@ def source_never_released() -> Procedure:
 
 
 def path_switch_lost_then_s1() -> Procedure:
-    it = Procedure("the Path Switch Request is lost, and a handover over S1 follows: by the rules of keys NCC 2 (a core of a product does not know the new station, and the handover fails)")
+    it = Procedure(
+        "the Path Switch Request is lost, and a handover over S1 follows: by the rules of keys NCC 2 (a core of a "
+        "product does not know the new station, and the handover fails)"
+    )
     it.attach()
     it.over_x2(0, 1, 0, star(FIRST, 1), "horizontal")
     it.over_s1(1, 2, 2, chain(2))
@@ -234,11 +285,15 @@ def path_switch_lost_then_s1() -> Procedure:
 
 
 def x2_cancelled_then_within() -> Procedure:
-    it = Procedure("X2 with the unused pair is cancelled: the pair is back, and a handover within is vertical with NCC 2")
+    it = Procedure(
+        "X2 with the unused pair is cancelled: the pair is back, and a handover within is vertical with NCC 2"
+    )
     it.attach()
     it.over_x2(0, 1, 0, star(FIRST, 1), "horizontal")
     it.switch_path(2, chain(2))
-    it.step(f'"x2", station = 1, cell = {list(CELLS[2])}', Wanted(ncc=2, way="vertical", key=star(chain(2), 2)), sends=True)
+    it.step(
+        f'"x2", station = 1, cell = {list(CELLS[2])}', Wanted(ncc=2, way="vertical", key=star(chain(2), 2)), sends=True
+    )
     it.deliver(wanted=Wanted(ncc=2, way="given", key=star(chain(2), 2)), sends=True)
     it.deliver()
     it.step('"cancel", station = 1', sends=True)

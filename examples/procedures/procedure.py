@@ -23,7 +23,15 @@ class Wanted:
 class Procedure:
     """Builds the steps. Each method adds what one message, act or whole exchange of the standard is here."""
 
-    def __init__(self, shows: str, *, first_ncc: int = 2, caps: str = "a020", cores: int = 1, priorities: dict[int, list[int]] | None = None) -> None:
+    def __init__(
+        self,
+        shows: str,
+        *,
+        first_ncc: int = 2,
+        caps: str = "a020",
+        cores: int = 1,
+        priorities: dict[int, list[int]] | None = None,
+    ) -> None:
         self.shows = shows
         self.cores = cores
         self.priorities = priorities or {}
@@ -72,7 +80,8 @@ class Procedure:
         self.deliver()
 
     def attach(self) -> bytes:
-        """NAS security and a connection at station 0; answers its KeNB, of the COUNT 0 of the Security Mode Complete."""
+        """NAS security and a connection at station 0; answers its KeNB, of the COUNT 0 of the Security Mode
+        Complete."""
         key = kenb(KASMES[0], 0)
         self.secure_nas()
         self.connect(0, key)
@@ -113,7 +122,8 @@ class Procedure:
         return self.deliver(wanted=Wanted(ncc=ncc, way="completed", key=key), sends=True)
 
     def switch_path(self, ncc: int, next_hop_key: bytes, *, answered: bool = True) -> int:
-        """The newest Path Switch Request arrives, and its answer with this pair, and the release at the source; answers the answer's record."""
+        """The newest Path Switch Request arrives, and its answer with this pair, and the release at the source; answers
+        the answer's record."""
         answer = self.deliver(wanted=Wanted(ncc=ncc, way="chained", key=next_hop_key), sends=True)
         if answered:
             self.arrives(2)
@@ -139,7 +149,8 @@ class Procedure:
         return key
 
     def within(self, station: int, ncc: int, key: bytes, way: str, *, meanwhile: int | None = None) -> None:
-        """A handover within the station's cell. Where a record is named it arrives between the decision and the command's arrival."""
+        """A handover within the station's cell. Where a record is named it arrives between the decision and the
+        command's arrival."""
         self.step(f'"intra", station = {station}, cell = {list(CELLS[station])}', Wanted(ncc=ncc, way=way, key=key))
         command = self.step(f'"command", station = {station}', sends=True)
         if meanwhile is not None:
@@ -172,7 +183,9 @@ class Procedure:
         first_ncc, caps = self._head
         of_core = [f", core = {int(i == 1)}" if self.cores == 2 else "" for i in range(len(CELLS))]
         lists = [f", priority = {self.priorities[i]}" if i in self.priorities else "" for i in range(len(CELLS))]
-        stations = "".join(f"  {{ id = {i}, cells = [{list(cell)}]{lists[i]}{of_core[i]} }},\n" for i, cell in enumerate(CELLS))
+        stations = "".join(
+            f"  {{ id = {i}, cells = [{list(cell)}]{lists[i]}{of_core[i]} }},\n" for i, cell in enumerate(CELLS)
+        )
         steps = "".join(f"  {step},\n" for step in self.steps)
         return (
             f'# {self.shows}\nphone = {{ caps = "{caps}" }}\ncore = {{ first_ncc = {first_ncc} }}\n'

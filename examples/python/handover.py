@@ -1,5 +1,6 @@
 #!/usr/bin/env python3
-"""A handover from the keys to the capture, by `import lte_sec`: a script in cells, for a notebook or as it stands (docs/PYTHON.md).
+"""A handover from the keys to the capture, by `import lte_sec`: a script in cells, for a notebook or as it stands
+(docs/PYTHON.md).
 
 `check` runs it and compares what it prints with handover.out.
 """
@@ -11,7 +12,8 @@ import lte_sec
 
 EXAMPLES = Path(__file__).resolve().parents[1]
 
-# %% The keys of a connection, from KASME on: KeNB at uplink NAS COUNT 0, its first NH, and KeNB* for the cell with PCI 11 and EARFCN-DL 101.
+# %% The keys of a connection, from KASME on: KeNB at uplink NAS COUNT 0, its first NH, and KeNB* for the cell with PCI
+# 11 and EARFCN-DL 101.
 kasme = bytes(range(32))
 kenb = lte_sec.kenb(kasme, count=0)
 first_nh = lte_sec.nh(kasme, sync=kenb)

@@ -1,7 +1,9 @@
-"""What the definitions of the machine say of rows: each place of `lte_machine/specs` where an answer or a row stands, and which of them an input comes to.
+"""What the definitions of the machine say of rows: each place of `lte_machine/specs` where an answer or a row stands,
+and which of them an input comes to.
 
-A place is `definition.Answer`, with a number behind it from the second such place of a definition on. An input is given by entries: the
-definitions at which its choice begins, each with a word of the left side where only some of its equations are of this input.
+A place is `definition.Answer`, with a number behind it from the second such place of a definition on. An input is given
+by entries: the definitions at which its choice begins, each with a word of the left side where only some of its
+equations are of this input.
 """
 from __future__ import annotations
 
@@ -15,8 +17,16 @@ from typing import NamedTuple
 from lte_sec.common import tables
 
 SPECS = pathlib.Path(__file__).resolve().parents[2] / "crates" / "lte_machine" / "specs"
-FILES = {"phone": ("Refusals", "PhoneChoice", "PhoneKeys"), "station": ("Refusals", "StationChoice", "StationKeys"), "core": ("Refusals", "CoreChoice", "CoreKeys")}
-ROOTS = {"phone": ("phone_front", "phone_row", "changed_unless"), "station": ("station_front", "station_row"), "core": ("core_front", "core_row")}
+FILES = {
+    "phone": ("Refusals", "PhoneChoice", "PhoneKeys"),
+    "station": ("Refusals", "StationChoice", "StationKeys"),
+    "core": ("Refusals", "CoreChoice", "CoreKeys"),
+}
+ROOTS = {
+    "phone": ("phone_front", "phone_row", "changed_unless"),
+    "station": ("station_front", "station_row"),
+    "core": ("core_front", "core_row"),
+}
 ROWS = {"phone": "PhoneRows", "station": "StationRows", "core": "CoreRows"}
 WORD = re.compile(r"[\w.]+")
 PLAIN = {"done"}  # an answer that is no refusal
@@ -39,7 +49,11 @@ def text_of(name: str) -> str:
 def row_names(actor: str) -> set[str]:
     """The rows of an actor's table that do something; one that only holds a row of a part is none."""
     found = {name: kind.split(" → ") for name, kind in re.findall(r"^  (\w+) : (.*Row)$", text_of(ROWS[actor]), re.M)}
-    return {name for name, parts in found.items() if not name.endswith("Refused") and not (len(parts) == 2 and parts[0].endswith("Row"))}
+    return {
+        name
+        for name, parts in found.items()
+        if not name.endswith("Refused") and not (len(parts) == 2 and parts[0].endswith("Row"))
+    }
 
 
 def answers() -> set[str]:
@@ -51,7 +65,7 @@ def blocks_of(text: str) -> Iterator[tuple[str, str]]:
     """Each definition with the text of its equations."""
     heads = list(re.finditer(r"^(?:abbrev|unfoldable)(?: pub)? (\w+) :", text, re.M))
     for head, after in zip(heads, [*heads[1:], None]):
-        yield head[1], text[head.start():after.start() if after else len(text)]
+        yield head[1], text[head.start() : after.start() if after else len(text)]
 
 
 @functools.cache
@@ -72,7 +86,13 @@ def definitions(actor: str) -> dict[str, list[Equation]]:
                 if word in wanted:
                     seen[word] += 1
                     places.append(f"{name}.{word}" + (f".{seen[word]}" if seen[word] > 1 else ""))
-            equations.append(Equation(set(WORD.findall(left.replace(".", " "))), places, [word for word in words if word in blocks and word != name]))
+            equations.append(
+                Equation(
+                    set(WORD.findall(left.replace(".", " "))),
+                    places,
+                    [word for word in words if word in blocks and word != name],
+                )
+            )
         found[name] = equations
     return found
 

@@ -1,6 +1,7 @@
 """Which classes of values (`classes`) the inputs of a scenario are of, at each actor that reads them.
 
-COUNTs are followed here by what goes and comes in the clear: sequence numbers, skips, and the air address, which is another one with each connection.
+COUNTs are followed here by what goes and comes in the clear: sequence numbers, skips, and the air address, which is
+another one with each connection.
 """
 from __future__ import annotations
 
@@ -52,7 +53,9 @@ class Seen:
         self.net = net
         self.found: set[Class] = set()
         self.watches: dict[str, visits.Watch] = {}
-        self.next: Counter = collections.defaultdict(int)  # COUNTs by actor, whether it comes or goes, and NAS or address and bearer
+        self.next: Counter = collections.defaultdict(
+            int
+        )  # COUNTs by actor, whether it comes or goes, and NAS or address and bearer
         self.ksi, self.caps = 0, b""  # of the last authentication
         self.link = b""  # the address of the phone's connection
         self.eea = self.ncc = self.trigger = 0  # of the phone's connection; the COUNT of the next KeNB
@@ -109,7 +112,9 @@ class Seen:
     def sent_air(self, actor: str, reply: frames.Reply, record: bytes) -> None:
         bearer = reply.to[6]
         key = actor, "goes", (reply.to[:6], bearer)
-        self.add(actor, f"COUNT of {'an RRC message' if bearer in frames.SRBS else 'a packet'} that goes", self.next[key])
+        self.add(
+            actor, f"COUNT of {'an RRC message' if bearer in frames.SRBS else 'a packet'} that goes", self.next[key]
+        )
         self.add(actor, "bearer that goes", frames.BEARERS[bearer])
         self.next[key] += 1
         if reply.to[0] == 4:
@@ -146,14 +151,21 @@ class Seen:
 
     def chosen(self, actor: str, eea: int) -> None:
         """The algorithm that the core or a station chooses of its list."""
-        tables = [self.net.setup.get("core", {}), *(each for each in self.net.setup["station"] if actor == f"station {each['id']}")]
-        self.add(actor, "algorithms", " ".join([f"EEA{eea} of", *map(str, tables[-1 if actor != "core" else 0].get("priority", [2, 0]))]))
+        tables = [
+            self.net.setup.get("core", {}),
+            *(each for each in self.net.setup["station"] if actor == f"station {each['id']}"),
+        ]
+        self.add(
+            actor,
+            "algorithms",
+            " ".join([f"EEA{eea} of", *map(str, tables[-1 if actor != "core" else 0].get("priority", [2, 0]))]),
+        )
 
     def record(self, actor: str, octets: bytes, way: str) -> dict[str, bytes]:
         """The fields of a record on S1 or X2."""
         place, fields = 1, {}
         for name, width in (records.S1 | records.X2)[octets[0]][1]:
-            fields[name] = octets[place:place + width]
+            fields[name] = octets[place : place + width]
             place += width
         if "NCC" in fields:
             self.add(actor, f"NCC that {way}", fields["NCC"][0])
@@ -172,7 +184,11 @@ class Seen:
         if pdu[:1] == b"\x37" and pdu[6:7] == b"\1" and len(pdu) == 11:
             self.add(actor, "KSI of a Security Mode Command", pdu[7], f"wrong by {pdu[7] ^ self.ksi}")
             if visits.answer_of(reply) in ("done", "CapsMismatch"):
-                self.add(actor, "capabilities of a Security Mode Command", *beside(pdu[9:], bytes.fromhex(self.net.setup["phone"]["caps"])))
+                self.add(
+                    actor,
+                    "capabilities of a Security Mode Command",
+                    *beside(pdu[9:], bytes.fromhex(self.net.setup["phone"]["caps"])),
+                )
         if reply.answer == 0:
             self.comes_nas(actor, pdu)
             self.text(actor, reply)
@@ -183,7 +199,12 @@ class Seen:
         pdu, air = visits.octets_of(it), int(str(it.fields["air"]))
         address = bytes([4, int(str(it.fields["station"]))]) + network.number(air)
         if self.link:
-            self.add(actor, "air address", *by_address(air, int.from_bytes(self.link[2:], "big")), *["of another station"] * (address[1:2] != self.link[1:2]))
+            self.add(
+                actor,
+                "air address",
+                *by_address(air, int.from_bytes(self.link[2:], "big")),
+                *["of another station"] * (address[1:2] != self.link[1:2]),
+            )
         self.comes_air(actor, it, reply, address)
         if reply.note and pdu in self.orders:
             cell, eea = self.orders[pdu]

@@ -1,5 +1,6 @@
-"""The bodies that call std where no clause can see it: those that make evidence that memory was refused, and those of std's network and host. No clause says that std
-was asked for what was wanted, and that its answer was handed on: so each body is compared with a list."""
+"""The bodies that call std where no clause can see it: those that make evidence that memory was refused, and those of
+std's network and host. No clause says that std was asked for what was wanted, and that its answer was handed on: so
+each body is compared with a list."""
 from __future__ import annotations
 
 import pathlib
@@ -7,7 +8,10 @@ from collections.abc import Iterator
 
 from batches.functions import STARTS, end_of, is_at
 
-EVERY = ("growth", "toml_text")  # the crates of which each function is in the list; of the others only those that it names
+EVERY = (
+    "growth",
+    "toml_text",
+)  # the crates of which each function is in the list; of the others only those that it names
 
 
 def bodies_of(crates: pathlib.Path, crate: str) -> dict[str, str]:

@@ -22,7 +22,8 @@ class Unfit(Exception):
 
 @dataclasses.dataclass(frozen=True)
 class Crate:
-    """A crate: its folder, its line in crates.txt, the repository's crates that it names, and the libraries of the toolchain."""
+    """A crate: its folder, its line in crates.txt, the repository's crates that it names, and the libraries of the
+    toolchain."""
 
     name: str
     folder: pathlib.Path
@@ -53,7 +54,12 @@ class Crate:
 
     def newest(self) -> float:
         """When one of its files was last changed."""
-        return max(it.stat().st_mtime for part in PARTS for it in [self.folder / part, *(self.folder / part).rglob("*")] if it.exists())
+        return max(
+            it.stat().st_mtime
+            for part in PARTS
+            for it in [self.folder / part, *(self.folder / part).rglob("*")]
+            if it.exists()
+        )
 
 
 def read_crates(top: pathlib.Path) -> dict[str, Crate]:
@@ -102,20 +108,32 @@ def words_of(crate: Crate, work: str = "check") -> list[str]:
         words += ["--extern", f"{it.name}={it.library}"]
     for it in crate.below:
         words += ["-L", f"dependency={it.library.parent}"]
-    words += ["--antt-project", str(kit() / "rattle/logic/antt-project.json"), "--logic-built", str(kit() / "logic_built")]
-    return [*words, "--links", f"{crate.name}=", *(["--crate-type", "staticlib"] if crate.is_static else []), "--jobs", "1"]
+    words += [
+        "--antt-project",
+        str(kit() / "rattle/logic/antt-project.json"),
+        "--logic-built",
+        str(kit() / "logic_built"),
+    ]
+    return [
+        *words,
+        "--links",
+        f"{crate.name}=",
+        *(["--crate-type", "staticlib"] if crate.is_static else []),
+        "--jobs",
+        "1",
+    ]
 
 
 def is_left_by_gate(crate: Crate) -> bool:
-    """Whether the libraries below a crate stand there as `rt ci` built them, right after it: with no stamp of a session's check, and newer than
-    the files that they were built from."""
+    """Whether the libraries below a crate stand there as `rt ci` built them, right after it: with no stamp of a
+    session's check, and newer than the files that they were built from."""
     stamped = any((it.folder / "out/rlib/stamp").exists() for it in crate.below)
     return not stamped and all(it.library.is_dir() and is_newer(it) for it in crate.below)
 
 
 def build_libraries(crate: Crate) -> None:
-    """Sees to the libraries below a crate. Where `rt ci` has just built them, they are taken. Else rt builds those that changed, and begins with
-    what checks of the crate kept on this machine."""
+    """Sees to the libraries below a crate. Where `rt ci` has just built them, they are taken. Else rt builds those that
+    changed, and begins with what checks of the crate kept on this machine."""
     if is_left_by_gate(crate):
         return
     words = ["rt", "check", "--only", ""]
@@ -142,8 +160,8 @@ class Ran:
 
 
 def check(crate: Crate, texts: Texts, only: list[str]) -> Ran:
-    """Checks a copy of a crate with these texts past its open goals: these functions and what they call, or all where none is named. It
-    begins with what checks in the crate's folder kept, if they did."""
+    """Checks a copy of a crate with these texts past its open goals: these functions and what they call, or all where
+    none is named. It begins with what checks in the crate's folder kept, if they did."""
     with tempfile.TemporaryDirectory(prefix="edits-") as room:
         for path, text in texts.items():
             file = pathlib.Path(room, "copy", path)

@@ -33,7 +33,8 @@ class Edit:
 
 @dataclasses.dataclass(frozen=True)
 class Placed:
-    """An edit, and the functions in whose bodies it stands; none of them where it changes anything else, as a type or a contract."""
+    """An edit, and the functions in whose bodies it stands; none of them where it changes anything else, as a type or a
+    contract."""
 
     edit: Edit
     functions: tuple[Function, ...]

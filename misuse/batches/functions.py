@@ -1,5 +1,5 @@
-"""In which function a place of a source file stands. The file is laid out, so that a function ends where its closing brace stands
-right below its first column."""
+"""In which function a place of a source file stands. The file is laid out, so that a function ends where its closing
+brace stands right below its first column."""
 from __future__ import annotations
 
 import dataclasses
@@ -11,8 +11,8 @@ IMPL = re.compile(r"impl\b")
 
 @dataclasses.dataclass(frozen=True)
 class Function:
-    """A function by the path that the prover names it by, below its crate: `module::Type::call` with the module of the type, and
-    `module::TypeTrait::call` with that of the block for a method of a trait."""
+    """A function by the path that the prover names it by, below its crate: `module::Type::call` with the module of the
+    type, and `module::TypeTrait::call` with that of the block for a method of a trait."""
 
     path: str
 
@@ -23,7 +23,8 @@ class Function:
 
 
 def function_at(path: str, texts: dict[str, str], start: int, end: int) -> Function | None:
-    """The function in whose body a piece of that file lies, if it lies in one. The texts are those of the crate, by path."""
+    """The function in whose body a piece of that file lies, if it lies in one. The texts are those of the crate, by
+    path."""
     text = texts[path]
     lines = text.split("\n")
     first, last = text.count("\n", 0, start), text.count("\n", 0, end)
@@ -59,7 +60,8 @@ def module_of(path: str) -> list[str]:
 
 
 def owner_at(lines: list[str], at: int, indent: str, texts: dict[str, str], path: str) -> list[str] | None:
-    """The path of what a function begins in, a module or a block of a type: none where it stands inside another function."""
+    """The path of what a function begins in, a module or a block of a type: none where it stands inside another
+    function."""
     if not indent:
         return module_of(path)
     for above in range(at, -1, -1):
@@ -77,7 +79,8 @@ def header(lines: list[str], at: int) -> str:
 
 
 def block(head: str, texts: dict[str, str], path: str) -> list[str]:
-    """The path of an `impl` block. Where a type has a trait several times, the trait's arguments follow the names of both."""
+    """The path of an `impl` block. Where a type has a trait several times, the trait's arguments follow the names of
+    both."""
     behind = without_arguments(head.removeprefix("impl"), drops_first=True)[0].partition(" where ")[0]
     named, trait_arguments = without_arguments(behind)
     trait, is_trait, of = named.partition(" for ")
@@ -85,7 +88,10 @@ def block(head: str, texts: dict[str, str], path: str) -> list[str]:
         return [*home_of(last_word(trait), texts, path), last_word(trait)]
     again = re.compile(rf"(?m)^impl(?:<[^{{]*?>)? (?:\w+::)*{last_word(trait)}<.*> for {last_word(of)}\b")
     several = len(again.findall(texts[path])) > 1
-    return [*module_of(path), last_word(of) + last_word(trait) + ("".join(re.findall(r"\w+", trait_arguments)) if several else "")]
+    return [
+        *module_of(path),
+        last_word(of) + last_word(trait) + ("".join(re.findall(r"\w+", trait_arguments)) if several else ""),
+    ]
 
 
 def home_of(name: str, texts: dict[str, str], path: str) -> list[str]:
@@ -101,7 +107,8 @@ def last_word(path: str) -> str:
 
 
 def without_arguments(text: str, drops_first: bool = False) -> tuple[str, str]:
-    """The text without what stands in angle brackets, and the first such piece. `drops_first` takes away that piece alone."""
+    """The text without what stands in angle brackets, and the first such piece. `drops_first` takes away that piece
+    alone."""
     kept, first, depth, pieces = "", "", 0, 0
     for at, letter in enumerate(text):
         is_arrow = letter == ">" and text[at - 1 : at] in ("-", "=")

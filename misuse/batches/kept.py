@@ -1,4 +1,5 @@
-"""What earlier runs on this machine refused, by the sums of all that they read. A sum names its entry, so that none goes stale."""
+"""What earlier runs on this machine refused, by the sums of all that they read. A sum names its entry, so that none
+goes stale."""
 from __future__ import annotations
 
 import functools
@@ -38,7 +39,9 @@ class Kept:
         entry = {"crate": crate.name, "edit": edit.name, "function": verdict.function, "goals": verdict.goals}
         try:
             self.folder.mkdir(parents=True, exist_ok=True)
-            with tempfile.NamedTemporaryFile("w", dir=self.folder, prefix="new-", delete=False, encoding="utf-8") as made:
+            with tempfile.NamedTemporaryFile(
+                "w", dir=self.folder, prefix="new-", delete=False, encoding="utf-8"
+            ) as made:
                 json.dump(entry, made)
             os.replace(made.name, self.folder / sum_of(crate, edit))
         except OSError:

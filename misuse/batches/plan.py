@@ -5,8 +5,8 @@ Batch = tuple[Placed, ...]
 
 
 def batches(edits: list[Placed], texts: Texts) -> list[Batch]:
-    """The edits in batches: no two of one function, each that changes a type, a constant, a table or a contract by itself, and all of a
-    batch fit into the texts together."""
+    """The edits in batches: no two of one function, each that changes a type, a constant, a table or a contract by
+    itself, and all of a batch fit into the texts together."""
     found: list[list[Placed]] = []
     for edit in edits:
         home = next((it for it in found if fits(edit, it, texts)), None)

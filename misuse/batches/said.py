@@ -39,8 +39,8 @@ class Verdict:
 
 @dataclasses.dataclass(frozen=True)
 class Line:
-    """What the prover says of one function: its open goals, which of them only lack a name, what else it stands on that the prover
-    refuses, and whether nothing is open."""
+    """What the prover says of one function: its open goals, which of them only lack a name, what else it stands on that
+    the prover refuses, and whether nothing is open."""
 
     path: str
     goals: tuple[str, ...]
@@ -85,7 +85,8 @@ def read_said(text: str) -> Said:
 
 
 def line_of(crate: str, path: str, rest: str, errors: dict[tuple[str, str], list[str]]) -> Line:
-    """What the rest of a function's line says. Only goals of its own are its goals: what it calls may have an edit too."""
+    """What the rest of a function's line says. Only goals of its own are its goals: what it calls may have an edit
+    too."""
     searched = [goal for piece in SEARCHED.findall(rest) for goal in re.findall(r"`([^`]+)`", piece)]
     own = Function(path.replace("::fn::", "::").removeprefix("fn::"))
     refused, lemmas, nameless = [], [], set()
@@ -103,8 +104,8 @@ def line_of(crate: str, path: str, rest: str, errors: dict[tuple[str, str], list
 
 
 def by_notes(line: Line, notes: list[tuple[str, bool]], errors: dict[tuple[str, str], list[str]]) -> Line:
-    """The line of a function whose goals have other names than its proof file answers: what stands open says something of the code only
-    where the prover knows values at which it is false."""
+    """The line of a function whose goals have other names than its proof file answers: what stands open says something
+    of the code only where the prover knows values at which it is false."""
     own = [it for (module, _), told in errors.items() if Function(line.path).has(module) for it in told]
     goals = tuple(goal for goal, is_false in notes if is_false) or tuple(goal for goal, _ in notes)
     says_nothing = own and all(NAME_WENT.search(it) for it in own) and not any(is_false for _, is_false in notes)
@@ -114,7 +115,9 @@ def by_notes(line: Line, notes: list[tuple[str, bool]], errors: dict[tuple[str, 
 def first_complaint(text: str) -> str:
     """The first line that tells of an error."""
     lines = [it for it in text.split("\n") if it.strip()]
-    return next((it for it in lines if re.search(r"\berror\b|no verdict", it)), lines[0] if lines else "it said nothing")
+    return next(
+        (it for it in lines if re.search(r"\berror\b|no verdict", it)), lines[0] if lines else "it said nothing"
+    )
 
 
 def judge(said: Said, functions: tuple[Function, ...], is_by_itself: bool) -> Verdict:

@@ -4,7 +4,10 @@ import pathlib
 from batches.edits import Edit
 from batches.said import Verdict
 
-HEAD = "# Each edit of this folder, by crate, with the function that the prover refuses and its goals that stay open. misuse/edits/try --renew writes it."
+HEAD = (
+    "# Each edit of this folder, by crate, with the function that the prover refuses and its goals that stay "
+    "open. misuse/edits/try --renew writes it."
+)
 
 Rows = dict[tuple[str, str], str]
 
@@ -32,6 +35,7 @@ def renewed(old: Rows, new: Rows, crates: set[str]) -> Rows:
 
 
 def differences(old: Rows, new: Rows, crates: set[str]) -> list[str]:
-    """How the rows that are kept of these crates differ from what was tried: each edit has a row, with all goals that it leaves open."""
+    """How the rows that are kept of these crates differ from what was tried: each edit has a row, with all goals that
+    it leaves open."""
     lost = [text for it, text in sorted(old.items()) if it[0] in crates and new.get(it) != text]
     return [f"- {text}" for text in lost] + [f"+ {text}" for it, text in sorted(new.items()) if old.get(it) != text]

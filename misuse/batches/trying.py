@@ -21,7 +21,8 @@ Found = dict[Edit, Verdict]
 
 @dataclasses.dataclass
 class Tried:
-    """What the edits of a crate came to: how many were tried in this run, in how many checks, and the seconds of processor for them."""
+    """What the edits of a crate came to: how many were tried in this run, in how many checks, and the seconds of
+    processor for them."""
 
     crate: Crate
     found: Found
@@ -56,7 +57,8 @@ class Trying:
         return self.done
 
     def batch(self, batch: plan.Batch) -> None:
-        """Tries a batch. One that does not compile is halved; an edit of which it does not tell is tried by itself, over the whole crate."""
+        """Tries a batch. One that does not compile is halved; an edit of which it does not tell is tried by itself,
+        over the whole crate."""
         said = self.said(batch, [name.path for it in batch for name in it.functions])
         if isinstance(said, Verdict):
             self.retry(batch, said)
@@ -92,7 +94,9 @@ class Trying:
         self.done.seconds += ran.seconds
         said = read_said(ran.text)
         if ran.status < 0:
-            return Verdict(Kind.UNTRIED, why=f"its check was ended by signal {-ran.status}, as for want of memory: run this again")
+            return Verdict(
+                Kind.UNTRIED, why=f"its check was ended by signal {-ran.status}, as for want of memory: run this again"
+            )
         return said if said.reached else Verdict(Kind.BAD, why=said.first_error)
 
 
@@ -127,7 +131,10 @@ class Tell:
         """Prints a line for a crate of which something was tried."""
         if tried.tried:
             print(
-                f"edits: {tried.crate.name}: {tried.tried} of {len(tried.found)} tried in {tried.checks} checks, {tried.seconds:.0f} s of processor",
+                (
+                    f"edits: {tried.crate.name}: {tried.tried} of {len(tried.found)} tried in {tried.checks} checks, "
+                    f"{tried.seconds:.0f} s of processor"
+                ),
                 flush=True,
             )
 

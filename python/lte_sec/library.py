@@ -1,8 +1,9 @@
-"""The proved calls of LTE access security, over octets: derivations, ciphers, NAS messages, PDCP PDUs and a phone's chain.
+"""The proved calls of LTE access security, over octets: derivations, ciphers, NAS messages, PDCP PDUs and a phone's
+chain.
 
 It calls the library that `./lte_sec library` builds (`native`). Keys and MACs are `bytes`; a direction is `UPLINK` or
-`DOWNLINK`; a bearer is BEARER, the identity minus 1. A call that is refused raises `Refused`, with one class for each cause.
-AES uses tables, so the time of a call may depend on key and text: for tests, references and files.
+`DOWNLINK`; a bearer is BEARER, the identity minus 1. A call that is refused raises `Refused`, with one class for each
+cause. AES uses tables, so the time of a call may depend on key and text: for tests, references and files.
 """
 from __future__ import annotations
 
@@ -16,12 +17,48 @@ from .refusals import MAC_FAILS, BadHeader, BeforeFirst, CountSpent, MacFails, O
 from .refusals import checked_key, checked_number, key_octets, raises
 
 __all__ = [
-    "EEA0", "EEA1", "EEA2", "EEA3", "EIA0", "EIA1", "EIA2", "EIA3", "DOWNLINK", "UPLINK",
-    "DISCARDED", "LATE", "NEW",
-    "BadHeader", "BeforeFirst", "CountSpent", "MacFails", "OtherCount", "OutOfRange", "Refused", "Short",
-    "DrbContext", "NasContext", "Opened", "Reached", "SrbContext",
-    "algorithm_key", "check_service_request", "eea1", "eea2", "eea3", "eia1", "eia2", "eia3", "kasme", "kenb", "kenb_star", "nh", "proved", "reach",
-    "service_request", "short_mac_i",
+    "EEA0",
+    "EEA1",
+    "EEA2",
+    "EEA3",
+    "EIA0",
+    "EIA1",
+    "EIA2",
+    "EIA3",
+    "DOWNLINK",
+    "UPLINK",
+    "DISCARDED",
+    "LATE",
+    "NEW",
+    "BadHeader",
+    "BeforeFirst",
+    "CountSpent",
+    "MacFails",
+    "OtherCount",
+    "OutOfRange",
+    "Refused",
+    "Short",
+    "DrbContext",
+    "NasContext",
+    "Opened",
+    "Reached",
+    "SrbContext",
+    "algorithm_key",
+    "check_service_request",
+    "eea1",
+    "eea2",
+    "eea3",
+    "eia1",
+    "eia2",
+    "eia3",
+    "kasme",
+    "kenb",
+    "kenb_star",
+    "nh",
+    "proved",
+    "reach",
+    "service_request",
+    "short_mac_i",
 ]
 
 UPLINK, DOWNLINK = 0, 1
@@ -39,7 +76,8 @@ def proved() -> bool:
 
 
 def kasme(ck: bytes, ik: bytes, plmn: bytes, sqn_xor_ak: bytes) -> bytes:
-    """KASME from CK and IK: the PLMN identity in three octets, as TS 24.301 9.9.3.32 writes it, and SQN xor AK in six (A.2)."""
+    """KASME from CK and IK: the PLMN identity in three octets, as TS 24.301 9.9.3.32 writes it, and SQN xor AK in six
+    (A.2)."""
     out = ctypes.create_string_buffer(32)
     calls.ltesec_kasme(checked_key(ck, 16), checked_key(ik, 16), checked_key(plmn, 3), checked_key(sqn_xor_ak, 6), out)
     return out.raw
@@ -125,8 +163,9 @@ def eia3(key16: bytes, count: int, bearer: int, direction: int, text: bytes) -> 
 
 @dataclass(frozen=True)
 class Opened:
-    """What a PDU held: its text, its COUNT, the security header type of a NAS message, else 0, and whether a MAC was compared,
-    which it is not under EIA0 and on a DRB. `fate` is what becomes of a PDU on RLC AM: NEW, LATE or DISCARDED."""
+    """What a PDU held: its text, its COUNT, the security header type of a NAS message, else 0, and whether a MAC was
+    compared, which it is not under EIA0 and on a DRB. `fate` is what becomes of a PDU on RLC AM: NEW, LATE or
+    DISCARDED."""
 
     text: bytes
     count: int
@@ -156,13 +195,19 @@ class _Context:
     def _sends(self, call: str, numbers: tuple[int, ...], text: bytes, longer: int) -> bytes:
         out, written = ctypes.create_string_buffer(len(text) + longer), c_size_t()
         send = getattr(calls, f"ltesec_{self._kind}_{call}")
-        raises(send(byref(self._held), *map(checked_number, numbers), bytes(text), len(text), out, len(out), byref(written)))
+        raises(
+            send(
+                byref(self._held), *map(checked_number, numbers), bytes(text), len(text), out, len(out), byref(written)
+            )
+        )
         return out.raw[: written.value]
 
     def _opens(self, call: str, numbers: tuple[int, ...], pdu: bytes) -> Opened:
         out, found = ctypes.create_string_buffer(max(len(pdu), 1)), FoundState()
         opens = getattr(calls, f"ltesec_{self._kind}_{call}")
-        status = opens(byref(self._held), *map(checked_number, numbers), bytes(pdu), len(pdu), out, len(out), byref(found))
+        status = opens(
+            byref(self._held), *map(checked_number, numbers), bytes(pdu), len(pdu), out, len(out), byref(found)
+        )
         raises(status, found)
         return Opened(out.raw[: found.length], found.count, found.header, bool(found.checked))
 
@@ -176,7 +221,9 @@ class NasContext(_Context):
 
     _kind = "nas"
 
-    def __init__(self, enc_key: bytes, int_key: bytes, eea: int = EEA2, send: int = 0, receive: int = 0, eia: int = EIA2):
+    def __init__(
+        self, enc_key: bytes, int_key: bytes, eea: int = EEA2, send: int = 0, receive: int = 0, eia: int = EIA2
+    ):
         numbers = map(checked_number, (send, receive, eea, eia))
         super().__init__(NasState(key_octets(enc_key), key_octets(int_key), *numbers))
 
@@ -199,10 +246,19 @@ class SrbContext(_Context):
     _kind = "srb"
 
     def __init__(
-        self, enc_key: bytes, int_key: bytes, bearer: int, eea: int = EEA2, send: int = 0, receive: int = 0, eia: int = EIA2
+        self,
+        enc_key: bytes,
+        int_key: bytes,
+        bearer: int,
+        eea: int = EEA2,
+        send: int = 0,
+        receive: int = 0,
+        eia: int = EIA2,
     ):
         counts = checked_number(send, 64), checked_number(receive, 64)
-        super().__init__(SrbState(key_octets(enc_key), key_octets(int_key), *counts, *map(checked_number, (bearer, eea, eia))))
+        super().__init__(
+            SrbState(key_octets(enc_key), key_octets(int_key), *counts, *map(checked_number, (bearer, eea, eia)))
+        )
 
     def send(self, direction: int, text: bytes) -> bytes:
         """The PDU of a text under the next COUNT, which it takes."""
@@ -224,23 +280,34 @@ class DrbContext(_Context):
 
     def __init__(self, enc_key: bytes, bearer: int, bits: int = 12, eea: int = EEA2, send: int = 0, receive: int = 0):
         counts = checked_number(send, 64), checked_number(receive, 64)
-        super().__init__(DrbState(key_octets(enc_key), *counts, checked_number(bearer), checked_number(eea), checked_number(bits)))
+        super().__init__(
+            DrbState(key_octets(enc_key), *counts, checked_number(bearer), checked_number(eea), checked_number(bits))
+        )
 
     def send(self, direction: int, text: bytes) -> bytes:
         """The PDU of a text under the next COUNT, which it takes."""
         return self._sends("send", (direction,), text, 3)
 
     def receive(self, direction: int, pdu: bytes) -> Opened:
-        """Opens a PDU under the least COUNT at or above the next one to receive, as on RLC UM, and takes that COUNT. Nothing is verified."""
+        """Opens a PDU under the least COUNT at or above the next one to receive, as on RLC UM, and takes that COUNT.
+        Nothing is verified."""
         return self._opens("receive", (direction,), pdu)
 
     def receive_am(self, last: int, direction: int, pdu: bytes) -> Opened:
-        """Opens a PDU on RLC AM by the reordering window (5.1.2.1.2): `fate` says what becomes of it, and a new one moves the next COUNT.
+        """Opens a PDU on RLC AM by the reordering window (5.1.2.1.2): `fate` says what becomes of it, and a new one
+        moves the next COUNT.
 
-        `last` is Last_Submitted_PDCP_RX_SN: the sequence number of the last text handed on, and at first the greatest one."""
+        `last` is Last_Submitted_PDCP_RX_SN: the sequence number of the last text handed on, and at first the greatest
+        one.
+        """
         out, found, fate = ctypes.create_string_buffer(max(len(pdu), 1)), FoundState(), c_uint32()
         numbers = checked_number(last), checked_number(direction)
-        raises(calls.ltesec_drb_receive_am(byref(self._held), *numbers, bytes(pdu), len(pdu), out, len(out), byref(found), byref(fate)), found)
+        raises(
+            calls.ltesec_drb_receive_am(
+                byref(self._held), *numbers, bytes(pdu), len(pdu), out, len(out), byref(found), byref(fate)
+            ),
+            found,
+        )
         return Opened(out.raw[: found.length], found.count, 0, False, fate.value)
 
 
@@ -250,7 +317,11 @@ class DrbContext(_Context):
 def service_request(int_key: bytes, ksi: int, count: int, eia: int = EIA2) -> bytes:
     """A Service Request under KNASint at an uplink NAS COUNT: four octets (TS 24.301 8.2.25)."""
     out = ctypes.create_string_buffer(4)
-    raises(calls.ltesec_service_request(checked_number(eia), checked_key(int_key), checked_number(ksi), checked_number(count), out))
+    raises(
+        calls.ltesec_service_request(
+            checked_number(eia), checked_key(int_key), checked_number(ksi), checked_number(count), out
+        )
+    )
     return out.raw
 
 
@@ -259,7 +330,9 @@ def check_service_request(int_key: bytes, next: int, request: bytes, eia: int = 
     if len(request) != 4:
         raise Short("a Service Request has four octets")
     found = FoundState()
-    status = calls.ltesec_service_request_check(checked_number(eia), checked_key(int_key), checked_number(next), bytes(request), byref(found))
+    status = calls.ltesec_service_request_check(
+        checked_number(eia), checked_key(int_key), checked_number(next), bytes(request), byref(found)
+    )
     if status == MAC_FAILS:
         raise MacFails(found.count, bytes(found.wanted)[:2], bytes(found.got)[:2])
     raises(status)
@@ -290,13 +363,15 @@ class Reached:
         return self.steps > 0
 
 
-def reach(
-    kasme: bytes, active: bytes, sync: bytes, own_ncc: int, ncc: int, pci: int, earfcn: int
-) -> Reached:
+def reach(kasme: bytes, active: bytes, sync: bytes, own_ncc: int, ncc: int, pci: int, earfcn: int) -> Reached:
     """What a phone with this chain makes of a handover command with an NCC, 0 to 7, for a cell.
 
     `sync` is the NH of its own NCC, or the first KeNB of the chain where there was no NH yet."""
     phone = PhoneState(key_octets(kasme), key_octets(active), key_octets(sync), checked_number(own_ncc))
     reached = ReachedState()
-    raises(calls.ltesec_reach(byref(phone), checked_number(ncc), checked_number(pci), checked_number(earfcn), byref(reached)))
+    raises(
+        calls.ltesec_reach(
+            byref(phone), checked_number(ncc), checked_number(pci), checked_number(earfcn), byref(reached)
+        )
+    )
     return Reached(reached.steps, bytes(reached.sync), bytes(reached.star))

@@ -74,8 +74,12 @@ TAKES: dict[str, list[Any]] = {
     "nh": [OCTETS, OCTETS, OUT],
     "kenb_star": [OCTETS, c_uint32, c_uint32, OUT],
     "algorithm_key": [OCTETS, c_uint32, c_uint32, OUT],
-    "eea1": CIPHER, "eea2": CIPHER, "eea3": CIPHER,
-    "eia1": MAC, "eia2": MAC, "eia3": MAC,
+    "eea1": CIPHER,
+    "eea2": CIPHER,
+    "eea3": CIPHER,
+    "eia1": MAC,
+    "eia2": MAC,
+    "eia3": MAC,
     "nas_seal": [POINTER(NasState), c_uint32, *SEND],
     "nas_open": [POINTER(NasState), *OPEN],
     "nas_open_at": [POINTER(NasState), c_uint32, *OPEN],
@@ -101,7 +105,9 @@ def places() -> list[Path]:
     """Where the library may lie: as the environment says, beside this file, or where the launcher builds it."""
     here = Path(__file__).resolve()
     named = os.environ.get("LTE_SEC_LIBRARY")
-    return [Path(named)] if named else [here.with_name("liblte_sec.so"), here.parents[2] / "library/built/liblte_sec.so"]
+    return (
+        [Path(named)] if named else [here.with_name("liblte_sec.so"), here.parents[2] / "library/built/liblte_sec.so"]
+    )
 
 
 def load() -> ctypes.CDLL:

@@ -17,7 +17,9 @@ def second(key: Callable[[bytes, bytes], bytes], ncc: int, told: int | None = No
     network.x2_handover(1, 11, 101, ENB2, star(kenb, ENB2), 0, ENB1, chain(kenb, phone, 2), 2)
     network.fault_in(1 if told is None else 2)
     command = None if told is None else Command(told, *CELL[ENB1], False, b"told")
-    network.x2_handover(2, 12, 101, ENB1, key(kenb, chain(kenb, phone, 2)), ncc, ENB2, chain(kenb, phone, 3), 3, command)
+    network.x2_handover(
+        2, 12, 101, ENB1, key(kenb, chain(kenb, phone, 2)), ncc, ENB2, chain(kenb, phone, 3), 3, command
+    )
     return network
 
 
@@ -156,7 +158,17 @@ def ncc_that_does_not_wrap() -> Network:
     base, ncc, here, there = kenb, 0, ENB1, ENB2
     for number in range(2, 9):
         network.fault_in(4)
-        network.x2_handover(number, 20 + number, 101, there, star(base, there), ncc, here, chain(kenb, phone, number), number if number < 8 else 1)
+        network.x2_handover(
+            number,
+            20 + number,
+            101,
+            there,
+            star(base, there),
+            ncc,
+            here,
+            chain(kenb, phone, number),
+            number if number < 8 else 1,
+        )
         base, ncc, here, there = chain(kenb, phone, number), number, there, here
     return network
 
@@ -262,5 +274,15 @@ def a_wide_earfcn_cut() -> Network:
 def a_wide_earfcn_in_four_octets() -> Network:
     network, phone, kenb = attached()
     network.fault_in(1)
-    network.x2_handover(1, 11, 101, ENB3, kdf(kenb, 0x13, (77).to_bytes(2, "big"), (66436).to_bytes(4, "big")), 0, ENB1, chain(kenb, phone, 2), 2)
+    network.x2_handover(
+        1,
+        11,
+        101,
+        ENB3,
+        kdf(kenb, 0x13, (77).to_bytes(2, "big"), (66436).to_bytes(4, "big")),
+        0,
+        ENB1,
+        chain(kenb, phone, 2),
+        2,
+    )
     return network

@@ -4,7 +4,20 @@ from __future__ import annotations
 from collections.abc import Callable
 
 from .nas_messages import (
-    ATTACH, COMPLETE, COMPLETE_IMEI, DOWN, INFORMATION, UP, UPDATED, UPDATE_ACCEPT, UPDATE_ACTIVE, UPLINK, Body, Context, Mac, accept,
+    ATTACH,
+    COMPLETE,
+    COMPLETE_IMEI,
+    DOWN,
+    INFORMATION,
+    UP,
+    UPDATED,
+    UPDATE_ACCEPT,
+    UPDATE_ACTIVE,
+    UPLINK,
+    Body,
+    Context,
+    Mac,
+    accept,
 )
 from .networks import ENB1, Network, attached, broken
 from .simulated import CALLS
@@ -137,7 +150,9 @@ def mac_over_the_whole_message() -> Network:
 
 @broken(r"MAC wrong: .*\(it is")
 def mac_by_the_ciphering_key() -> Network:
-    return with_mac(lambda phone, count, direction, body: CALLS.eia2(phone.ciphering_key(), count, 0, direction, body.octets))
+    return with_mac(
+        lambda phone, count, direction, body: CALLS.eia2(phone.ciphering_key(), count, 0, direction, body.octets)
+    )
 
 
 @broken(r"MAC wrong: .*that of COUNT")

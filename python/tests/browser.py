@@ -1,4 +1,5 @@
-"""Chromium by a pipe: a page from a file, real clicks and keys, and all that it logs, refuses or asks for. No port, no network."""
+"""Chromium by a pipe: a page from a file, real clicks and keys, and all that it logs, refuses or asks for. No port, no
+network."""
 from __future__ import annotations
 
 import base64
@@ -18,8 +19,19 @@ from typing import Any
 
 PROGRAMS = ("chromium", "chromium-browser", "google-chrome")
 FLAGS = (
-    "--headless=new", "--disable-gpu", "--hide-scrollbars", "--no-first-run", "--disable-extensions", "--disable-background-networking", "--disable-sync", "--disable-component-update",
-    "--host-resolver-rules=MAP * ~NOTFOUND", "--remote-debugging-pipe", "--force-color-profile=srgb", "--disable-dev-shm-usage", "--js-flags=--expose-gc",
+    "--headless=new",
+    "--disable-gpu",
+    "--hide-scrollbars",
+    "--no-first-run",
+    "--disable-extensions",
+    "--disable-background-networking",
+    "--disable-sync",
+    "--disable-component-update",
+    "--host-resolver-rules=MAP * ~NOTFOUND",
+    "--remote-debugging-pipe",
+    "--force-color-profile=srgb",
+    "--disable-dev-shm-usage",
+    "--js-flags=--expose-gc",
 )
 SECONDS = 40  # that an answer may take
 SHELL = 'exec "$@" 3<&"$READS" 4>&"$WRITES"'
@@ -45,8 +57,13 @@ class Browser:
         os.close(writes)
         more = ["--no-sandbox"] if os.geteuid() == 0 else []
         self.process = subprocess.Popen(
-            ["bash", "-c", SHELL, "bash", program, *FLAGS, *more, f"--user-data-dir={folder}", "about:blank"], pass_fds=theirs, stdout=subprocess.DEVNULL, stderr=subprocess.DEVNULL,
-            stdin=subprocess.DEVNULL, env={**os.environ, "READS": str(theirs[0]), "WRITES": str(theirs[1]), "HOME": folder}, start_new_session=True,
+            ["bash", "-c", SHELL, "bash", program, *FLAGS, *more, f"--user-data-dir={folder}", "about:blank"],
+            pass_fds=theirs,
+            stdout=subprocess.DEVNULL,
+            stderr=subprocess.DEVNULL,
+            stdin=subprocess.DEVNULL,
+            env={**os.environ, "READS": str(theirs[0]), "WRITES": str(theirs[1]), "HOME": folder},
+            start_new_session=True,
         )
         for one in theirs:
             os.close(one)
@@ -82,10 +99,12 @@ class Browser:
 
     def call(self, method: str, **given: Any) -> dict[str, Any]:
         self.number += 1
-        text = {"id": self.number, "method": method, "params": given} | ({"sessionId": self.session} if self.session else {})
+        text = {"id": self.number, "method": method, "params": given} | (
+            {"sessionId": self.session} if self.session else {}
+        )
         octets = json.dumps(text).encode() + b"\0"
         while octets:
-            octets = octets[os.write(self.writes, octets):]
+            octets = octets[os.write(self.writes, octets) :]
         while True:
             told = self.message()
             if told.get("id") == self.number:
@@ -101,7 +120,10 @@ class Browser:
     def open(self, file: Path, fragment: str = "", width: int = 1280, height: int = 800, dark: bool = False) -> float:
         """Opens a page, and answers the seconds until it was ready."""
         self.call("Emulation.setDeviceMetricsOverride", width=width, height=height, deviceScaleFactor=1, mobile=False)
-        self.call("Emulation.setEmulatedMedia", features=[{"name": "prefers-color-scheme", "value": "dark" if dark else "light"}])
+        self.call(
+            "Emulation.setEmulatedMedia",
+            features=[{"name": "prefers-color-scheme", "value": "dark" if dark else "light"}],
+        )
         self.call("Page.navigate", url="about:blank")
         self.until("location.href === 'about:blank'")
         self.events.clear()
@@ -143,7 +165,10 @@ class Browser:
         self.settle()
 
     def place(self, script: str) -> tuple[float, float]:
-        at = self.ask(f"(() => {{ const it = {script}; if (!it) return null; it.scrollIntoView({{block: 'nearest'}}); const at = it.getBoundingClientRect(); return [at.x + at.width / 2, at.y + at.height / 2]; }})()")
+        at = self.ask(
+            f"(() => {{ const it = {script}; if (!it) return null; it.scrollIntoView({{block: 'nearest'}}); const at "
+            f"= it.getBoundingClientRect(); return [at.x + at.width / 2, at.y + at.height / 2]; }})()"
+        )
         if at is None:
             raise Fails(f"there is no such element: {script}")
         return at[0], at[1]
@@ -151,7 +176,17 @@ class Browser:
     def key(self, name: str, text: str = "") -> None:
         """Presses a key; `text` is what it types."""
         more = {"text": text} if text else {"text": "\r"} if name == "Enter" else {}
-        code = {"Enter": 13, "Escape": 27, "Tab": 9, "ArrowUp": 38, "ArrowDown": 40, "ArrowLeft": 37, "ArrowRight": 39, "Home": 36, "End": 35}.get(name, 0)
+        code = {
+            "Enter": 13,
+            "Escape": 27,
+            "Tab": 9,
+            "ArrowUp": 38,
+            "ArrowDown": 40,
+            "ArrowLeft": 37,
+            "ArrowRight": 39,
+            "Home": 36,
+            "End": 35,
+        }.get(name, 0)
         self.call("Input.dispatchKeyEvent", type="keyDown", key=name, windowsVirtualKeyCode=code, **more)
         self.call("Input.dispatchKeyEvent", type="keyUp", key=name, windowsVirtualKeyCode=code)
         self.settle()
@@ -180,7 +215,9 @@ class Browser:
                 told.append("console: " + str(given["args"]))
             elif one["method"] == "Log.entryAdded":
                 told.append("log: " + given["entry"]["text"])
-            elif one["method"] == "Network.requestWillBeSent" and (given.get("type") not in LOADING or not given["request"]["url"].startswith(("file:", "about:"))):
+            elif one["method"] == "Network.requestWillBeSent" and (
+                given.get("type") not in LOADING or not given["request"]["url"].startswith(("file:", "about:"))
+            ):
                 told.append("request: " + given["request"]["url"][:200])
         return told
 

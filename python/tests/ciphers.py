@@ -1,4 +1,5 @@
-"""SNOW 3G and ZUC in plain Python, by their documents: the stand-in's 128-EEA1, 128-EIA1, 128-EEA3 and 128-EIA3 (TS 35.215, 35.216, 35.221 and 35.222)."""
+"""SNOW 3G and ZUC in plain Python, by their documents: the stand-in's 128-EEA1, 128-EIA1, 128-EEA3 and 128-EIA3 (TS
+35.215, 35.216, 35.221 and 35.222)."""
 from __future__ import annotations
 
 from collections.abc import Iterator
@@ -8,7 +9,7 @@ MASK = 0xFFFFFFFF
 
 
 def words_of(octets: bytes) -> list[int]:
-    return [int.from_bytes(octets[place:place + 4], "big") for place in range(0, len(octets), 4)]
+    return [int.from_bytes(octets[place : place + 4], "big") for place in range(0, len(octets), 4)]
 
 
 def product(a: int, b: int, modulus: int) -> int:
@@ -31,10 +32,25 @@ def affine(value: int, rows: bytes, constant: int) -> int:
 
 
 SR = [affine(power(x, 254, 0x11B), bytes.fromhex("f1e3c78f1f3e7cf8"), 0x63) for x in range(256)]  # AES's own
-SQ = [0x25 ^ x ^ power(x, 9, 0x169) ^ power(x, 13, 0x169) ^ power(x, 15, 0x169) ^ power(x, 33, 0x169) ^ power(x, 41, 0x169)
-      ^ power(x, 45, 0x169) ^ power(x, 47, 0x169) ^ power(x, 49, 0x169) for x in range(256)]
-ALPHA = [int.from_bytes(bytes(product(power(2, e, 0x1A9), c, 0x1A9) for e in (23, 245, 48, 239)), "big") for c in range(256)]
-ALPHA_BACK = [int.from_bytes(bytes(product(power(2, e, 0x1A9), c, 0x1A9) for e in (16, 39, 6, 64)), "big") for c in range(256)]
+SQ = [
+    0x25
+    ^ x
+    ^ power(x, 9, 0x169)
+    ^ power(x, 13, 0x169)
+    ^ power(x, 15, 0x169)
+    ^ power(x, 33, 0x169)
+    ^ power(x, 41, 0x169)
+    ^ power(x, 45, 0x169)
+    ^ power(x, 47, 0x169)
+    ^ power(x, 49, 0x169)
+    for x in range(256)
+]
+ALPHA = [
+    int.from_bytes(bytes(product(power(2, e, 0x1A9), c, 0x1A9) for e in (23, 245, 48, 239)), "big") for c in range(256)
+]
+ALPHA_BACK = [
+    int.from_bytes(bytes(product(power(2, e, 0x1A9), c, 0x1A9) for e in (16, 39, 6, 64)), "big") for c in range(256)
+]
 
 
 @cache
@@ -46,7 +62,9 @@ def mixed(word: int, box: str) -> int:
     def column(w: int, x: int, y: int, z: int) -> int:
         return product(2, w, modulus) ^ x ^ y ^ product(2, z, modulus) ^ z
 
-    return int.from_bytes(bytes((column(a, b, c, d), column(b, c, d, a), column(c, d, a, b), column(d, a, b, c))), "big")
+    return int.from_bytes(
+        bytes((column(a, b, c, d), column(b, c, d, a), column(c, d, a, b), column(d, a, b, c))), "big"
+    )
 
 
 def snow_3g(key: bytes, iv: list[int]) -> Iterator[int]:
@@ -60,7 +78,14 @@ def snow_3g(key: bytes, iv: list[int]) -> Iterator[int]:
         one, two, three = registers
         word = (s[15] + one & MASK) ^ two
         registers[:] = [two + (three ^ s[5]) & MASK, mixed(one, "SR"), mixed(two, "SQ")]
-        fed = (s[0] << 8 & MASK) ^ ALPHA[s[0] >> 24] ^ s[2] ^ s[11] >> 8 ^ ALPHA_BACK[s[11] & 255] ^ (word if mixing else 0)
+        fed = (
+            (s[0] << 8 & MASK)
+            ^ ALPHA[s[0] >> 24]
+            ^ s[2]
+            ^ s[11] >> 8
+            ^ ALPHA_BACK[s[11] & 255]
+            ^ (word if mixing else 0)
+        )
         word ^= s[0]
         s[:] = [*s[1:], fed]
         return word
@@ -72,8 +97,27 @@ def snow_3g(key: bytes, iv: list[int]) -> Iterator[int]:
         yield clock(False)
 
 
-P1, P2, P3 = (bytes(int(digit, 16) for digit in digits) for digits in ("9f0eff2a040c7539", "8d6570c4b1eaf392", "26a60daf33d509cd"))
-D = [0x44D7, 0x26BC, 0x626B, 0x135E, 0x5789, 0x35E2, 0x7135, 0x09AF, 0x4D78, 0x2F13, 0x6BC4, 0x1AF1, 0x5E26, 0x3C4D, 0x789A, 0x47AC]
+P1, P2, P3 = (
+    bytes(int(digit, 16) for digit in digits) for digits in ("9f0eff2a040c7539", "8d6570c4b1eaf392", "26a60daf33d509cd")
+)
+D = [
+    0x44D7,
+    0x26BC,
+    0x626B,
+    0x135E,
+    0x5789,
+    0x35E2,
+    0x7135,
+    0x09AF,
+    0x4D78,
+    0x2F13,
+    0x6BC4,
+    0x1AF1,
+    0x5E26,
+    0x3C4D,
+    0x789A,
+    0x47AC,
+]
 PRIME = (1 << 31) - 1
 
 
@@ -117,7 +161,8 @@ def zuc(key: bytes, iv: bytes) -> Iterator[int]:
         word = (joined(15, 14) ^ one) + two & MASK
         w1, w2 = one + crossed(11, 9) & MASK, two ^ crossed(7, 5)
         registers[:] = [
-            spread((w1 & 0xFFFF) << 16 | w2 >> 16, 2, 10, 18, 24), spread((w2 & 0xFFFF) << 16 | w1 >> 16, 8, 14, 22, 30),
+            spread((w1 & 0xFFFF) << 16 | w2 >> 16, 2, 10, 18, 24),
+            spread((w2 & 0xFFFF) << 16 | w1 >> 16, 8, 14, 22, 30),
         ]
         out = word ^ crossed(2, 0)
         fed = (s[15] << 15) + (s[13] << 17) + (s[10] << 21) + (s[4] << 20) + s[0] * 257 + (word >> 1 if mixing else 0)
@@ -162,7 +207,7 @@ def eia1(key: bytes, count: int, bearer: int, direction: int, text: bytes) -> by
 
     value = 0
     for place in range(0, len(text), 8):
-        value = times(value ^ int.from_bytes(text[place:place + 8].ljust(8, b"\0"), "big"), p)
+        value = times(value ^ int.from_bytes(text[place : place + 8].ljust(8, b"\0"), "big"), p)
     return (times(value ^ 8 * len(text), q) >> 32 ^ next(stream)).to_bytes(4, "big")
 
 

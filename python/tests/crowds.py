@@ -1,4 +1,5 @@
-"""Many phones at once, as a long capture has them: they move, are released and come back, identities are used again, and now and then a fault is sent."""
+"""Many phones at once, as a long capture has them: they move, are released and come back, identities are used again,
+and now and then a fault is sent."""
 from __future__ import annotations
 
 import hashlib
@@ -43,12 +44,17 @@ def crowd(messages: int, faults: int, phones: int = 40, seed: int = 1) -> Crowd:
     """So many messages or a few more, with so many faults in them."""
     chance, world = random.Random(seed), Crowd(phones)
     sound: list[Callable[[Phone], object]] = [
-        *4 * [lambda phone: world.x2(phone, elsewhere(phone, chance))], lambda phone: world.s1(phone, elsewhere(phone, chance)),
-        *2 * [lambda phone: world.again(phone, chance.choice(CELLS).eci)], *2 * [lambda phone: world.nas_down(phone)], *2 * [lambda phone: world.nas_up(phone)],
+        *4 * [lambda phone: world.x2(phone, elsewhere(phone, chance))],
+        lambda phone: world.s1(phone, elsewhere(phone, chance)),
+        *2 * [lambda phone: world.again(phone, chance.choice(CELLS).eci)],
+        *2 * [lambda phone: world.nas_down(phone)],
+        *2 * [lambda phone: world.nas_up(phone)],
     ]
     wrong: list[Callable[[Phone], object]] = [
-        lambda phone: world.x2(phone, elsewhere(phone, chance), key=world.wrong()), lambda phone: world.x2(phone, elsewhere(phone, chance), nh=world.wrong()),
-        lambda phone: world.fault(world.nas_down(phone, kasme=world.wrong())), lambda phone: world.comes_back(phone, world.wrong()),
+        lambda phone: world.x2(phone, elsewhere(phone, chance), key=world.wrong()),
+        lambda phone: world.x2(phone, elsewhere(phone, chance), nh=world.wrong()),
+        lambda phone: world.fault(world.nas_down(phone, kasme=world.wrong())),
+        lambda phone: world.comes_back(phone, world.wrong()),
     ]
     for place, phone in enumerate(world.phones):
         world.attach(phone, CELLS[place % len(CELLS)].eci)

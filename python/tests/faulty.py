@@ -36,6 +36,7 @@ def up(world: World, phone: Phone, text: bytes, header: int = 2, kasme: bytes | 
 
 def text_by(cipher: Callable[[Phone], bytes]) -> Made:
     """A message down whose text is made otherwise than it must be."""
+
     def made() -> World:
         world, phone = attached()
         for _ in range(20):
@@ -44,10 +45,13 @@ def text_by(cipher: Callable[[Phone], bytes]) -> Made:
         world.nas_down(phone)
         world.nas_up(phone)
         return world
+
     return made
 
 
-def eea2(phone: Phone, count: int | None = None, bearer: int = 0, direction: int = 1, key: bytes | None = None) -> bytes:
+def eea2(
+    phone: Phone, count: int | None = None, bearer: int = 0, direction: int = 1, key: bytes | None = None
+) -> bytes:
     return CALLS.eea2(key or keys(phone.kasme)[0][16:], phone.down if count is None else count, bearer, direction, LONG)
 
 
@@ -64,7 +68,12 @@ def tracking_ciphered() -> World:
     world.release(phone)
     phone.eci, phone.enb_id, phone.mme_id = ENB2, world.fresh(), world.fresh()
     text = bytes([7, 0x48, phone.ksi << 4]) + bytes.fromhex("0bf600f110800101") + phone.tmsi.to_bytes(4, "big")
-    sent = world.up(phone, "InitialUEMessage", nas=[sealed(phone, 0, CALLS.eea2(keys(phone.kasme)[0][16:], phone.up, 0, 0, text))], tmsi=phone.tmsi)
+    sent = world.up(
+        phone,
+        "InitialUEMessage",
+        nas=[sealed(phone, 0, CALLS.eea2(keys(phone.kasme)[0][16:], phone.up, 0, 0, text))],
+        tmsi=phone.tmsi,
+    )
     world.fault(sent)
     world.nas_down(phone, bytes.fromhex("07490049") + bytes(4))
     return world
@@ -72,6 +81,7 @@ def tracking_ciphered() -> World:
 
 def mac_without_overflow(eea: int) -> Made:
     """A message up at COUNT 258, ciphered at that, whose MAC is that of COUNT 2."""
+
     def made() -> World:
         world, phone = attached(eea=eea)
         while phone.up < 258:
@@ -82,11 +92,14 @@ def mac_without_overflow(eea: int) -> Made:
         world.fault(world.up(phone, "UplinkNASTransport", mme_id=phone.mme_id, nas=[b"\x27" + mac + b"\2" + text]))
         world.nas_up(phone)
         return world
+
     return made
 
 
 def tracked(mac_count: int, key_count: int) -> Made:
-    """A phone comes with a Tracking Area Update Request at COUNT 258 and wants a context; its MAC and KeNB are of these COUNTs."""
+    """A phone comes with a Tracking Area Update Request at COUNT 258 and wants a context; its MAC and KeNB are of these
+    COUNTs."""
+
     def made() -> World:
         world, phone = attached()
         while phone.up < 258:
@@ -102,11 +115,13 @@ def tracked(mac_count: int, key_count: int) -> Made:
         world.setup(phone, CALLS.kenb(phone.kasme, key_count))
         world.x2(phone, ENB1)
         return world
+
     return made
 
 
 def replayed(where: str) -> Made:
     """Octets that come again: the newest at once, or late ones."""
+
     def made() -> World:
         world, phone = attached()
         first = world.nas_up(phone)
@@ -120,11 +135,13 @@ def replayed(where: str) -> Made:
             world.fault(again)
         world.nas_up(phone)
         return world
+
     return made
 
 
 def service_at(count: int, key_count: int) -> Made:
     """A Service Request at a COUNT, and KeNB of another."""
+
     def made() -> World:
         world, phone = attached()
         while phone.up < count:
@@ -132,11 +149,14 @@ def service_at(count: int, key_count: int) -> Made:
         world.release(phone)
         world.service(phone, ENB2, CALLS.kenb(phone.kasme, key_count))
         return world
+
     return made
 
 
 def short_mac_at(count: int, key: bool = True) -> Made:
-    """A Service Request at COUNT 42 whose short MAC is that of another COUNT; KeNB is right, or the core refuses the request."""
+    """A Service Request at COUNT 42 whose short MAC is that of another COUNT; KeNB is right, or the core refuses the
+    request."""
+
     def made() -> World:
         world, phone = attached()
         while phone.up < 42:
@@ -150,24 +170,31 @@ def short_mac_at(count: int, key: bool = True) -> Made:
         if count != 42:
             world.fault(asked)
         if not key:
-            del world.messages[place + 1:]
+            del world.messages[place + 1 :]
             world.down(phone, "DownlinkNASTransport", nas=[b"\x07\x4e\x09"])
         return world
+
     return made
 
 
 def begins_there(world: Made) -> Made:
-    """The same in a trace that begins with its last connection, of a phone that came from a station without messages."""
+    """The same in a trace that begins with its last connection, of a phone that came from a station without
+    messages."""
+
     def made() -> World:
         found = world()
-        begin = next(place for place, one in reversed(list(enumerate(found.messages))) if one.name == "InitialUEMessage")
+        begin = next(
+            place for place, one in reversed(list(enumerate(found.messages))) if one.name == "InitialUEMessage"
+        )
         del found.messages[:begin]
         return found
+
     return made
 
 
 def accepted_again(later: int) -> Made:
     """The octets of a Service Request come again, and the core sends its KeNB again, which was in use."""
+
     def made() -> World:
         world, phone = attached()
         world.release(phone)
@@ -180,41 +207,57 @@ def accepted_again(later: int) -> Made:
         world.up(phone, "InitialUEMessage", nas=list(asked.nas), tmsi=phone.tmsi)
         world.fault(world.down(phone, "InitialContextSetupRequest", key=setup.key))
         return world
+
     return made
 
 
 def setup_again(same: bool) -> Made:
     """A setup fails, and a second one follows in the same connection."""
+
     def made() -> World:
         world, phone = attached()
         world.release(phone)
         setup = world.service(phone, ENB2)
         del world.messages[-1]
         world.up(phone, "InitialContextSetupFailure", mme_id=phone.mme_id, eci=None)
-        again = world.down(phone, "InitialContextSetupRequest", key=setup.key if same else CALLS.kenb(phone.kasme, phone.trigger + 1))
+        again = world.down(
+            phone, "InitialContextSetupRequest", key=setup.key if same else CALLS.kenb(phone.kasme, phone.trigger + 1)
+        )
         if not same:
             world.fault(again)
             world.apart.append(again.frame)
         world.up(phone, "InitialContextSetupResponse", mme_id=phone.mme_id, eci=None)
         return world
+
     return made
 
 
 def mac_by(make: Callable[[bytes, int, bytes], bytes]) -> Made:
-    """A message up whose MAC is made otherwise, from KNASint (32 octets), COUNT and the message from its sequence number on."""
+    """A message up whose MAC is made otherwise, from KNASint (32 octets), COUNT and the message from its sequence
+    number on."""
+
     def made() -> World:
         world, phone = attached()
         count = phone.up
         pdu = sealed(phone, 0, CALLS.eea2(keys(phone.kasme)[0][16:], count, 0, 0, LONG))
-        world.fault(world.up(phone, "UplinkNASTransport", mme_id=phone.mme_id, nas=[pdu[:1] + make(keys(phone.kasme)[1], count, pdu[5:]) + pdu[5:]]))
+        world.fault(
+            world.up(
+                phone,
+                "UplinkNASTransport",
+                mme_id=phone.mme_id,
+                nas=[pdu[:1] + make(keys(phone.kasme)[1], count, pdu[5:]) + pdu[5:]],
+            )
+        )
         world.nas_up(phone)
         world.nas_down(phone)
         return world
+
     return made
 
 
 def key_by(make: Callable[[bytes, int, int], bytes]) -> Made:
     """KeNB* for the second handover, from NH, PCI and EARFCN, as no station may make it."""
+
     def made() -> World:
         world, phone = attached()
         world.x2(phone, ENB2)
@@ -224,6 +267,7 @@ def key_by(make: Callable[[bytes, int, int], bytes]) -> Made:
         world.x2(phone, ENB1, key=make(pair[0], site.pci, site.earfcn))
         world.x2(phone, ENB2)
         return world
+
     return made
 
 

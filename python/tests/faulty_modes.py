@@ -9,7 +9,9 @@ from .simulated import Phone, World, nas_mac
 from .situations import ENB1, ENB2, KASMES, attached
 
 
-def command(world: World, phone: Phone, eea: int = 2, eia: int = 2, ksi: int | None = None, caps: bytes = b"\xf0\x70") -> Message:
+def command(
+    world: World, phone: Phone, eea: int = 2, eia: int = 2, ksi: int | None = None, caps: bytes = b"\xf0\x70"
+) -> Message:
     """A Security Mode Command under the phone's KASME, whose COUNTs are as they are."""
     text = bytes([7, 0x5D, eea << 4 | eia, phone.ksi if ksi is None else ksi, 2]) + caps
     if eia == 0:
@@ -26,6 +28,7 @@ def authenticated(world: World, phone: Phone, ksi: int) -> None:
 
 def renewed(fault: str) -> Made:
     """An authentication in a secured connection; the Command or what follows has the fault."""
+
     def made() -> World:
         world, phone = attached()
         old = phone.kasme
@@ -51,6 +54,7 @@ def renewed(fault: str) -> Made:
         world.nas_down(phone)
         world.nas_up(phone)
         return world
+
     return made
 
 
@@ -63,6 +67,7 @@ def resealed(message: Message, phone: Phone, direction: int, count: int, eia: in
 
 def other_algorithm(told: bool) -> Made:
     """A Command for the KASME in use brings EIA1; the Complete stands under it, or under EIA2 as before."""
+
     def made() -> World:
         world, phone = attached()
         resealed(command(world, phone, 2, 1), phone, 1, phone.down - 1, 1)
@@ -72,11 +77,13 @@ def other_algorithm(told: bool) -> Made:
         else:
             world.fault(complete)
         return world
+
     return made
 
 
 def lacking(eea: int, eia: int) -> Made:
     """The phone has EEA0 to EEA2 and EIA1, EIA2 only; the Command takes others."""
+
     def made() -> World:
         world, phone = RarerWorld(), Phone("phone", KASMES[0], eea=eea)
         phone.eci, phone.enb_id, phone.mme_id, phone.tmsi = ENB1, 901, 902, 0xC0000001
@@ -86,6 +93,7 @@ def lacking(eea: int, eia: int) -> Made:
             resealed(told, phone, 1, 0, eia)
             world.fault(told)
         return world
+
     return made
 
 
@@ -101,6 +109,7 @@ def null_integrity(emergency: bool) -> Made:
         if not emergency:
             world.fault(told)
         return world
+
     return made
 
 
@@ -120,11 +129,14 @@ def behind_a_reject(goes_on: bool) -> Made:
         else:
             world.nas_down(phone)
         return world
+
     return made
 
 
 def commanded_again(used: bool) -> Made:
-    """The phone refuses a Command for EEA1, and the core sends another for EEA2: at the next COUNT, or at the one that is used."""
+    """The phone refuses a Command for EEA1, and the core sends another for EEA2: at the next COUNT, or at the one that
+    is used."""
+
     def made() -> World:
         world, phone = attached()
         authenticated(world, phone, 1)
@@ -142,4 +154,5 @@ def commanded_again(used: bool) -> Made:
         world.change_key(phone)
         world.nas_down(phone)
         return world
+
     return made

@@ -1,7 +1,8 @@
-"""What is told of each fault of the tests where a tap lacks some links, and the table of it that is kept: `faults_in_views.txt`.
+"""What is told of each fault of the tests where a tap lacks some links, and the table of it that is kept:
+`faults_in_views.txt`.
 
-`python3 -m tests.in_views` writes the table again, or the rows of the faults whose names have the words behind it. What it changes is to be looked
-at: no fault may be told less than before, unless a lawful history shows the same.
+`python3 -m tests.in_views` writes the table again, or the rows of the faults whose names have the words behind it. What
+it changes is to be looked at: no fault may be told less than before, unless a lawful history shows the same.
 """
 from __future__ import annotations
 
@@ -17,13 +18,29 @@ from lte_sec.judge.reading import check
 from lte_sec.common.report import DIFFERS, UNKNOWN, Line
 from lte_sec.common.terms import Derivations, Kasme
 
-from . import broken_handovers, broken_nas, sound_handovers, sound_modes, sound_phones, sound_worlds, test_faults, test_simulated, test_situations
+from . import (
+    broken_handovers,
+    broken_nas,
+    sound_handovers,
+    sound_modes,
+    sound_phones,
+    sound_worlds,
+    test_faults,
+    test_simulated,
+    test_situations,
+)
 from .networks import BROKEN, SITES, SOUND, Network
 from .simulated import CALLS, World
 from .situations import KASMES
 from .views import views
 
-NETWORKS = (broken_handovers, broken_nas, sound_handovers, sound_modes, sound_phones)  # that are registered by their import
+NETWORKS = (
+    broken_handovers,
+    broken_nas,
+    sound_handovers,
+    sound_modes,
+    sound_phones,
+)  # that are registered by their import
 TABLE = Path(__file__).parent / "faults_in_views.txt"
 BUDGET = 300  # derivations of a search
 TOLD, ELSEWHERE, NOT_JUDGED, SILENT = "told", "told of another frame", "not judged", "silent"
@@ -57,22 +74,42 @@ class Case:
         there = {line.verdict for line in lines if line.frame == self.fault}
         if DIFFERS in there:
             return TOLD
-        return ELSEWHERE if any(line.verdict == DIFFERS for line in lines) else NOT_JUDGED if UNKNOWN in there else SILENT
+        return (
+            ELSEWHERE if any(line.verdict == DIFFERS for line in lines) else NOT_JUDGED if UNKNOWN in there else SILENT
+        )
 
     def views(self) -> Iterator[tuple[str, list[Message]]]:
         """The views that have a message, and the frame of the fault."""
-        return ((view, seen) for view, seen in views(self.messages) if seen and (not self.fault or any(one.frame == self.fault for one in seen)))
+        return (
+            (view, seen)
+            for view, seen in views(self.messages)
+            if seen and (not self.fault or any(one.frame == self.fault for one in seen))
+        )
 
 
 def of_world(name: str, world: World, is_broken: bool) -> Case:
-    return Case(name, world.messages, [Kasme(f"k{place}", kasme) for place, kasme in enumerate(KASMES[:4])], world.faults[0] if is_broken else "")
+    return Case(
+        name,
+        world.messages,
+        [Kasme(f"k{place}", kasme) for place, kasme in enumerate(KASMES[:4])],
+        world.faults[0] if is_broken else "",
+    )
 
 
 def of_network(name: str, network: Network) -> Case:
-    return Case(name, network.messages, [Kasme(one.name, one.kasme) for one in network.contexts], network.faults[0] if network.faults else "")
+    return Case(
+        name,
+        network.messages,
+        [Kasme(one.name, one.kasme) for one in network.contexts],
+        network.faults[0] if network.faults else "",
+    )
 
 
-WORLDS: dict[str, Callable[[], World]] = {**sound_worlds.SOUND, **{name: one.sound for name, one in test_situations.SITUATIONS.items()}, **test_faults.SOUND}
+WORLDS: dict[str, Callable[[], World]] = {
+    **sound_worlds.SOUND,
+    **{name: one.sound for name, one in test_situations.SITUATIONS.items()},
+    **test_faults.SOUND,
+}
 
 
 def sound_cases() -> Iterator[Case]:

@@ -1,8 +1,24 @@
-"""One call of each kind of the installed package, for `package/check`: installed.py KIND. The values are those of docs/COOKBOOK.md and examples/c."""
+"""One call of each kind of the installed package, for `package/check`: installed.py KIND. The values are those of
+docs/COOKBOOK.md and examples/c."""
 import sys
 
 import lte_sec
-from lte_sec.library import DOWNLINK, UPLINK, DrbContext, MacFails, NasContext, SrbContext, algorithm_key, eea2, eia2, kenb, kenb_star, proved, reach, short_mac_i
+from lte_sec.library import (
+    DOWNLINK,
+    UPLINK,
+    DrbContext,
+    MacFails,
+    NasContext,
+    SrbContext,
+    algorithm_key,
+    eea2,
+    eia2,
+    kenb,
+    kenb_star,
+    proved,
+    reach,
+    short_mac_i,
+)
 
 
 def main(kind: str) -> None:
@@ -11,7 +27,10 @@ def main(kind: str) -> None:
     assert proved() == (kind == "proved")
     assert key.hex() == "e6267359de012d9bda173d1b6fae57dec0e04e01cfcf57cb33a7573f142b8b95"
     assert kenb_star(key, 11, 101).hex().startswith("4f92e8cee01ca1f84e022ac503175c61f6792a8fe01")
-    assert eea2(key[:16], 7, 1, UPLINK, eea2(key[:16], 7, 1, UPLINK, b"a text")) == b"a text" and len(eia2(key[:16], 7, 1, UPLINK, b"a text")) == 4
+    assert (
+        eea2(key[:16], 7, 1, UPLINK, eea2(key[:16], 7, 1, UPLINK, b"a text")) == b"a text"
+        and len(eia2(key[:16], 7, 1, UPLINK, b"a text")) == 4
+    )
     keys = algorithm_key(kasme, 1, 2), algorithm_key(kasme, 2, 2)
     message = NasContext(*keys, send=300).seal(2, UPLINK, b"a NAS message")
     assert message.hex() == "278fb2a4052c0d967f5a219b39098ca13c5a77"

@@ -16,8 +16,26 @@ def many(frames: int) -> dict[str, Any]:
     for turn in range(-(-frames // len(events))):
         shift, at = len(page["keys"]), len(page["events"])
         for key in keys:
-            page["keys"].append({**key, "hex": f"{turn:08x}{key['hex'][8:]}", "from": None if key["from"] is None else key["from"] + shift, "at": [place + at for place in key["at"]]})
+            page["keys"].append(
+                {
+                    **key,
+                    "hex": f"{turn:08x}{key['hex'][8:]}",
+                    "from": None if key["from"] is None else key["from"] + shift,
+                    "at": [place + at for place in key["at"]],
+                }
+            )
         for event in events:
-            lines = [{**line, **{name: line[name] + shift for name in ("isk", "wantk", "chain") if name in line}} for line in event.get("l", [])]
-            page["events"].append({**event, "f": str(len(page["events"]) + 1), "t": float(len(page["events"])), "v": event["v"] if turn % 50 == 7 or event["v"] != "bad" else "ok", "l": lines})
+            lines = [
+                {**line, **{name: line[name] + shift for name in ("isk", "wantk", "chain") if name in line}}
+                for line in event.get("l", [])
+            ]
+            page["events"].append(
+                {
+                    **event,
+                    "f": str(len(page["events"]) + 1),
+                    "t": float(len(page["events"])),
+                    "v": event["v"] if turn % 50 == 7 or event["v"] != "bad" else "ok",
+                    "l": lines,
+                }
+            )
     return page

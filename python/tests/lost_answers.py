@@ -1,7 +1,8 @@
-"""The capture `lost-answers`, made of `A`: ten handovers over X2, and the answers to the second to the seventh path switch are lost.
+"""The capture `lost-answers`, made of `A`: ten handovers over X2, and the answers to the second to the seventh path
+switch are lost.
 
-Packets of `A` come again with other keys, NCCs and TSNs. The core sends NCC 2 first. The phone takes it at the third handover, and its
-next vertical step is that to the ninth NH: seven steps.
+Packets of `A` come again with other keys, NCCs and TSNs. The core sends NCC 2 first. The phone takes it at the third
+handover, and its next vertical step is that to the ninth NH: seven steps.
 """
 from __future__ import annotations
 
@@ -28,7 +29,7 @@ def blocks(octets: bytes) -> Iterator[bytes]:
     at = 0
     while at < len(octets):
         size = struct.unpack_from("<I", octets, at + 4)[0]
-        yield octets[at:at + size]
+        yield octets[at : at + size]
         at += size
 
 
@@ -48,7 +49,7 @@ class Packet:
     def __init__(self, block: bytes):
         self.head = block[8:12]
         high, low, size = struct.unpack_from("<III", block, 12)
-        self.time, self.data = high << 32 | low, bytearray(block[HEAD:HEAD + size])
+        self.time, self.data = high << 32 | low, bytearray(block[HEAD : HEAD + size])
 
     def chunk(self) -> int:
         """Where the chunk with data begins."""
@@ -60,12 +61,12 @@ class Packet:
     @property
     def way(self) -> bytes:
         """The association and its direction: addresses, ports and verification tag."""
-        return bytes(self.data[26:SCTP + 8])
+        return bytes(self.data[26 : SCTP + 8])
 
     def replace(self, old: bytes, new: bytes) -> int:
         """Puts a key in place of another; answers where."""
         at = self.data.index(old)
-        self.data[at:at + len(old)] = new
+        self.data[at : at + len(old)] = new
         return at
 
     def bits(self, first: int, ncc: int) -> None:
@@ -79,7 +80,13 @@ class Packet:
         struct.pack_into("<I", self.data, SCTP + 8, 0)
         struct.pack_into("<I", self.data, SCTP + 8, checksum(self.data[SCTP:]))
         time = struct.pack("<II", self.time >> 32, self.time & 0xFFFFFFFF)
-        body = self.head + time + struct.pack("<II", len(self.data), len(self.data)) + self.data + bytes(-len(self.data) % 4)
+        body = (
+            self.head
+            + time
+            + struct.pack("<II", len(self.data), len(self.data))
+            + self.data
+            + bytes(-len(self.data) % 4)
+        )
         size = struct.pack("<I", len(body) + 12)
         return struct.pack("<I", PACKET) + size + body + size
 

@@ -1,4 +1,5 @@
-"""Situations of messages of NAS, S1 and X2, for `test_situations`: worlds as the standard has them, and broken at one place."""
+"""Situations of messages of NAS, S1 and X2, for `test_situations`: worlds as the standard has them, and broken at one
+place."""
 from __future__ import annotations
 
 from collections.abc import Callable
@@ -15,6 +16,7 @@ from .situations import ENB1, ENB2, ENB3, ENB3_SECOND, KASMES, Made, attached
 
 def with_message(add: Callable[[RarerWorld, Phone], Message | None], broken: bool = True, first: bool = False) -> Made:
     """A phone that is attached, or that begins, and one message more."""
+
     def made() -> World:
         world, phone = (RarerWorld(), Phone("phone", KASMES[0])) if first else attached()
         if first:
@@ -27,6 +29,7 @@ def with_message(add: Callable[[RarerWorld, Phone], Message | None], broken: boo
             world.nas_up(phone)
             world.nas_down(phone)
         return world
+
     return made
 
 
@@ -45,6 +48,7 @@ def turned(message: Message, header: int) -> Message:
 
 def replays(capabilities: str, broken: bool) -> Made:
     """A Security Mode Command that replays these capabilities."""
+
     def made() -> World:
         world, phone = RarerWorld(), Phone("phone", KASMES[0])
         phone.eci, phone.enb_id, phone.mme_id = ENB1, 901, 902
@@ -56,11 +60,13 @@ def replays(capabilities: str, broken: bool) -> Made:
         world.nas_up(phone, b"\x07\x5e", 4)
         world.setup(phone, None)
         return world
+
     return made
 
 
 def null_integrity(emergency: bool, broken: bool) -> Made:
     """EIA0: MACs of zeros, for an emergency call."""
+
     def made() -> World:
         world, phone = RarerWorld(), Phone("phone", KASMES[4])
         phone.eci, phone.enb_id, phone.mme_id = ENB1, 901, 902
@@ -69,10 +75,15 @@ def null_integrity(emergency: bool, broken: bool) -> Made:
         world.up(phone, "InitialUEMessage", nas=[bytes(attach)], cause=0 if emergency else 3)
         world.down(phone, "DownlinkNASTransport", nas=[bytes.fromhex("37000000000007" + "5d000002f070")])
         world.up(phone, "UplinkNASTransport", mme_id=902, nas=[bytes.fromhex("470000000000075e")])
-        message = world.down(phone, "DownlinkNASTransport", nas=[bytes.fromhex("270000000" + ("1" if broken else "0") + "01" + "07610102")])
+        message = world.down(
+            phone,
+            "DownlinkNASTransport",
+            nas=[bytes.fromhex("270000000" + ("1" if broken else "0") + "01" + "07610102")],
+        )
         if broken:
             world.fault(message)
         return world
+
     return made
 
 
@@ -81,6 +92,7 @@ def null_integrity(emergency: bool, broken: bool) -> Made:
 
 def able(change: str = "") -> Made:
     """Capabilities in S1 and X2; `change` is the message whose capabilities are fewer."""
+
     def made() -> World:
         world, phone = attached()
         world.x2(phone, ENB2)
@@ -90,18 +102,26 @@ def able(change: str = "") -> Made:
         for message in [one for one in world.messages if f"{one.link} {one.name}" == change][:1]:
             message.capabilities = (7, 3)
             world.fault(message)
-            later = [one for one in world.messages[world.messages.index(message):] if one.capabilities and one.source != world.core]
-            if change == "S1 InitialContextSetupRequest" or change == "X2 HandoverRequest":  # what a station was given it hands on
+            later = [
+                one
+                for one in world.messages[world.messages.index(message) :]
+                if one.capabilities and one.source != world.core
+            ]
+            if (
+                change == "S1 InitialContextSetupRequest" or change == "X2 HandoverRequest"
+            ):  # what a station was given it hands on
                 for one in later[:1] if change == "X2 HandoverRequest" else later:
                     one.capabilities = (7, 3)
             if change == "X2 HandoverRequest":
                 next(one for one in later if one.name == "PathSwitchRequest").capabilities = (7, 3)
         return world
+
     return made
 
 
 def prepared(key: bytes | None = None, mac: bytes | None = None) -> Made:
     """Cells for re-establishment in a Handover Request."""
+
     def made() -> World:
         world, phone = attached()
         world.x2(phone, ENB2)
@@ -113,6 +133,7 @@ def prepared(key: bytes | None = None, mac: bytes | None = None) -> Made:
         if key or mac:
             world.fault(asked)
         return world
+
     return made
 
 
@@ -130,6 +151,7 @@ def command_without_ncc(broken: bool) -> Made:
         else:
             world.undecodable(answer)
         return world
+
     return made
 
 
@@ -140,4 +162,5 @@ def secondary_keys(broken: bool) -> Made:
         world.add("X2", "SeNBAdditionRequest", ENDS["enb1"], ENDS["enb2"], secrets=[("S-KeNB", bytes(32))])
         world.x2(phone, ENB2, key=bytes(32) if broken else None)
         return world
+
     return made

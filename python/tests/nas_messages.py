@@ -24,7 +24,9 @@ def authentication(ksi: int) -> bytes:
 
 
 def accept(tmsi: int = 1) -> bytes:
-    return bytes.fromhex("07420149060000f110000100155201c101090908696e7465726e657405010a2d0001500bf600f110800101") + tmsi.to_bytes(4, "big")
+    return bytes.fromhex(
+        "07420149060000f110000100155201c101090908696e7465726e657405010a2d0001500bf600f110800101"
+    ) + tmsi.to_bytes(4, "big")
 
 
 def reallocation(tmsi: int) -> bytes:
@@ -70,11 +72,25 @@ class Context:
     def ciphered(self, count: int, direction: int, plain: bytes) -> bytes:
         return CIPHERS[self.eea](self.ciphering_key(), count, 0, direction, plain) if self.eea else plain
 
-    def seal(self, direction: int, header: int, plain: bytes, count: int | None = None, mac: Mac | None = None, text: Text | None = None) -> bytes:
+    def seal(
+        self,
+        direction: int,
+        header: int,
+        plain: bytes,
+        count: int | None = None,
+        mac: Mac | None = None,
+        text: Text | None = None,
+    ) -> bytes:
         """A message at the next COUNT, or at this one; with a MAC or a text made otherwise."""
         at = self.counts[direction] if count is None else count
         self.counts[direction] = max(self.counts[direction], at + 1)
-        sent = text(self, at, direction, plain) if text else self.ciphered(at, direction, plain) if header in (2, 4) else plain
+        sent = (
+            text(self, at, direction, plain)
+            if text
+            else self.ciphered(at, direction, plain)
+            if header in (2, 4)
+            else plain
+        )
         body = bytes([at & 255]) + sent
         made = mac(self, at, direction, Body(header, body, plain)) if mac else self.mac(at, direction, body)
         return bytes([header << 4 | 7]) + made + body
@@ -89,7 +105,9 @@ class Context:
     def command(self, capabilities: str = "f070", count: int | None = None) -> bytes:
         """A Security Mode Command with the replayed capabilities of the phone."""
         told = bytes.fromhex(capabilities)
-        return self.seal(DOWN, 3, bytes([7, 0x5D, self.eea << 4 | self.eia, self.ksi, len(told)]) + told + b"\xc1", count)
+        return self.seal(
+            DOWN, 3, bytes([7, 0x5D, self.eea << 4 | self.eia, self.ksi, len(told)]) + told + b"\xc1", count
+        )
 
     def complete(self) -> bytes:
         return self.seal(UP, 4, COMPLETE_IMEI)

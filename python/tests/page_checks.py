@@ -1,4 +1,5 @@
-"""What must hold of each page as a text: nothing is fetched, the policy is that of its script and style, and what it shows is data."""
+"""What must hold of each page as a text: nothing is fetched, the policy is that of its script and style, and what it
+shows is data."""
 from __future__ import annotations
 
 import base64
@@ -10,11 +11,56 @@ from collections.abc import Iterator
 from html.parser import HTMLParser
 from typing import Any
 
-FETCHES = ("url(", "@import", "fetch(", "XMLHttpRequest", "WebSocket", "EventSource", "sendBeacon", "importScripts", "import(", "Worker(", "window.open")
-MAKES = ("innerHTML", "outerHTML", "insertAdjacentHTML", "document.write", "eval(", "Function(", "createContextualFragment", "DOMParser", "srcdoc", "setTimeout('", "javascript:")
-POLICY = {"default-src": "'none'", "base-uri": "'none'", "form-action": "'none'", "require-trusted-types-for": "'script'", "trusted-types": "'none'"}
+FETCHES = (
+    "url(",
+    "@import",
+    "fetch(",
+    "XMLHttpRequest",
+    "WebSocket",
+    "EventSource",
+    "sendBeacon",
+    "importScripts",
+    "import(",
+    "Worker(",
+    "window.open",
+)
+MAKES = (
+    "innerHTML",
+    "outerHTML",
+    "insertAdjacentHTML",
+    "document.write",
+    "eval(",
+    "Function(",
+    "createContextualFragment",
+    "DOMParser",
+    "srcdoc",
+    "setTimeout('",
+    "javascript:",
+)
+POLICY = {
+    "default-src": "'none'",
+    "base-uri": "'none'",
+    "form-action": "'none'",
+    "require-trusted-types-for": "'script'",
+    "trusted-types": "'none'",
+}
 LOADS = ("src", "href", "srcset", "action", "data", "poster", "background", "ping")
-TAGS = {"html", "head", "meta", "title", "style", "body", "header", "h1", "p", "div", "details", "summary", "noscript", "script"}
+TAGS = {
+    "html",
+    "head",
+    "meta",
+    "title",
+    "style",
+    "body",
+    "header",
+    "h1",
+    "p",
+    "div",
+    "details",
+    "summary",
+    "noscript",
+    "script",
+}
 FC = {"TS 33.401 A.3": 0x11, "TS 33.401 A.4": 0x12, "TS 33.401 A.5": 0x13, "TS 33.401 A.7": 0x15}
 
 
@@ -77,7 +123,14 @@ def elements(parsed: Parsed) -> Iterator[str]:
 
 
 def policy(parsed: Parsed) -> Iterator[str]:
-    told = next((given["content"] or "" for tag, given in parsed.tags if tag == "meta" and given.get("http-equiv") == "Content-Security-Policy"), "")
+    told = next(
+        (
+            given["content"] or ""
+            for tag, given in parsed.tags
+            if tag == "meta" and given.get("http-equiv") == "Content-Security-Policy"
+        ),
+        "",
+    )
     rules = dict(rule.split(" ", 1) for rule in told.split("; ") if " " in rule)
     wanted = POLICY | {"style-src": digest(parsed.bodies[0][1]), "script-src": digest(parsed.bodies[-1][1])}
     if rules != wanted:
@@ -85,7 +138,13 @@ def policy(parsed: Parsed) -> Iterator[str]:
 
 
 def data(text: str, parsed: Parsed) -> Iterator[str]:
-    bodies = [body for (tag, body), given in zip(parsed.bodies, [given for tag, given in parsed.tags if tag in ("script", "style")]) if given.get("type") == "application/json"]
+    bodies = [
+        body
+        for (tag, body), given in zip(
+            parsed.bodies, [given for tag, given in parsed.tags if tag in ("script", "style")]
+        )
+        if given.get("type") == "application/json"
+    ]
     if len(bodies) != 1:
         yield f"{len(bodies)} documents"
         return
@@ -129,7 +188,10 @@ def wrong_keys(keys: list[dict[str, Any]]) -> list[str]:
 
 def contrasts(style: str) -> Iterator[tuple[str, str, str, float]]:
     """Of each scheme, text and ground of a style the contrast (WCAG 2.1, 1.4.3)."""
-    light, dark = (dict(re.findall(r"--(\w+): (#[0-9a-f]{6})", block)) for block in re.findall(r":root \{(.*?)\}", style, re.DOTALL)[:2])
+    light, dark = (
+        dict(re.findall(r"--(\w+): (#[0-9a-f]{6})", block))
+        for block in re.findall(r":root \{(.*?)\}", style, re.DOTALL)[:2]
+    )
     for scheme, colours in (("light", light), ("dark", light | dark)):
         for text in ("ink", "dim", "ok", "bad", "unk", "none"):
             for ground in ("back", "raised", "chosen", "marked", "derived"):
@@ -142,6 +204,6 @@ def ratio(one: str, other: str) -> float:
 
 
 def luminance(colour: str) -> float:
-    parts = [int(colour[at:at + 2], 16) / 255 for at in (1, 3, 5)]
+    parts = [int(colour[at : at + 2], 16) / 255 for at in (1, 3, 5)]
     red, green, blue = (part / 12.92 if part <= 0.03928 else float(((part + 0.055) / 1.055) ** 2.4) for part in parts)
     return 0.2126 * red + 0.7152 * green + 0.0722 * blue

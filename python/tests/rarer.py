@@ -1,4 +1,5 @@
-"""Phones, stations and cores in situations that a plain trace does not show: refreshes, suspension, a pool of cores, plain messages."""
+"""Phones, stations and cores in situations that a plain trace does not show: refreshes, suspension, a pool of cores,
+plain messages."""
 from __future__ import annotations
 
 from dataclasses import replace
@@ -84,7 +85,15 @@ class RarerWorld(World):
         ends = ENDS[target.station], ENDS[source.station]
         right = CALLS.kenb_star(base, target.pci, target.earfcn)
         self.add("X2", "RetrieveUEContextRequest", *ends, new_x2=self.x2_ids, eci=eci)
-        answer = self.add("X2", "RetrieveUEContextResponse", *reversed(ends), new_x2=self.x2_ids, mme_id=phone.mme_id, key=key or right, ncc=number)
+        answer = self.add(
+            "X2",
+            "RetrieveUEContextResponse",
+            *reversed(ends),
+            new_x2=self.x2_ids,
+            mme_id=phone.mme_id,
+            key=key or right,
+            ncc=number,
+        )
         phone.own = self.command(phone, number, target.pci, target.earfcn)
         if key is not None:
             self.apart.append(self.fault(answer).frame)
@@ -111,7 +120,9 @@ class RarerWorld(World):
     def rerouted(self, phone: Phone, other: str) -> None:
         """The last Service Request goes to another core of the pool (TS 36.413 8.6.2.5), which sends the KeNB."""
         asked = next(one for one in reversed(self.messages) if one.name == "InitialUEMessage")
-        setup = next(place for place, one in reversed(list(enumerate(self.messages))) if one.name == "InitialContextSetupRequest")
+        setup = next(
+            place for place, one in reversed(list(enumerate(self.messages))) if one.name == "InitialContextSetupRequest"
+        )
         behind = self.messages[setup:]
         del self.messages[setup:]
         self.add("S1", "RerouteNASRequest", self.core, asked.source, enb_id=asked.enb_id)
@@ -125,19 +136,33 @@ class RarerWorld(World):
 
     # -- RRC contexts
 
-    def prepares(self, asked: Message, phone_key: bytes, base: bytes, cells: list[int], key: bytes | None = None, mac: bytes | None = None) -> None:
+    def prepares(
+        self,
+        asked: Message,
+        phone_key: bytes,
+        base: bytes,
+        cells: list[int],
+        key: bytes | None = None,
+        mac: bytes | None = None,
+    ) -> None:
         """Puts cells for re-establishment into a Handover Request; `key` and `mac` are planted in the first."""
         asked.rnti = b"\x46\x01"
         source = cell_of(asked.source_eci or 0)
         for place, eci in enumerate(cells):
             site = cell_of(eci)
             right = CALLS.kenb_star(base, site.pci, site.earfcn), short_mac(phone_key, eci, source.pci, asked.rnti)
-            asked.reestablishment.append(Reestablishment(eci, key or right[0] if not place else right[0], mac or right[1] if not place else right[1]))
+            asked.reestablishment.append(
+                Reestablishment(
+                    eci, key or right[0] if not place else right[0], mac or right[1] if not place else right[1]
+                )
+            )
 
     def able(self, able: tuple[int, int] = ABLE) -> None:
         """The capabilities in each message of S1 and X2 that has them."""
         for message in self.messages:
-            carries = message.name in ("InitialContextSetupRequest", "PathSwitchRequest") or message.name == "HandoverRequest"
+            carries = (
+                message.name in ("InitialContextSetupRequest", "PathSwitchRequest") or message.name == "HandoverRequest"
+            )
             message.capabilities = able if carries else None
 
     def undecodable(self, message: Message) -> None:

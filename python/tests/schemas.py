@@ -1,4 +1,5 @@
-"""Values against the schemas of share/schema: as far as these go, and by jsonschema where that is installed (Debian's python3-jsonschema)."""
+"""Values against the schemas of share/schema: as far as these go, and by jsonschema where that is installed (Debian's
+python3-jsonschema)."""
 from __future__ import annotations
 
 import json
@@ -10,7 +11,15 @@ from pathlib import Path
 from typing import Any
 
 SCHEMAS = Path(__file__).resolve().parents[2] / "share" / "schema"
-KINDS: dict[str, Any] = {"object": dict, "array": list, "string": str, "integer": int, "number": (int, float), "boolean": bool, "null": type(None)}
+KINDS: dict[str, Any] = {
+    "object": dict,
+    "array": list,
+    "string": str,
+    "integer": int,
+    "number": (int, float),
+    "boolean": bool,
+    "null": type(None),
+}
 
 
 def schema_of(name: str) -> dict[str, Any]:
@@ -19,7 +28,8 @@ def schema_of(name: str) -> dict[str, Any]:
 
 
 def is_of(schema: dict[str, Any], whole: dict[str, Any], value: Any, closed: bool = True) -> bool:
-    """Whether a value is of a schema; where closed, it has no member that the schema does not name, though a member may come to a document."""
+    """Whether a value is of a schema; where closed, it has no member that the schema does not name, though a member may
+    come to a document."""
     if "$ref" in schema:
         return is_of(whole["$defs"][schema["$ref"].split("/")[-1]], whole, value, closed)
     if "anyOf" in schema:
@@ -36,14 +46,20 @@ def is_of(schema: dict[str, Any], whole: dict[str, Any], value: Any, closed: boo
     if isinstance(value, list):
         first = schema.get("prefixItems", [])
         parts = [*first, *[schema["items"]] * (len(value) - len(first))]
-        return schema.get("minItems", 0) <= len(value) <= schema.get("maxItems", len(value)) and all(is_of(part, whole, each, closed) for part, each in zip(parts, value))
+        return schema.get("minItems", 0) <= len(value) <= schema.get("maxItems", len(value)) and all(
+            is_of(part, whole, each, closed) for part, each in zip(parts, value)
+        )
     return not isinstance(value, dict) or has_members(schema, whole, value, closed)
 
 
 def has_members(schema: dict[str, Any], whole: dict[str, Any], value: dict[str, Any], closed: bool) -> bool:
     parts, others = schema.get("properties", {}), schema.get("additionalProperties", not closed)
     return set(schema.get("required", [])) <= set(value) and all(
-        is_of(parts[name], whole, each, closed) if name in parts else others is not False and (others is True or is_of(others, whole, each, closed)) for name, each in value.items())
+        is_of(parts[name], whole, each, closed)
+        if name in parts
+        else others is not False and (others is True or is_of(others, whole, each, closed))
+        for name, each in value.items()
+    )
 
 
 VALIDATES = """
@@ -61,7 +77,18 @@ SYSTEM = "/usr/bin/python3"  # it has Debian's packages, which another Python do
 def validator() -> str | None:
     """A Python that has the package jsonschema, or None."""
     tried = (sys.executable, SYSTEM)
-    return next((python for python in tried if Path(python).exists() and subprocess.run([python, "-c", "from jsonschema import Draft202012Validator"], capture_output=True).returncode == 0), None)
+    return next(
+        (
+            python
+            for python in tried
+            if Path(python).exists()
+            and subprocess.run(
+                [python, "-c", "from jsonschema import Draft202012Validator"], capture_output=True
+            ).returncode
+            == 0
+        ),
+        None,
+    )
 
 
 def faults(given: list[tuple[str, dict[str, Any], list[Any]]]) -> str:

@@ -1,4 +1,5 @@
-"""Phones, stations and a core that keep TS 33.401, or break it where they are told to, and the messages that a trace of them has.
+"""Phones, stations and a core that keep TS 33.401, or break it where they are told to, and the messages that a trace of
+them has.
 
 This is a second reading of the standard: it shares no line with the package but the form of a message.
 """
@@ -14,8 +15,11 @@ from .standin import StandIn
 
 CALLS = StandIn()
 CELLS = [
-    Site(0x0010101, 10, 100, 18100, "enb1"), Site(0x0010201, 301, 6300, 24300, "enb2"), Site(0x0010202, 302, 1575, 19575, "enb2"),
-    Site(0x0010301, 77, 66436, 131972, "enb3"), Site(0x0010302, 78, 100, 18100, "enb3"),
+    Site(0x0010101, 10, 100, 18100, "enb1"),
+    Site(0x0010201, 301, 6300, 24300, "enb2"),
+    Site(0x0010202, 302, 1575, 19575, "enb2"),
+    Site(0x0010301, 77, 66436, 131972, "enb3"),
+    Site(0x0010302, 78, 100, 18100, "enb3"),
 ]
 ENDS = {"enb1": "10.0.0.11:36412", "enb2": "10.0.0.12:36412", "enb3": "10.0.0.13:36412"}
 
@@ -67,7 +71,8 @@ class Phone:
 
 
 class World:
-    """Makes messages. `faults` are the frames in which something was planted; `apart` those of handovers whose keys differ."""
+    """Makes messages. `faults` are the frames in which something was planted; `apart` those of handovers whose keys
+    differ."""
 
     def __init__(self, first: int = 2, core: str = "10.0.0.1:36412"):
         self.first, self.core = first, core
@@ -90,7 +95,9 @@ class World:
         return self.add("S1", name, ENDS[cell_of(phone.eci).station], self.core, enb_id=phone.enb_id, **fields)
 
     def down(self, phone: Phone, name: str, **fields: object) -> Message:
-        return self.add("S1", name, self.core, ENDS[cell_of(phone.eci).station], enb_id=phone.enb_id, mme_id=phone.mme_id, **fields)
+        return self.add(
+            "S1", name, self.core, ENDS[cell_of(phone.eci).station], enb_id=phone.enb_id, mme_id=phone.mme_id, **fields
+        )
 
     def fault(self, message: Message) -> Message:
         self.faults.append(message.frame)
@@ -102,7 +109,15 @@ class World:
 
     # -- NAS
 
-    def seal(self, phone: Phone, direction: int, header: int, text: bytes, kasme: bytes | None = None, count: int | None = None) -> bytes:
+    def seal(
+        self,
+        phone: Phone,
+        direction: int,
+        header: int,
+        text: bytes,
+        kasme: bytes | None = None,
+        count: int | None = None,
+    ) -> bytes:
         kasme = kasme or phone.kasme
         if count is None:
             count = phone.down if direction else phone.up
@@ -115,7 +130,9 @@ class World:
         body = bytes([count & 255]) + text
         return bytes([header << 4 | 7]) + nas_mac(kasme, phone.eia, count, direction, body) + body
 
-    def nas_down(self, phone: Phone, text: bytes = bytes.fromhex("07610102"), header: int = 2, **how: object) -> Message:
+    def nas_down(
+        self, phone: Phone, text: bytes = bytes.fromhex("07610102"), header: int = 2, **how: object
+    ) -> Message:
         return self.down(phone, "DownlinkNASTransport", nas=[self.seal(phone, 1, header, text, **how)])  # type: ignore[arg-type]
 
     def nas_up(self, phone: Phone, text: bytes = bytes.fromhex("0755aabb"), header: int = 2, **how: object) -> Message:
@@ -207,7 +224,17 @@ class World:
             if number % 8 == ncc:
                 return Side(CALLS.kenb_star(sync, pci, earfcn), ncc, None, sync, number)
 
-    def x2(self, phone: Phone, eci: int, key: bytes | None = None, ncc: int | None = None, told: Command | None = None, ack: bool = True, switch: bool = True, **answer: object) -> Message:
+    def x2(
+        self,
+        phone: Phone,
+        eci: int,
+        key: bytes | None = None,
+        ncc: int | None = None,
+        told: Command | None = None,
+        ack: bool = True,
+        switch: bool = True,
+        **answer: object,
+    ) -> Message:
         """A handover over X2. `key`, `ncc` and `told` are planted; `ack` and `switch` say how far it gets."""
         source, target = cell_of(phone.eci), cell_of(eci)
         side = phone.stations[source.station]
@@ -217,14 +244,27 @@ class World:
         self.x2_ids += 1
         old = self.x2_ids
         ends = ENDS[source.station], ENDS[target.station]
-        request = self.add("X2", "HandoverRequest", *ends, old_x2=old, mme_id=phone.mme_id, key=sent, ncc=sent_ncc, eci=eci, source_eci=phone.eci, algorithms=(2, 2))
+        request = self.add(
+            "X2",
+            "HandoverRequest",
+            *ends,
+            old_x2=old,
+            mme_id=phone.mme_id,
+            key=sent,
+            ncc=sent_ncc,
+            eci=eci,
+            source_eci=phone.eci,
+            algorithms=(2, 2),
+        )
         if sent != right or sent_ncc != number:
             self.fault(request)
         if not ack:
             self.add("X2", "HandoverPreparationFailure", ends[1], ends[0], old_x2=old)
             return request
         command = told or Command(sent_ncc, target.pci, target.earfcn, False, bytes([old & 255, 7]))
-        answered = self.add("X2", "HandoverRequestAcknowledge", ends[1], ends[0], old_x2=old, new_x2=old, command=command)
+        answered = self.add(
+            "X2", "HandoverRequestAcknowledge", ends[1], ends[0], old_x2=old, new_x2=old, command=command
+        )
         if told is not None:
             self.fault(answered)
         own = self.command(phone, command.ncc or 0, command.pci or 0, command.earfcn or 0)
@@ -239,14 +279,18 @@ class World:
         self.add("X2", "UEContextRelease", ends[1], ends[0], old_x2=old, new_x2=old)
         return request
 
-    def switch(self, phone: Phone, answered: bool = True, nh: bytes | None = None, nh_ncc: int | None = None, steps: int = 0) -> Message | None:
+    def switch(
+        self, phone: Phone, answered: bool = True, nh: bytes | None = None, nh_ncc: int | None = None, steps: int = 0
+    ) -> Message | None:
         """Path switch: the core steps the chain and answers, unless the answer is lost or comes later."""
         self.up(phone, "PathSwitchRequest", mme_id=phone.mme_id)
         before = phone.core_sync, phone.core_number
         sent, number = self.step(phone, steps)
         if not answered:
             return None
-        message = self.down(phone, "PathSwitchRequestAcknowledge", nh=nh or sent, ncc=number if nh_ncc is None else nh_ncc)
+        message = self.down(
+            phone, "PathSwitchRequestAcknowledge", nh=nh or sent, ncc=number if nh_ncc is None else nh_ncc
+        )
         phone.stations[cell_of(phone.eci).station].pair = (nh or sent, number if nh_ncc is None else nh_ncc)
         if nh is not None:
             phone.core_sync = nh
@@ -254,7 +298,16 @@ class World:
             self.fault(message)
         return message
 
-    def s1(self, phone: Phone, eci: int, nh: bytes | None = None, ncc: int | None = None, cancel: str = "", told: Command | None = None, container: bool = True) -> Message:
+    def s1(
+        self,
+        phone: Phone,
+        eci: int,
+        nh: bytes | None = None,
+        ncc: int | None = None,
+        cancel: str = "",
+        told: Command | None = None,
+        container: bool = True,
+    ) -> Message:
         """A handover over S1; `cancel` is empty, `early` (before the command) or `late`."""
         target = cell_of(eci)
         box = f"box {len(self.messages)}".encode() if container else None
@@ -264,14 +317,33 @@ class World:
         if nh is not None:
             phone.core_sync = nh
         new_mme, new_enb = self.fresh(), self.fresh()
-        request = self.add("S1", "HandoverRequest", self.core, ENDS[target.station], mme_id=new_mme, container=box, nh=sent, ncc=sent_ncc, eci=eci, source_eci=phone.eci)
+        request = self.add(
+            "S1",
+            "HandoverRequest",
+            self.core,
+            ENDS[target.station],
+            mme_id=new_mme,
+            container=box,
+            nh=sent,
+            ncc=sent_ncc,
+            eci=eci,
+            source_eci=phone.eci,
+        )
         if nh is not None or ncc is not None:
             self.fault(request)
         if cancel == "early":
             self.up(phone, "HandoverCancel", mme_id=phone.mme_id, eci=None)
             return request
         back = f"back {len(self.messages)}".encode()
-        self.add("S1", "HandoverRequestAcknowledge", ENDS[target.station], self.core, mme_id=new_mme, enb_id=new_enb, container=back)
+        self.add(
+            "S1",
+            "HandoverRequestAcknowledge",
+            ENDS[target.station],
+            self.core,
+            mme_id=new_mme,
+            enb_id=new_enb,
+            container=back,
+        )
         command = told or Command(sent_ncc, target.pci, target.earfcn, False, back)
         answered = self.down(phone, "HandoverCommand", container=back, command=command)
         if told is not None:

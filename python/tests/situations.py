@@ -1,4 +1,5 @@
-"""Situations of keys, KASMEs, COUNTs and cores, for `test_situations`: worlds as the standard has them, and broken at one place."""
+"""Situations of keys, KASMEs, COUNTs and cores, for `test_situations`: worlds as the standard has them, and broken at
+one place."""
 from __future__ import annotations
 
 import copy
@@ -41,6 +42,7 @@ def refreshed(times: int, vertical: bool, broken: bool = False) -> Made:
         world.x2(phone, ENB1, key=wrong)
         world.x2(phone, ENB3)
         return world
+
     return made
 
 
@@ -59,6 +61,7 @@ def other_cell(keeps: bool) -> Made:
         world.elsewhere(phone, ENB2, ENB2_SECOND, ENB3, keeps)
         world.x2(phone, ENB1)
         return world
+
     return made
 
 
@@ -78,6 +81,7 @@ def other_cell_over_s1(broken: bool) -> Made:
             world.fault(asked)
         world.x2(phone, ENB1)
         return world
+
     return made
 
 
@@ -91,6 +95,7 @@ def suspended(steps: int = 0, with_nh: bool = True, other: bool = False) -> Made
         world.resume_at(phone, ENB3)
         world.x2(phone, ENB1)
         return world
+
     return made
 
 
@@ -104,6 +109,7 @@ def resumed_with_another_key() -> World:
 
 def first_nh(key: int, ncc: int, then: int) -> Made:
     """The first answer to a path switch has NH of one number and NCC of another; the next goes on from `then`."""
+
     def made() -> World:
         world, phone = attached()
         chain = [phone.own.sync]
@@ -118,6 +124,7 @@ def first_nh(key: int, ncc: int, then: int) -> Made:
         world.x2(phone, ENB1)
         world.x2(phone, ENB3)
         return world
+
     return made
 
 
@@ -126,6 +133,7 @@ def first_nh(key: int, ncc: int, then: int) -> Made:
 
 def unknown_kasme(broken: bool, change: bool) -> Made:
     """An authentication brings a KASME that is not given; later one that is given comes."""
+
     def made() -> World:
         world, phone = attached()
         world.x2(phone, ENB2)
@@ -147,6 +155,7 @@ def unknown_kasme(broken: bool, change: bool) -> Made:
             world.fault(bad)
         world.nas_up(phone)
         return world
+
     return made
 
 
@@ -161,6 +170,7 @@ def numbered(messages: list[Message], first: int = 1) -> None:
 
 def without_commands(kasme: int, broken: bool = False) -> Made:
     """The capture lost both Security Mode messages of an authentication."""
+
     def made() -> World:
         world, phone = attached()
         world.x2(phone, ENB2)
@@ -176,8 +186,9 @@ def without_commands(kasme: int, broken: bool = False) -> Made:
         world.release(phone)
         world.service(phone, ENB2)
         numbered(world.messages)
-        del world.messages[lost:lost + 2]
+        del world.messages[lost : lost + 2]
         return world
+
     return made
 
 
@@ -193,6 +204,7 @@ def attach_without_commands() -> World:
 
 def high(up: int, down: int, begin: str, broken: bool = False) -> Made:
     """A trace that begins when COUNTs are high, with a Service Request or in the middle of a connection."""
+
     def made() -> World:
         world, phone = attached()
         world.release(phone)
@@ -212,6 +224,7 @@ def high(up: int, down: int, begin: str, broken: bool = False) -> Made:
         world.service(phone, ENB1)
         world.x2(phone, ENB2)
         return world
+
     return made
 
 
@@ -226,6 +239,7 @@ def gap() -> World:
 
 def foreign(broken: bool) -> Made:
     """Service Requests of phones whose KASMEs are not given, with short MACs that fit the phone that is known."""
+
     def made() -> World:
         world, phone = attached()
         world.release(phone)
@@ -245,6 +259,7 @@ def foreign(broken: bool) -> Made:
             world.fault(asked)
         world.x2(phone, ENB1)
         return world
+
     return made
 
 
@@ -253,6 +268,7 @@ def foreign(broken: bool) -> Made:
 
 def pool(broken: bool, named: bool = True) -> Made:
     """Two phones at one station have the same MME-UE-S1AP-ID at two cores."""
+
     def made() -> World:
         world, phones = RarerWorld(), [Phone("one", KASMES[0]), Phone("two", KASMES[1])]
         ids = 0
@@ -271,11 +287,13 @@ def pool(broken: bool, named: bool = True) -> Made:
             asked = world.x2(phone, ENB2 if phone.eci == ENB1 else ENB1, key=wrong)
             asked.gummeis = [(32769, place + 1)] if named else []
         return world
+
     return made
 
 
 def alike(broken: bool) -> Made:
     """Two phones are handed over S1 at one time, in containers of the same octets."""
+
     def made() -> World:
         world, phones = RarerWorld(), [Phone("one", KASMES[0]), Phone("two", KASMES[1])]
         for phone in phones:
@@ -295,11 +313,13 @@ def alike(broken: bool) -> Made:
             message.frame, message.time = str(place + 1), float(place + 1)
         world.x2(phones[0], ENB3)
         return world
+
     return made
 
 
 def again(broken: bool, other_core: bool) -> Made:
     """A Service Request that comes again: at another core after Reroute NAS Request, or in a new connection."""
+
     def made() -> World:
         world, phone = attached()
         world.release(phone)
@@ -308,7 +328,21 @@ def again(broken: bool, other_core: bool) -> Made:
             world.rerouted(phone, "10.0.0.2:36412")
         else:
             asked = world.messages[-3]
-            world.messages.insert(-2, Message("", 0.0, "S1", "InitialUEMessage", asked.source, asked.target, enb_id=asked.enb_id, eci=asked.eci, nas=list(asked.nas), tmsi=asked.tmsi))
+            world.messages.insert(
+                -2,
+                Message(
+                    "",
+                    0.0,
+                    "S1",
+                    "InitialUEMessage",
+                    asked.source,
+                    asked.target,
+                    enb_id=asked.enb_id,
+                    eci=asked.eci,
+                    nas=list(asked.nas),
+                    tmsi=asked.tmsi,
+                ),
+            )
             for place, one in enumerate(world.messages):
                 one.frame = str(place + 1)
         if broken:
@@ -317,4 +351,5 @@ def again(broken: bool, other_core: bool) -> Made:
             world.fault(late)
         world.x2(phone, ENB1)
         return world
+
     return made

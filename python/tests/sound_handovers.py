@@ -5,7 +5,22 @@ from lte_sec.captures.decoding import Command
 
 from .nas_messages import UPDATE, UPDATED, UPDATE_ACCEPT, Context, kasme_of
 from .networks import (
-    CELL, CORE, ENB1, ENB2, ENB2_SECOND, END, FIRST, GATEWAY, HOME1, HOME2, HOME_END, Network, attached, chain, sound, star,
+    CELL,
+    CORE,
+    ENB1,
+    ENB2,
+    ENB2_SECOND,
+    END,
+    FIRST,
+    GATEWAY,
+    HOME1,
+    HOME2,
+    HOME_END,
+    Network,
+    attached,
+    chain,
+    sound,
+    star,
 )
 
 
@@ -24,7 +39,9 @@ def two_preparations_and_one_is_cancelled() -> Network:
 def two_handovers_over_s1_that_are_cancelled() -> Network:
     network, phone, kenb = attached()
     for number in (2, 3):
-        network.s1_handover(1, 101, ENB2, ENB1, chain(kenb, phone, number), number, 20 + number, 200 + number, notified=False)
+        network.s1_handover(
+            1, 101, ENB2, ENB1, chain(kenb, phone, number), number, 20 + number, 200 + number, notified=False
+        )
         network.up("HandoverCancel", 1, 1, 101)
         network.down("HandoverCancelAcknowledge", 1, 1, 101)
         network.release(2, 20 + number, 200 + number)
@@ -62,7 +79,15 @@ def a_key_change_refused_in_a_handover() -> Network:
     network.security_mode(new)
     network.x2("HandoverRequest", 1, 2, old_x2=1, mme_id=101, key=star(kenb, ENB2), ncc=0, eci=ENB2, source_eci=ENB1)
     network.change_key(new.kenb(0), taken=False)
-    network.x2("HandoverRequestAcknowledge", 2, 1, old_x2=1, new_x2=101, container=b"c", command=Command(0, *CELL[ENB2], False, b"o"))
+    network.x2(
+        "HandoverRequestAcknowledge",
+        2,
+        1,
+        old_x2=1,
+        new_x2=101,
+        container=b"c",
+        command=Command(0, *CELL[ENB2], False, b"o"),
+    )
     network.switch(1, 7, 101, ENB1, ENB2, chain(kenb, phone, 2), 2)
     network.change_key(new.kenb(0), 2, 7, 101)
     key = star(star(new.kenb(0), ENB2), ENB1)
@@ -79,7 +104,9 @@ def a_chain_that_begins_anew_at_a_key_change() -> Network:
     kenb = new.kenb(0)
     network.change_key(kenb, 2, 11, 101)
     network.x2_handover(2, 12, 101, ENB1, star(star(kenb, ENB2), ENB1), 0, ENB2, chain(kenb, new, 2), 2)
-    network.x2_handover(3, 13, 101, ENB2_SECOND, star(chain(kenb, new, 2), ENB2_SECOND), 2, ENB1, chain(kenb, new, 3), 3)
+    network.x2_handover(
+        3, 13, 101, ENB2_SECOND, star(chain(kenb, new, 2), ENB2_SECOND), 2, ENB1, chain(kenb, new, 3), 3
+    )
     network.s1_handover(13, 101, ENB1, ENB2_SECOND, chain(kenb, new, 4), 4, 44, 144)
     return network.of(phone, new)
 
@@ -121,12 +148,32 @@ def an_answer_behind_the_next_request() -> Network:
     network, phone, kenb = attached()
     network.prepare(1, 101, ENB1, ENB2, star(kenb, ENB2), 0)
     network.up("PathSwitchRequest", 2, 7, 101, eci=ENB2)
-    network.x2("HandoverRequest", 2, 1, old_x2=1, mme_id=101, key=star(star(kenb, ENB2), ENB1), ncc=0, eci=ENB1, source_eci=ENB2)
+    network.x2(
+        "HandoverRequest",
+        2,
+        1,
+        old_x2=1,
+        mme_id=101,
+        key=star(star(kenb, ENB2), ENB1),
+        ncc=0,
+        eci=ENB1,
+        source_eci=ENB2,
+    )
     network.down("PathSwitchRequestAcknowledge", 2, 7, 101, nh=chain(kenb, phone, 2), ncc=2)
     network.x2("UEContextRelease", 2, 1, old_x2=1, new_x2=101)
-    network.x2("HandoverRequestAcknowledge", 1, 2, old_x2=1, new_x2=102, container=b"d", command=Command(0, *CELL[ENB1], False, b"p"))
+    network.x2(
+        "HandoverRequestAcknowledge",
+        1,
+        2,
+        old_x2=1,
+        new_x2=102,
+        container=b"d",
+        command=Command(0, *CELL[ENB1], False, b"p"),
+    )
     network.switch(1, 8, 101, ENB2, ENB1, chain(kenb, phone, 3), 3)
-    network.x2_handover(5, 15, 101, ENB2_SECOND, star(chain(kenb, phone, 3), ENB2_SECOND), 3, ENB1, chain(kenb, phone, 4), 4)
+    network.x2_handover(
+        5, 15, 101, ENB2_SECOND, star(chain(kenb, phone, 3), ENB2_SECOND), 3, ENB1, chain(kenb, phone, 4), 4
+    )
     return network
 
 
@@ -165,7 +212,9 @@ def refused(begins_with: int, kind: int | None = None, eci: int | None = None) -
     network.down("HandoverPreparationFailure", 1, 1, 101)
     nh = [chain(kenb, phone, number) for number in range(6)]
     network.x2_handover(1, 11, 101, ENB2, star(kenb, ENB2), 0, ENB1, nh[begins_with], begins_with)
-    network.x2_handover(2, 12, 101, ENB1, star(nh[begins_with], ENB1), begins_with, ENB2, nh[begins_with + 1], begins_with + 1)
+    network.x2_handover(
+        2, 12, 101, ENB1, star(nh[begins_with], ENB1), begins_with, ENB2, nh[begins_with + 1], begins_with + 1
+    )
     return network
 
 
@@ -207,12 +256,32 @@ def home_stations_behind_a_gateway() -> Network:
 def path_switches_through_a_gateway() -> Network:
     network, phone, _, kenb = at_home()
     ends = HOME_END[1], HOME_END[2]
-    network.add("X2", "HandoverRequest", *ends, old_x2=1, mme_id=101, key=star(kenb, HOME2), ncc=0, eci=HOME2, source_eci=HOME1)
-    network.add("X2", "HandoverRequestAcknowledge", *ends[::-1], old_x2=1, new_x2=2, container=b"c", command=Command(0, *CELL[HOME2], False, b"o"))
+    network.add(
+        "X2", "HandoverRequest", *ends, old_x2=1, mme_id=101, key=star(kenb, HOME2), ncc=0, eci=HOME2, source_eci=HOME1
+    )
+    network.add(
+        "X2",
+        "HandoverRequestAcknowledge",
+        *ends[::-1],
+        old_x2=1,
+        new_x2=2,
+        container=b"c",
+        command=Command(0, *CELL[HOME2], False, b"o"),
+    )
     network.up("PathSwitchRequest", GATEWAY, 5, 101, eci=HOME2)
     network.down("PathSwitchRequestAcknowledge", GATEWAY, 5, 101, nh=chain(kenb, phone, 2), ncc=2)
     network.add("X2", "UEContextRelease", *ends[::-1], old_x2=1, new_x2=2)
-    network.add("X2", "HandoverRequest", *ends[::-1], old_x2=1, mme_id=101, key=star(chain(kenb, phone, 2), HOME1), ncc=2, eci=HOME1, source_eci=HOME2)
+    network.add(
+        "X2",
+        "HandoverRequest",
+        *ends[::-1],
+        old_x2=1,
+        mme_id=101,
+        key=star(chain(kenb, phone, 2), HOME1),
+        ncc=2,
+        eci=HOME1,
+        source_eci=HOME2,
+    )
     return network
 
 

@@ -2,7 +2,18 @@
 from __future__ import annotations
 
 from .nas_messages import (
-    ATTACH, ATTACHED, AUTHENTICATED, DOWN, INFORMATION, UP, UPDATED, UPDATE_ACCEPT, UPDATE_ACTIVE, Context, accept, authentication,
+    ATTACH,
+    ATTACHED,
+    AUTHENTICATED,
+    DOWN,
+    INFORMATION,
+    UP,
+    UPDATED,
+    UPDATE_ACCEPT,
+    UPDATE_ACTIVE,
+    Context,
+    accept,
+    authentication,
 )
 from .networks import CORE_2, ENB1, ENB2, Network, attached, chain, sound, star
 
@@ -64,8 +75,22 @@ def several_nas_messages_in_one() -> Network:
     network = begun(phone)
     network.security_mode(phone)
     esm = bytes.fromhex("6200c1") + bytes(9)
-    network.down("InitialContextSetupRequest", 1, 1, 101, *(phone.seal(DOWN, 2, one) for one in (accept(), esm, INFORMATION)), key=phone.kenb(0))
-    network.down("E_RABSetupRequest", 1, 1, 101, phone.seal(DOWN, 2, esm), phone.seal(DOWN, 2, bytes.fromhex("7200c5") + bytes(5)))
+    network.down(
+        "InitialContextSetupRequest",
+        1,
+        1,
+        101,
+        *(phone.seal(DOWN, 2, one) for one in (accept(), esm, INFORMATION)),
+        key=phone.kenb(0),
+    )
+    network.down(
+        "E_RABSetupRequest",
+        1,
+        1,
+        101,
+        phone.seal(DOWN, 2, esm),
+        phone.seal(DOWN, 2, bytes.fromhex("7200c5") + bytes(5)),
+    )
     network.uplink(phone, plain=bytes.fromhex("6200c2"))
     network.down("E_RABReleaseCommand", 1, 1, 101, phone.seal(DOWN, 2, bytes.fromhex("6200cd24")))
     return network
@@ -170,7 +195,9 @@ def the_same_with_header_type_1() -> Network:
 def capabilities_of_older_networks() -> Network:
     phone = Context("a")
     network = Network().of(phone)
-    network.up("InitialUEMessage", 1, 1, None, bytes.fromhex("07417108091010000000001004f070c04000040201d011"), eci=ENB1)
+    network.up(
+        "InitialUEMessage", 1, 1, None, bytes.fromhex("07417108091010000000001004f070c04000040201d011"), eci=ENB1
+    )
     told = bytes.fromhex("f070c04010")
     network.down("DownlinkNASTransport", 1, 1, 101, phone.seal(DOWN, 3, bytes([7, 0x5D, 0x22, 0, len(told)]) + told))
     network.up("UplinkNASTransport", 1, 1, 101, phone.complete(), eci=ENB1)

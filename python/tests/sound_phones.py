@@ -4,7 +4,20 @@ from __future__ import annotations
 import copy
 
 from .nas_messages import (
-    ATTACH, ATTACHED, AUTHENTICATED, DOWN, UP, UPDATE, UPDATED, UPDATE_ACCEPT, UPDATE_ACTIVE, Context, accept, authentication, kasme_of, reallocation,
+    ATTACH,
+    ATTACHED,
+    AUTHENTICATED,
+    DOWN,
+    UP,
+    UPDATE,
+    UPDATED,
+    UPDATE_ACCEPT,
+    UPDATE_ACTIVE,
+    Context,
+    accept,
+    authentication,
+    kasme_of,
+    reallocation,
 )
 from .networks import CORE, CORE_2, ENB1, ENB2, END, Network, attached, chain, sound, star
 
@@ -270,7 +283,7 @@ def a_temporary_identity_that_the_phone_did_not_take() -> Network:
 def a_setup_shown_before_the_complete() -> Network:
     network, _, _ = attached()
     at = next(at for at, one in enumerate(network.messages) if one.name == "InitialContextSetupRequest")
-    network.messages[at - 1:at + 1] = network.messages[at], network.messages[at - 1]
+    network.messages[at - 1 : at + 1] = network.messages[at], network.messages[at - 1]
     return network
 
 

@@ -140,9 +140,16 @@ def within_a_station(shown: bool, ncc: int | None = None) -> World:
 
 
 SOUND: dict[str, Callable[[], World]] = {
-    "handovers, a core that begins with 2": lambda: handovers(2), "handovers, a core that begins with 1": lambda: handovers(1),
-    "handovers that are cancelled or refused": cancelled, "six lost answers": lambda: lost_answers(6), "seven lost answers": lambda: lost_answers(7),
-    "a late answer": late_answer, "a handover within a station": lambda: within_a_station(True),
-    "the same without RRC": lambda: within_a_station(False), "new KASMEs": new_kasme, "COUNTs that wrap, EEA2": lambda: counts_that_wrap(2),
-    "COUNTs that wrap, EEA0": lambda: counts_that_wrap(0), "a trace without Security Mode messages": without_the_complete,
+    "handovers, a core that begins with 2": lambda: handovers(2),
+    "handovers, a core that begins with 1": lambda: handovers(1),
+    "handovers that are cancelled or refused": cancelled,
+    "six lost answers": lambda: lost_answers(6),
+    "seven lost answers": lambda: lost_answers(7),
+    "a late answer": late_answer,
+    "a handover within a station": lambda: within_a_station(True),
+    "the same without RRC": lambda: within_a_station(False),
+    "new KASMEs": new_kasme,
+    "COUNTs that wrap, EEA2": lambda: counts_that_wrap(2),
+    "COUNTs that wrap, EEA0": lambda: counts_that_wrap(0),
+    "a trace without Security Mode messages": without_the_complete,
 }

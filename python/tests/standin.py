@@ -33,7 +33,10 @@ def _tables() -> list[list[int]]:
     for octet in BOX:
         twice = octet << 1 if octet < 128 else (octet << 1) ^ 0x11B
         first.append(twice << 24 | octet << 16 | octet << 8 | twice ^ octet)
-    return [[word >> 8 * place | (word & (1 << 8 * place) - 1) << 32 - 8 * place if place else word for word in first] for place in range(4)]
+    return [
+        [word >> 8 * place | (word & (1 << 8 * place) - 1) << 32 - 8 * place if place else word for word in first]
+        for place in range(4)
+    ]
 
 
 TABLES = _tables()
@@ -41,7 +44,7 @@ TABLES = _tables()
 
 @functools.lru_cache(4096)
 def _round_keys(key: bytes) -> list[int]:
-    words = [int.from_bytes(key[place:place + 4], "big") for place in range(0, 16, 4)]
+    words = [int.from_bytes(key[place : place + 4], "big") for place in range(0, 16, 4)]
     constant = 1
     for place in range(4, 44):
         word = words[-1]
@@ -57,14 +60,19 @@ def _round_keys(key: bytes) -> list[int]:
 def aes(key: bytes, block: bytes) -> bytes:
     """AES-128 (FIPS 197); tests ask for the same blocks again and again."""
     keys, (t0, t1, t2, t3) = _round_keys(key), TABLES
-    a, b, c, d = (int.from_bytes(block[place:place + 4], "big") ^ keys[place // 4] for place in range(0, 16, 4))
+    a, b, c, d = (int.from_bytes(block[place : place + 4], "big") ^ keys[place // 4] for place in range(0, 16, 4))
     for place in range(4, 40, 4):
         a, b, c, d = (
-            t0[a >> 24] ^ t1[b >> 16 & 255] ^ t2[c >> 8 & 255] ^ t3[d & 255] ^ keys[place], t0[b >> 24] ^ t1[c >> 16 & 255] ^ t2[d >> 8 & 255] ^ t3[a & 255] ^ keys[place + 1],
-            t0[c >> 24] ^ t1[d >> 16 & 255] ^ t2[a >> 8 & 255] ^ t3[b & 255] ^ keys[place + 2], t0[d >> 24] ^ t1[a >> 16 & 255] ^ t2[b >> 8 & 255] ^ t3[c & 255] ^ keys[place + 3],
+            t0[a >> 24] ^ t1[b >> 16 & 255] ^ t2[c >> 8 & 255] ^ t3[d & 255] ^ keys[place],
+            t0[b >> 24] ^ t1[c >> 16 & 255] ^ t2[d >> 8 & 255] ^ t3[a & 255] ^ keys[place + 1],
+            t0[c >> 24] ^ t1[d >> 16 & 255] ^ t2[a >> 8 & 255] ^ t3[b & 255] ^ keys[place + 2],
+            t0[d >> 24] ^ t1[a >> 16 & 255] ^ t2[b >> 8 & 255] ^ t3[c & 255] ^ keys[place + 3],
         )
     columns = ((a, b, c, d), (b, c, d, a), (c, d, a, b), (d, a, b, c))
-    last = ((BOX[w >> 24] << 24 | BOX[x >> 16 & 255] << 16 | BOX[y >> 8 & 255] << 8 | BOX[z & 255]) ^ keys[40 + place] for place, (w, x, y, z) in enumerate(columns))
+    last = (
+        (BOX[w >> 24] << 24 | BOX[x >> 16 & 255] << 16 | BOX[y >> 8 & 255] << 8 | BOX[z & 255]) ^ keys[40 + place]
+        for place, (w, x, y, z) in enumerate(columns)
+    )
     return b"".join(word.to_bytes(4, "big") for word in last)
 
 
@@ -119,6 +127,7 @@ class StandIn:
 @functools.lru_cache(4096)
 def _masks(key: bytes) -> tuple[int, int]:
     """The subkeys of CMAC (NIST SP 800-38B 6.1)."""
+
     def double(value: int) -> int:
         return (value << 1 ^ (0x87 if value >> 127 else 0)) & (1 << 128) - 1
 
@@ -128,7 +137,7 @@ def _masks(key: bytes) -> tuple[int, int]:
 
 def cmac(key: bytes, text: bytes) -> bytes:
     """CMAC with AES-128 (NIST SP 800-38B)."""
-    blocks = [text[place:place + 16] for place in range(0, len(text), 16)] or [b""]
+    blocks = [text[place : place + 16] for place in range(0, len(text), 16)] or [b""]
     mask = _masks(key)[len(blocks[-1]) < 16]
     if len(blocks[-1]) < 16:
         blocks[-1] = (blocks[-1] + b"\x80").ljust(16, b"\0")

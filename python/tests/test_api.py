@@ -39,7 +39,24 @@ class Names(unittest.TestCase):
 
     def test_each_name_is_on_the_page_or_of_a_value(self) -> None:
         page = (TOP / "docs/PYTHON.md").read_text()
-        for name in ("check_trace", "explain", "run", "what_if", "kasme", "kenb", "nh", "kenb_star", "algorithm_key", "NasContext", "SrbContext", "DrbContext", "proved", "TraceError", "Refused", "Site"):
+        for name in (
+            "check_trace",
+            "explain",
+            "run",
+            "what_if",
+            "kasme",
+            "kenb",
+            "nh",
+            "kenb_star",
+            "algorithm_key",
+            "NasContext",
+            "SrbContext",
+            "DrbContext",
+            "proved",
+            "TraceError",
+            "Refused",
+            "Site",
+        ):
             self.assertIn(f"`{name}", page)
 
     def test_another_name_is_none(self) -> None:
@@ -47,7 +64,17 @@ class Names(unittest.TestCase):
             getattr(lte_sec, "kenbs_of_all")
 
     def test_an_import_loads_little(self) -> None:
-        ran = subprocess.run([sys.executable, "-B", "-c", "import sys, lte_sec; print(sum(name.startswith('lte_sec.') for name in sys.modules))"], cwd=TOP / "python", capture_output=True, text=True)
+        ran = subprocess.run(
+            [
+                sys.executable,
+                "-B",
+                "-c",
+                "import sys, lte_sec; print(sum(name.startswith('lte_sec.') for name in sys.modules))",
+            ],
+            cwd=TOP / "python",
+            capture_output=True,
+            text=True,
+        )
         self.assertEqual("0\n", ran.stdout)
 
 
@@ -62,7 +89,10 @@ class Answers(unittest.TestCase):
         judged = lte_sec.check_trace(TRACES / "A.json.gz", [KASME])
         self.assertEqual((0, 0, ()), (judged.status, judged.counts["differs"], judged.differing))
         wrong = lte_sec.check_trace([TRACES / "B2-nh-twice.json.gz"], [bytes.fromhex(KASME)])
-        self.assertEqual((1, True), (wrong.status, all(line.verdict == lte_sec.Verdict.DIFFERS and line.clause for line in wrong.differing)))
+        self.assertEqual(
+            (1, True),
+            (wrong.status, all(line.verdict == lte_sec.Verdict.DIFFERS and line.clause for line in wrong.differing)),
+        )
         self.assertTrue(wrong.report.endswith("not judged\n"))
 
     def test_a_key_is_explained(self) -> None:
@@ -75,8 +105,11 @@ class Answers(unittest.TestCase):
 
     def test_what_is_wrong_is_told_in_a_line(self) -> None:
         calls: tuple[Callable[[], object], ...] = (
-            lambda: lte_sec.check_trace("nowhere.pcap", [KASME]), lambda: lte_sec.check_trace(TRACES / "A.json.gz", ["00"]), lambda: lte_sec.explain("", [b""]),
-            lambda: lte_sec.explain("", [KASME], [(504, 1)]), lambda: lte_sec.run(Path("nowhere")),
+            lambda: lte_sec.check_trace("nowhere.pcap", [KASME]),
+            lambda: lte_sec.check_trace(TRACES / "A.json.gz", ["00"]),
+            lambda: lte_sec.explain("", [b""]),
+            lambda: lte_sec.explain("", [KASME], [(504, 1)]),
+            lambda: lte_sec.run(Path("nowhere")),
         )
         for call in calls:
             with self.assertRaises(lte_sec.TraceError) as caught:
@@ -92,7 +125,10 @@ class Runs(unittest.TestCase):
     def test_a_scenario_is_run(self) -> None:
         ran = lte_sec.run(EXAMPLES / "run/ordinary.toml")
         self.assertEqual((27, 16, "all agree", None), (len(ran.steps), len(ran.keys), ran.verdict, ran.coincidence))
-        self.assertEqual(("KeNB*, PCI 11, EARFCN 101", 3, "TS 33.401 A.5", ("phone", "station 0", "station 1")), (ran.keys[7].name, ran.keys[7].above, ran.keys[7].clause, ran.keys[7].holders))
+        self.assertEqual(
+            ("KeNB*, PCI 11, EARFCN 101", 3, "TS 33.401 A.5", ("phone", "station 0", "station 1")),
+            (ran.keys[7].name, ran.keys[7].above, ran.keys[7].clause, ran.keys[7].holders),
+        )
         self.assertEqual([False, False], [change.differs for change in ran.changes])
         self.assertTrue(lte_sec.run((EXAMPLES / "run/eight-ahead.toml").read_text()).changes[-1].differs)
 

@@ -1,4 +1,5 @@
-"""Pages in a browser, with real clicks and keys: nothing is asked for, refused or thrown, and hostile words are inert."""
+"""Pages in a browser, with real clicks and keys: nothing is asked for, refused or thrown, and hostile words are
+inert."""
 from __future__ import annotations
 
 import contextlib
@@ -22,9 +23,17 @@ SIDEWAYS = "document.documentElement.scrollWidth > innerWidth || document.body.s
 LITTLE = 1200  # elements of a page, whatever it has
 TEXT_OF = "document.querySelector('{}').textContent"
 SPOILT = {
-    "the list not bounded": ("first = Math.floor(this.list.scrollTop / ROW) - SPARE", "first = 0, all_ = 1", "last = Math.ceil((this.list.scrollTop + this.list.clientHeight) / ROW) + SPARE", "last = 1e9"),
+    "the list not bounded": (
+        "first = Math.floor(this.list.scrollTop / ROW) - SPARE",
+        "first = 0, all_ = 1",
+        "last = Math.ceil((this.list.scrollTop + this.list.clientHeight) / ROW) + SPARE",
+        "last = 1e9",
+    ),
     "surrogates": ("text.toWellFormed ? text.toWellFormed() : text", "text"),
-    "quadratic keys": ("const it = events[place], said = [", "keys.filter(key => key.at.includes(place)); const it = events[place], said = ["),
+    "quadratic keys": (
+        "const it = events[place], said = [",
+        "keys.filter(key => key.at.includes(place)); const it = events[place], said = [",
+    ),
 }
 MANY = 50_000 if os.environ.get("EVERY_PLACE") else 10_000  # frames of a long page
 SECONDS = 20  # that it may take for anything, on a busy machine
@@ -66,11 +75,22 @@ class TracePage(InBrowser):
 
     def test_a_click_shows_what_was_judged(self) -> None:
         one = self.opened()
-        self.assertEqual(one.ask("document.querySelectorAll('#list .row').length > 10 && document.getElementById('panel').hidden"), True)
+        self.assertEqual(
+            one.ask("document.querySelectorAll('#list .row').length > 10 && document.getElementById('panel').hidden"),
+            True,
+        )
         one.click("[...document.querySelectorAll('.row')].find(it => it.textContent.includes('KeNB* differs'))")
         self.assertEqual(one.ask("location.hash"), "#f=13")
         said = self.text("#panel")
-        for word in ("frame 13 X2 HandoverRequest", "KeNB* differs", "star(kenb(0),301,6300)", "as it was wanted", "TS 33.401 A.5", "PCI 301", "the first step that differs"):
+        for word in (
+            "frame 13 X2 HandoverRequest",
+            "KeNB* differs",
+            "star(kenb(0),301,6300)",
+            "as it was wanted",
+            "TS 33.401 A.5",
+            "PCI 301",
+            "the first step that differs",
+        ):
             self.assertIn(word, said)
         self.assertEqual(one.ask("document.querySelectorAll('.key.differs').length > 0"), True)
         one.key("Escape")
@@ -84,7 +104,17 @@ class TracePage(InBrowser):
         self.assertIn("no earlier one", self.text("[role=status]"))
         for key, frame in (("j", 14), ("ArrowDown", 15), ("k", 14), ("ArrowUp", 13), ("Home", 1), ("ArrowDown", 2)):
             one.key(key, key if len(key) == 1 else "")
-            self.assertEqual((one.ask("location.hash"), one.ask("document.querySelector('.row.chosen').id === document.getElementById('list').getAttribute('aria-activedescendant')")), (f"#f={frame}", True), key)
+            self.assertEqual(
+                (
+                    one.ask("location.hash"),
+                    one.ask(
+                        "document.querySelector('.row.chosen').id === "
+                        "document.getElementById('list').getAttribute('aria-activedescendant')"
+                    ),
+                ),
+                (f"#f={frame}", True),
+                key,
+            )
         one.key("End")
         self.assertEqual(one.ask("location.hash"), "#f=29")
         one.key("/")
@@ -99,16 +129,24 @@ class TracePage(InBrowser):
                 break
         one.key("Enter")
         self.assertIn("stands in", self.text("#app > .bar"))
-        self.assertEqual(one.ask("document.activeElement.classList.contains('key') && location.hash.includes('k=')"), True)
+        self.assertEqual(
+            one.ask("document.activeElement.classList.contains('key') && location.hash.includes('k=')"), True
+        )
 
     def test_filters_phones_and_search(self) -> None:
         one = self.opened()
         every = one.ask("document.querySelector('.row').getAttribute('aria-setsize')")
         self.assertEqual(every, "29")
         one.click("document.querySelector('button[data-v=bad]')")
-        self.assertEqual((one.ask(ROWS), one.ask("document.querySelector('button[data-v=bad]').getAttribute('aria-pressed')")), (1, "true"))
+        self.assertEqual(
+            (one.ask(ROWS), one.ask("document.querySelector('button[data-v=bad]').getAttribute('aria-pressed')")),
+            (1, "true"),
+        )
         one.click("document.querySelector('button[data-v=bad]')")
-        one.ask("(() => { const it = document.querySelector('select'); it.value = '2'; it.dispatchEvent(new Event('change')); })()")
+        one.ask(
+            "(() => { const it = document.querySelector('select'); it.value = '2'; it.dispatchEvent(new "
+            "Event('change')); })()"
+        )
         lanes = self.text("#lanes")
         self.assertTrue("enb3" in lanes and "enb2" not in lanes, lanes)
         key = one.ask("JSON.parse(document.getElementById('document').textContent).keys[2].hex")
@@ -127,7 +165,10 @@ class TracePage(InBrowser):
         one.click("document.querySelector('.row.fold')")
         self.assertGreater(one.ask("Number(document.querySelector('.row').getAttribute('aria-setsize'))"), 100)
         one.key("a")
-        self.assertEqual((one.ask("Number(document.querySelector('.row').getAttribute('aria-setsize'))"), one.ask("location.hash")), (len(page["events"]), "#all=1"))
+        self.assertEqual(
+            (one.ask("Number(document.querySelector('.row').getAttribute('aria-setsize'))"), one.ask("location.hash")),
+            (len(page["events"]), "#all=1"),
+        )
         one.open(self.file(pages.html(page, ["many"], [], True)))
         one.key("Home")
         for _ in range(40):
@@ -137,7 +178,11 @@ class TracePage(InBrowser):
         before = one.ask("Number(document.querySelector('.row').getAttribute('aria-setsize'))")
         one.key("Enter")
         self.assertGreater(one.ask("Number(document.querySelector('.row').getAttribute('aria-setsize'))"), before)
-        few = {**page, "events": [{**event, "v": "ok", "w": None, "l": []} for event in page["events"][:77]], "keys": []}
+        few = {
+            **page,
+            "events": [{**event, "v": "ok", "w": None, "l": []} for event in page["events"][:77]],
+            "keys": [],
+        }
         one.open(self.file(pages.html(few, ["few"], [], True)))
         self.assertEqual(one.ask("document.querySelectorAll('.row.fold').length"), 0)
 
@@ -145,19 +190,37 @@ class TracePage(InBrowser):
         one = self.opened("#f=13")
         key = "[...document.querySelectorAll('#panel .key')].find(it => it.textContent.startsWith('KeNB kenb(0)'))"
         one.point(key)
-        self.assertEqual((one.ask("document.querySelectorAll('.row.marked').length"), one.ask("location.hash")), (1, "#f=13"))
+        self.assertEqual(
+            (one.ask("document.querySelectorAll('.row.marked').length"), one.ask("location.hash")), (1, "#f=13")
+        )
         one.point("document.querySelector('h1')")
         self.assertEqual(one.ask("document.querySelectorAll('.row.marked').length"), 0)
         one.click(key)
-        self.assertEqual((one.ask("document.querySelectorAll('.row.marked').length"), one.ask("location.hash")), (1, "#f=13&k=2"))
+        self.assertEqual(
+            (one.ask("document.querySelectorAll('.row.marked').length"), one.ask("location.hash")), (1, "#f=13&k=2")
+        )
         one.click("[...document.querySelectorAll('#app > .bar button')].find(it => it.textContent === 'let it go')")
         self.assertEqual(one.ask("location.hash"), "#f=13")
 
     def test_fragments(self) -> None:
         one = self.opened("#f=13&k=2")
         self.assertIn("frame 13", self.text("#panel"))
-        self.assertEqual(one.ask("document.querySelectorAll('.row.marked').length > 0 && document.querySelectorAll('.row.derived').length > 0"), True)
-        for nonsense in ("#", "#f=999&v=none2&p=77&k=99999&all=2", "#%%%&=&f", "#k=-1&k=1e3", "#f=__proto__&v=constructor", "#k=2.5", "#" + "q=%F0%9F" * 50):
+        self.assertEqual(
+            one.ask(
+                "document.querySelectorAll('.row.marked').length > 0 && "
+                "document.querySelectorAll('.row.derived').length > 0"
+            ),
+            True,
+        )
+        for nonsense in (
+            "#",
+            "#f=999&v=none2&p=77&k=99999&all=2",
+            "#%%%&=&f",
+            "#k=-1&k=1e3",
+            "#f=__proto__&v=constructor",
+            "#k=2.5",
+            "#" + "q=%F0%9F" * 50,
+        ):
             one.open(self.file(made()), nonsense)
             self.assertEqual(one.ask(f"{PANEL}.hidden && document.querySelectorAll('#list').length"), 1, nonsense)
 
@@ -167,7 +230,10 @@ class TracePage(InBrowser):
                 one = self.opened(fragment, width=width)
                 self.assertEqual(one.ask(SIDEWAYS), False, (width, fragment))
                 if fragment:
-                    at = one.ask("(() => { const it = document.getElementById('list').getBoundingClientRect(); return it.height; })()")
+                    at = one.ask(
+                        "(() => { const it = document.getElementById('list').getBoundingClientRect(); return "
+                        "it.height; })()"
+                    )
                     self.assertGreater(at, 60, (width, fragment))
 
     def test_hostile_words_are_inert(self) -> None:
@@ -176,11 +242,19 @@ class TracePage(InBrowser):
                 self.browser.open(self.file(made(word=word)))
                 self.browser.key("n")
                 self.assertEqual(self.browser.ask(f"{PANEL}.hidden"), False)
-                self.assertEqual(self.browser.ask("document.querySelectorAll('img, iframe, object, svg [onload], [onerror], #forged, a').length + (window.forged ? 1 : 0)"), 0)
+                self.assertEqual(
+                    self.browser.ask(
+                        "document.querySelectorAll('img, iframe, object, svg [onload], [onerror], #forged, "
+                        "a').length + (window.forged ? 1 : 0)"
+                    ),
+                    0,
+                )
                 self.assertEqual(self.browser.faults(), [])
 
     def test_a_script_that_is_put_in_does_not_run(self) -> None:
-        text = made().replace("</body>", "<script>window.forged = 1</script><img src=x onerror='window.forged = 1'></body>")
+        text = made().replace(
+            "</body>", "<script>window.forged = 1</script><img src=x onerror='window.forged = 1'></body>"
+        )
         self.browser.open(self.file(text))
         self.assertEqual(self.browser.ask("window.forged === undefined"), True)
         self.assertTrue(any("Content Security Policy" in fault for fault in self.browser.faults()))
@@ -217,12 +291,30 @@ class TracePage(InBrowser):
         wrong = []
         took = {"ready": one.open(self.file(text, "many"), "#all=1")}
         for name, script in (
-            ("search", "document.querySelector('input').value = 'k1 kenb(0)'; document.querySelector('input').dispatchEvent(new Event('input'))"),
-            ("no search", "document.querySelector('input').value = ''; document.querySelector('input').dispatchEvent(new Event('input'))"),
+            (
+                "search",
+                (
+                    "document.querySelector('input').value = 'k1 kenb(0)'; "
+                    "document.querySelector('input').dispatchEvent(new Event('input'))"
+                ),
+            ),
+            (
+                "no search",
+                (
+                    "document.querySelector('input').value = ''; document.querySelector('input').dispatchEvent(new "
+                    "Event('input'))"
+                ),
+            ),
             ("mark", "location.hash = '#all=1&k=40002'"),
             ("end", "document.getElementById('list').scrollTop = 1e9"),
         ):
-            took[name] = one.ask(f"new Promise(done => {{ const begun = performance.now(); {script}; requestAnimationFrame(() => setTimeout(() => done(performance.now() - begun))); }})") / 1000
+            took[name] = (
+                one.ask(
+                    f"new Promise(done => {{ const begun = performance.now(); {script}; requestAnimationFrame(() => "
+                    f"setTimeout(() => done(performance.now() - begun))); }})"
+                )
+                / 1000
+            )
             drawn = one.ask("document.querySelectorAll('*').length")
             if drawn > LITTLE:
                 wrong.append(f"{drawn} elements after {name}")
@@ -243,9 +335,14 @@ class TracePage(InBrowser):
 
     def seen_of(self, script: str, name: str) -> list[str]:
         """What the tests see of a page with another script."""
+
         def text(page: dict[str, Any]) -> str:
             old = (pages.HERE / "page.js").read_text()
-            return pages.html(page, ["spoilt"], [], True).replace(old, script).replace(pages.digest(old), pages.digest(script))
+            return (
+                pages.html(page, ["spoilt"], [], True)
+                .replace(old, script)
+                .replace(pages.digest(old), pages.digest(script))
+            )
 
         with browser() as one:
             if name == "surrogates":

@@ -1,4 +1,5 @@
-"""Links that a trace covers, second taps, clocks, stations behind one end, and cells that change: what is told of them."""
+"""Links that a trace covers, second taps, clocks, stations behind one end, and cells that change: what is told of
+them."""
 from __future__ import annotations
 
 import copy
@@ -60,14 +61,24 @@ class Covered(unittest.TestCase):
         self.assertEqual([coverage.s1(station) for station in "abcd"], [True, True, False, False])
 
     def test_a_message_that_presupposes_the_other_direction_shows_that_this_is_missed(self) -> None:
-        """Messages down name the identity that the station gave, so that it sent something; a path switch may just be the first message up."""
+        """Messages down name the identity that the station gave, so that it sent something; a path switch may just be
+        the first message up."""
         enb, core = ENDS["enb2"], "10.0.0.1:36412"
-        thick = [Message("1", 1.0, "S1", "UplinkNASTransport", ENDS["enb1"], core, enb_id=1), Message("2", 2.0, "S1", "DownlinkNASTransport", core, ENDS["enb1"], enb_id=1)]
+        thick = [
+            Message("1", 1.0, "S1", "UplinkNASTransport", ENDS["enb1"], core, enb_id=1),
+            Message("2", 2.0, "S1", "DownlinkNASTransport", core, ENDS["enb1"], enb_id=1),
+        ]
         for names, covered in (
-            (("DownlinkNASTransport",), (False, True)), (("UEContextReleaseComplete",), (True, False)), (("UplinkNASTransport",), (True, False)),
-            (("InitialUEMessage",), (True, True)), (("PathSwitchRequest", "UplinkNASTransport"), (True, True)),
+            (("DownlinkNASTransport",), (False, True)),
+            (("UEContextReleaseComplete",), (True, False)),
+            (("UplinkNASTransport",), (True, False)),
+            (("InitialUEMessage",), (True, True)),
+            (("PathSwitchRequest", "UplinkNASTransport"), (True, True)),
         ):
-            thin = [Message(name, 3.0, "S1", name, *((core, enb) if name.startswith("Down") else (enb, core)), enb_id=7) for name in names]
+            thin = [
+                Message(name, 3.0, "S1", name, *((core, enb) if name.startswith("Down") else (enb, core)), enb_id=7)
+                for name in names
+            ]
             messages = [*thick, *thin]
             found = taken(Stations.of(Cells(CELLS), messages).links(), (), ())
             self.assertEqual((found.s1(enb, "up"), found.s1(enb, "down")), covered, names)
@@ -76,7 +87,13 @@ class Covered(unittest.TestCase):
 class Taps(unittest.TestCase):
     def test_a_second_tap_is_left_out(self) -> None:
         messages = world().messages
-        again = sorted([*messages, *(replace(one, frame=f"b.pcap {one.frame}", time=one.time + 0.001, tag="0x7") for one in messages)], key=lambda one: one.time)
+        again = sorted(
+            [
+                *messages,
+                *(replace(one, frame=f"b.pcap {one.frame}", time=one.time + 0.001, tag="0x7") for one in messages),
+            ],
+            key=lambda one: one.time,
+        )
         doubled = [copy.copy(one) for one in messages for _ in range(2)]
         for place, one in enumerate(doubled):
             one.frame = str(place + 1)
@@ -98,16 +115,23 @@ class Taps(unittest.TestCase):
             for place, one in enumerate(made.messages):
                 one.time = 100.0 + 0.5 * place
                 last[one.link] = one.time
-            moved = sorted((replace(one, time=one.time + off) if one.link == "X2" else one for one in made.messages), key=lambda one: one.time)
+            moved = sorted(
+                (replace(one, time=one.time + off) if one.link == "X2" else one for one in made.messages),
+                key=lambda one: one.time,
+            )
             with self.subTest(off):
                 told = seen(moved)
                 self.assertEqual(differing(told), [])
-                self.assertEqual(any("clock of X2" in line for line in told.head), moved != made.messages and [one.frame for one in moved] != [one.frame for one in made.messages])
+                self.assertEqual(
+                    any("clock of X2" in line for line in told.head),
+                    moved != made.messages and [one.frame for one in moved] != [one.frame for one in made.messages],
+                )
 
 
 class Gaps(unittest.TestCase):
     def test_a_lost_exchange_with_the_core(self) -> None:
-        """A handover over S1 that was cancelled is not in the capture: SCTP's numbers tell it from a core that skips a number."""
+        """A handover over S1 that was cancelled is not in the capture: SCTP's numbers tell it from a core that skips a
+        number."""
         for lost in (True, False):
             made, phone = attached()
             made.x2(phone, ENB2)
@@ -124,14 +148,18 @@ class Gaps(unittest.TestCase):
             self.assertEqual(any("after frames that the capture lost" in text for text in texts), lost, texts)
 
     def test_a_lost_security_mode_exchange(self) -> None:
-        """A Security Mode exchange is taken as unseen only where a link is not covered or the capture lost frames; else what stands behind it is not judged."""
+        """A Security Mode exchange is taken as unseen only where a link is not covered or the capture lost frames; else
+        what stands behind it is not judged."""
         for lost in (True, False):
             messages = without_commands(1)().messages
             for one in messages if not lost else ():
                 one.tsns = ()
             told = seen(messages)
             self.assertEqual(differing(told), [])
-            self.assertEqual(any("after a Security Mode exchange that the trace lacks" in value.text for _, value in told.values()), lost)
+            self.assertEqual(
+                any("after a Security Mode exchange that the trace lacks" in value.text for _, value in told.values()),
+                lost,
+            )
             self.assertEqual(all(value.verdict in (RIGHT, NOTE) for _, value in told.values()), lost)
 
 
@@ -143,9 +171,19 @@ class Places(unittest.TestCase):
                 made.x2(phone, eci)
             gateway = "10.9.9.9:36412"
             hidden = {ENDS["enb1"]: gateway, ENDS["enb2"]: gateway}
-            moved = [replace(one, source=hidden.get(one.source, one.source), target=hidden.get(one.target, one.target)) if one.link == "S1" else one for one in made.messages]
+            moved = [
+                replace(one, source=hidden.get(one.source, one.source), target=hidden.get(one.target, one.target))
+                if one.link == "S1"
+                else one
+                for one in made.messages
+            ]
             if setup:
-                moved.insert(0, Message("0", 0.0, "S1", "S1SetupRequest", gateway, made.core, station=0x7777, station_name="gateway"))
+                moved.insert(
+                    0,
+                    Message(
+                        "0", 0.0, "S1", "S1SetupRequest", gateway, made.core, station=0x7777, station_name="gateway"
+                    ),
+                )
             self.assertEqual(differing(seen(moved)), [], setup)
 
     def test_a_cell_that_changes(self) -> None:
@@ -160,7 +198,15 @@ class Places(unittest.TestCase):
             made.x2(phone, ENB2)
         finally:
             CELLS[0] = before
-        setup = Message("0", 0.0, "X2", "X2SetupRequest", ENDS["enb1"], ENDS["enb2"], sites=[replace(site, station="") for site in CELLS if site.up])
+        setup = Message(
+            "0",
+            0.0,
+            "X2",
+            "X2SetupRequest",
+            ENDS["enb1"],
+            ENDS["enb2"],
+            sites=[replace(site, station="") for site in CELLS if site.up],
+        )
         named = [Kasme("k0", KASMES[0])]
         trace = check(Derivations(CALLS, named), Cells(), copy.deepcopy([setup, *made.messages]), budget=1_000)
         self.assertEqual(differing(trace.seen), [])
@@ -169,7 +215,13 @@ class Places(unittest.TestCase):
         self.assertEqual(differing(trace.seen), [])
         self.assertIn("(the cell has PCI 40 now, as the target answers)", "\n".join(map(str, trace.lines)))
         one_way = [one for one in unseen if one.link != "X2" or one.source != ENDS["enb1"] or one is setup]
-        trace = check(Derivations(CALLS, named), Cells(), copy.deepcopy(one_way), budget=2_000, said=Said((), ("X2/eNB 101/eNB 102",)))
+        trace = check(
+            Derivations(CALLS, named),
+            Cells(),
+            copy.deepcopy(one_way),
+            budget=2_000,
+            said=Said((), ("X2/eNB 101/eNB 102",)),
+        )
         self.assertEqual(differing(trace.seen), [])
         self.assertIn("right if the cell has PCI 40 now", "\n".join(map(str, trace.lines)))
 

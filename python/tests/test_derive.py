@@ -16,12 +16,14 @@ from .standin import StandIn
 
 class Seam(unittest.TestCase):
     def test_calc_is_told_lines(self) -> None:
-        program = textwrap.dedent("""
+        program = textwrap.dedent(
+            """
             import sys
             for line in sys.stdin:
                 print({"eia2": "0a0b0c0d", "eea2": "-", "bad": "bad word"}.get(line.split()[0], "11" * 32), flush=True)
                 print(line, end="", file=open(sys.argv[1], "a"))
-        """)
+        """
+        )
         with tempfile.TemporaryDirectory() as room:
             told = Path(room) / "told"
             calc = derive.Calc([sys.executable, "-c", program, str(told)])
@@ -35,10 +37,18 @@ class Seam(unittest.TestCase):
             with self.assertRaises(TraceError):
                 calc.told("bad")
             calc.close()
-            self.assertEqual(told.read_text().splitlines(), [
-                f"kenb {'00' * 32} 7", f"star {'00' * 32} 10 70000", f"alg {'00' * 32} 3 2", f"nh {'00' * 32} {'00' * 32}",
-                f"eia2 {'00' * 16} 1 0 downlink ab", f"eea2 {'00' * 16} 1 0 uplink -", "bad",
-            ])
+            self.assertEqual(
+                told.read_text().splitlines(),
+                [
+                    f"kenb {'00' * 32} 7",
+                    f"star {'00' * 32} 10 70000",
+                    f"alg {'00' * 32} 3 2",
+                    f"nh {'00' * 32} {'00' * 32}",
+                    f"eia2 {'00' * 16} 1 0 downlink ab",
+                    f"eea2 {'00' * 16} 1 0 uplink -",
+                    "bad",
+                ],
+            )
 
     def test_the_proved_calls_are_those_of_the_stand_in(self) -> None:
         try:
@@ -48,8 +58,13 @@ class Seam(unittest.TestCase):
         self.addCleanup(getattr(calls, "close", lambda: None))
         key, text = os.urandom(32), os.urandom(45)
         for name, given in (
-            ("kenb", (key, 77)), ("nh", (key, bytes(32))), ("kenb_star", (key, 503, 70000)), ("kenb_star", (key, 0, 65535)),
-            ("algorithm_key", (key, 4, 2)), ("eea2", (key[:16], 1 << 20, 5, 1, text)), ("eia2", (key[:16], 9, 0, 0, text)),
+            ("kenb", (key, 77)),
+            ("nh", (key, bytes(32))),
+            ("kenb_star", (key, 503, 70000)),
+            ("kenb_star", (key, 0, 65535)),
+            ("algorithm_key", (key, 4, 2)),
+            ("eea2", (key[:16], 1 << 20, 5, 1, text)),
+            ("eia2", (key[:16], 9, 0, 0, text)),
         ):
             self.assertEqual(getattr(calls, name)(*given), getattr(StandIn(), name)(*given), name)
 

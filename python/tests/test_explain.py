@@ -51,7 +51,10 @@ class Quick(unittest.TestCase):
     def test_it_is_hmac(self) -> None:
         for size in (0, 16, 32, 64):
             make = quick.ready(bytes(range(size)))
-            self.assertEqual([hmac.digest(bytes(range(size)), text, "sha256") for text in (b"", b"a", bytes(200))], [make(text) for text in (b"", b"a", bytes(200))])
+            self.assertEqual(
+                [hmac.digest(bytes(range(size)), text, "sha256") for text in (b"", b"a", bytes(200))],
+                [make(text) for text in (b"", b"a", bytes(200))],
+            )
 
     def test_stars_are_those_of_the_proved_calls_in_their_order(self) -> None:
         derivations = Derivations(StandIn(), [Kasme("KASME 1", bytes(32))])
@@ -70,7 +73,9 @@ class Quick(unittest.TestCase):
 
         key = StandIn().kenb_star(StandIn().kenb(bytes(32), 0), 301, 1575)
         for calls, is_found in ((StandIn(), True), (Wrong(), False)):
-            explanation = Explanation(Derivations(calls, [Kasme("KASME 1", bytes(32))]), Cells([Site(0, 301, 1575)]), 3, 2)
+            explanation = Explanation(
+                Derivations(calls, [Kasme("KASME 1", bytes(32))]), Cells([Site(0, 301, 1575)]), 3, 2
+            )
             explanation.seek({key})
             self.assertEqual(is_found, key in explanation.found)
 
@@ -86,9 +91,16 @@ class Explained(unittest.TestCase):
     def test_the_wrong_key_of_the_log(self) -> None:
         log = (TOP / "docs/cookbook/handover.log").read_text()
         derivations, found = explained(log, LOG_KASME, [(301, 1575), (87, 3100)])
-        self.assertEqual([told(derivations, one).split(maxsplit=3)[3] for one in found][3:], [
-            "star(kenb(5),87,3100)", "star(kenb(5),87,3100)", "nh(2) on kenb(5)", "star(nh(2),301,3100) on kenb(5) mixed cell", "star(nh(2),301,1575) on kenb(5)",
-        ])
+        self.assertEqual(
+            [told(derivations, one).split(maxsplit=3)[3] for one in found][3:],
+            [
+                "star(kenb(5),87,3100)",
+                "star(kenb(5),87,3100)",
+                "nh(2) on kenb(5)",
+                "star(nh(2),301,3100) on kenb(5) mixed cell",
+                "star(nh(2),301,1575) on kenb(5)",
+            ],
+        )
 
     def test_a_key_that_nothing_gives(self) -> None:
         derivations, found = explained("12" * 32, LOG_KASME, [(10, 100)])
@@ -107,80 +119,151 @@ class Explained(unittest.TestCase):
             three = calls.kenb_star(three, pci, 100)
         text = "\n".join(one.hex() for one in (far, half, key, three))
         _, found = explained(text, LOG_KASME, [(10, 100), (11, 100)])
-        self.assertEqual([one.key.form if one.key else "none" for one in found], [
-            "star(nh(16),10,100)", "alg(star(kenb(17),10,100),4,2)", "kenb(299)", "star(star(star(kenb(299),10,100),11,100),10,100)",
-        ])
+        self.assertEqual(
+            [one.key.form if one.key else "none" for one in found],
+            [
+                "star(nh(16),10,100)",
+                "alg(star(kenb(17),10,100),4,2)",
+                "kenb(299)",
+                "star(star(star(kenb(299),10,100),11,100),10,100)",
+            ],
+        )
 
     def test_the_far_search_follows_where_a_key_fits_or_where_it_is_asked_for(self) -> None:
         calls, kasme = StandIn(), bytes.fromhex(LOG_KASME)
         kenb = calls.kenb(kasme, 3)
         star = calls.kenb_star(kenb, 10, 100)
-        deep, half, mistaken, other = calls.algorithm_key(star, 4, 2)[16:], calls.algorithm_key(kenb, 5, 2)[16:], {str(why): made for why, made in reasons.kenb_mistakes(kasme, 3)}["COUNT is little-endian"], bytes(range(32))
+        deep, half, mistaken, other = (
+            calls.algorithm_key(star, 4, 2)[16:],
+            calls.algorithm_key(kenb, 5, 2)[16:],
+            {str(why): made for why, made in reasons.kenb_mistakes(kasme, 3)}["COUNT is little-endian"],
+            bytes(range(32)),
+        )
         for keys, fits, forms in (
-            ((other,), False, [None]), ((deep,), False, [None]), ((deep, other), False, [None, None]), ((half, deep), True, ["alg(kenb(3),5,2)", "alg(star(kenb(3),10,100),4,2)"]),
-            ((kenb, other), True, ["kenb(3)", None]), ((mistaken, deep), True, [None, "alg(star(kenb(3),10,100),4,2)"]),
+            ((other,), False, [None]),
+            ((deep,), False, [None]),
+            ((deep, other), False, [None, None]),
+            ((half, deep), True, ["alg(kenb(3),5,2)", "alg(star(kenb(3),10,100),4,2)"]),
+            ((kenb, other), True, ["kenb(3)", None]),
+            ((mistaken, deep), True, [None, "alg(star(kenb(3),10,100),4,2)"]),
         ):
             text = blocks("\n\n".join(key.hex() for key in keys).splitlines())
             for is_far in (False, True):
-                explanation = Explanation(Derivations(calls, [Kasme("KASME 1", kasme)]), Cells([Site(0, 10, 100)]), 8, 2)
+                explanation = Explanation(
+                    Derivations(calls, [Kasme("KASME 1", kasme)]), Cells([Site(0, 10, 100)]), 8, 2
+                )
                 found = [one.key.form if one.key else None for one in explanation.find(text, is_far)]
                 self.assertEqual(explanation.fits, fits or is_far)
-                self.assertEqual(found, forms if fits else ["alg(star(kenb(3),10,100),4,2)" if is_far and key == deep else None for key in keys])
+                self.assertEqual(
+                    found,
+                    forms
+                    if fits
+                    else ["alg(star(kenb(3),10,100),4,2)" if is_far and key == deep else None for key in keys],
+                )
 
     def test_each_mistake_is_named_with_the_key_that_was_wanted(self) -> None:
-        """Each entry of the catalogue, made of KeNB 5, its NH 2, a cell and an algorithm: its line, where no right derivation gives those octets."""
+        """Each entry of the catalogue, made of KeNB 5, its NH 2, a cell and an algorithm: its line, where no right
+        derivation gives those octets."""
         calls, kasme, cell = StandIn(), bytes.fromhex(LOG_KASME), (301, 70000)
         kenb = calls.kenb(kasme, 5)
         first = calls.nh(kasme, kenb)
         second = calls.nh(kasme, first)
-        entries = [(kenb, "kenb(5)", reasons.kenb_mistakes(kasme, 5)), (second, "nh(2) on kenb(5)", reasons.nh_mistakes(kasme, first))]
-        entries += [(calls.kenb_star(second, *cell), "star(nh(2),301,70000) on kenb(5)", reasons.star_mistakes(second, *cell))]
-        entries += [(calls.algorithm_key(kenb, 4, 2), "alg(kenb(5),4,2)", reasons.algorithm_mistakes(kenb, 4, 2, size)) for size in (32, 16)]
-        made = [(wanted, form, *one) for wanted, form, mistakes in entries for one in mistakes if one[0].cause not in OTHER_COUNTS]
+        entries = [
+            (kenb, "kenb(5)", reasons.kenb_mistakes(kasme, 5)),
+            (second, "nh(2) on kenb(5)", reasons.nh_mistakes(kasme, first)),
+        ]
+        entries += [
+            (calls.kenb_star(second, *cell), "star(nh(2),301,70000) on kenb(5)", reasons.star_mistakes(second, *cell))
+        ]
+        entries += [
+            (calls.algorithm_key(kenb, 4, 2), "alg(kenb(5),4,2)", reasons.algorithm_mistakes(kenb, 4, 2, size))
+            for size in (32, 16)
+        ]
+        made = [
+            (wanted, form, *one)
+            for wanted, form, mistakes in entries
+            for one in mistakes
+            if one[0].cause not in OTHER_COUNTS
+        ]
         derivations = Derivations(calls, [Kasme("KASME 1", kasme)])
         text = "\n\n".join([kenb.hex(), *(value.hex() for *_, value in made)])
-        lines = {one.value: (one, told(derivations, one)) for one in Explanation(derivations, Cells([Site(1, *cell)]), 8, 2).find(blocks(text.splitlines()))}
+        lines = {
+            one.value: (one, told(derivations, one))
+            for one in Explanation(derivations, Cells([Site(1, *cell)]), 8, 2).find(blocks(text.splitlines()))
+        }
         named = 0
         for wanted, form, why, value in made:
             (found, line), name = lines[value], str(why)
             if found.key is not None:  # KASME, another algorithm key: a right derivation
                 continue
             named += 1
-            is_of_any = "the key that it is made of" in name or name == "the identity is left out"  # then the first algorithm is named
-            end = f" none ({name})" if why.cause in OF_ANY else f" none ({name}; wanted {wanted[-len(value):].hex()}, which is {form})"
+            is_of_any = (
+                "the key that it is made of" in name or name == "the identity is left out"
+            )  # then the first algorithm is named
+            end = (
+                f" none ({name})"
+                if why.cause in OF_ANY
+                else f" none ({name}; wanted {wanted[-len(value):].hex()}, which is {form})"
+            )
             self.assertTrue(line.endswith(end) or is_of_any and " none (" in line, f"{name}: {line}")
         self.assertGreater(named, 45)
 
     def test_logs_as_products_write_them(self) -> None:
         value, other = bytes(range(0x53, 0x73)), bytes(range(0xA0, 0xC0))
-        rows = [value[place:place + 16] for place in (0, 16)]
+        rows = [value[place : place + 16] for place in (0, 16)]
 
         def fours(row: bytes, by: int) -> str:
-            return " ".join(row[place:place + by].hex() for place in range(0, len(row), by))
+            return " ".join(row[place : place + by].hex() for place in range(0, len(row), by))
 
         whole = {
-            "64 digits": f"KeNB={value.hex().upper()} end", "blanks": value.hex(" "), "colons": "KeNB: " + value.hex(":"), "hyphens": value.hex("-"),
-            "a list": ", ".join(f"0x{octet:02x}" for octet in value), "a list of C": "{" + ",".join(f"0x{octet:02X}" for octet in value) + "};",
+            "64 digits": f"KeNB={value.hex().upper()} end",
+            "blanks": value.hex(" "),
+            "colons": "KeNB: " + value.hex(":"),
+            "hyphens": value.hex("-"),
+            "a list": ", ".join(f"0x{octet:02x}" for octet in value),
+            "a list of C": "{" + ",".join(f"0x{octet:02X}" for octet in value) + "};",
             "dump": f"KeNB:\n  0000: {rows[0].hex(' ')}  |....|\n  0010: {rows[1].hex(' ')}  |....|",
             "groups of four": f"0000: {fours(rows[0], 4)}  STUVWXYZ\n0010: {fours(rows[1], 4)}  face be.",
             "xxd": f"00000000: {fours(rows[0], 2)}  STUVWXYZ[\\]^_`ab\n00000010: {fours(rows[1], 2)}  cdefghijklmnopqr",
-            "hexdump -C": "".join(f"{place:08x}  {row[:8].hex(' ')}  {row[8:].hex(' ')}  |face ad be beef.|\n" for place, row in zip((0, 16), rows)) + "00000020",
-            "8 octets a line": "\n".join(value[place:place + 8].hex(" ") for place in range(0, 32, 8)),
-            "8 octets with offsets": "\n".join(f"{place:04x} {value[place:place + 8].hex(' ')}" for place in range(0, 32, 8)),
-            "0x": f"kenb=0x{value.hex()}", "a name before 0x": f"kenb0x{value.hex()}", "h behind": f"K_eNB: {value.hex().upper()}H", "escapes": "".join(f"\\x{octet:02x}" for octet in value),
-            "a hyphen in the middle": "\n".join(f"{16 * at:04x}  {row[:8].hex(' ')} - {row[8:].hex(' ')}" for at, row in enumerate(rows)),
+            "hexdump -C": "".join(
+                f"{place:08x}  {row[:8].hex(' ')}  {row[8:].hex(' ')}  |face ad be beef.|\n"
+                for place, row in zip((0, 16), rows)
+            )
+            + "00000020",
+            "8 octets a line": "\n".join(value[place : place + 8].hex(" ") for place in range(0, 32, 8)),
+            "8 octets with offsets": "\n".join(
+                f"{place:04x} {value[place:place + 8].hex(' ')}" for place in range(0, 32, 8)
+            ),
+            "0x": f"kenb=0x{value.hex()}",
+            "a name before 0x": f"kenb0x{value.hex()}",
+            "h behind": f"K_eNB: {value.hex().upper()}H",
+            "escapes": "".join(f"\\x{octet:02x}" for octet in value),
+            "a hyphen in the middle": "\n".join(
+                f"{16 * at:04x}  {row[:8].hex(' ')} - {row[8:].hex(' ')}" for at, row in enumerate(rows)
+            ),
             "0x before offsets": "\n".join(f"0x{16 * at:04x}:  {row.hex(' ', 2)}  ...." for at, row in enumerate(rows)),
-            "a word before": f"face {value.hex(' ')}", "two digits before": f"be {value.hex(' ')}", "a time before": f"10:36:15.410 [ad] key {value.hex(' ')}",
+            "a word before": f"face {value.hex(' ')}",
+            "two digits before": f"be {value.hex(' ')}",
+            "a time before": f"10:36:15.410 [ad] key {value.hex(' ')}",
         }
         for name, text in whole.items():
             with self.subTest(name):
                 self.assertEqual([candidates(block) for block in blocks(text.splitlines())], [[value]], text)
-        both = f"{value.hex()} {other.hex()}", value.hex(" ") + "\n" + other.hex(" "), "\n".join(f"{place % 32:04x}: {(value + other)[place:place + 16].hex(' ')}" for place in range(0, 64, 16))
+        both = (
+            f"{value.hex()} {other.hex()}",
+            value.hex(" ") + "\n" + other.hex(" "),
+            "\n".join(f"{place % 32:04x}: {(value + other)[place:place + 16].hex(' ')}" for place in range(0, 64, 16)),
+        )
         for text in both:
             with self.subTest("two keys", text=text):
-                self.assertEqual([one for block in blocks(text.splitlines()) for one in candidates(block)], [value, other])
+                self.assertEqual(
+                    [one for block in blocks(text.splitlines()) for one in candidates(block)], [value, other]
+                )
         halves = f"KRRCenc: {value[:16].hex(' ')}\nKRRCint: {other[:16].hex(' ')}\n\n{value.hex()}00 {value[:16].hex()}"
-        self.assertEqual([one for block in blocks(halves.splitlines()) for one in candidates(block)], [value[:16], other[:16], value[:16]])
+        self.assertEqual(
+            [one for block in blocks(halves.splitlines()) for one in candidates(block)],
+            [value[:16], other[:16], value[:16]],
+        )
 
     def test_rows_without_offsets_are_keys_or_halves(self) -> None:
         calls, kasme = StandIn(), bytes.fromhex(LOG_KASME)
@@ -188,7 +271,10 @@ class Explained(unittest.TestCase):
         halves = [calls.algorithm_key(kenb, type, 2)[16:] for type in (3, 4, 5)]
         rows = [halves[0], kenb[:16], kenb[16:], halves[1], halves[2]]
         _, found = explained("\n".join(row.hex(" ") for row in rows), LOG_KASME, [(10, 100)])
-        self.assertEqual([(one.line, one.key.form if one.key else "none") for one in found], [(1, "alg(kenb(3),3,2)"), (2, "kenb(3)"), (4, "alg(kenb(3),4,2)"), (5, "alg(kenb(3),5,2)")])
+        self.assertEqual(
+            [(one.line, one.key.form if one.key else "none") for one in found],
+            [(1, "alg(kenb(3),3,2)"), (2, "kenb(3)"), (4, "alg(kenb(3),4,2)"), (5, "alg(kenb(3),5,2)")],
+        )
         _, found = explained(bytes(32).hex(" ", 16).replace(" ", "\n"), LOG_KASME, [(10, 100)])
         self.assertEqual([one.key for one in found], [None])
 

@@ -1,4 +1,5 @@
-"""Service Requests of phones whose KASMEs are not given, between those of one that is known: nobody is blamed, and the work stays small."""
+"""Service Requests of phones whose KASMEs are not given, between those of one that is known: nobody is blamed, and the
+work stays small."""
 from __future__ import annotations
 
 import os
@@ -59,9 +60,16 @@ class Foreign(unittest.TestCase):
     def test_nobody_is_blamed(self) -> None:
         for with_tmsi, with_kenb in ((True, True), (False, True), (True, False)):
             with self.subTest(with_tmsi=with_tmsi, with_kenb=with_kenb):
-                lines = check(Derivations(StandIn(), [Kasme("known", bytes([1]) * 32)]), Cells(CELLS), world(MANY, with_tmsi, with_kenb).messages, budget=2_000).lines
+                lines = check(
+                    Derivations(StandIn(), [Kasme("known", bytes([1]) * 32)]),
+                    Cells(CELLS),
+                    world(MANY, with_tmsi, with_kenb).messages,
+                    budget=2_000,
+                ).lines
                 self.assertEqual([line.text for line in lines if line.verdict == DIFFERS], [])
-                self.assertEqual(sum(line.text.endswith("MAC right Service request") for line in lines), len(range(0, MANY, 50)))
+                self.assertEqual(
+                    sum(line.text.endswith("MAC right Service request") for line in lines), len(range(0, MANY, 50))
+                )
 
     def test_work_grows_with_frames_only(self) -> None:
         made = []

@@ -41,7 +41,13 @@ class Frames(unittest.TestCase):
                         self.assertEqual(frames.read_reply(body).spelled(), octets)
 
     def test_bodies_are_refused_at_the_first_bad_octet(self) -> None:
-        cases = [("station", True, "SETUPS"), ("core", True, "SETUPS"), ("phone", False, "PHONE"), ("station", False, "STATION"), ("core", False, "CORE")]
+        cases = [
+            ("station", True, "SETUPS"),
+            ("core", True, "SETUPS"),
+            ("phone", False, "PHONE"),
+            ("station", False, "STATION"),
+            ("core", False, "CORE"),
+        ]
         for role, first, name in cases:
             rows = table(name)
             self.assertGreater(len(rows), 15)
@@ -81,9 +87,15 @@ class Frames(unittest.TestCase):
     def test_what_differs_is_told(self) -> None:
         done = bytes.fromhex("00088000000000000000")
         self.assertEqual(frames.differences(done, done), [])
-        self.assertEqual(frames.differences(done, bytes.fromhex("00088001000000000000")), ["answer: wanted 0 (done), got 1 (NoContext)"])
+        self.assertEqual(
+            frames.differences(done, bytes.fromhex("00088001000000000000")),
+            ["answer: wanted 0 (done), got 1 (NoContext)"],
+        )
         cut = bytes.fromhex("000880000000")
-        self.assertEqual(frames.differences(done, cut), ["what came is not a reply, octet 0: its length and its octets differ: 0008, 4 octets: 000880000000"])
+        self.assertEqual(
+            frames.differences(done, cut),
+            ["what came is not a reply, octet 0: its length and its octets differ: 0008, 4 octets: 000880000000"],
+        )
         self.assertIn("what is wanted is not a reply", frames.differences(cut, done)[0])
 
     def test_a_source_ends_between_frames_or_is_cut(self) -> None:

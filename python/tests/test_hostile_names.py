@@ -1,5 +1,5 @@
-"""Names that a user or a network may choose: whatever they say, each line has the causes and clauses that it has with plain names, and its text is the
-same but for the names."""
+"""Names that a user or a network may choose: whatever they say, each line has the causes and clauses that it has with
+plain names, and its text is the same but for the names."""
 from __future__ import annotations
 
 import copy
@@ -24,14 +24,25 @@ from .situations import KASMES
 from .test_situations import SITUATIONS
 
 NAMES = (  # for KASMEs, stations and captures: what any text of the package says
-    "ue; COUNT used twice on 3 May", "late", "sent again; header type differs: is 4, wanted 3", "x differs: y; NCC differs: is 1, wanted 2 (late)",
-    "plain, which TS 24.301 9.9 does not allow", "it is ciphered by 128-EEA3", "warning: MAC wrong: is {found}, wanted [differs]",
-    "a handover to a without messages between the stations in the trace", "phone and a come apart here: the phone takes b", "TS 33.401 7.2.10 KeNB* for (1,2)",
-    "in use before, from frame 1 on", "it is KASME; all octets are 00", "frame 1 NAS up COUNT 3 header 2 MAC right", "kenb(0) of star(nh(2),1,2)",
+    "ue; COUNT used twice on 3 May",
+    "late",
+    "sent again; header type differs: is 4, wanted 3",
+    "x differs: y; NCC differs: is 1, wanted 2 (late)",
+    "plain, which TS 24.301 9.9 does not allow",
+    "it is ciphered by 128-EEA3",
+    "warning: MAC wrong: is {found}, wanted [differs]",
+    "a handover to a without messages between the stations in the trace",
+    "phone and a come apart here: the phone takes b",
+    "TS 33.401 7.2.10 KeNB* for (1,2)",
+    "in use before, from frame 1 on",
+    "it is KASME; all octets are 00",
+    "frame 1 NAS up COUNT 3 header 2 MAC right",
+    "kenb(0) of star(nh(2),1,2)",
 )
 Made = Callable[[], World]
 WORLDS: dict[str, Made] = {
-    **{name: made for name, (made, _) in test_simulated.BROKEN.items()}, **{name: one.broken for name, one in SITUATIONS.items()},
+    **{name: made for name, (made, _) in test_simulated.BROKEN.items()},
+    **{name: one.broken for name, one in SITUATIONS.items()},
     **{name: made for name, (made, _) in test_faults.BROKEN.items()},
 }
 
@@ -48,14 +59,23 @@ class Named:
         """The world with these names; every second frame is one of a second capture."""
         messages = [self.message(copy.copy(one), place) for place, one in enumerate(world.messages)]
         cells = [replace(site, station=self.stations[site.station]) for site in CELLS]
-        return check(Derivations(CALLS, [Kasme(name, value) for name, value in zip(self.kasmes, KASMES)]), Cells(cells), messages, budget=300)
+        return check(
+            Derivations(CALLS, [Kasme(name, value) for name, value in zip(self.kasmes, KASMES)]),
+            Cells(cells),
+            messages,
+            budget=300,
+        )
 
     def message(self, message: Message, place: int) -> Message:
         return replace(message, frame=f"{self.label} {message.frame}") if place % 2 else message
 
     def plain(self, text: str) -> str:
         """A text with plain names in the place of these."""
-        names = {**dict(zip(self.kasmes, PLAIN.kasmes)), **{own: PLAIN.stations[name] for name, own in self.stations.items()}, self.label: PLAIN.label}
+        names = {
+            **dict(zip(self.kasmes, PLAIN.kasmes)),
+            **{own: PLAIN.stations[name] for name, own in self.stations.items()},
+            self.label: PLAIN.label,
+        }
         for name in sorted(names, key=len, reverse=True):
             text = text.replace(name, names[name])
         return text
@@ -72,18 +92,43 @@ def hostile(turn: int) -> Named:
 
 def causes(trace: Trace) -> list[tuple[object, ...]]:
     """What each line says, by causes and numbers."""
-    return [(line.verdict, line.kind, line.of, [one.cause for one in line.causes], line.clause, line.ncc, line.count, line.hex, line.wanted_hex) for line in trace.lines]
+    return [
+        (
+            line.verdict,
+            line.kind,
+            line.of,
+            [one.cause for one in line.causes],
+            line.clause,
+            line.ncc,
+            line.count,
+            line.hex,
+            line.wanted_hex,
+        )
+        for line in trace.lines
+    ]
 
 
 def replayed(trace: Trace) -> list[tuple[object, ...]]:
     """What `replay` takes of each message."""
-    return [(len(met.nas), [one.is_right for one in met.nas], met.key is not None and met.key.is_late, len(met.more), met.within) for met in record(trace).met]
+    return [
+        (
+            len(met.nas),
+            [one.is_right for one in met.nas],
+            met.key is not None and met.key.is_late,
+            len(met.more),
+            met.within,
+        )
+        for met in record(trace).met
+    ]
 
 
 def questions(trace: Trace) -> list[str]:
     """What is asked of each phone."""
     phones = sorted({one.phone for one in trace.seen.messages if one.phone is not None})
-    return [AskedPhone(trace, [one for one in trace.seen.messages if one.phone == number]).question(1, True) for number in phones]
+    return [
+        AskedPhone(trace, [one for one in trace.seen.messages if one.phone == number]).question(1, True)
+        for number in phones
+    ]
 
 
 class HostileNames(unittest.TestCase):
@@ -94,7 +139,9 @@ class HostileNames(unittest.TestCase):
             plain, other = PLAIN.trace(world), hostile(turn).trace(world)
             with self.subTest(world=name):
                 self.assertEqual(causes(plain), causes(other))
-                self.assertEqual([line.text for line in plain.lines], [hostile(turn).plain(line.text) for line in other.lines])
+                self.assertEqual(
+                    [line.text for line in plain.lines], [hostile(turn).plain(line.text) for line in other.lines]
+                )
                 self.assertEqual(replayed(plain), replayed(other))
                 self.assertEqual(questions(plain), questions(other))
 
@@ -111,16 +158,29 @@ class HostileNames(unittest.TestCase):
     def test_two_kasmes_of_one_name_are_told_apart(self) -> None:
         first, second, third = ("00" * 32, "11" * 32, "22" * 32)
         for words, names in (
-            ([f"ue={first}", f"ue={second}", f"ue={third}"], ["ue", "ue (2)", "ue (3)"]), ([f"KASME 2={first}", second], ["KASME 2", "KASME 2 (2)"]),
-            ([first, f"KASME 1={second}"], ["KASME 1 (2)", "KASME 1"]), ([f"a\x01={first}", f"a\\x01={second}"], ["a\x01", "a\\x01 (2)"]), ([first, second], ["KASME 1", "KASME 2"]),
+            ([f"ue={first}", f"ue={second}", f"ue={third}"], ["ue", "ue (2)", "ue (3)"]),
+            ([f"KASME 2={first}", second], ["KASME 2", "KASME 2 (2)"]),
+            ([first, f"KASME 1={second}"], ["KASME 1 (2)", "KASME 1"]),
+            ([f"a\x01={first}", f"a\\x01={second}"], ["a\x01", "a\\x01 (2)"]),
+            ([first, second], ["KASME 1", "KASME 2"]),
         ):
             self.assertEqual([one.name for one in kasmes_of(words)], names)
 
     def test_what_is_withdrawn_keeps_its_names(self) -> None:
         for name in NAMES:
             why = Cause.MANY_HISTORIES.because(most=1)
-            line = Line("3", "", "agreement", DIFFERS, Cause.COME_APART.because(station=name, phone="a", held="b"), doubt=why, subject="")
-            self.assertEqual(line.text, f"frame 3 phone and {name} not judged: the phone takes a, {name} has b ({why[0]})")
+            line = Line(
+                "3",
+                "",
+                "agreement",
+                DIFFERS,
+                Cause.COME_APART.because(station=name, phone="a", held="b"),
+                doubt=why,
+                subject="",
+            )
+            self.assertEqual(
+                line.text, f"frame 3 phone and {name} not judged: the phone takes a, {name} has b ({why[0]})"
+            )
 
 
 if __name__ == "__main__":

@@ -1,4 +1,5 @@
-"""Messages in a file of their own are those that were put in; what is looked for in all of them is found though little of each is kept."""
+"""Messages in a file of their own are those that were put in; what is looked for in all of them is found though little
+of each is kept."""
 from __future__ import annotations
 
 import json
@@ -29,7 +30,9 @@ KASME = "e61a3129c8e399d6dd3cec512a9c671da2004c5e8e780d3df853bb3055ee7cba"
 
 
 def message(number: int, time: float, frame: str = "") -> Message:
-    return Message(frame or str(number), time, "S1", "UplinkNASTransport", f"station:{number % 7}", "core:1", enb_id=number)
+    return Message(
+        frame or str(number), time, "S1", "UplinkNASTransport", f"station:{number % 7}", "core:1", enb_id=number
+    )
 
 
 def second_of_old(messages: list[Message]) -> set[int]:
@@ -52,8 +55,13 @@ class KeptMessages(unittest.TestCase):
         for name in EVERY:
             found = list(read(TRACES / f"{name}.json.gz"))
             kept = Kept(found)
-            self.assertEqual((list(kept), len(kept), kept[3:1:-1], kept[-1]), (found, len(found), found[3:1:-1], found[-1]))
-            self.assertEqual((list(kept.times), kept.links["S1"]), ([one.time for one in found], sum(one.link == "S1" for one in found)))
+            self.assertEqual(
+                (list(kept), len(kept), kept[3:1:-1], kept[-1]), (found, len(found), found[3:1:-1], found[-1])
+            )
+            self.assertEqual(
+                (list(kept.times), kept.links["S1"]),
+                ([one.time for one in found], sum(one.link == "S1" for one in found)),
+            )
 
     def test_one_may_be_put_back_and_all_in_another_order(self) -> None:
         found: list[Message] = [message(number, float(-number % 5)) for number in range(1000)]
@@ -68,22 +76,36 @@ class KeptMessages(unittest.TestCase):
     def test_a_trace_is_read_alike_from_a_list_and_from_a_file(self) -> None:
         kasmes = kasmes_of([KASME])
         for name in ("A", "A.rrc", "B2-nh-twice", "lost-answers"):
-            captures = [TRACES / "A.json.gz", TRACES / "A.rrc.json.gz"] if name == "A.rrc" else [TRACES / f"{name}.json.gz"]
+            captures = (
+                [TRACES / "A.json.gz", TRACES / "A.rrc.json.gz"] if name == "A.rrc" else [TRACES / f"{name}.json.gz"]
+            )
             kept = read_all(captures)
             cells = read_cells(TRACES / "A.cells.txt")
-            by_list, by_file = check(Derivations(StandIn(), list(kasmes)), Cells(cells), list(kept), budget=100), check(Derivations(StandIn(), list(kasmes)), Cells(cells), kept, budget=100)
+            by_list, by_file = check(Derivations(StandIn(), list(kasmes)), Cells(cells), list(kept), budget=100), check(
+                Derivations(StandIn(), list(kasmes)), Cells(cells), kept, budget=100
+            )
             self.assertEqual([str(line) for line in by_list.lines], [str(line) for line in by_file.lines])
 
 
 class Lines(unittest.TestCase):
     def lines(self, number: int) -> list[Line]:
-        return [Line(str(place // 2), "NAS", "MAC", (RIGHT, DIFFERS, UNKNOWN)[place % 3], found=str(place), place=None if place % 5 == 0 else place // 2 + 1) for place in range(number)]
+        return [
+            Line(
+                str(place // 2),
+                "NAS",
+                "MAC",
+                (RIGHT, DIFFERS, UNKNOWN)[place % 3],
+                found=str(place),
+                place=None if place % 5 == 0 else place // 2 + 1,
+            )
+            for place in range(number)
+        ]
 
     def test_lines_are_those_that_were_put_in(self) -> None:
         with patch("lte_sec.judge.line_store.NEWEST", 16), patch("lte_sec.judge.line_store.BATCH", 8):
             lines, kept = self.lines(100), KeptLines()
             for place, line in enumerate(lines):
-                self.assertEqual(list(kept.since(max(0, place - 3))), lines[max(0, place - 3):place])
+                self.assertEqual(list(kept.since(max(0, place - 3))), lines[max(0, place - 3) : place])
                 kept.append(line)
                 kept.settle(lambda frame: int(frame))
             self.assertEqual((len(kept.recent), len(kept), len(kept.batches)), (20, 100, 10))
@@ -91,17 +113,25 @@ class Lines(unittest.TestCase):
                 kept[place] = lines[place] = replace(lines[place], verdict=NOTE, found="other")
             self.assertEqual((list(kept), kept[-1 + 100], kept[9]), (lines, lines[99], lines[9]))
             self.assertEqual(kept.verdicts(), Counter(line.verdict for line in lines))
-            self.assertEqual([kept.count(verdict) for verdict in Verdict], [sum(line.verdict == verdict for line in lines) for verdict in Verdict])
+            self.assertEqual(
+                [kept.count(verdict) for verdict in Verdict],
+                [sum(line.verdict == verdict for line in lines) for verdict in Verdict],
+            )
             backwards = lambda frame: 50 - int(frame)  # noqa: E731
             by_frame, by_place = KeptLines(), None
             by_frame.extend(lines)
             ordered, by_place = by_frame.sort(backwards)
             wanted = sorted(lines, key=lambda line: 50 - int(line.frame))
             self.assertEqual(list(ordered), wanted)
-            self.assertEqual(list(by_place), sorted(wanted, key=lambda line: 50 - int(line.frame) if line.place is None else line.place))
+            self.assertEqual(
+                list(by_place),
+                sorted(wanted, key=lambda line: 50 - int(line.frame) if line.place is None else line.place),
+            )
             kept.hold()
             kept.settle(backwards)
-            self.assertEqual((kept.recent, kept.batches, kept.verdicts()), (lines, [], Counter(line.verdict for line in lines)))
+            self.assertEqual(
+                (kept.recent, kept.batches, kept.verdicts()), (lines, [], Counter(line.verdict for line in lines))
+            )
 
     def test_a_key_of_very_many_others_keeps_the_lines_in_memory(self) -> None:
         term = Term("kenb", (0,))
@@ -117,13 +147,29 @@ class Lines(unittest.TestCase):
 
     def test_a_report_is_the_same_where_its_lines_are_in_a_file(self) -> None:
         for name in ("A", "B1-star-earfcn", "B2-nh-twice", "C", "lost-answers"):
-            kasmes = [one["hex"] for one in json.loads((TRACES / f"{name}.truth.json").read_text())["kasme"]] if name != "lost-answers" else [KASME]
+            kasmes = (
+                [one["hex"] for one in json.loads((TRACES / f"{name}.truth.json").read_text())["kasme"]]
+                if name != "lost-answers"
+                else [KASME]
+            )
             reports = []
             for newest in (1000, 0):
                 with patch("lte_sec.judge.line_store.NEWEST", newest), patch("lte_sec.judge.line_store.BATCH", 4):
                     cells = Cells(read_cells(TRACES / f"{name}.cells.txt"))
-                    trace = check(Derivations(StandIn(), kasmes_of(kasmes)), cells, read_all([TRACES / f"{name}.json.gz"]), budget=1000)
-                    reports.append((list(lines_of(trace.seen)), [str(line) for line in trace.lines], trace.seen.verdicts(), as_json(trace.seen)))
+                    trace = check(
+                        Derivations(StandIn(), kasmes_of(kasmes)),
+                        cells,
+                        read_all([TRACES / f"{name}.json.gz"]),
+                        budget=1000,
+                    )
+                    reports.append(
+                        (
+                            list(lines_of(trace.seen)),
+                            [str(line) for line in trace.lines],
+                            trace.seen.verdicts(),
+                            as_json(trace.seen),
+                        )
+                    )
                     self.assertEqual(bool(trace.judge.lines.batches), newest == 0)
             self.assertEqual(reports[0], reports[1])
 
@@ -138,7 +184,13 @@ class Looked(unittest.TestCase):
                 time += chance.random() / 50 - (back if number % 5000 == 4999 else 0)
                 found.append(message(number, time))
                 if chance.random() < 0.2:
-                    found.append(replace(found[-1 - chance.randrange(min(len(found), 400))], time=time, frame=chance.choice(("", "other ")) + f"{number}"))
+                    found.append(
+                        replace(
+                            found[-1 - chance.randrange(min(len(found), 400))],
+                            time=time,
+                            frame=chance.choice(("", "other ")) + f"{number}",
+                        )
+                    )
             taps = SecondTaps(found)
             for place, one in enumerate(found):
                 taps.take(place, one)

@@ -1,4 +1,5 @@
-"""Blames of keys, asked of the program lte_trace: the questions, and what becomes of its answers. The program itself is proved, and tried by the examples."""
+"""Blames of keys, asked of the program lte_trace: the questions, and what becomes of its answers. The program itself is
+proved, and tried by the examples."""
 from __future__ import annotations
 
 import os
@@ -40,7 +41,11 @@ class Says(questions.Program):
         self.questions.append(question)  # type: ignore[attr-defined]
         shown = [line for line in question.splitlines() if line.split()[0] in SIGHTINGS]
         bad = [place for place, line in enumerate(shown) if any(key in line for key in self.wrong)]  # type: ignore[attr-defined]
-        moves = ("unseen arrive", "unseen prepare 0 10 100 last", *("seen switch" for _ in shown)) if "moves" in question.splitlines() else ()
+        moves = (
+            ("unseen arrive", "unseen prepare 0 10 100 last", *("seen switch" for _ in shown))
+            if "moves" in question.splitlines()
+            else ()
+        )
         return questions.Found(bad[0] if bad else len(shown), self.closed, moves, bool(bad) and self.never)  # type: ignore[attr-defined]
 
 
@@ -62,14 +67,21 @@ class Blames(unittest.TestCase):
         trace = traced("B1-star-earfcn")
         wrong = blamed(trace.seen)
         seen = lawful.confirmed(trace, Says(*wrong, never=True))
-        self.assertTrue(seen.head[-1].endswith(f", and for {len(wrong)} none of any length, with moves over the air too"), seen.head[-1])
+        self.assertTrue(
+            seen.head[-1].endswith(f", and for {len(wrong)} none of any length, with moves over the air too"),
+            seen.head[-1],
+        )
 
     def test_a_blame_that_a_history_explains_is_withdrawn(self) -> None:
         trace = traced("B1-star-earfcn")
         seen = lawful.confirmed(trace, Says())
         self.assertEqual([], blamed(seen))
         self.assertIn("blames of keys withdrawn", seen.head[-1])
-        reasons = [value.reason for _, value in seen.values() if value.verdict == UNKNOWN and has(value.remarks, Cause.HISTORY_WITH_UNSEEN, Cause.HISTORY_WITHOUT_UNSEEN)]
+        reasons = [
+            value.reason
+            for _, value in seen.values()
+            if value.verdict == UNKNOWN and has(value.remarks, Cause.HISTORY_WITH_UNSEEN, Cause.HISTORY_WITHOUT_UNSEEN)
+        ]
         self.assertTrue(reasons)
         for reason in reasons:
             self.assertIn("with the arrival at the target, a handover over X2 prepared at ", reason)
@@ -77,7 +89,17 @@ class Blames(unittest.TestCase):
     def test_the_moves_of_a_history_are_told_in_words(self) -> None:
         phone = questions.Phone(traced("B1-star-earfcn"), [])
         phone.numbers.of("eNB 7")
-        said = [*phone.grounds(["unseen arrive", "seen renew 0 3 1 0 10 100 taken", "unseen ask lost", *["unseen switch"] * 8, "seen prepare 0 10 100 besides"])]
+        said = [
+            *phone.grounds(
+                [
+                    "unseen arrive",
+                    "seen renew 0 3 1 0 10 100 taken",
+                    "unseen ask lost",
+                    *["unseen switch"] * 8,
+                    "seen prepare 0 10 100 besides",
+                ]
+            )
+        ]
         self.assertEqual(f"{NOT_FOUND}, with no unseen move", told(said[0]))
         self.assertEqual(f"{NOT_FOUND}: with 1 more and {', '.join(['a path switch'] * 8)} unseen", told(said[1]))
         for move, wanted in (
@@ -114,7 +136,9 @@ class Blames(unittest.TestCase):
             (derivations.algorithm(kenb, 1, 2), []),
             (Key(bytes(32), NONE), []),
         ):
-            phone.sightings = [questions.Sighting("over 0 1", value=Line("1", "HandoverRequest", "KeNB*", DIFFERS, key=key))]
+            phone.sightings = [
+                questions.Sighting("over 0 1", value=Line("1", "HandoverRequest", "KeNB*", DIFFERS, key=key))
+            ]
             phone.question(1, True)
             self.assertEqual(wanted, [*phone.clues()], key.form)
 
@@ -154,7 +178,17 @@ class Blames(unittest.TestCase):
     def test_the_answer_of_a_program(self) -> None:
         with tempfile.TemporaryDirectory() as folder:
             program = Path(folder) / "program"
-            for text, status, wanted in (("explained 3 of 4 closed", 0, questions.Found(3, True)), ("explained 1 of 4\nseen switch", 0, questions.Found(1, False, ("seen switch",))), ("explained 4 of 4", 0, questions.Found(4, False)), ("explained 2 of 4 closed out-of-order", 0, questions.Found(2, True, (), True)), ("explained 2 of 4 out-of-order", 0, questions.Found(2, False, (), True)), ("explained 2 of 4 out-of-place", 0, questions.Found(2, False, (), True)), ("explained 2 of 4 closed out-of-order out-of-reach", 0, questions.Found(2, True, (), True)), ("bad line 1", 3, None), ("", 12, None)):
+            for text, status, wanted in (
+                ("explained 3 of 4 closed", 0, questions.Found(3, True)),
+                ("explained 1 of 4\nseen switch", 0, questions.Found(1, False, ("seen switch",))),
+                ("explained 4 of 4", 0, questions.Found(4, False)),
+                ("explained 2 of 4 closed out-of-order", 0, questions.Found(2, True, (), True)),
+                ("explained 2 of 4 out-of-order", 0, questions.Found(2, False, (), True)),
+                ("explained 2 of 4 out-of-place", 0, questions.Found(2, False, (), True)),
+                ("explained 2 of 4 closed out-of-order out-of-reach", 0, questions.Found(2, True, (), True)),
+                ("bad line 1", 3, None),
+                ("", 12, None),
+            ):
                 program.write_text(f"#!/bin/sh\ncat >/dev/null\necho '{text}'\nexit {status}\n")
                 program.chmod(0o700)
                 with mock.patch.dict(os.environ, {questions.VARIABLE: f"proved {program}"}):

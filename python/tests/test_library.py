@@ -36,7 +36,11 @@ class Derivations(unittest.TestCase):
         draw = random.Random(1)
         for _ in range(CASES):
             key, sync = draw.randbytes(32), draw.randbytes(32)
-            count, pci, earfcn = draw.getrandbits(24), draw.randint(0, 503), draw.choice([65535, 65536, draw.randint(0, 262143)])
+            count, pci, earfcn = (
+                draw.getrandbits(24),
+                draw.randint(0, 503),
+                draw.choice([65535, 65536, draw.randint(0, 262143)]),
+            )
             kind, identity = draw.randint(1, 6), draw.randint(0, 15)
             wide = earfcn.to_bytes(3 if earfcn > 65535 else 2, "big")
             self.assertEqual(library.kenb(key, count), derived(key, 0x11, count.to_bytes(4, "big")))
@@ -100,7 +104,10 @@ class Ciphers(unittest.TestCase):
         for key, count, bearer, direction, text, mac in (
             ("d3c5d592327fb11c4035c6680af8c6d1", 0x398A59B4, 26, 1, "484583d5afe082ae", "b93787e6"),
             (
-                "83fd23a244a74cf358da3019f1722635", 0x36AF6144, 15, 1,
+                "83fd23a244a74cf358da3019f1722635",
+                0x36AF6144,
+                15,
+                1,
                 "35c68716633c66fb750c266865d53c11ea05b1e9fa49c8398d48e1efa5909d3947902837f5ae96d5a05bc8d61ca8dbef"
                 "1b13a4b4abfe4fb1006045b674bb54729304c382be53a5af05556176f6eaa2ef1d05e4b083181ee674cda5a485f74d7a",
                 "e657e182",
@@ -125,14 +132,18 @@ class Pdus(unittest.TestCase):
             sent = library.eea2(self.enc[16:], count, 0, UP, text) if header in (2, 4) else text
             covered = bytes([count % 256]) + sent
             pdu = self.nas(send=count).seal(header, UP, text)
-            self.assertEqual(pdu, bytes([16 * header + 7]) + library.eia2(self.integrity[16:], count, 0, UP, covered) + covered)
+            self.assertEqual(
+                pdu, bytes([16 * header + 7]) + library.eia2(self.integrity[16:], count, 0, UP, covered) + covered
+            )
             self.assertEqual(self.nas(receive=max(count - 255, 0)).open(UP, pdu), library.Opened(text, count, header))
             self.assertEqual(self.nas().open_at(count, UP, pdu).text, text)
             at = draw.randrange(1, 5)
             turned = pdu[:at] + bytes([pdu[at] ^ 1]) + pdu[at + 1 :]
             with self.assertRaises(library.MacFails) as fails:
                 self.nas(receive=count).open(UP, turned)
-            self.assertEqual((fails.exception.count, fails.exception.wanted, fails.exception.got), (count, pdu[1:5], turned[1:5]))
+            self.assertEqual(
+                (fails.exception.count, fails.exception.wanted, fails.exception.got), (count, pdu[1:5], turned[1:5])
+            )
         self.assertRaises(library.OtherCount, self.nas().open_at, count ^ 1, UP, pdu)
         self.assertRaises(library.Short, self.nas().open, UP, pdu[:5])
         self.assertRaises(library.BadHeader, self.nas().open, UP, b"\x07" + pdu[1:])
@@ -203,9 +214,18 @@ class Pdus(unittest.TestCase):
     def test_rlc_am(self) -> None:
         sender, receiver = (library.DrbContext(self.enc, 0, 12) for _ in range(2))
         made = [sender.send(UP, str(count).encode()) for count in range(5000)]
-        found = [(receiver.receive_am(last, UP, made[count]), count) for last, count in ((4095, 0), (0, 3), (0, 1), (0, 3), (3, 2), (3, 2051), (2051, 4099))]
+        found = [
+            (receiver.receive_am(last, UP, made[count]), count)
+            for last, count in ((4095, 0), (0, 3), (0, 1), (0, 3), (3, 2), (3, 2051), (2051, 4099))
+        ]
         fates = [library.NEW, library.NEW, library.LATE, library.LATE, library.DISCARDED, library.NEW, library.NEW]
-        self.assertEqual(found, [(library.Opened(str(count).encode(), count, 0, False, fate), count) for fate, (_, count) in zip(fates, found)])
+        self.assertEqual(
+            found,
+            [
+                (library.Opened(str(count).encode(), count, 0, False, fate), count)
+                for fate, (_, count) in zip(fates, found)
+            ],
+        )
         self.assertEqual(receiver.receive_count, 4100)
         self.assertRaises(library.OutOfRange, receiver.receive_am, 4096, UP, made[0])
         self.assertRaises(library.BeforeFirst, library.DrbContext(self.enc, 0, 12).receive_am, 4095, UP, b"\x8f\xff")

@@ -26,16 +26,24 @@ def nas() -> list[bytes]:
 def written(file: Path, dlt: int, packets: list[bytes]) -> Path:
     """A capture with this link type."""
     head = struct.pack("<IHHiIII", 0xA1B2C3D4, 2, 4, 0, 0, 65535, dlt)
-    file.write_bytes(head + b"".join(struct.pack("<IIII", number, 0, len(one), len(one)) + one for number, one in enumerate(packets, 1)))
+    file.write_bytes(
+        head
+        + b"".join(struct.pack("<IIII", number, 0, len(one), len(one)) + one for number, one in enumerate(packets, 1))
+    )
     return file
 
 
 class Numbers(unittest.TestCase):
     def test_a_number_is_one_of_those_for_users(self) -> None:
-        self.assertEqual([user_dlt("48"), user_dlt("45"), user_dlt("60"), user_dlt("61"), user_dlt("1"), user_dlt("")], [150, 147, 162, None, None, None])
+        self.assertEqual(
+            [user_dlt("48"), user_dlt("45"), user_dlt("60"), user_dlt("61"), user_dlt("1"), user_dlt("")],
+            [150, 147, 162, None, None, None],
+        )
 
     def test_tshark_is_told_of_all_but_nas(self) -> None:
-        self.assertEqual(preferences(["150=s1ap", "148=nas-eps"]), ["-o", 'uat:user_dlts:"User 3 (DLT=150)","s1ap","0","","0",""'])
+        self.assertEqual(
+            preferences(["150=s1ap", "148=nas-eps"]), ["-o", 'uat:user_dlts:"User 3 (DLT=150)","s1ap","0","","0",""']
+        )
         for wrong in ("150", "150=", "146=s1ap", "163=s1ap", "x=s1ap", "150=nothing"):
             with self.assertRaises(TraceError):
                 preferences([wrong])
@@ -64,7 +72,13 @@ class Files(unittest.TestCase):
         for word in ("check-trace", "wireshark"):
             status, out, err = run(word, str(written(self.room / "s1ap.pcap", 150, [b"\0\x11\0"])), KASME)
             self.assertEqual((status, out, err.count("\n")), (2, "", 1))
-            self.assertIn('--dlt 150=s1ap decodes it, or in Wireshark the line "User 3 (DLT=150)","s1ap","0","","0","" of its table user_dlts', err)
+            self.assertIn(
+                (
+                    '--dlt 150=s1ap decodes it, or in Wireshark the line "User 3 (DLT=150)","s1ap","0","","0","" of '
+                    "its table user_dlts"
+                ),
+                err,
+            )
 
     def test_half_a_capture_is_not_told_as_whole(self) -> None:
         half = self.room / "half.pcapng"

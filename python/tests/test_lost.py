@@ -22,7 +22,7 @@ def lost(found: list[Message]) -> Iterator[set[str]]:
     for one in frames:
         yield {one}
     for place, one in enumerate(frames):
-        for other in frames[place + 1:]:
+        for other in frames[place + 1 :]:
             if int(other) - int(one) <= NEAR:
                 yield {one, other}
 
@@ -39,7 +39,9 @@ class Lost(unittest.TestCase):
                 tried += 1
                 with self.subTest(capture=name, without=sorted(out)):
                     lines = report(name, copy.deepcopy([message for message in found if message.frame not in out]))
-                    self.assertEqual([str(line) for line in lines if line.verdict == DIFFERS and line.frame not in sound], [])
+                    self.assertEqual(
+                        [str(line) for line in lines if line.verdict == DIFFERS and line.frame not in sound], []
+                    )
         print(f"{tried} losses", end=" ", flush=True)
 
 

@@ -1,4 +1,5 @@
-"""The page of the variants of a scenario: its counts and runs are those of `--json`, and in a browser each box shows its own run."""
+"""The page of the variants of a scenario: its counts and runs are those of `--json`, and in a browser each box shows
+its own run."""
 from __future__ import annotations
 
 import copy
@@ -37,15 +38,28 @@ def document() -> dict[str, Any]:
 
 
 def made(word: str = "") -> str:
-    page, told, lines = matrix_page.page(document()), list(matrix_page.told(document())), list(matrix_page.of_note(document()))
+    page, told, lines = (
+        matrix_page.page(document()),
+        list(matrix_page.told(document())),
+        list(matrix_page.of_note(document())),
+    )
     if word:
-        page, told, lines = ({**spoil(it, word), **{name: it[name] for name in ("kinds", "variants")}} if isinstance(it, dict) else spoil(it, word) for it in (page, told, lines))
+        page, told, lines = (
+            {**spoil(it, word), **{name: it[name] for name in ("kinds", "variants")}}
+            if isinstance(it, dict)
+            else spoil(it, word)
+            for it in (page, told, lines)
+        )
     return pages.html(page, told, lines)
 
 
 def whole(page: dict[str, Any], variant: dict[str, Any]) -> list[dict[str, Any]]:
     """The run of a variant, step by step."""
-    return [step for entry in variant["run"] for step in (page["base"][entry[0]:entry[1] + 1] if isinstance(entry, list) else [page["steps"][entry]])]
+    return [
+        step
+        for entry in variant["run"]
+        for step in (page["base"][entry[0] : entry[1] + 1] if isinstance(entry, list) else [page["steps"][entry]])
+    ]
 
 
 class Matrix(unittest.TestCase):
@@ -61,10 +75,15 @@ class Matrix(unittest.TestCase):
         page = document_of(made())
         by_id = {variant["id"]: variant for variant in page["variants"]}
         lost = by_id["9.lost"]
-        self.assertEqual([page["texts"][one] for one in lost["gone"]][:2], ["step 9 X2 Handover Request", "step 10 X2 Handover Request Acknowledge"])
+        self.assertEqual(
+            [page["texts"][one] for one in lost["gone"]][:2],
+            ["step 9 X2 Handover Request", "step 10 X2 Handover Request Acknowledge"],
+        )
         steps = whole(page, lost)
         self.assertNotIn("9", [step["f"] for step in steps if "note" not in step])
-        self.assertTrue(any(step.get("v") == "bad" and step["answer"] == "NoAttempt" or step.get("v") == "bad" for step in steps))
+        self.assertTrue(
+            any(step.get("v") == "bad" and step["answer"] == "NoAttempt" or step.get("v") == "bad" for step in steps)
+        )
         for variant in page["variants"]:
             kinds = {step.get("v") for step in whole(page, variant)}
             self.assertLessEqual(kinds, {None, "bad", "unk"})
@@ -80,7 +99,9 @@ class Matrix(unittest.TestCase):
     def test_the_word_writes_it_beside_its_answer(self) -> None:
         with tempfile.TemporaryDirectory() as room:
             file = Path(room) / "page.html"
-            plain, with_page = called(EXAMPLES / "run/ordinary.toml"), called("--html", file, EXAMPLES / "run/ordinary.toml")
+            plain, with_page = called(EXAMPLES / "run/ordinary.toml"), called(
+                "--html", file, EXAMPLES / "run/ordinary.toml"
+            )
             self.assertEqual(with_page[:2], plain[:2])
             self.assertEqual((faults_of(file.read_text()), file.stat().st_mode & 0o777), ([], 0o600))
             status, out, err = called("--html", room, EXAMPLES / "run/ordinary.toml")
@@ -110,10 +131,19 @@ class InChromium(InBrowser):
         place = next(place for place, variant in enumerate(variants) if variant["id"] == "9.lost")
         one.click(f"document.getElementById('box{place}')")
         said = self.text("#panel")
-        for word in ("X2 Handover Request (step 9) lost", "worst outcome: no handover", "its own run", "falls away: step 9", "refused here and not in the scenario"):
+        for word in (
+            "X2 Handover Request (step 9) lost",
+            "worst outcome: no handover",
+            "its own run",
+            "falls away: step 9",
+            "refused here and not in the scenario",
+        ):
             self.assertIn(word, said)
         self.assertFalse("[object" in said)
-        self.assertEqual((one.ask("location.hash"), one.ask("document.querySelectorAll('.run .row').length > 30")), ("#f=9.lost", True))
+        self.assertEqual(
+            (one.ask("location.hash"), one.ask("document.querySelectorAll('.run .row').length > 30")),
+            ("#f=9.lost", True),
+        )
         one.key("Escape")
         self.assertEqual(one.ask(f"{PANEL}.hidden"), True)
 
@@ -130,11 +160,23 @@ class InChromium(InBrowser):
         one.key("ArrowUp")
         self.assertEqual(one.ask("location.hash"), f"#f={variants[1]['id']}")
         one.key("n")
-        self.assertEqual(one.ask("document.querySelector('.box.at').id === document.getElementById('matrix').getAttribute('aria-activedescendant')"), True)
+        self.assertEqual(
+            one.ask(
+                "document.querySelector('.box.at').id === "
+                "document.getElementById('matrix').getAttribute('aria-activedescendant')"
+            ),
+            True,
+        )
         one.key("Escape")
         one.key("/")
         one.types("path switch")
-        self.assertEqual(one.ask("document.querySelectorAll('#matrix .box.off').length > 0 && document.querySelectorAll('#matrix .box:not(.off)').length > 0"), True)
+        self.assertEqual(
+            one.ask(
+                "document.querySelectorAll('#matrix .box.off').length > 0 && document.querySelectorAll('#matrix "
+                ".box:not(.off)').length > 0"
+            ),
+            True,
+        )
         one.key("Escape")
 
     def test_filters_and_fragments(self) -> None:
@@ -155,7 +197,14 @@ class InChromium(InBrowser):
             self.browser.key("n")
             self.browser.key("Enter")
             self.assertEqual(self.browser.ask(f"{PANEL}.hidden"), False, word[:30])
-            self.assertEqual((self.browser.ask("document.querySelectorAll('img, iframe, #forged, a').length"), self.browser.faults()), (0, []), word[:30])
+            self.assertEqual(
+                (
+                    self.browser.ask("document.querySelectorAll('img, iframe, #forged, a').length"),
+                    self.browser.faults(),
+                ),
+                (0, []),
+                word[:30],
+            )
 
 
 if __name__ == "__main__":

@@ -1,5 +1,6 @@
-"""Names and places: each class of the package, each type that a module names, and each module has a name of its own, so that a search for it finds one thing, and
-a package imports only from those whose rows stand above its own in docs/MAP.md."""
+"""Names and places: each class of the package, each type that a module names, and each module has a name of its own, so
+that a search for it finds one thing, and a package imports only from those whose rows stand above its own in
+docs/MAP.md."""
 import ast
 import pathlib
 import re
@@ -17,7 +18,11 @@ def names_of(module: ast.Module) -> Iterator[str]:
             yield node.name
     for line in module.body:
         if isinstance(line, ast.Assign):
-            yield from (it.id for it in line.targets if isinstance(it, ast.Name) and not it.id.isupper() and not it.id.startswith("_"))
+            yield from (
+                it.id
+                for it in line.targets
+                if isinstance(it, ast.Name) and not it.id.isupper() and not it.id.startswith("_")
+            )
 
 
 def modules_by_name() -> dict[str, list[str]]:
@@ -46,7 +51,13 @@ class Names(unittest.TestCase):
 
     def test_a_package_imports_from_those_above_it(self) -> None:
         order = re.findall(r"^\| `lte_sec\.(\w+)`", MAP.read_text(), re.MULTILINE)
-        upward = [(file.stem, other) for place, package in enumerate(order) for file in (PACKAGE / package).glob("*.py") for other in packages_of(file) if other in order[place + 1:]]
+        upward = [
+            (file.stem, other)
+            for place, package in enumerate(order)
+            for file in (PACKAGE / package).glob("*.py")
+            for other in packages_of(file)
+            if other in order[place + 1 :]
+        ]
         self.assertEqual([], upward)
 
 

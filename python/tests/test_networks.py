@@ -1,4 +1,5 @@
-"""Networks that are written out message by message: nothing of a conformant one differs, and each fault is one difference at its frame."""
+"""Networks that are written out message by message: nothing of a conformant one differs, and each fault is one
+difference at its frame."""
 from __future__ import annotations
 
 import re
@@ -16,13 +17,18 @@ class Networks(unittest.TestCase):
             case = of_network(name, made())
             with self.subTest(name):
                 lines = case.lines(case.messages)
-                self.assertEqual([str(line) for line in lines if line.verdict == DIFFERS or all_judged and line.verdict == UNKNOWN], [])
+                self.assertEqual(
+                    [str(line) for line in lines if line.verdict == DIFFERS or all_judged and line.verdict == UNKNOWN],
+                    [],
+                )
 
     def test_each_fault_is_one_difference_at_its_frame(self) -> None:
         for name, (made, text) in BROKEN.items():
             case = of_network(name, made())
             with self.subTest(name):
-                told = [line for line in case.lines(case.messages) if line.verdict == DIFFERS and line.what != "agreement"]
+                told = [
+                    line for line in case.lines(case.messages) if line.verdict == DIFFERS and line.what != "agreement"
+                ]
                 shown = "\n".join(map(str, told))
                 self.assertEqual([line.frame for line in told], [case.fault], shown)
                 self.assertTrue(re.search(text, shown), shown)

@@ -30,6 +30,8 @@ SHOWN = {
     ("run/seven-ahead", "again"): ("keys differ",),
     ("worked/sent-again", "late"): ("coincidence",),
 }
+
+
 def setUpModule() -> None:
     programs()
 
@@ -49,7 +51,13 @@ class Faults(unittest.TestCase):
 
     def test_a_message_is_sent_again_by_its_senders_act(self) -> None:
         whole = study("run/ordinary")
-        for item, acts in (("14", ["command"]), ("15", ["resend"]), ("16", ["ask"]), ("17", ["ask", "deliver"]), ("12", ["cancel", "deliver", "x2", "deliver"])):
+        for item, acts in (
+            ("14", ["command"]),
+            ("15", ["resend"]),
+            ("16", ["ask"]),
+            ("17", ["ask", "deliver"]),
+            ("12", ["cancel", "deliver", "x2", "deliver"]),
+        ):
             items = whole.faults.put_all((Fault("again", item),))
             assert items
             at = next(place for place, it in enumerate(items) if it.name == item)
@@ -93,7 +101,9 @@ class Outcomes(unittest.TestCase):
         with tempfile.TemporaryDirectory() as room:
             file = save(Path(room), whole, variant, course)
             ran = subprocess.run([program("lte_sec_app"), "run"], input=file.read_bytes(), capture_output=True)
-            self.assertEqual((ran.returncode, ran.stdout.decode()), (7 if variant.worst == "coincidence" else 0, course.report))
+            self.assertEqual(
+                (ran.returncode, ran.stdout.decode()), (7 if variant.worst == "coincidence" else 0, course.report)
+            )
             self.assertIn(f": {variant.worst}", file.read_text().splitlines()[0])
 
     def test_the_words_are_those_of_the_page(self) -> None:
@@ -110,10 +120,14 @@ class Outcomes(unittest.TestCase):
             standing = Standing(whole.scenario, course, serving)
             key = standing.phone_key()
             given = text(whole.runs.setup, course.steps).encode()
-            audit = subprocess.run([program("lte_sec_app"), "audit"], input=given, capture_output=True, text=False).stdout.decode()
+            audit = subprocess.run(
+                [program("lte_sec_app"), "audit"], input=given, capture_output=True, text=False
+            ).stdout.decode()
             rows = {line.split()[1]: line.split()[3] for line in audit.splitlines() if line.startswith("row ")}
             if key:
-                self.assertEqual(standing.reach(), set(rows[str(standing.by_key[key])].split(",")) - {"-"}, str(variant.faults))
+                self.assertEqual(
+                    standing.reach(), set(rows[str(standing.by_key[key])].split(",")) - {"-"}, str(variant.faults)
+                )
 
     def test_the_cores_view_is_as_a_release_has_it(self) -> None:
         whole = study("what-if/attach-and-handovers")
@@ -149,13 +163,24 @@ class Outcomes(unittest.TestCase):
             self.assertEqual(study(name, follows).tried(faults).variant.worst, word, str(faults))
 
     def test_what_a_dropped_pair_brings_is_marked(self) -> None:
-        """By hand: at steps 28 to 31 station 2 hands the phone on within, and at 34 the answer to what it asked at 32 comes to it."""
+        """By hand: at steps 28 to 31 station 2 hands the phone on within, and at 34 the answer to what it asked at 32
+        comes to it."""
         mark = "a station keeps its pair at a handover within it"
         whole = study("what-if/handover-within")
         for kind, item, after, expected in (
-            ("late", "31", "34", mark),  # the pair comes before the Complete of the handover within, and goes with the old context
+            (
+                "late",
+                "31",
+                "34",
+                mark,
+            ),  # the pair comes before the Complete of the handover within, and goes with the old context
             ("late", "31", "32", mark),  # the request goes out before it, and its answer is Stale
-            ("late", "15", "20", None),  # the pair comes behind the handover within, which is horizontal in the standard, too
+            (
+                "late",
+                "15",
+                "20",
+                None,
+            ),  # the pair comes behind the handover within, which is horizontal in the standard, too
             ("late", "34", "36", None),  # the pair comes behind the begin of the next handover
             ("lost", "30", None, None),  # the handover within is not completed
         ):
@@ -166,18 +191,26 @@ class Outcomes(unittest.TestCase):
     def test_a_dropped_pair_is_marked_at_the_probes_handover(self) -> None:
         scenario = study("what-if/handover-within").scenario
         whole = Study(program("lte_sec_app"), dataclasses.replace(scenario, steps=scenario.steps[:36]))
-        for fault, expected in ((Fault("late", "31", "34"), "horizontal at the next handover (here)"), (Fault("lost", "34"), "horizontal at the next handover")):
+        for fault, expected in (
+            (Fault("late", "31", "34"), "horizontal at the next handover (here)"),
+            (Fault("lost", "34"), "horizontal at the next handover"),
+        ):
             self.assertEqual(whole.tried((fault,)).variant.outcomes["weaker key"].text, expected)
 
     def test_keys_that_differ_by_dropped_pairs_are_marked(self) -> None:
-        """Seven pairs are dropped by handovers within; an answer that is lost and sent again is the eighth step ahead. Without handovers within
-        it is no limit of the profile."""
+        """Seven pairs are dropped by handovers within; an answer that is lost and sent again is the eighth step ahead.
+        Without handovers within it is no limit of the profile."""
         for scenario, expected in (
-            (octets("procedures/eight-steps-and-nothing-lost").replace(b"first_ncc = 2", b"first_ncc = 1"), [True] * 7), (octets("run/seven-ahead"), [False]),
+            (octets("procedures/eight-steps-and-nothing-lost").replace(b"first_ncc = 2", b"first_ncc = 1"), [True] * 7),
+            (octets("run/seven-ahead"), [False]),
         ):
             whole = Study(program("lte_sec_app"), scenarios.read(scenario))
-            found = [whole.tried(each.faults).variant for each in listed(scenario, "again") if "keys differ" in each.outcomes]
-            self.assertEqual([limit(variant, "keys differ", whole.original.messages) is not None for variant in found], expected)
+            found = [
+                whole.tried(each.faults).variant for each in listed(scenario, "again") if "keys differ" in each.outcomes
+            ]
+            self.assertEqual(
+                [limit(variant, "keys differ", whole.original.messages) is not None for variant in found], expected
+            )
 
     def test_a_handover_is_begun_by_the_station_that_serves(self) -> None:
         tried = study("what-if/ten-handovers", True).tried((Fault("lost", "11"),))

@@ -1,4 +1,5 @@
-"""Pages in HTML as texts: that nothing is fetched, that words of a capture stay text, and that what they show is what --json has."""
+"""Pages in HTML as texts: that nothing is fetched, that words of a capture stay text, and that what they show is what
+--json has."""
 from __future__ import annotations
 
 import copy
@@ -25,9 +26,27 @@ from .test_traces import TRACES
 from .test_words import KASME, run
 
 HOSTILE = (
-    "</script x>", "<!--<script ", "<script>alert(1)</script>", "<img src=x onerror=alert(1)>", "\"><svg onload=alert(1)>", "' onmouseover='alert(1)", "javascript:alert(1)",
-    "&lt;b&gt;&amp;&#x3c;", "]]>", "<style>*{display:none}</style>", "</title>", "</noscript><p id=forged>", "\u2028\u2029", "\ud800", "\udfff\ud800", "\u202egnorw", "\x00\x1b[31m",
-    "${alert(1)}`\\", "__proto__", "constructor", "a" * 3000,
+    "</script x>",
+    "<!--<script ",
+    "<script>alert(1)</script>",
+    "<img src=x onerror=alert(1)>",
+    '"><svg onload=alert(1)>',
+    "' onmouseover='alert(1)",
+    "javascript:alert(1)",
+    "&lt;b&gt;&amp;&#x3c;",
+    "]]>",
+    "<style>*{display:none}</style>",
+    "</title>",
+    "</noscript><p id=forged>",
+    "\u2028\u2029",
+    "\ud800",
+    "\udfff\ud800",
+    "\u202egnorw",
+    "\x00\x1b[31m",
+    "${alert(1)}`\\",
+    "__proto__",
+    "constructor",
+    "a" * 3000,
 )
 SPOILT_TEXTS = {
     "escape left out": ("pages.page.put", lambda text: text),
@@ -35,13 +54,37 @@ SPOILT_TEXTS = {
     "policy opened": ("pages.page.policy", lambda script, style: "default-src 'self' 'unsafe-inline'"),
     "words of the document not escaped": ("pages.page.written", lambda text: text),
 }
-SPOILT_SCRIPTS = {"innerHTML": ("it.append(", "it.innerHTML += (it.append, "), "a fetch": ("begin();\n", "fetch('https://example.org/' + keys[0].hex);\n  begin();\n")}
+SPOILT_SCRIPTS = {
+    "innerHTML": ("it.append(", "it.innerHTML += (it.append, "),
+    "a fetch": ("begin();\n", "fetch('https://example.org/' + keys[0].hex);\n  begin();\n"),
+}
 
 
 def spoil(it: Any, word: str, name: str = "") -> Any:
     """The document with a word in each of its texts that come from a capture or a word of the call."""
     if isinstance(it, dict):
-        return {key: it[key] if key in ("page", "marks", "v", "nas", "kind", "by", "unit", "hex", "sha256", "form", "way", "id", "colour", "ink") else spoil(it[key], word, key) for key in it}
+        return {
+            key: it[key]
+            if key
+            in (
+                "page",
+                "marks",
+                "v",
+                "nas",
+                "kind",
+                "by",
+                "unit",
+                "hex",
+                "sha256",
+                "form",
+                "way",
+                "id",
+                "colour",
+                "ink",
+            )
+            else spoil(it[key], word, key)
+            for key in it
+        }
     if isinstance(it, list):
         return [spoil(each, word, name) for each in it]
     return f"{it}{word}" if isinstance(it, str) else it
@@ -53,7 +96,11 @@ def trace() -> dict[str, Any]:
     world = two_phones()
     asked = next(one for one in world.messages if one.link == "X2")
     asked.key = bytes(32)
-    about = {"files": [{"name": "a.pcapng", "sha256": "ab" * 32}], "options": ["--cells cells.txt"], "made": {"by": "lte_sec", "version": "1", "proved": None}}
+    about = {
+        "files": [{"name": "a.pcapng", "sha256": "ab" * 32}],
+        "options": ["--cells cells.txt"],
+        "made": {"by": "lte_sec", "version": "1", "proved": None},
+    }
     return document(seen(world), about)
 
 
@@ -94,14 +141,26 @@ class Texts(unittest.TestCase):
         with tempfile.TemporaryDirectory() as room:
             file = Path(room) / "page.html"
             for name in ("A", "B1-star-earfcn", "lost-answers"):
-                given = ["check-trace", "--cells", str(TRACES / f"{name}.cells.txt"), str(TRACES / f"{name}.json.gz"), KASME, "--json"]
+                given = [
+                    "check-trace",
+                    "--cells",
+                    str(TRACES / f"{name}.cells.txt"),
+                    str(TRACES / f"{name}.json.gz"),
+                    KASME,
+                    "--json",
+                ]
                 plain = run(*given, "--html", str(file))
                 self.assertTrue(name != "A" or run(*given) == plain)
                 found, page = json.loads(plain[1]), document_of(file.read_text())
                 self.assertEqual(len(page["events"]), len(found["messages"]))
-                self.assertEqual([line["text"] for event in page["events"] for line in event.get("l", [])], [line["text"] for line in found["lines"]])
+                self.assertEqual(
+                    [line["text"] for event in page["events"] for line in event.get("l", [])],
+                    [line["text"] for line in found["lines"]],
+                )
                 verdicts = [line["v"] for event in page["events"] for line in event.get("l", [])]
-                self.assertEqual({word: verdicts.count(trace_page.MARKS[word]) for word in found["summary"]}, found["summary"])
+                self.assertEqual(
+                    {word: verdicts.count(trace_page.MARKS[word]) for word in found["summary"]}, found["summary"]
+                )
                 self.assertEqual(wrong_keys(page["keys"]), [])
                 self.assertEqual(faults_of(file.read_text()), [])
 
@@ -109,7 +168,12 @@ class Texts(unittest.TestCase):
         page = document_of(made())
         self.assertEqual(wrong_keys(page["keys"]), [])
         self.assertGreater(sum(key["from"] is not None for key in page["keys"]), 10)
-        wrong = next(line for event in page["events"] for line in event.get("l", []) if line["what"] == "KeNB*" and line["v"] == "bad")
+        wrong = next(
+            line
+            for event in page["events"]
+            for line in event.get("l", [])
+            if line["what"] == "KeNB*" and line["v"] == "bad"
+        )
         self.assertEqual((page["keys"][wrong["isk"]]["hex"], page["keys"][wrong["isk"]]["from"]), ("00" * 32, None))
         self.assertEqual(page["keys"][wrong["wantk"]]["hex"], wrong["whex"])
         spoilt = copy.deepcopy(page["keys"])
@@ -123,9 +187,15 @@ class Texts(unittest.TestCase):
             for piece in (key["hex"], key["hex"][32:], key["hex"][:32], key["hex"][:16]):
                 self.assertFalse(piece in bare, key["form"])
         self.assertEqual(len({key["hex"] for key in fingerprints}), len(keys))
-        self.assertNotEqual([key["hex"] for key in fingerprints], [key["hex"] for key in document_of(made(keys=False))["keys"]])
-        self.assertEqual({line.get("plain", "") for event in document_of(bare)["events"] for line in event.get("l", [])}, {""})
-        self.assertEqual(("has KASME, the keys" in full, "has KASME, the keys" in bare, "ab" * 32 in bare), (True, False, True))
+        self.assertNotEqual(
+            [key["hex"] for key in fingerprints], [key["hex"] for key in document_of(made(keys=False))["keys"]]
+        )
+        self.assertEqual(
+            {line.get("plain", "") for event in document_of(bare)["events"] for line in event.get("l", [])}, {""}
+        )
+        self.assertEqual(
+            ("has KASME, the keys" in full, "has KASME, the keys" in bare, "ab" * 32 in bare), (True, False, True)
+        )
 
     def test_above_a_bound_only_frames_with_lines_are_in_it(self) -> None:
         found = trace()
@@ -133,12 +203,24 @@ class Texts(unittest.TestCase):
         self.assertEqual(len(page["events"]), len({line["number"] for line in found["lines"]}))
         for number, key in enumerate(page["keys"]):
             for place in key["at"]:
-                self.assertIn(number, [line.get(name) for line in page["events"][place]["l"] for name in ("isk", "wantk", "chain")])
+                self.assertIn(
+                    number,
+                    [line.get(name) for line in page["events"][place]["l"] for name in ("isk", "wantk", "chain")],
+                )
         self.assertIn("left out", " ".join(trace_page.told(found, page)))
 
     def test_lanes_are_phones_stations_and_cores(self) -> None:
         lanes = document_of(made())["lanes"]
-        self.assertEqual([(lane["name"], lane["kind"]) for lane in lanes], [("phones", "phone"), ("enb1", "station"), ("enb2", "station"), ("enb3", "station"), ("10.0.0.1:36412", "core")])
+        self.assertEqual(
+            [(lane["name"], lane["kind"]) for lane in lanes],
+            [
+                ("phones", "phone"),
+                ("enb1", "station"),
+                ("enb2", "station"),
+                ("enb3", "station"),
+                ("10.0.0.1:36412", "core"),
+            ],
+        )
 
     def test_texts_can_be_read_on_each_ground(self) -> None:
         for scheme, text, ground, contrast in contrasts((pages.HERE / "page.css").read_text()):
@@ -162,10 +244,14 @@ class Files(unittest.TestCase):
             file.write_text("old")
             file.chmod(0o644)
             pages.write(file, "new")
-            self.assertEqual((file.read_text(), stat.S_IMODE(file.stat().st_mode), os.listdir(room)), ("new", 0o600, ["page.html"]))
+            self.assertEqual(
+                (file.read_text(), stat.S_IMODE(file.stat().st_mode), os.listdir(room)), ("new", 0o600, ["page.html"])
+            )
 
     def test_a_write_that_fails_leaves_the_old_page(self) -> None:
-        with tempfile.TemporaryDirectory() as room, mock.patch("os.replace", side_effect=OSError(28, "No space left on device")):
+        with tempfile.TemporaryDirectory() as room, mock.patch(
+            "os.replace", side_effect=OSError(28, "No space left on device")
+        ):
             file = Path(room) / "page.html"
             file.write_text("old")
             with self.assertRaisesRegex(TraceError, "cannot be written: No space left"):
@@ -176,8 +262,11 @@ class Files(unittest.TestCase):
         given = ["check-trace", str(TRACES / "A.json.gz"), KASME]
         with tempfile.TemporaryDirectory() as room:
             for more, line in (
-                (["--html", room], "this is none"), (["--html", "/dev/null"], "this is none"), (["--html", f"{room}/none/page.html"], "its folder is not there"),
-                (["--html"], "--html wants a value"), (["--html", f"{room}/page.html", "--html-keys", "maybe"], "--html-keys takes yes or no"),
+                (["--html", room], "this is none"),
+                (["--html", "/dev/null"], "this is none"),
+                (["--html", f"{room}/none/page.html"], "its folder is not there"),
+                (["--html"], "--html wants a value"),
+                (["--html", f"{room}/page.html", "--html-keys", "maybe"], "--html-keys takes yes or no"),
             ):
                 status, out, err = run(*given, *more)
                 self.assertEqual((status, out, err.count("\n")), (2, "", 1), more)

@@ -7,10 +7,13 @@ import unittest
 
 from lte_sec.drive import peers
 
+
 class Peers(unittest.TestCase):
     def fault_of(self, program: str, is_silent: bool) -> peers.PeerFault:
         """How an actor fails; where it is to be silent it gets little time, once it is connected."""
-        peer = peers.Peer([sys.executable, "-c", program], "phone", 0.3 if is_silent and "socket" not in program else 60)
+        peer = peers.Peer(
+            [sys.executable, "-c", program], "phone", 0.3 if is_silent and "socket" not in program else 60
+        )
         try:
             with self.assertRaises(peers.PeerFault) as found:
                 peer.connect()
@@ -24,10 +27,19 @@ class Peers(unittest.TestCase):
             peer.end()
 
     def test_an_actor_that_fails_is_told_by_how(self) -> None:
-        serves = "import socket\ns = socket.create_server(('127.0.0.1', 0)); print(s.getsockname()[1], flush=True)\nc, _ = s.accept()\n"
-        cases = {"import time; time.sleep(9)": "said no port within", "print('port', flush=True)": "not the number of a port", "": "ended and said no port", "print(1, flush=True)": "nothing took a connection",
-                 serves + "c.recv(9)": "closed the connection before the reply", serves + "import time; time.sleep(9)": "was silent for 0.3 seconds where the reply was due",
-                 serves + "c.recv(9); c.sendall(b'\\0\\5\\0'); c.close()": "before the rest of the reply"}
+        serves = (
+            "import socket\ns = socket.create_server(('127.0.0.1', 0)); print(s.getsockname()[1], "
+            "flush=True)\nc, _ = s.accept()\n"
+        )
+        cases = {
+            "import time; time.sleep(9)": "said no port within",
+            "print('port', flush=True)": "not the number of a port",
+            "": "ended and said no port",
+            "print(1, flush=True)": "nothing took a connection",
+            serves + "c.recv(9)": "closed the connection before the reply",
+            serves + "import time; time.sleep(9)": "was silent for 0.3 seconds where the reply was due",
+            serves + "c.recv(9); c.sendall(b'\\0\\5\\0'); c.close()": "before the rest of the reply",
+        }
         for program, told in cases.items():
             with self.subTest(told):
                 is_silent = "seconds" in told or "within" in told
@@ -36,7 +48,10 @@ class Peers(unittest.TestCase):
                 self.assertEqual(is_silent, fault.is_silent)
 
     def test_an_actor_that_works_has_longer(self) -> None:
-        works = "import time\nends = time.process_time() + 0.5\nwhile time.process_time() < ends: pass\nprint('port', flush=True)"
+        works = (
+            "import time\nends = time.process_time() + 0.5\nwhile time.process_time() < ends: "
+            "pass\nprint('port', flush=True)"
+        )
         peer = peers.Peer([sys.executable, "-S", "-c", works], "phone", 0.2)
         try:
             peer.seconds = 60
@@ -46,7 +61,11 @@ class Peers(unittest.TestCase):
             peer.end()
 
     def test_work_is_that_of_a_process_and_of_those_that_it_starts(self) -> None:
-        for program, is_at_work in (("while True: pass", True), ("import subprocess, sys; subprocess.run([sys.executable, '-c', 'while True: pass'])", True), ("import time; time.sleep(60)", False)):
+        for program, is_at_work in (
+            ("while True: pass", True),
+            ("import subprocess, sys; subprocess.run([sys.executable, '-c', 'while True: pass'])", True),
+            ("import time; time.sleep(60)", False),
+        ):
             with self.subTest(program):
                 peer = peers.Peer([sys.executable, "-S", "-c", program], "phone", 1)
                 try:

@@ -1,4 +1,5 @@
-"""In Chromium no two texts of a picture overlap, and none leaves its box or the picture: the pictures of docs, and `draw` of scenarios with long names."""
+"""In Chromium no two texts of a picture overlap, and none leaves its box or the picture: the pictures of docs, and
+`draw` of scenarios with long names."""
 from __future__ import annotations
 
 import subprocess
@@ -11,11 +12,24 @@ from pathlib import Path
 from .browser import Browser, browser, found
 
 TOP = Path(__file__).resolve().parents[2]
-LONG = "A phone is handed over between stations whose acknowledgements are late, and the name of its scenario goes on and on, as names of products' scenarios do"
-SCENARIOS = (
-    "run/ordinary", "run/eight-ahead", "run/key-change", "run/cancelled-s1", "run/bidding-down", "run/counts-spent", "worked/rejects", "worked/wide-earfcn", "worked/injected", "worked/zeros",
+LONG = (
+    "A phone is handed over between stations whose acknowledgements are late, and the name of its scenario goes "
+    "on and on, as names of products' scenarios do"
 )
-# Of each text its words and the room that its letters take: a fifth of its box is room between lines. Then the boxes, and the picture.
+SCENARIOS = (
+    "run/ordinary",
+    "run/eight-ahead",
+    "run/key-change",
+    "run/cancelled-s1",
+    "run/bidding-down",
+    "run/counts-spent",
+    "worked/rejects",
+    "worked/wide-earfcn",
+    "worked/injected",
+    "worked/zeros",
+)
+# Of each text its words and the room that its letters take: a fifth of its box is room between lines. Then the boxes,
+# and the picture.
 MEASURES = """(() => {
     const room = (it, less) => { const at = it.getBBox(); return [at.x, at.y + at.height * less, at.x + at.width, at.y + at.height * (1 - less)]; };
     const boxes = [...document.querySelectorAll('rect')].map(it => room(it, 0));
@@ -32,7 +46,7 @@ def meet(one: Room, other: Room, by: float = 1) -> bool:
 def faults_of(texts: list[tuple[str, Room]], boxes: list[Room], picture: Room) -> Iterator[str]:
     """Texts that overlap, and those that leave the smallest box that their middle is in, or the picture."""
     for place, (words, room) in enumerate(texts):
-        yield from (f"'{words}' and '{others}' overlap" for others, other in texts[place + 1:] if meet(room, other))
+        yield from (f"'{words}' and '{others}' overlap" for others, other in texts[place + 1 :] if meet(room, other))
         x, y = (room[0] + room[2]) / 2, (room[1] + room[3]) / 2
         around = [box for box in boxes if box[0] <= x <= box[2] and box[1] <= y <= box[3]]
         box = min(around, key=lambda it: (it[2] - it[0]) * (it[3] - it[1]), default=picture)
@@ -44,7 +58,13 @@ def faults_of(texts: list[tuple[str, Room]], boxes: list[Room], picture: Room) -
 def measured(one: Browser, file: Path) -> list[str]:
     one.open(file)
     told = one.ask(MEASURES)
-    return list(faults_of([(words, room_of(room)) for words, room in told["texts"]], [room_of(box) for box in told["boxes"]], room_of(told["picture"])))
+    return list(
+        faults_of(
+            [(words, room_of(room)) for words, room in told["texts"]],
+            [room_of(box) for box in told["boxes"]],
+            room_of(told["picture"]),
+        )
+    )
 
 
 def room_of(edges: list[float]) -> Room:
@@ -59,7 +79,14 @@ def drawn(folder: Path) -> Iterator[tuple[str, Path]]:
         report = (TOP / f"examples/{name}.out").read_bytes()
         scenario.write_text(f"# {LONG}\n" + (TOP / f"examples/{name}.toml").read_text())
         for kind in ("messages", "ladder"):
-            picture.write_bytes(subprocess.run([sys.executable, TOP / "docs/draw", kind, scenario], input=report, stdout=subprocess.PIPE, check=True).stdout)
+            picture.write_bytes(
+                subprocess.run(
+                    [sys.executable, TOP / "docs/draw", kind, scenario],
+                    input=report,
+                    stdout=subprocess.PIPE,
+                    check=True,
+                ).stdout
+            )
             yield f"{name} {kind}", picture
 
 
@@ -67,9 +94,14 @@ class Measures(unittest.TestCase):
     def test_what_overlaps_and_what_leaves_is_told(self) -> None:
         picture, box = (0.0, 0.0, 100.0, 100.0), (10.0, 10.0, 60.0, 30.0)
         self.assertEqual([], list(faults_of([("a", (12, 12, 40, 20)), ("b", (12, 20, 40, 28))], [box], picture)))
-        self.assertEqual(["'a' and 'b' overlap"], list(faults_of([("a", (12, 12, 40, 20)), ("b", (38, 12, 50, 20))], [box], picture)))
+        self.assertEqual(
+            ["'a' and 'b' overlap"], list(faults_of([("a", (12, 12, 40, 20)), ("b", (38, 12, 50, 20))], [box], picture))
+        )
         self.assertEqual(["'a' leaves its box"], list(faults_of([("a", (12, 12, 70, 20))], [box], picture)))
-        self.assertEqual(["'a' leaves the picture"] * 2, [it.replace("its box", "the picture") for it in faults_of([("a", (70, 70, 120, 80))], [box], picture)])
+        self.assertEqual(
+            ["'a' leaves the picture"] * 2,
+            [it.replace("its box", "the picture") for it in faults_of([("a", (70, 70, 120, 80))], [box], picture)],
+        )
 
 
 @unittest.skipUnless(found(), "chromium is not here")

@@ -1,4 +1,5 @@
-"""Phones at random, as the standard has them, with KASMEs that are not given, and with a frame lost: nothing ever differs."""
+"""Phones at random, as the standard has them, with KASMEs that are not given, and with a frame lost: nothing ever
+differs."""
 from __future__ import annotations
 
 import os
@@ -45,9 +46,15 @@ def made(seed: int) -> tuple[RarerWorld, list[bytes]]:
     for phone in phones:
         world.attach(phone, chance.choice(CELLS).eci)
     acts: list[Callable[[Phone, int, int], object]] = [
-        *3 * [lambda phone, eci, own: world.x2(phone, eci)], lambda phone, eci, own: world.s1(phone, eci), lambda phone, eci, own: world.nas_up(phone),
-        lambda phone, eci, own: world.nas_down(phone), lambda phone, eci, own: world.again(phone, eci), lambda phone, eci, own: renewed(world, phone, eci, chance, spare),
-        lambda phone, eci, own: world.refresh(phone), lambda phone, eci, own: world.refresh(phone, own), lambda phone, eci, own: suspended(world, phone, eci, chance),
+        *3 * [lambda phone, eci, own: world.x2(phone, eci)],
+        lambda phone, eci, own: world.s1(phone, eci),
+        lambda phone, eci, own: world.nas_up(phone),
+        lambda phone, eci, own: world.nas_down(phone),
+        lambda phone, eci, own: world.again(phone, eci),
+        lambda phone, eci, own: renewed(world, phone, eci, chance, spare),
+        lambda phone, eci, own: world.refresh(phone),
+        lambda phone, eci, own: world.refresh(phone, own),
+        lambda phone, eci, own: suspended(world, phone, eci, chance),
         lambda phone, eci, own: world.x2(phone, eci, switch=False),
     ]
     for _ in range(chance.randrange(20, 60)):
@@ -71,7 +78,12 @@ class Random(unittest.TestCase):
             tried += 1
             lost = random.Random(seed).randrange(len(world.messages)) if seed % 2 else None
             messages = [message for place, message in enumerate(world.messages) if place != lost]
-            lines = check(Derivations(CALLS, [Kasme(f"k{place}", kasme) for place, kasme in enumerate(given)]), Cells(CELLS), messages, budget=200).lines
+            lines = check(
+                Derivations(CALLS, [Kasme(f"k{place}", kasme) for place, kasme in enumerate(given)]),
+                Cells(CELLS),
+                messages,
+                budget=200,
+            ).lines
             with self.subTest(seed=seed, lost=lost):
                 self.assertEqual([str(line) for line in lines if line.verdict == DIFFERS], [])
         print(f"{tried} worlds", end=" ", flush=True)

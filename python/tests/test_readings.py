@@ -34,7 +34,9 @@ ENDED = "the search for other readings was ended: "
 def seen(network: Network, lacks: Callable[[Message], bool] = lambda _: False) -> Account:
     """What is seen of a network by a tap that lacks some messages."""
     kept = [copy.copy(one) for one in network.messages if not lacks(one)]
-    return check(Derivations(CALLS, [Kasme(one.name, one.kasme) for one in network.contexts]), Cells(SITES), kept, 300).seen
+    return check(
+        Derivations(CALLS, [Kasme(one.name, one.kasme) for one in network.contexts]), Cells(SITES), kept, 300
+    ).seen
 
 
 def s1_up(message: Message) -> bool:
@@ -59,7 +61,9 @@ def by_another_clock(off: float) -> Network:
     network.x2_handover(1, 11, 101, ENB2, star(kenb, ENB2), 0, ENB1, chain(kenb, phone, 2), 2)
     network.x2_handover(2, 12, 101, ENB1, star(chain(kenb, phone, 2), ENB1), 2, ENB2, chain(kenb, phone, 3), 3)
     network.x2_handover(3, 13, 101, ENB2, star(chain(kenb, phone, 3), ENB2), 3, ENB1, chain(kenb, phone, 4), 4)
-    timed: list[Message] = [replace(one, time=0.05 * place + (off if one.link == "X2" else 0)) for place, one in enumerate(network.messages)]
+    timed: list[Message] = [
+        replace(one, time=0.05 * place + (off if one.link == "X2" else 0)) for place, one in enumerate(network.messages)
+    ]
     network.messages = sorted(timed, key=lambda one: one.time)
     return network
 
@@ -72,11 +76,20 @@ class Choices(unittest.TestCase):
     def test_a_new_connection_takes_identities_that_are_free(self) -> None:
         account = seen(sound_phones.a_core_that_begins_anew(), s1_up)
         self.assertEqual(told(account), [])
-        self.assertEqual(len(heads(account, f"{OTHERWISE}a new connection, whose first message the trace does not show, at frame")), 1, account.head)
+        self.assertEqual(
+            len(heads(account, f"{OTHERWISE}a new connection, whose first message the trace does not show, at frame")),
+            1,
+            account.head,
+        )
 
     def test_no_choice_explains_a_wrong_mac(self) -> None:
         """Its identities are those of its connection: it is no message of a phone of which nothing is known."""
-        for name in ("mac over the plain text", "mac of another algorithm", "count down used twice", "a plain message of esm"):
+        for name in (
+            "mac over the plain text",
+            "mac of another algorithm",
+            "count down used twice",
+            "a plain message of esm",
+        ):
             network = BROKEN[name][0]()
             self.assertEqual([one.split()[1] for one in told(seen(network, s1_up))], network.faults, name)
 
@@ -90,7 +103,9 @@ class Choices(unittest.TestCase):
 
 def read(tape: Tape, differing: tuple[int, ...], unknown: int = 0) -> Reading:
     """A reading that met two offers, in which these places differ and so many are not judged."""
-    lines = [Line("1", "", "NH", DIFFERS, place=place) for place in differing] + [Line("1", "", "NH", UNKNOWN, place=9)] * unknown
+    lines = [Line("1", "", "NH", DIFFERS, place=place) for place in differing] + [
+        Line("1", "", "NH", UNKNOWN, place=9)
+    ] * unknown
     return Reading(tape, [(3, Offer.STAYS), (6, Offer.NEW)], lines, dict.fromkeys(range(10), 0))
 
 
@@ -98,7 +113,11 @@ class Search(unittest.TestCase):
     STAYS, NEW = frozenset({(3, Offer.STAYS)}), frozenset({(6, Offer.NEW)})
 
     def test_the_reading_with_the_fewest_differences_counts(self) -> None:
-        found = {self.STAYS: read(self.STAYS, (8,)), self.NEW: read(self.NEW, (7, 8)), self.STAYS | self.NEW: read(self.STAYS | self.NEW, ())}
+        found = {
+            self.STAYS: read(self.STAYS, (8,)),
+            self.NEW: read(self.NEW, (7, 8)),
+            self.STAYS | self.NEW: read(self.STAYS | self.NEW, ()),
+        }
         chosen, whole = best(read(frozenset(), (7, 8)), lambda tape, _: found[tape], lambda: True)
         self.assertEqual((chosen.tape, whole), (self.STAYS | self.NEW, True))
 
@@ -128,7 +147,8 @@ class Bounds(unittest.TestCase):
             self.assertTrue(any("whose messages these are" in one for one in told(account, UNKNOWN)))
 
     def test_readings_again_take_no_more_than_their_bound(self) -> None:
-        """What is read again of a capture with links missing and many faults has a bound of steps, as no clock decides; and what is left over is told."""
+        """What is read again of a capture with links missing and many faults has a bound of steps, as no clock decides;
+        and what is left over is told."""
         world, read = crowd(600, 40, 8), Trace.other
         kept = [one for one in world.messages if not s1_up(one)]
         for bound in (60, 10_000):
@@ -139,8 +159,15 @@ class Bounds(unittest.TestCase):
                 steps.append(found.steps)
                 return found
 
-            with mock.patch.multiple("lte_sec.judge.rereading", LEAST=bound, TIMES=0), mock.patch.object(Trace, "other", other):
-                account = check(Derivations(CALLS, [Kasme(one.name, one.kasme) for one in world.phones]), Cells(CELLS), copy.deepcopy(kept), 100).seen
+            with mock.patch.multiple("lte_sec.judge.rereading", LEAST=bound, TIMES=0), mock.patch.object(
+                Trace, "other", other
+            ):
+                account = check(
+                    Derivations(CALLS, [Kasme(one.name, one.kasme) for one in world.phones]),
+                    Cells(CELLS),
+                    copy.deepcopy(kept),
+                    100,
+                ).seen
             self.assertLess(sum(steps[:-1]), bound)
             self.assertEqual(len(heads(account, ENDED)), bound == 60, account.head)
             self.assertTrue(steps)

@@ -1,4 +1,5 @@
-"""Captures replayed: every key of what keeps the standard comes out of the program, and each planted fault is told first at its frame."""
+"""Captures replayed: every key of what keeps the standard comes out of the program, and each planted fault is told
+first at its frame."""
 from __future__ import annotations
 
 import contextlib
@@ -42,22 +43,38 @@ EVERY = bool(os.environ.get("EVERY_PLACE"))
 KASME = "e61a3129c8e399d6dd3cec512a9c671da2004c5e8e780d3df853bb3055ee7cba"
 # Of captures with known truth the status, and how many keys are the same, differ and are not replayed.
 CAPTURES = {
-    "A": (0, 6, 0, 0), "B1-star-earfcn": (1, 5, 1, 0), "B2-nh-twice": (1, 4, 2, 0), "C": (0, 13, 0, 0), "A-1-1": (0, 6, 0, 0), "C-3-3": (0, 13, 0, 0),
+    "A": (0, 6, 0, 0),
+    "B1-star-earfcn": (1, 5, 1, 0),
+    "B2-nh-twice": (1, 4, 2, 0),
+    "C": (0, 13, 0, 0),
+    "A-1-1": (0, 6, 0, 0),
+    "C-3-3": (0, 13, 0, 0),
     "lost-answers": (0, 15, 0, 0),
 }
 # Of worlds that keep the standard those whose keys are not all replayed, with a part of the reason.
 NOT_ALL = {
     "seven lost answers": "the run refuses its step: NoUe",
-    "suspended and resumed": "suspension and resumption", "suspended and resumed without NH": "suspension and resumption",
-    "resumed in another cell of the station": "suspension and resumption", "resumed at another station": "suspension and resumption",
-    "a KASME that is not given": "no KASME that was given fits", "a key change to a KASME that is not given": "no KASME that was given fits",
-    "both lost, of a KASME that is not given": "no KASME that was given fits", "a short MAC that fits by chance": "no KASME that was given fits",
-    "plain where it may be": "", "EIA0": "",
+    "suspended and resumed": "suspension and resumption",
+    "suspended and resumed without NH": "suspension and resumption",
+    "resumed in another cell of the station": "suspension and resumption",
+    "resumed at another station": "suspension and resumption",
+    "a KASME that is not given": "no KASME that was given fits",
+    "a key change to a KASME that is not given": "no KASME that was given fits",
+    "both lost, of a KASME that is not given": "no KASME that was given fits",
+    "a short MAC that fits by chance": "no KASME that was given fits",
+    "plain where it may be": "",
+    "EIA0": "",
 }
 # Of worlds with a fault those whose keys are all the same: the fault is in a command or a MAC.
 NO_KEY = {
-    "another NCC in the command", "another cell in the command", "another cell in the command over S1", "another NCC over the air",
-    "a MAC of another KASME", "a Complete with another header type", "a COUNT used twice", "COUNT without its overflow",
+    "another NCC in the command",
+    "another cell in the command",
+    "another cell in the command over S1",
+    "another NCC over the air",
+    "a MAC of another KASME",
+    "a Complete with another header type",
+    "a COUNT used twice",
+    "COUNT without its overflow",
 }
 
 
@@ -69,15 +86,25 @@ def setUpModule() -> None:
     PROGRAM = told.stdout.split()[1]
 
 
-def answer_of(messages: list[Message], kasmes: list[Kasme], cells: list[Site], budget: int = 4_000, texts: bool = True) -> ReplayedCapture:
-    return replay.replayed(PROGRAM, record(check(Derivations(CALLS, kasmes), Cells(cells), copy.deepcopy(messages), budget)), ["capture"], texts)
+def answer_of(
+    messages: list[Message], kasmes: list[Kasme], cells: list[Site], budget: int = 4_000, texts: bool = True
+) -> ReplayedCapture:
+    return replay.replayed(
+        PROGRAM,
+        record(check(Derivations(CALLS, kasmes), Cells(cells), copy.deepcopy(messages), budget)),
+        ["capture"],
+        texts,
+    )
 
 
 def capture(name: str) -> tuple[list[Message], list[Kasme], list[Site]]:
     file = TRACES / f"{name}.truth.json"
     kasmes = [Kasme("ue", bytes.fromhex(KASME))]
     if file.exists():
-        kasmes = [Kasme(one["name"], bytes.fromhex(one["hex"])) for one in json.loads(file.read_text(encoding="utf-8"))["kasme"]]
+        kasmes = [
+            Kasme(one["name"], bytes.fromhex(one["hex"]))
+            for one in json.loads(file.read_text(encoding="utf-8"))["kasme"]
+        ]
     return list(read(TRACES / f"{name}.json.gz")), kasmes, read_cells(TRACES / f"{name}.cells.txt")
 
 
@@ -92,7 +119,9 @@ def differing(answer: ReplayedCapture) -> list[str]:
 def called(*given: object) -> tuple[int, str, str]:
     """The status, the output and what is said of a call in this process."""
     out, err = io.StringIO(), io.StringIO()
-    with contextlib.redirect_stdout(out), contextlib.redirect_stderr(err), mock.patch.object(words, "proved_calls", lambda: CALLS):
+    with contextlib.redirect_stdout(out), contextlib.redirect_stderr(err), mock.patch.object(
+        words, "proved_calls", lambda: CALLS
+    ):
         status = replay.main([PROGRAM, *map(str, given)])
     return status, out.getvalue(), err.getvalue()
 
@@ -104,12 +133,26 @@ class Captures(unittest.TestCase):
             for known in (True, False):
                 with self.subTest(name, cells=known):
                     answer = answer_of(messages, kasmes, cells if known else [])
-                    self.assertEqual((answer.status(), *answer.counts().values()), (status, *counts), "\n".join(answer.lines()))
+                    self.assertEqual(
+                        (answer.status(), *answer.counts().values()), (status, *counts), "\n".join(answer.lines())
+                    )
 
     def test_a_fault_is_told_with_what_follows_it(self) -> None:
         lines = list(answer_of(*capture("B2-nh-twice")).lines())
-        self.assertIn("frame 38 PathSwitchRequestAcknowledge NH differs: the capture has nh(2) NCC 2, the run nh(3) NCC 3 (step 29)", lines)
-        self.assertIn("frame 41 HandoverRequest NH differs: the capture has nh(3) NCC 3, the run nh(4) NCC 4 (step 33); it follows from frame 38", lines)
+        self.assertIn(
+            (
+                "frame 38 PathSwitchRequestAcknowledge NH differs: the capture has nh(2) "
+                "NCC 2, the run nh(3) NCC 3 (step 29)"
+            ),
+            lines,
+        )
+        self.assertIn(
+            (
+                "frame 41 HandoverRequest NH differs: the capture has nh(3) NCC 3, the run nh(4) NCC 4 (step 33); it "
+                "follows from frame 38"
+            ),
+            lines,
+        )
         self.assertEqual(lines[-1], "4 same, 2 differ, 0 not replayed")
 
     def test_a_bit_of_a_key_or_ncc_is_told_first_at_its_frame(self) -> None:
@@ -132,7 +175,7 @@ class Captures(unittest.TestCase):
             messages, kasmes, cells = capture(name)
             for size in (1, 2):
                 for begin in range(0, len(messages) - size + 1, 1 if EVERY else 7):
-                    answer = answer_of(messages[:begin] + messages[begin + size:], kasmes, cells if begin % 2 else [])
+                    answer = answer_of(messages[:begin] + messages[begin + size :], kasmes, cells if begin % 2 else [])
                     statuses[answer.status()] += 1
                     self.assertEqual(differing(answer), [], (name, size, begin, list(answer.lines())))
         self.assertGreater(statuses[0], 20 * statuses[3])
@@ -154,7 +197,10 @@ class Captures(unittest.TestCase):
 class Worlds(unittest.TestCase):
     def test_what_keeps_the_standard_is_never_another_key(self) -> None:
         worlds = {name: (world(), named(KASMES), 20_000) for name, world in SOUND.items()}
-        worlds |= {name: (one.sound(), [Kasme(f"k{place}", SITUATED[place]) for place in one.kasmes], 4_000) for name, one in SITUATIONS.items()}
+        worlds |= {
+            name: (one.sound(), [Kasme(f"k{place}", SITUATED[place]) for place in one.kasmes], 4_000)
+            for name, one in SITUATIONS.items()
+        }
         for name, (world, kasmes, budget) in worlds.items():
             with self.subTest(name):
                 answer = answer_of(world.messages, kasmes, CELLS, budget)
@@ -167,7 +213,9 @@ class Worlds(unittest.TestCase):
             with self.subTest(name):
                 world = planted()
                 answer = answer_of(world.messages, named(KASMES), CELLS, 20_000)
-                self.assertEqual(differing(answer)[:1], [] if name in NO_KEY else world.faults, "\n".join(answer.lines()))
+                self.assertEqual(
+                    differing(answer)[:1], [] if name in NO_KEY else world.faults, "\n".join(answer.lines())
+                )
 
     def test_the_worlds_with_a_fault_in_a_situation_tell_none_before_it(self) -> None:
         for name, one in SITUATIONS.items():
@@ -222,7 +270,14 @@ class Worlds(unittest.TestCase):
 class Words(unittest.TestCase):
     def test_scenarios_are_saved_and_run(self) -> None:
         with tempfile.TemporaryDirectory() as room:
-            status, out, said = called("--save", room, "--cells", TRACES / "C.cells.txt", TRACES / "C.json.gz", *(f"{one.name}={one.value.hex()}" for one in capture("C")[1]))
+            status, out, said = called(
+                "--save",
+                room,
+                "--cells",
+                TRACES / "C.cells.txt",
+                TRACES / "C.json.gz",
+                *(f"{one.name}={one.value.hex()}" for one in capture("C")[1]),
+            )
             self.assertEqual(status, 0)
             self.assertIn("13 same, 0 differ, 0 not replayed", out)
             self.assertIn("KASME in it", said)
@@ -231,14 +286,18 @@ class Words(unittest.TestCase):
             for file in files:
                 self.assertEqual(stat.S_IMODE(file.stat().st_mode), 0o600)
                 text = file.read_text(encoding="utf-8")
-                self.assertEqual(subprocess.run([PROGRAM, "run"], input=text.encode(), capture_output=True).returncode, 0)
+                self.assertEqual(
+                    subprocess.run([PROGRAM, "run"], input=text.encode(), capture_output=True).returncode, 0
+                )
                 self.assertEqual(sorted(frames_of(text)), list(range(len(table_of(text.encode())["step"]))))
 
     def test_one_scenario_is_printed_with_or_without_texts(self) -> None:
         given = "--cells", TRACES / "A.cells.txt", TRACES / "A.json.gz", KASME
         _, out, _ = called("--phone", 1, *given)
         _, bare, said = called("--phone", 1, "--no-texts", *given)
-        texts, zeros = ([step["text"] for step in table_of(one.encode())["step"] if step["do"] == "nas"] for one in (out, bare))
+        texts, zeros = (
+            [step["text"] for step in table_of(one.encode())["step"] if step["do"] == "nas"] for one in (out, bare)
+        )
         self.assertTrue(any("696e7465726e6574" in text for text in texts))
         self.assertEqual([len(text) for text in texts], [len(text) for text in zeros])
         self.assertEqual(set("".join(zeros)), {"0"})
@@ -247,16 +306,28 @@ class Words(unittest.TestCase):
     def test_the_document_has_what_the_lines_have(self) -> None:
         status, out, _ = called("--json", TRACES / "B1-star-earfcn.json.gz", KASME)
         document = json.loads(out)
-        self.assertEqual((status, document["version"], document["status"], document["summary"]), (1, 1, 1, {"same": 5, "differ": 1, "not replayed": 0}))
+        self.assertEqual(
+            (status, document["version"], document["status"], document["summary"]),
+            (1, 1, 1, {"same": 5, "differ": 1, "not replayed": 0}),
+        )
         self.assertEqual(set(document), {"version", "phones", "others", "summary", "status"})
         phone = document["phones"][0]
         self.assertEqual(set(phone), {"phone", "kasmes", "file", "steps", "keys", "assumed", "refused"})
         wrong = next(key for key in phone["keys"] if key["verdict"] == "differs")
-        self.assertEqual((wrong["frame"], wrong["what"], wrong["is"], wrong["run"], wrong["step"]), ("34", "KeNB*", "star(nh(2),10,6300)", "star(nh(2),10,100)", 23))
+        self.assertEqual(
+            (wrong["frame"], wrong["what"], wrong["is"], wrong["run"], wrong["step"]),
+            ("34", "KeNB*", "star(nh(2),10,6300)", "star(nh(2),10,100)", 23),
+        )
 
     def test_wrong_words_have_one_line(self) -> None:
         trace = str(TRACES / "A.json.gz")
-        wrong: list[list[str]] = [[], [trace], ["nowhere.json", KASME], ["--phone", "7", trace, KASME], ["--colour", trace, KASME]]
+        wrong: list[list[str]] = [
+            [],
+            [trace],
+            ["nowhere.json", KASME],
+            ["--phone", "7", trace, KASME],
+            ["--colour", trace, KASME],
+        ]
         for given in wrong:
             status, out, said = called(*given)
             self.assertEqual((status, out, said.count("\n")), (2, "", 1), said)

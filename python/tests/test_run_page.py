@@ -1,4 +1,5 @@
-"""The page of a run, and `run --json`: steps, keys and verdicts are those of the report, and in a browser a step shows its chain and the ladder."""
+"""The page of a run, and `run --json`: steps, keys and verdicts are those of the report, and in a browser a step shows
+its chain and the ladder."""
 from __future__ import annotations
 
 import json
@@ -53,11 +54,22 @@ class Run(unittest.TestCase):
                 lines = [line for line in map(StepLine.read, report) if line is not None]
                 steps = [event for event in page["events"] if not event.get("lost")]
                 self.assertEqual([step.get("answer", "done") for step in steps], [line.answer for line in lines])
-                self.assertEqual([page["keys"][step["key"]]["hex"] if "key" in step else None for step in steps], [line.note.key if line.note and rows else None for line in lines])
-                self.assertEqual([(key["hex"], key["from"]) for key in page["keys"]], [(row.key, row.above) for row in rows.values()])
+                self.assertEqual(
+                    [page["keys"][step["key"]]["hex"] if "key" in step else None for step in steps],
+                    [line.note.key if line.note and rows else None for line in lines],
+                )
+                self.assertEqual(
+                    [(key["hex"], key["from"]) for key in page["keys"]], [(row.key, row.above) for row in rows.values()]
+                )
                 self.assertEqual(wrong_keys(page["keys"]), [])
                 sent = [line.sent for line in lines if line.sent is not None]
-                self.assertEqual(len({step["record"] for step in steps if "record" in step} | {int(event["s"].split()[1]) for event in page["events"] if event.get("lost")}), len(sent))
+                self.assertEqual(
+                    len(
+                        {step["record"] for step in steps if "record" in step}
+                        | {int(event["s"].split()[1]) for event in page["events"] if event.get("lost")}
+                    ),
+                    len(sent),
+                )
 
     def test_different_keys_have_two_chains(self) -> None:
         page = ran.page(told("eight-ahead"))
@@ -70,7 +82,10 @@ class Run(unittest.TestCase):
     def test_a_coincidence_ends_it(self) -> None:
         report = (RUNS / "ordinary.out").read_text().splitlines()[:5] + ["5 coincidence 00"]
         document = ran.document("\n".join(report), (RUNS / "ordinary.toml").read_bytes(), "it")
-        self.assertEqual((document["status"], len(document["steps"]), document["keys"], document["verdicts"]["items"]), (7, 5, [], []))
+        self.assertEqual(
+            (document["status"], len(document["steps"]), document["keys"], document["verdicts"]["items"]),
+            (7, 5, [], []),
+        )
         self.assertIn("The run ends at a coincidence.", list(ran.summary(document)))
         self.assertEqual(faults_of(pages.html(ran.page(document), ran.summary(document), [], True)), [])
 
@@ -90,12 +105,22 @@ class Run(unittest.TestCase):
         scenario = RUNS / "eight-ahead.toml"
         with tempfile.TemporaryDirectory() as room:
             file = Path(room) / "page.html"
-            alone, beside, plain = launched("draw", "--html", file, scenario), launched("draw", "messages", f"--html={file}", "--html-keys", "no", scenario), launched("draw", "messages", scenario)
-            self.assertEqual((alone.returncode, alone.stdout, beside.returncode, beside.stdout), (0, "", 0, plain.stdout))
+            alone, beside, plain = (
+                launched("draw", "--html", file, scenario),
+                launched("draw", "messages", f"--html={file}", "--html-keys", "no", scenario),
+                launched("draw", "messages", scenario),
+            )
+            self.assertEqual(
+                (alone.returncode, alone.stdout, beside.returncode, beside.stdout), (0, "", 0, plain.stdout)
+            )
             self.assertEqual((file.stat().st_mode & 0o777, "has no keys" in file.read_text()), (0o600, True))
             wrong: list[tuple[list[object], str]] = [
-                (["--html", room, scenario], "this is none"), (["--html"], "--html wants a value"), (["--html", file], "takes one file"), (["--html", file, "--html-keys", "maybe", scenario], "--html-keys takes"),
-                (["--html-keys", "no", scenario], "draw takes messages or ladder"), (["--svg", scenario], "draw takes no option --svg"),
+                (["--html", room, scenario], "this is none"),
+                (["--html"], "--html wants a value"),
+                (["--html", file], "takes one file"),
+                (["--html", file, "--html-keys", "maybe", scenario], "--html-keys takes"),
+                (["--html-keys", "no", scenario], "draw takes messages or ladder"),
+                (["--svg", scenario], "draw takes no option --svg"),
             ]
             for words, line in wrong:
                 ran_ = launched("draw", *words)
@@ -116,11 +141,25 @@ class InChromium(InBrowser):
         one.click("document.querySelector('.verdict.bad')")
         self.assertEqual(one.ask("location.hash"), "#f=69")
         said = self.text("#panel")
-        for word in ("step 69 RRC Reconfiguration", "the phone has", "the station has", "the first step that differs", "8 steps ahead", "the ladder: 59 keys", "station 0"):
+        for word in (
+            "step 69 RRC Reconfiguration",
+            "the phone has",
+            "the station has",
+            "the first step that differs",
+            "8 steps ahead",
+            "the ladder: 59 keys",
+            "station 0",
+        ):
             self.assertIn(word, said)
         one.click("document.querySelectorAll('.ladder .key')[7]")
         self.assertEqual(one.ask("location.hash"), "#f=69&k=7")
-        self.assertEqual(one.ask("document.querySelectorAll('.key.marked').length > 0 && document.querySelectorAll('.key.derived').length > 10"), True)
+        self.assertEqual(
+            one.ask(
+                "document.querySelectorAll('.key.marked').length > 0 && "
+                "document.querySelectorAll('.key.derived').length > 10"
+            ),
+            True,
+        )
         one.key("Escape")
         one.key("Escape")
         self.assertEqual(one.ask(f"{PANEL}.hidden && location.hash"), "")
@@ -137,7 +176,14 @@ class InChromium(InBrowser):
             self.browser.open(self.file(made("eight-ahead", word=word)))
             self.browser.key("n")
             self.assertEqual(self.browser.ask(f"{PANEL}.hidden"), False, word[:30])
-            self.assertEqual((self.browser.ask("document.querySelectorAll('img, iframe, #forged, a').length"), self.browser.faults()), (0, []), word[:30])
+            self.assertEqual(
+                (
+                    self.browser.ask("document.querySelectorAll('img, iframe, #forged, a').length"),
+                    self.browser.faults(),
+                ),
+                (0, []),
+                word[:30],
+            )
 
 
 if __name__ == "__main__":

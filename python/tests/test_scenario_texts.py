@@ -15,7 +15,9 @@ def setUpModule() -> None:
 
 class Scenarios(unittest.TestCase):
     def test_a_setup_is_written_as_it_was_read(self) -> None:
-        setup = scenarios.table_of(b'phone = { caps = "a020" }\nnew = { deep = [{ "a b" = "c\\"d" }] }\n[core]\nfirst_ncc = 2\n[[station]]\nid = 0\ncells = [[1, 2]]\nheard = true\n')
+        setup = scenarios.table_of(
+            b'phone = { caps = "a020" }\nnew = { deep = [{ "a b" = "c\\"d" }] }\n[core]\nfirst_ncc = 2\n[[station]]\nid = 0\ncells = [[1, 2]]\nheard = true\n'
+        )
         self.assertEqual(scenarios.table_of(scenarios.setup_text(setup).encode()), setup)
 
     def test_a_table_may_go_over_lines(self) -> None:
@@ -30,7 +32,9 @@ class Scenarios(unittest.TestCase):
     def test_a_scenario_is_run_as_it_stands(self) -> None:
         for name in ("run/ordinary", "run/key-change", "worked/no-record", "what-if/ten-handovers"):
             whole = study(name)
-            given = subprocess.run([program("lte_sec_app"), "run"], input=(EXAMPLES / f"{name}.toml").read_bytes(), capture_output=True).stdout.decode()
+            given = subprocess.run(
+                [program("lte_sec_app"), "run"], input=(EXAMPLES / f"{name}.toml").read_bytes(), capture_output=True
+            ).stdout.decode()
             steps = given.splitlines()[: len(whole.original.items)]
             self.assertEqual(whole.course.report.splitlines()[: len(steps)], steps)
 

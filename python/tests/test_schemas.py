@@ -37,13 +37,26 @@ def is_built() -> bool:
 
 def launched(*given: object) -> Any:
     """The document that a call of the launcher prints."""
-    return json.loads(subprocess.run([TOP / "lte_sec", *map(str, given)], capture_output=True, stdin=subprocess.DEVNULL).stdout)
+    return json.loads(
+        subprocess.run([TOP / "lte_sec", *map(str, given)], capture_output=True, stdin=subprocess.DEVNULL).stdout
+    )
 
 
 def traced(name: str) -> Any:
     out = io.StringIO()
-    with mock.patch.object(words, "proved_calls", StandIn), contextlib.redirect_stdout(out), contextlib.redirect_stderr(io.StringIO()):
-        words.main(["check-trace", "--json", "--cells", str(TRACES / f"{name}.cells.txt"), str(TRACES / f"{name}.json.gz"), KASME])
+    with mock.patch.object(words, "proved_calls", StandIn), contextlib.redirect_stdout(out), contextlib.redirect_stderr(
+        io.StringIO()
+    ):
+        words.main(
+            [
+                "check-trace",
+                "--json",
+                "--cells",
+                str(TRACES / f"{name}.cells.txt"),
+                str(TRACES / f"{name}.json.gz"),
+                KASME,
+            ]
+        )
     return json.loads(out.getvalue())
 
 
@@ -53,7 +66,9 @@ def documents() -> Iterator[tuple[str, Any]]:
         if file.stem not in NO_REPORTS:
             with contextlib.suppress(kenb_changes.NoReport):
                 yield "verdict", json.loads(json.dumps(verdict.judged(file.read_text()).document()))
-    yield "drive", drive.document(8, ["0 both done"], differences.Difference(None, "core", ["answer: wanted 0 (done), got 1 (NoContext)"]), None)
+    yield "drive", drive.document(
+        8, ["0 both done"], differences.Difference(None, "core", ["answer: wanted 0 (done), got 1 (NoContext)"]), None
+    )
     yield "drive", drive.document(6, [], None, {"step": 3, "actor": "phone", "how": "it was silent"})
     yield from by_outputs()
     yield "demands", json.loads(json.dumps(demands.document(demands.load())))
@@ -75,7 +90,9 @@ def by_outputs() -> Iterator[tuple[str, Any]]:
         yield "calc", {"version": 1} | told | {"status": 3 if file.stem == "bad" else 0}
     for text in ("a 1 0 1\na 1 0 1\n", "a 1 0 1\n"):
         yield "repeats", json.loads(json.dumps(first_repeat(text.splitlines()).document()))
-    yield "wireshark", wireshark.document([wireshark.TableRow(1, "00" * 16, "", "11" * 16, 1, "24", "S0", "kenb(0)", 2, 2, True)], [], 0)
+    yield "wireshark", wireshark.document(
+        [wireshark.TableRow(1, "00" * 16, "", "11" * 16, 1, "24", "S0", "kenb(0)", 2, 2, True)], [], 0
+    )
 
 
 def by_the_program() -> Iterator[tuple[str, Any]]:
@@ -83,22 +100,54 @@ def by_the_program() -> Iterator[tuple[str, Any]]:
     for name in ("run/ordinary", "run/eight-ahead", "run/coincidence", "run/two-preparations", "run/key-change"):
         yield "run", launched("run", "--json", EXAMPLES / f"{name}.toml")
     yield "what-if", launched("what-if", "--json", "--kinds", "late", EXAMPLES / "run/ordinary.toml")
-    yield "what-if", launched("what-if", "--json", "--goal", "stuck", "--messages", "2,3", EXAMPLES / "run/ordinary.toml")
-    yield "what-if", launched("what-if", "--json", "--faults", "2", "--part", "1/2", EXAMPLES / "run/smc-complete-lost.toml")
+    yield "what-if", launched(
+        "what-if", "--json", "--goal", "stuck", "--messages", "2,3", EXAMPLES / "run/ordinary.toml"
+    )
+    yield "what-if", launched(
+        "what-if", "--json", "--faults", "2", "--part", "1/2", EXAMPLES / "run/smc-complete-lost.toml"
+    )
     for name in ("A", "B2-nh-twice"):
-        yield "replay", launched("replay", "--json", "--cells", TRACES / f"{name}.cells.txt", TRACES / f"{name}.json.gz", KASME)
-    yield "check-trace", launched("check-trace", "--json", "--cells", TRACES / "A.cells.txt", TRACES / "A.json.gz", KASME)
+        yield "replay", launched(
+            "replay", "--json", "--cells", TRACES / f"{name}.cells.txt", TRACES / f"{name}.json.gz", KASME
+        )
+    yield "check-trace", launched(
+        "check-trace", "--json", "--cells", TRACES / "A.cells.txt", TRACES / "A.json.gz", KASME
+    )
     yield "explain", launched("explain", "--json", "--keys", EXAMPLES / "run/ordinary.out", "--cell", "10,100", KASME)
-    yield "explain", launched("explain", "--json", "--keys", TOP / "docs/cookbook/handover.log", "6f1d9a0c55e2473bb8a4c07e12f3d96a80bc4e7719d2053fe6a1b8c4d7720e95")
-    for word, file in (("fleet", "fleet/two-phones.toml"), ("two", "two/relocation.toml"), ("audit", "run/ordinary.toml"), ("ladder", "ladder/first.txt"), ("calc", "calc/pdus.txt")):
+    yield "explain", launched(
+        "explain",
+        "--json",
+        "--keys",
+        TOP / "docs/cookbook/handover.log",
+        "6f1d9a0c55e2473bb8a4c07e12f3d96a80bc4e7719d2053fe6a1b8c4d7720e95",
+    )
+    for word, file in (
+        ("fleet", "fleet/two-phones.toml"),
+        ("two", "two/relocation.toml"),
+        ("audit", "run/ordinary.toml"),
+        ("ladder", "ladder/first.txt"),
+        ("calc", "calc/pdus.txt"),
+    ):
         yield word, launched(word, "--json", EXAMPLES / file)
     yield "audit", launched("audit", "--json", "--frames", EXAMPLES / "run/ordinary.toml")
     yield "wireshark", launched("wireshark", "--json", TRACES / "A.json.gz", KASME)
     yield "vectors", launched("vectors", "--count", "100")
     yield "drive-suite", launched("drive", "--suite", "--json", "--scenario", "air-01", "--phone", "false")
-    for given in (("drive", "--json", "nowhere"), ("run", "--json", EXAMPLES / "ladder/first.txt"), ("verdict", "--json", "/dev/null"), ("what-if", "--json", "--faults", "9"), ("check-trace", "--json", "nowhere"), ("replay", "--json"),
-                  ("audit", "--json", EXAMPLES / "ladder/first.txt"), ("ladder", "--json", "nowhere"), ("repeats", "--json", "/dev/zero"), ("wireshark", "--json", "nowhere", KASME),
-                  ("drive", "--json", EXAMPLES / "ladder/first.txt"), ("drive", "--suite", "--json", "--what"), ("what-if", "--json", EXAMPLES / "run/coincidence.toml")):
+    for given in (
+        ("drive", "--json", "nowhere"),
+        ("run", "--json", EXAMPLES / "ladder/first.txt"),
+        ("verdict", "--json", "/dev/null"),
+        ("what-if", "--json", "--faults", "9"),
+        ("check-trace", "--json", "nowhere"),
+        ("replay", "--json"),
+        ("audit", "--json", EXAMPLES / "ladder/first.txt"),
+        ("ladder", "--json", "nowhere"),
+        ("repeats", "--json", "/dev/zero"),
+        ("wireshark", "--json", "nowhere", KASME),
+        ("drive", "--json", EXAMPLES / "ladder/first.txt"),
+        ("drive", "--suite", "--json", "--what"),
+        ("what-if", "--json", EXAMPLES / "run/coincidence.toml"),
+    ):
         yield "error", launched(*given)
 
 
@@ -111,8 +160,16 @@ class Schemas(unittest.TestCase):
             self.assertTrue(is_of(schema, schema, document), f"{name}: {json.dumps(document)[:400]}")
         self.assertEqual("", faults([(name, schema_of(name), found) for name, found in seen.items()]))
         if validator() is None:
-            print("python: jsonschema is not here (Debian's python3-jsonschema), so that documents are compared with schemas by the tests' own code alone", file=sys.stderr)
-        missing = {file.name.removesuffix(".schema.json") for file in SCHEMAS.glob("*.json")} - seen.keys() - {"scenario"}
+            print(
+                (
+                    "python: jsonschema is not here (Debian's python3-jsonschema), so that documents are compared "
+                    "with schemas by the tests' own code alone"
+                ),
+                file=sys.stderr,
+            )
+        missing = (
+            {file.name.removesuffix(".schema.json") for file in SCHEMAS.glob("*.json")} - seen.keys() - {"scenario"}
+        )
         self.assertEqual(set() if is_built() else missing, missing)
 
     def test_each_schema_is_one(self) -> None:
@@ -131,7 +188,11 @@ class Schemas(unittest.TestCase):
 
     def test_each_scenario_is_of_its_schema(self) -> None:
         schema = schema_of("scenario")
-        files = [file for room in ("run", "worked", "fleet", "two", "what-if", "procedures", "runs") for file in sorted((EXAMPLES / room).glob("*.toml"))]
+        files = [
+            file
+            for room in ("run", "worked", "fleet", "two", "what-if", "procedures", "runs")
+            for file in sorted((EXAMPLES / room).glob("*.toml"))
+        ]
         self.assertGreater(len(files), 60)
         found = [table_of(file.read_bytes()) for file in files]
         for file, document in zip(files, found):
@@ -144,9 +205,21 @@ class Schemas(unittest.TestCase):
 
     def test_a_mistake_is_not_of_the_schema_of_scenarios(self) -> None:
         schema = schema_of("scenario")
-        right = 'phone = { caps = "a020" }\nstation = [{ id = 0, cells = [[10, 100]] }]\nstep = [{ do = "x2", station = 0, cell = [10, 100] }]\n'
+        right = (
+            'phone = { caps = "a020" }\nstation = [{ id = 0, cells = [[10, 100]] }]\nstep = [{ do = "x2", '
+            "station = 0, cell = [10, 100] }]\n"
+        )
         self.assertTrue(is_of(schema, schema, table_of(right.encode())))
-        for old, new in (("a020", "a02"), ("id = 0", "id = 8"), ("[[10, 100]]", "[[504, 100]]"), ("[[10, 100]]", "[[10]]"), ("x2", "x3"), ("station = 0", "stations = 0"), (", station = 0", ""), ("caps", "cap")):
+        for old, new in (
+            ("a020", "a02"),
+            ("id = 0", "id = 8"),
+            ("[[10, 100]]", "[[504, 100]]"),
+            ("[[10, 100]]", "[[10]]"),
+            ("x2", "x3"),
+            ("station = 0", "stations = 0"),
+            (", station = 0", ""),
+            ("caps", "cap"),
+        ):
             self.assertFalse(is_of(schema, schema, table_of(right.replace(old, new, 1).encode())), new)
 
 

@@ -1,4 +1,5 @@
-"""The list of what was seen: each message with its link, ends, connection and phone, and names that would spoil lines as escapes."""
+"""The list of what was seen: each message with its link, ends, connection and phone, and names that would spoil lines
+as escapes."""
 from __future__ import annotations
 
 import contextlib
@@ -43,17 +44,28 @@ class SeenList(unittest.TestCase):
         self.assertEqual([one.frame for one in found.messages if one.connection is None], [])
         self.assertEqual({one.connection: one.phone for one in found.messages}, {1: 1, 2: 2, 3: 1})
         asked = [one for one in found.messages if one.kind == "HandoverRequest"]
-        self.assertEqual([(one.link.kind, one.source.name, one.target.name, one.connection) for one in asked], [("X2", "enb1", "enb2", 1), ("S1", "10.0.0.1:36412", "enb3", 2)])
-        self.assertEqual([(one.link.one, one.link.way) for one in found.messages if one.kind == "PathSwitchRequest"], [("enb2", "up")])
+        self.assertEqual(
+            [(one.link.kind, one.source.name, one.target.name, one.connection) for one in asked],
+            [("X2", "enb1", "enb2", 1), ("S1", "10.0.0.1:36412", "enb3", 2)],
+        )
+        self.assertEqual(
+            [(one.link.one, one.link.way) for one in found.messages if one.kind == "PathSwitchRequest"],
+            [("enb2", "up")],
+        )
         of_x2 = {one.kind for one in found.messages if one.handover == asked[0].handover}
-        self.assertLessEqual({"HandoverRequest", "HandoverRequestAcknowledge", "PathSwitchRequest", "UEContextRelease"}, of_x2)
+        self.assertLessEqual(
+            {"HandoverRequest", "HandoverRequestAcknowledge", "PathSwitchRequest", "UEContextRelease"}, of_x2
+        )
 
     def test_each_key_has_both_octets(self) -> None:
         world = two_phones()
         asked = next(one for one in world.messages if one.link == "X2")
         right, asked.key = asked.key, bytes(32)
         values = [value for one, value in seen(world).values() if one.frame == asked.frame and value.what == "KeNB*"]
-        self.assertEqual([(value.hex, value.wanted_hex, value.found, value.wanted) for value in values], [("00" * 32, (right or b"").hex(), "none", "star(kenb(0),10,100)".replace("10,100", "301,6300"))])
+        self.assertEqual(
+            [(value.hex, value.wanted_hex, value.found, value.wanted) for value in values],
+            [("00" * 32, (right or b"").hex(), "none", "star(kenb(0),10,100)".replace("10,100", "301,6300"))],
+        )
 
     def test_the_document_numbers_messages(self) -> None:
         found = seen(two_phones())
@@ -61,12 +73,22 @@ class SeenList(unittest.TestCase):
         self.assertEqual(len(document["messages"]), len(found.messages))
         for line in document["lines"]:
             self.assertEqual(document["messages"][line["number"]]["frame"], line["frame"])
-        self.assertEqual({line["nas"]["name"] for line in document["lines"] if line["what"] == "MAC"} & {"Attach accept", "Service request"}, {"Attach accept", "Service request"})
+        self.assertEqual(
+            {line["nas"]["name"] for line in document["lines"] if line["what"] == "MAC"}
+            & {"Attach accept", "Service request"},
+            {"Attach accept", "Service request"},
+        )
 
     def test_names_that_would_spoil_lines_are_escaped(self) -> None:
         world = two_phones()
         first = copy.copy(world.messages[0])
-        first.name, first.nas, first.station, first.station_name, first.enb_id = "S1SetupRequest", [], ENB2 >> 8, HOSTILE, None
+        first.name, first.nas, first.station, first.station_name, first.enb_id = (
+            "S1SetupRequest",
+            [],
+            ENB2 >> 8,
+            HOSTILE,
+            None,
+        )
         first.frame, first.time, first.source = "0", 0.0, ENDS["enb2"]
         world.messages.insert(0, first)
         named = [Kasme(f"k\n{place}", kasme) for place, kasme in enumerate(KASMES)]

@@ -1,4 +1,5 @@
-"""Traces of phones, stations and a core that keep TS 33.401, or break it in one place: what is planted is told, and nothing else."""
+"""Traces of phones, stations and a core that keep TS 33.401, or break it in one place: what is planted is told, and
+nothing else."""
 from __future__ import annotations
 
 import random
@@ -9,7 +10,19 @@ from lte_sec.captures.decoding import Command
 from lte_sec.common.report import DIFFERS, UNKNOWN, Line
 
 from .simulated import CALLS, CELLS, Phone, World, cell_of
-from .sound_worlds import ENB1, ENB2, ENB3, KASMES, SOUND, attached, handovers, lines_of, lost_answers, star, within_a_station
+from .sound_worlds import (
+    ENB1,
+    ENB2,
+    ENB3,
+    KASMES,
+    SOUND,
+    attached,
+    handovers,
+    lines_of,
+    lost_answers,
+    star,
+    within_a_station,
+)
 
 
 # -- what breaks it: each function plants one fault, and the line says what is found
@@ -27,6 +40,7 @@ def at_second_handover(**planted: object) -> Callable[[], World]:
         world.x2(phone, ENB2)
         world.x2(phone, ENB3)
         return world
+
     return made
 
 
@@ -48,6 +62,7 @@ def at_service(key: Callable[[Phone], bytes]) -> Callable[[], World]:
         world.x2(phone, ENB1)
         world.x2(phone, ENB2)
         return world
+
     return made
 
 
@@ -78,6 +93,7 @@ def s1_with(**planted: object) -> Callable[[], World]:
         world.s1(phone, ENB1, **planted)  # type: ignore[arg-type]
         world.x2(phone, ENB3)
         return world
+
     return made
 
 
@@ -89,6 +105,7 @@ def nas_with(**planted: object) -> Callable[[], World]:
         world.nas_up(phone)
         world.nas_down(phone)
         return world
+
     return made
 
 
@@ -125,27 +142,75 @@ def wrapped_without_overflow() -> World:
 
 SITE1, SITE3 = cell_of(ENB1), cell_of(ENB3)
 BROKEN: dict[str, tuple[Callable[[], World], str]] = {
-    "another PCI": (at_second_handover(key=lambda has: star(has["nh"], ENB1, pci=11)), "is star(nh(2),11,100), wanted star(nh(2),10,100)"),
-    "another EARFCN": (at_second_handover(key=lambda has: star(has["nh"], ENB1, earfcn=6300)), "is star(nh(2),10,6300), wanted star(nh(2),10,100)"),
-    "an EARFCN of no cell": (at_second_handover(key=lambda has: star(has["nh"], ENB1, earfcn=777)), "is star(nh(2),10,777), wanted star(nh(2),10,100)"),
-    "the uplink EARFCN": (at_second_handover(key=lambda has: star(has["nh"], ENB1, earfcn=18100)), "is star(nh(2),10,18100), wanted"),
-    "a mixed cell": (at_second_handover(key=lambda has: star(has["nh"], ENB1, pci=301)), "is star(nh(2),301,100), wanted star(nh(2),10,100)"),
-    "horizontal, vertical was owed": (at_second_handover(key=lambda has: star(has["kenb"], ENB1)), "is star(star(kenb(0),301,6300),10,100), wanted star(nh(2),10,100)"),
+    "another PCI": (
+        at_second_handover(key=lambda has: star(has["nh"], ENB1, pci=11)),
+        "is star(nh(2),11,100), wanted star(nh(2),10,100)",
+    ),
+    "another EARFCN": (
+        at_second_handover(key=lambda has: star(has["nh"], ENB1, earfcn=6300)),
+        "is star(nh(2),10,6300), wanted star(nh(2),10,100)",
+    ),
+    "an EARFCN of no cell": (
+        at_second_handover(key=lambda has: star(has["nh"], ENB1, earfcn=777)),
+        "is star(nh(2),10,777), wanted star(nh(2),10,100)",
+    ),
+    "the uplink EARFCN": (
+        at_second_handover(key=lambda has: star(has["nh"], ENB1, earfcn=18100)),
+        "is star(nh(2),10,18100), wanted",
+    ),
+    "a mixed cell": (
+        at_second_handover(key=lambda has: star(has["nh"], ENB1, pci=301)),
+        "is star(nh(2),301,100), wanted star(nh(2),10,100)",
+    ),
+    "horizontal, vertical was owed": (
+        at_second_handover(key=lambda has: star(has["kenb"], ENB1)),
+        "is star(star(kenb(0),301,6300),10,100), wanted star(nh(2),10,100)",
+    ),
     "vertical, horizontal was owed": (used_nh_again, "is star(nh(2),10,100), wanted star(star(nh(2),301,6300),10,100)"),
-    "KeNB* of KeNB*": (at_second_handover(key=lambda has: star(star(has["nh"], ENB1), ENB1)), "is star(star(nh(2),10,100),10,100), wanted"),
+    "KeNB* of KeNB*": (
+        at_second_handover(key=lambda has: star(star(has["nh"], ENB1), ENB1)),
+        "is star(star(nh(2),10,100),10,100), wanted",
+    ),
     "another NCC beside KeNB*": (at_second_handover(ncc=5), "NCC differs: is 5, wanted 2; KeNB* is star(nh(2),10,100)"),
-    "another NCC in the command": (at_second_handover(told=Command(4, 10, 100, False, b"")), "command differs: NCC is 4, wanted 2"),
-    "another cell in the command": (at_second_handover(told=Command(2, 10, 6300, False, b"")), "command differs: cell is (10,6300), wanted (10,100)"),
-    "NH skipped": (at_second_handover(steps=2), "NH differs: is nh(4), wanted nh(3) of k0; NCC differs: is 4, wanted 3"),
+    "another NCC in the command": (
+        at_second_handover(told=Command(4, 10, 100, False, b"")),
+        "command differs: NCC is 4, wanted 2",
+    ),
+    "another cell in the command": (
+        at_second_handover(told=Command(2, 10, 6300, False, b"")),
+        "command differs: cell is (10,6300), wanted (10,100)",
+    ),
+    "NH skipped": (
+        at_second_handover(steps=2),
+        "NH differs: is nh(4), wanted nh(3) of k0; NCC differs: is 4, wanted 3",
+    ),
     "another NCC beside NH": (at_second_handover(nh_ncc=7), "NCC differs: is 7, wanted 3; NH is nh(3)"),
-    "KeNB* as SYNC-input": (at_second_handover(nh=lambda has: CALLS.nh(KASMES[0], has["kenb"])), "is nh(1) on star(kenb(0),301,6300), wanted nh(3) on kenb(0) of k0"),
-    "NH of another KASME": (at_second_handover(nh=lambda has: CALLS.nh(KASMES[1], has["nh"])), "is nh(3) of k1, wanted nh(3) of k0"),
-    "KeNB of another COUNT": (at_service(lambda phone: CALLS.kenb(KASMES[0], phone.up + 1)), "is kenb(3), wanted kenb(2) of k0"),
-    "KeNB of another phone": (at_service(lambda phone: CALLS.kenb(KASMES[1], phone.up)), "is kenb(2) of k1, wanted kenb(2) of k0"),
-    "KeNB* of another phone": (key_of_another_handover, "is star(kenb(0),301,6300) of k1, wanted star(kenb(0),301,6300) of k0"),
+    "KeNB* as SYNC-input": (
+        at_second_handover(nh=lambda has: CALLS.nh(KASMES[0], has["kenb"])),
+        "is nh(1) on star(kenb(0),301,6300), wanted nh(3) on kenb(0) of k0",
+    ),
+    "NH of another KASME": (
+        at_second_handover(nh=lambda has: CALLS.nh(KASMES[1], has["nh"])),
+        "is nh(3) of k1, wanted nh(3) of k0",
+    ),
+    "KeNB of another COUNT": (
+        at_service(lambda phone: CALLS.kenb(KASMES[0], phone.up + 1)),
+        "is kenb(3), wanted kenb(2) of k0",
+    ),
+    "KeNB of another phone": (
+        at_service(lambda phone: CALLS.kenb(KASMES[1], phone.up)),
+        "is kenb(2) of k1, wanted kenb(2) of k0",
+    ),
+    "KeNB* of another phone": (
+        key_of_another_handover,
+        "is star(kenb(0),301,6300) of k1, wanted star(kenb(0),301,6300) of k0",
+    ),
     "the old KASME at a key change": (old_kasme_at_the_change, "is kenb(2) of k0, wanted kenb(0) of k1"),
     "the old chain after a key change": (old_chain_after_the_change, "is nh(3) of k0, wanted nh(2) of k1"),
-    "another cell in the command over S1": (s1_with(told=Command(3, 10, 6300, False, b"")), "command differs: cell is (10,6300), wanted (10,100)"),
+    "another cell in the command over S1": (
+        s1_with(told=Command(3, 10, 6300, False, b"")),
+        "command differs: cell is (10,6300), wanted (10,100)",
+    ),
     "another NCC beside NH over S1": (s1_with(ncc=6), "NCC differs: is 6, wanted 3"),
     "another NCC over the air": (lambda: within_a_station(True, 6), "RRC command differs: NCC is 6, wanted 2"),
     "a key that nothing gives": (s1_with(nh=bytes(32)), "NH differs: is none, wanted nh(3)"),
@@ -176,7 +241,9 @@ class Simulated(unittest.TestCase):
                 lines = lines_of(world)
                 self.assertEqual(self.told(lines), (world.faults, world.apart), [str(line) for line in lines])
                 self.assertEqual(len(world.faults), 1)
-                self.assertIn(text, next(line.text for line in lines if line.verdict == DIFFERS and line.what != "agreement"))
+                self.assertIn(
+                    text, next(line.text for line in lines if line.verdict == DIFFERS and line.what != "agreement")
+                )
 
     def test_seven_steps_ahead_warns_and_eight_come_apart(self) -> None:
         self.assertEqual(lost_answers(6).apart, [])
@@ -184,7 +251,10 @@ class Simulated(unittest.TestCase):
         lines = lines_of(world)
         self.assertEqual(len(world.apart), 2)
         self.assertTrue(any("warning: the core is 8 steps" in line.text for line in lines))
-        self.assertTrue(any("phone and enb2 come apart here: the phone takes star(star(" in line.text for line in lines), [str(line) for line in lines])
+        self.assertTrue(
+            any("phone and enb2 come apart here: the phone takes star(star(" in line.text for line in lines),
+            [str(line) for line in lines],
+        )
 
     def test_several_phones_in_turns(self) -> None:
         for seed in range(12):
@@ -195,10 +265,17 @@ class Simulated(unittest.TestCase):
             for _ in range(40):
                 phone = chance.choice(phones)
                 ecis = [site.eci for site in CELLS if site.station != cell_of(phone.eci).station]
-                acts: list[Callable[[Phone, int], object]] = [world.x2, world.s1, lambda one, eci: world.nas_up(one), world.again]
+                acts: list[Callable[[Phone, int], object]] = [
+                    world.x2,
+                    world.s1,
+                    lambda one, eci: world.nas_up(one),
+                    world.again,
+                ]
                 chance.choice(acts)(phone, chance.choice(ecis))
             lines = lines_of(world)
-            self.assertEqual(self.told(lines), ([], []), (seed, [str(line) for line in lines if line.verdict == DIFFERS]))
+            self.assertEqual(
+                self.told(lines), ([], []), (seed, [str(line) for line in lines if line.verdict == DIFFERS])
+            )
             self.assertEqual({line.kasme for line in lines if line.kasme}, {f"k{place}" for place in range(4)})
 
     def test_a_phone_without_its_kasme_is_not_judged(self) -> None:

@@ -34,7 +34,7 @@ def stored(name: str) -> list[str]:
 def flipped(line: str, octet: int, bit: int) -> str:
     """A line whose value of octets has one bit changed."""
     begin = line.index('": "') + 4 + 3 * octet
-    return line[:begin] + f"{int(line[begin:begin + 2], 16) ^ 1 << bit:02x}" + line[begin + 2:]
+    return line[:begin] + f"{int(line[begin:begin + 2], 16) ^ 1 << bit:02x}" + line[begin + 2 :]
 
 
 def places(lines: list[str]) -> Iterator[tuple[int, str, str]]:
@@ -54,7 +54,9 @@ def places(lines: list[str]) -> Iterator[tuple[int, str, str]]:
 
 
 def frame_of(lines: list[str], number: int) -> str:
-    return next(found[1] for line in reversed(lines[:number]) if (found := re.search(r'"frame\.number": "(\d+)"', line)))
+    return next(
+        found[1] for line in reversed(lines[:number]) if (found := re.search(r'"frame\.number": "(\d+)"', line))
+    )
 
 
 def report(name: str, found: list[Message]) -> list[Line]:
@@ -64,7 +66,11 @@ def report(name: str, found: list[Message]) -> list[Line]:
 
 
 def differing(lines: list[Line]) -> set[str]:
-    return {f"{line.frame} {line.what}" for line in lines if line.verdict not in ("right", NOTE) and line.what != "agreement"}
+    return {
+        f"{line.frame} {line.what}"
+        for line in lines
+        if line.verdict not in ("right", NOTE) and line.what != "agreement"
+    }
 
 
 class Spoilt(unittest.TestCase):
@@ -78,7 +84,7 @@ class Spoilt(unittest.TestCase):
                     continue
                 tried += 1
                 with self.subTest(capture=name, frame=frame_of(lines, number), what=what, place=number):
-                    told = differing(report(name, list(messages([*lines[:number], spoilt, *lines[number + 1:]]))))
+                    told = differing(report(name, list(messages([*lines[:number], spoilt, *lines[number + 1 :]]))))
                     frames = {one.split()[0] for one in told - sound}
                     self.assertEqual(frames - {frame_of(lines, number)}, set(), told)
                     self.assertTrue(any(one.split()[0] == frame_of(lines, number) for one in told), told)

@@ -28,11 +28,15 @@ class Spread(unittest.TestCase):
         self.assertEqual(list(spread(3, isqrt, range(300))), [isqrt(number) for number in range(300)])
 
     def test_one_process_does_all_where_others_cannot_be_begun(self) -> None:
-        with unittest.mock.patch("multiprocessing.synchronize.SemLock.__init__", side_effect=OSError(38, "Function not implemented")):
+        with unittest.mock.patch(
+            "multiprocessing.synchronize.SemLock.__init__", side_effect=OSError(38, "Function not implemented")
+        ):
             self.assertEqual(list(spread(3, isqrt, range(300))), [isqrt(number) for number in range(300)])
 
     def test_no_process_is_left_where_the_one_that_began_them_is_killed(self) -> None:
-        with subprocess.Popen([sys.executable, "-c", SLEEPERS], cwd=Path(__file__).resolve().parents[1], stdout=subprocess.PIPE) as began:
+        with subprocess.Popen(
+            [sys.executable, "-c", SLEEPERS], cwd=Path(__file__).resolve().parents[1], stdout=subprocess.PIPE
+        ) as began:
             assert began.stdout
             self.assertEqual([began.stdout.readline() for _ in range(2)], [b"600\n"] * 2)
             began.kill()

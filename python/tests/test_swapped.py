@@ -1,4 +1,5 @@
-"""Messages that a capture has in another order than they were sent: near ones of two associations are swapped. Nothing differs then."""
+"""Messages that a capture has in another order than they were sent: near ones of two associations are swapped. Nothing
+differs then."""
 from __future__ import annotations
 
 import copy
@@ -29,10 +30,16 @@ def lines_of(messages: list[Message]) -> list[Line]:
 
 
 def swapped(messages: list[Message]) -> Iterator[tuple[int, list[Message]]]:
-    """The messages with each two neighbours swapped that go between other ends: one association keeps its order (SCTP)."""
+    """The messages with each two neighbours swapped that go between other ends: one association keeps its order
+    (SCTP)."""
     for place, (one, other) in enumerate(zip(messages, messages[1:])):
         if {one.source, one.target} != {other.source, other.target} and "RRC" not in (one.link, other.link):
-            yield place, [*messages[:place], replace(other, time=one.time), replace(one, time=other.time), *messages[place + 2:]]
+            yield place, [
+                *messages[:place],
+                replace(other, time=one.time),
+                replace(one, time=other.time),
+                *messages[place + 2 :],
+            ]
 
 
 class Swapped(unittest.TestCase):
@@ -58,7 +65,9 @@ class Swapped(unittest.TestCase):
                 if place % EVERY:
                     continue
                 tried += 1
-                frames = {line.frame for line in lines_of(messages) if line.verdict == DIFFERS and line.what != "agreement"}
+                frames = {
+                    line.frame for line in lines_of(messages) if line.verdict == DIFFERS and line.what != "agreement"
+                }
                 told += world.faults[0] in frames
                 alone += frames == {world.faults[0]}
         print(f"{told} of {tried} faults told behind swaps, {alone} of them alone", end=" ", flush=True)

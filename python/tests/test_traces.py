@@ -30,7 +30,9 @@ def truth_of(name: str) -> dict[str, Any]:
 
 def traced(name: str, found: list[Message], cells: bool = True) -> Trace:
     kasmes = [Kasme(one["name"], bytes.fromhex(one["hex"])) for one in truth_of(name)["kasme"]]
-    return check(Derivations(StandIn(), kasmes), Cells(read_cells(TRACES / f"{name}.cells.txt") if cells else []), found)
+    return check(
+        Derivations(StandIn(), kasmes), Cells(read_cells(TRACES / f"{name}.cells.txt") if cells else []), found
+    )
 
 
 class Truth(unittest.TestCase):
@@ -53,8 +55,30 @@ class Truth(unittest.TestCase):
             for frame, one in wanted.items():
                 line, key = lines[frame], one["key"]
                 self.assertEqual(
-                    (line.message, line.what, line.hex, line.kasme, line.base, line.found, line.wanted, line.ncc, line.wanted_ncc, line.verdict != DIFFERS),
-                    (one["message"], key["what"], key["hex"], key["kasme"], key["base"], key["form"], key["wanted"], key["ncc"], key["wanted_ncc"], key["right"]),
+                    (
+                        line.message,
+                        line.what,
+                        line.hex,
+                        line.kasme,
+                        line.base,
+                        line.found,
+                        line.wanted,
+                        line.ncc,
+                        line.wanted_ncc,
+                        line.verdict != DIFFERS,
+                    ),
+                    (
+                        one["message"],
+                        key["what"],
+                        key["hex"],
+                        key["kasme"],
+                        key["base"],
+                        key["form"],
+                        key["wanted"],
+                        key["ncc"],
+                        key["wanted_ncc"],
+                        key["right"],
+                    ),
                     (name, frame),
                 )
 
@@ -67,10 +91,14 @@ class Truth(unittest.TestCase):
                 line = lines[frame]
                 self.assertEqual(
                     (line.count, line.found, line.kasme, (line.plain or b"").hex(), line.verdict == "right"),
-                    (one["count"], one["mac"], one["kasme"], one["plain"], one["mac_right"]), (name, frame),
+                    (one["count"], one["mac"], one["kasme"], one["plain"], one["mac_right"]),
+                    (name, frame),
                 )
                 text = ", text right" if one["header"] in (2, 4) else ""
-                self.assertIn(f"NAS {one['direction']} COUNT {one['count']} header {one['header']} MAC right{text} {one['name']}", line.text)
+                self.assertIn(
+                    f"NAS {one['direction']} COUNT {one['count']} header {one['header']} MAC right{text} {one['name']}",
+                    line.text,
+                )
 
     def test_phone_and_station_agree_where_they_do(self) -> None:
         for name in NAMES:
@@ -81,19 +109,26 @@ class Truth(unittest.TestCase):
                 line = lines[frame]
                 self.assertEqual(
                     (line.found, line.wanted, line.hex, line.verdict == "right"),
-                    (one["station"], one["phone"], one["station_hex"], one["agree"]), (name, frame),
+                    (one["station"], one["phone"], one["station_hex"], one["agree"]),
+                    (name, frame),
                 )
 
     def test_one_fault_is_one_difference(self) -> None:
         for name in NAMES:
             lines = self.traces[name].lines
-            self.assertEqual([line.frame for line in lines if line.verdict == DIFFERS and line.what != "agreement"], [str(one["frame"]) for one in truth_of(name)["faults"]])
+            self.assertEqual(
+                [line.frame for line in lines if line.verdict == DIFFERS and line.what != "agreement"],
+                [str(one["frame"]) for one in truth_of(name)["faults"]],
+            )
             self.assertEqual(status(lines), 1 if truth_of(name)["faults"] else 0)
 
     def test_the_cells_of_the_trace_itself_do_as_well(self) -> None:
         for name in NAMES:
             lines = traced(name, list(read(TRACES / f"{name}.json.gz")), cells=False).lines
-            self.assertEqual([(line.frame, line.verdict) for line in lines], [(line.frame, line.verdict) for line in self.traces[name].lines])
+            self.assertEqual(
+                [(line.frame, line.verdict) for line in lines],
+                [(line.frame, line.verdict) for line in self.traces[name].lines],
+            )
 
     def test_commands_over_the_air_are_compared(self) -> None:
         for name in ("A", "C"):
@@ -102,15 +137,27 @@ class Truth(unittest.TestCase):
             wanted = [one for one in truth_of(name)["rrc"] if "ncc" in one]
             self.assertEqual(
                 [line.text for line in lines],
-                [f"frame {name}.rrc.json.gz {one['frame']} RRC command right: NCC {one['ncc']} cell ({one['pci']},{one['earfcn']})" for one in wanted],
+                [
+                    (
+                        f"frame {name}.rrc.json.gz {one['frame']} RRC command right: NCC {one['ncc']} cell "
+                        f"({one['pci']},{one['earfcn']})"
+                    )
+                    for one in wanted
+                ],
             )
 
     def test_a_station_that_is_named_by_the_line(self) -> None:
         texts = [line.text for line in self.traces["B1-star-earfcn"].lines if line.verdict == DIFFERS]
-        self.assertEqual(texts, [
-            "frame 34 X2 HandoverRequest KeNB* differs: is star(nh(2),10,6300), wanted star(nh(2),10,100)",
-            "frame 34 phone and enb1 come apart here: the phone takes star(nh(2),10,100), enb1 has star(nh(2),10,6300)",
-        ])
+        self.assertEqual(
+            texts,
+            [
+                "frame 34 X2 HandoverRequest KeNB* differs: is star(nh(2),10,6300), wanted star(nh(2),10,100)",
+                (
+                    "frame 34 phone and enb1 come apart here: the phone takes star(nh(2),10,100), enb1 has "
+                    "star(nh(2),10,6300)"
+                ),
+            ],
+        )
 
     @unittest.skipUnless(TSHARK, "tshark is not here")
     def test_tshark_gives_what_is_stored(self) -> None:

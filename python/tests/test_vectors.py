@@ -1,4 +1,5 @@
-"""The test vectors against the calls in pure Python: each output is equal, each invalid test is refused for the reason of its flag."""
+"""The test vectors against the calls in pure Python: each output is equal, each invalid test is refused for the reason
+of its flag."""
 from __future__ import annotations
 
 import contextlib
@@ -93,7 +94,9 @@ def reach(given: dict[str, Any]) -> dict[str, Any]:
 
 def kasme(given: dict[str, Any]) -> bytes:
     """KASME (TS 33.401 A.2)."""
-    return kdf(bytes.fromhex(given["ck"] + given["ik"]), 0x10, bytes.fromhex(given["plmn"]), bytes.fromhex(given["sqn-xor-ak"]))
+    return kdf(
+        bytes.fromhex(given["ck"] + given["ik"]), 0x10, bytes.fromhex(given["plmn"]), bytes.fromhex(given["sqn-xor-ak"])
+    )
 
 
 def text(given: dict[str, Any]) -> tuple[Any, ...]:
@@ -103,8 +106,12 @@ def text(given: dict[str, Any]) -> tuple[Any, ...]:
 COMPUTED = {
     "kenb": lambda given: {"kenb": PURE.kenb(bytes.fromhex(given["kasme"]), given["count"]).hex()},
     "nh": lambda given: {"nh": PURE.nh(bytes.fromhex(given["kasme"]), bytes.fromhex(given["sync"])).hex()},
-    "star": lambda given: {"kenb-star": PURE.kenb_star(bytes.fromhex(given["key"]), given["pci"], given["earfcn"]).hex()},
-    "alg": lambda given: {"algorithm-key": PURE.algorithm_key(bytes.fromhex(given["key"]), given["type"], given["id"]).hex()},
+    "star": lambda given: {
+        "kenb-star": PURE.kenb_star(bytes.fromhex(given["key"]), given["pci"], given["earfcn"]).hex()
+    },
+    "alg": lambda given: {
+        "algorithm-key": PURE.algorithm_key(bytes.fromhex(given["key"]), given["type"], given["id"]).hex()
+    },
     "eea1": lambda given: {"ciphertext": ciphers.eea1(*text(given)).hex()},
     "eea2": lambda given: {"ciphertext": PURE.eea2(*text(given)).hex()},
     "eea3": lambda given: {"ciphertext": ciphers.eea3(*text(given)).hex()},
@@ -112,7 +119,10 @@ COMPUTED = {
     "eia2": lambda given: {"mac": PURE.eia2(*text(given)).hex()},
     "eia3": lambda given: {"mac": ciphers.eia3(*text(given)).hex()},
     "kasme": lambda given: {"kasme": kasme(given).hex()},
-    "nas": nas, "srb": srb, "drb": drb, "reach": reach,
+    "nas": nas,
+    "srb": srb,
+    "drb": drb,
+    "reach": reach,
 }
 
 

@@ -1,5 +1,5 @@
-"""What keeps the standard, as a tap shows it that lacks some links: nothing differs. And faults, as such taps show them: no fault is told less than in
-the table that is kept.
+"""What keeps the standard, as a tap shows it that lacks some links: nothing differs. And faults, as such taps show
+them: no fault is told less than in the table that is kept.
 
 With EVERY_PLACE=1 all views are tried, which is for whoever changes how traces are judged; else one of so many.
 """
@@ -51,7 +51,8 @@ class Views(unittest.TestCase):
             self.assertLessEqual(set(by_view), views[name], f"{name} in {TABLE.name}")
 
     def test_no_fault_is_told_less_than_in_the_table(self) -> None:
-        """Each fault is told with all links (`test_simulated` and others). Here each view that has its frame is compared with the table."""
+        """Each fault is told with all links (`test_simulated` and others). Here each view that has its frame is
+        compared with the table."""
         table, found, better, place = kept(), Counter[str](), 0, 0
         for case in broken_cases():
             for view, messages in case.views():
@@ -62,9 +63,15 @@ class Views(unittest.TestCase):
                 found[told] += 1
                 better += VERDICTS.index(told) < VERDICTS.index(before)
                 with self.subTest(case.name, view=view):
-                    self.assertLessEqual(VERDICTS.index(told), VERDICTS.index(before), f"{told}, and in {TABLE.name} {before}")
+                    self.assertLessEqual(
+                        VERDICTS.index(told), VERDICTS.index(before), f"{told}, and in {TABLE.name} {before}"
+                    )
         tried = sum(found.values())
-        print(f"{tried} faults in views: {', '.join(f'{number} {how}' for how, number in sorted(found.items()))}", end=" ", flush=True)
+        print(
+            f"{tried} faults in views: {', '.join(f'{number} {how}' for how, number in sorted(found.items()))}",
+            end=" ",
+            flush=True,
+        )
         print(f"({better} are told better than in {TABLE.name}: write it again)" if better else "", end=" ", flush=True)
         self.assertLess(found[ELSEWHERE], 0.05 * tried)
 

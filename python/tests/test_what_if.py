@@ -27,7 +27,9 @@ from .studied import EXAMPLES, TOP, called, launched, listed, octets, program, p
 
 # What heals behind a scenario: by what, how many events, and why nothing does.
 HEALED = {
-    "run/ordinary": ("reconnection", 7, None), "run/eight-ahead": ("reconnection", 7, None), "procedures/count-out-of-reach": ("authentication", 11, None),
+    "run/ordinary": ("reconnection", 7, None),
+    "run/eight-ahead": ("reconnection", 7, None),
+    "procedures/count-out-of-reach": ("authentication", 11, None),
     "worked/last-number": (None, None, "station 0 NumberSpent"),
 }
 
@@ -41,7 +43,10 @@ class Lines(unittest.TestCase):
 
     def test_each_message_has_each_fault_at_each_place(self) -> None:
         found = listed(octets("run/ordinary"))
-        faults = {kind: [one.faults[0].after for one in found if one.faults[0].kind == kind and one.faults[0].item == "18"] for kind in KINDS}
+        faults = {
+            kind: [one.faults[0].after for one in found if one.faults[0].kind == kind and one.faults[0].item == "18"]
+            for kind in KINDS
+        }
         places = [str(step) for step in range(18, 27)]
         self.assertEqual(faults, {"lost": [None], "late": places[1:], "twice": places, "again": []})
         self.assertEqual(len({one.faults for one in found}), len(found))
@@ -52,19 +57,36 @@ class Lines(unittest.TestCase):
         whole = listed(scenario)
         for part, jobs in (((1, 1), 3), ((2, 3), 1), ((2, 3), 4)):
             found = list(Lists(program("lte_variants"), scenario, KINDS, False).all(1, part, jobs))
-            self.assertEqual(found, whole[part[0] - 1::part[1]], f"{part} {jobs}")
+            self.assertEqual(found, whole[part[0] - 1 :: part[1]], f"{part} {jobs}")
 
     def test_lines_are_read(self) -> None:
         for line, faults, outcomes, heals in (
-            ("lost 9: stuck; not made, heals authentication", (Fault("lost", "9"),), ("stuck", "not made"), Heals("authentication")),
-            ("late 9 12, again 14: same, heals nothing", (Fault("late", "9", "12"), Fault("again", "14")), ("same",), Heals(None)),
+            (
+                "lost 9: stuck; not made, heals authentication",
+                (Fault("lost", "9"),),
+                ("stuck", "not made"),
+                Heals("authentication"),
+            ),
+            (
+                "late 9 12, again 14: same, heals nothing",
+                (Fault("late", "9", "12"), Fault("again", "14")),
+                ("same",),
+                Heals(None),
+            ),
             ("lost 9: coincidence", (Fault("lost", "9"),), ("coincidence",), None),
         ):
             self.assertEqual(variant_of(line), (faults, outcomes, heals))
         lists = Lists("", b"", KINDS, False)
-        lines = ["scenario 27 2 serving 1 heals reconnection", "message 9 X2 Handover Request", "lost 9: same, heals reconnection", "end 1"]
+        lines = [
+            "scenario 27 2 serving 1 heals reconnection",
+            "message 9 X2 Handover Request",
+            "lost 9: same, heals reconnection",
+            "end 1",
+        ]
         self.assertEqual([variant.outcomes for variant in lists.variants(iter(lines))], [("same",)])
-        self.assertEqual((lists.serving, lists.heals, lists.messages), (1, Heals("reconnection"), {"9": "X2 Handover Request"}))
+        self.assertEqual(
+            (lists.serving, lists.heals, lists.messages), (1, Heals("reconnection"), {"9": "X2 Handover Request"})
+        )
         with self.assertRaises(ProgramFails):
             list(lists.variants(iter([*lines[:-1], "end 2"])))
 
@@ -77,7 +99,11 @@ class Lines(unittest.TestCase):
             whole, before = study(name), None
             for each in listed(octets(name), "late", "twice"):
                 tried = whole.tried(each.faults, before)
-                if before and before.variant.faults[0].item == each.faults[0].item and whole.is_alike(before.variant.faults[0], each.faults[0], before.course):
+                if (
+                    before
+                    and before.variant.faults[0].item == each.faults[0].item
+                    and whole.is_alike(before.variant.faults[0], each.faults[0], before.course)
+                ):
                     alike += 1
                     self.assertEqual(told(tried.course), told(before.course), f"{each.faults}")
                 before = tried
@@ -91,19 +117,33 @@ class Lines(unittest.TestCase):
             wrong.chmod(0o700)
             out, err = io.StringIO(), io.StringIO()
             with contextlib.redirect_stdout(out), contextlib.redirect_stderr(err):
-                status = what_if.main([program("lte_sec_app"), str(wrong), "--jobs", "1", "--json", str(EXAMPLES / "run/wrong-ksi.toml")])
+                status = what_if.main(
+                    [program("lte_sec_app"), str(wrong), "--jobs", "1", "--json", str(EXAMPLES / "run/wrong-ksi.toml")]
+                )
         return status, json.loads(out.getvalue()), err.getvalue()
 
     def test_what_heals_is_told(self) -> None:
-        found = {name: json.loads(launched("--json", "--kinds", "lost", EXAMPLES / f"{name}.toml").stdout) for name in HEALED}
-        self.assertEqual({name: (document["heals"]["by"], document["heals"]["events"], document["heals"]["reason"]) for name, document in found.items()}, HEALED)
+        found = {
+            name: json.loads(launched("--json", "--kinds", "lost", EXAMPLES / f"{name}.toml").stdout) for name in HEALED
+        }
+        self.assertEqual(
+            {
+                name: (document["heals"]["by"], document["heals"]["events"], document["heals"]["reason"])
+                for name, document in found.items()
+            },
+            HEALED,
+        )
         document = found["run/ordinary"]
         self.assertEqual({one["heals"]["by"] for one in document["variants"]}, {"reconnection", "authentication"})
         answer = from_json(document)
         self.assertEqual(to_json(answer), document)
         lines = list(table(answer))
-        self.assertTrue(all(line.endswith("; heals: authentication, 11 events") for line in lines if " lost: stuck" in line))
-        self.assertTrue(any(line.endswith("; heals: reconnection, 7 events") for line in lines if " lost: cut off" in line))
+        self.assertTrue(
+            all(line.endswith("; heals: authentication, 11 events") for line in lines if " lost: stuck" in line)
+        )
+        self.assertTrue(
+            any(line.endswith("; heals: reconnection, 7 events") for line in lines if " lost: cut off" in line)
+        )
         self.assertIn("; heals: no (station 0 NumberSpent)", "\n".join(table(from_json(found["worked/last-number"]))))
 
     def test_what_heals_is_what_its_own_run_shows(self) -> None:
@@ -113,16 +153,31 @@ class Lines(unittest.TestCase):
             for each in listed(octets(name), "lost"):
                 tried = whole.tried(each.faults)
                 again = opens(tried.course, "again arrives", AGAIN)
-                anew = whole.prober.refusal(whole.faults.put_all(each.faults) or [], whole.usual, tried.course.sends(), tried.serving) is None
-                self.assertEqual(each.heals, Heals("reconnection" if again else "authentication" if anew else None), f"{name} {each.faults}")
+                anew = (
+                    whole.prober.refusal(
+                        whole.faults.put_all(each.faults) or [], whole.usual, tried.course.sends(), tried.serving
+                    )
+                    is None
+                )
+                self.assertEqual(
+                    each.heals,
+                    Heals("reconnection" if again else "authentication" if anew else None),
+                    f"{name} {each.faults}",
+                )
                 found.add(each.heals)
         self.assertEqual(found, {Heals("reconnection"), Heals("authentication"), Heals(None)})
 
     def test_a_variant_whose_own_run_has_other_outcomes_is_marked(self) -> None:
         status, document, said = self.listed_otherwise("stuck")
-        self.assertEqual((status, said.splitlines()[-1]), (6, "lte_sec: status 6: 1 variant has other outcomes by its own run, told beside"))
+        self.assertEqual(
+            (status, said.splitlines()[-1]),
+            (6, "lte_sec: status 6: 1 variant has other outcomes by its own run, told beside"),
+        )
         marked = [one for one in document["variants"] if "by_run" in one]
-        self.assertEqual([(one["faults"][0]["step"], one["outcomes"][0]["is"], one["by_run"]) for one in marked], [(3, "stuck", ["goes on"])])
+        self.assertEqual(
+            [(one["faults"][0]["step"], one["outcomes"][0]["is"], one["by_run"]) for one in marked],
+            [(3, "stuck", ["goes on"])],
+        )
         self.assertIn("3 NAS Security Mode Command lost: stuck", "\n".join(table(from_json(document))))
         self.assertIn("(its own run: goes on)", "\n".join(table(from_json(document))))
 
@@ -137,8 +192,16 @@ class Lines(unittest.TestCase):
         answer = from_json(document)
         answer.itself = ["keys differ 69", "keys differ probe", "stuck", "packet lost 14"]
         self.assertEqual(from_json(to_json(answer)).itself, answer.itself)
-        self.assertEqual(next(table(answer)), "without any fault: keys differ at step 69; keys differ in the probe behind it; stuck; packet lost of step 14; heals: reconnection, 7 events")
-        self.assertEqual(launched("--kinds", "lost", "--bad", "coincidence", EXAMPLES / "run/eight-ahead.toml").returncode, 1)
+        self.assertEqual(
+            next(table(answer)),
+            (
+                "without any fault: keys differ at step 69; keys differ in the probe behind it; stuck; packet lost "
+                "of step 14; heals: reconnection, 7 events"
+            ),
+        )
+        self.assertEqual(
+            launched("--kinds", "lost", "--bad", "coincidence", EXAMPLES / "run/eight-ahead.toml").returncode, 1
+        )
 
 
 class Answers(unittest.TestCase):
@@ -149,7 +212,13 @@ class Answers(unittest.TestCase):
             calls = []
             for number, file in enumerate(files, 1):
                 with file.open("wb") as out:
-                    calls.append(subprocess.Popen([TOP / "lte_sec", "what-if", *words, "--jobs", "1", "--part", f"{number}/4", scenario], stdout=out, stderr=subprocess.DEVNULL))
+                    calls.append(
+                        subprocess.Popen(
+                            [TOP / "lte_sec", "what-if", *words, "--jobs", "1", "--part", f"{number}/4", scenario],
+                            stdout=out,
+                            stderr=subprocess.DEVNULL,
+                        )
+                    )
             self.assertEqual([call.wait() for call in calls], [0] * 4)
             whole = launched(*words, scenario)
             self.assertEqual(launched("--merge", "--json", *files).stdout, whole.stdout)
@@ -161,7 +230,11 @@ class Answers(unittest.TestCase):
 
     def test_lines_of_parts_are_those_of_the_whole(self) -> None:
         scenario = EXAMPLES / "run/two-preparations.toml"
-        lines = [line for number in (1, 2, 3) for line in called("--lines", "--part", f"{number}/3", scenario)[1].splitlines()]
+        lines = [
+            line
+            for number in (1, 2, 3)
+            for line in called("--lines", "--part", f"{number}/3", scenario)[1].splitlines()
+        ]
         self.assertEqual(sorted(lines), sorted(called("--lines", "--jobs", "1", scenario)[1].splitlines()))
         self.assertIn("lost 2: stuck, NAS apart, no handover, not made", lines)
 
@@ -172,11 +245,19 @@ class Answers(unittest.TestCase):
 
     def test_interrupted_it_tells_what_it_has(self) -> None:
         call = subprocess.Popen(
-            [TOP / "lte_sec", "what-if", "--faults", "2", "--jobs", "2", EXAMPLES / "what-if/ten-handovers.toml"], stdout=subprocess.PIPE, stderr=subprocess.PIPE, text=True, start_new_session=True,
-            preexec_fn=lambda: signal.signal(signal.SIGINT, signal.SIG_DFL),  # what a script starts in the background ignores it
+            [TOP / "lte_sec", "what-if", "--faults", "2", "--jobs", "2", EXAMPLES / "what-if/ten-handovers.toml"],
+            stdout=subprocess.PIPE,
+            stderr=subprocess.PIPE,
+            text=True,
+            start_new_session=True,
+            preexec_fn=lambda: signal.signal(
+                signal.SIGINT, signal.SIG_DFL
+            ),  # what a script starts in the background ignores it
         )
         assert call.stderr
-        said = next((line for line in call.stderr if "variants of 2 faults" in line), "")  # it is at work, and has more to do
+        said = next(
+            (line for line in call.stderr if "variants of 2 faults" in line), ""
+        )  # it is at work, and has more to do
         call.send_signal(signal.SIGINT)
         out, err = call.communicate(timeout=600)
         self.assertTrue(said, err)
@@ -187,9 +268,16 @@ class Answers(unittest.TestCase):
 
     def test_statuses(self) -> None:
         for status, words in (
-            (0, ["run/ordinary.toml"]), (1, ["--bad", "cut off", "run/ordinary.toml"]), (1, ["--bad", "cut-off", "run/ordinary.toml"]),
-            (1, ["--kinds", "again", "run/seven-ahead.toml"]), (0, ["--bad", "coincidence", "--kinds", "again", "run/seven-ahead.toml"]), (3, ["ladder/first.txt"]), (3, ["fleet/two-phones.toml"]),
-            (7, ["run/coincidence.toml"]), (1, ["worked/repeated-root.toml"]), (0, ["--follow", "--kinds", "lost", "run/two-preparations.toml"]),
+            (0, ["run/ordinary.toml"]),
+            (1, ["--bad", "cut off", "run/ordinary.toml"]),
+            (1, ["--bad", "cut-off", "run/ordinary.toml"]),
+            (1, ["--kinds", "again", "run/seven-ahead.toml"]),
+            (0, ["--bad", "coincidence", "--kinds", "again", "run/seven-ahead.toml"]),
+            (3, ["ladder/first.txt"]),
+            (3, ["fleet/two-phones.toml"]),
+            (7, ["run/coincidence.toml"]),
+            (1, ["worked/repeated-root.toml"]),
+            (0, ["--follow", "--kinds", "lost", "run/two-preparations.toml"]),
         ):
             ran = launched(*words[:-1], EXAMPLES / words[-1])
             self.assertEqual(ran.returncode, status, f"{words} {ran.stderr!r}")
@@ -198,15 +286,28 @@ class Answers(unittest.TestCase):
     def test_of_too_many_steps_it_tells_why(self) -> None:
         head, _, _ = octets("run/wrong-ksi").partition(b"step")
         ran = launched("--json", given=head + b"step = [" + b'{ do = "idle" },' * 2001 + b"]")
-        self.assertEqual((ran.returncode, json.loads(ran.stdout)), (11, {"error": "the scenario has more than 2,000 steps", "status": 11}))
+        self.assertEqual(
+            (ran.returncode, json.loads(ran.stdout)),
+            (11, {"error": "the scenario has more than 2,000 steps", "status": 11}),
+        )
 
     def test_what_is_wrong_is_told_in_one_line(self) -> None:
         ordinary = EXAMPLES / "run/ordinary.toml"
         wrong: list[tuple[list[object], str]] = [
-            (["--faults", "4", ordinary], "--faults is 1 to 3, and not '4'"), (["--kinds", "lost,early", ordinary], "and not 'early'"), (["--bad", "x", ordinary], "--bad takes an outcome"),
-            (["--part", "2", ordinary], "--part I/N"), (["--part", "3/2", ordinary], "I of --part I/N is 1 to 2"), (["--jobs", "0", ordinary], "--jobs is 1 to"), (["--what", ordinary], "there is no option --what"),
-            (["nowhere"], "nowhere cannot be read"), ([ordinary, ordinary], "takes one SCENARIO"), (["--merge"], "--merge takes the files"), (["--merge", ordinary], "is not what --json writes"),
-            (["--picture", "/nowhere/x", ordinary], "cannot be written"), (["--save", ordinary, ordinary], "cannot be made"), (["--kinds"], "--kinds wants a value"),
+            (["--faults", "4", ordinary], "--faults is 1 to 3, and not '4'"),
+            (["--kinds", "lost,early", ordinary], "and not 'early'"),
+            (["--bad", "x", ordinary], "--bad takes an outcome"),
+            (["--part", "2", ordinary], "--part I/N"),
+            (["--part", "3/2", ordinary], "I of --part I/N is 1 to 2"),
+            (["--jobs", "0", ordinary], "--jobs is 1 to"),
+            (["--what", ordinary], "there is no option --what"),
+            (["nowhere"], "nowhere cannot be read"),
+            ([ordinary, ordinary], "takes one SCENARIO"),
+            (["--merge"], "--merge takes the files"),
+            (["--merge", ordinary], "is not what --json writes"),
+            (["--picture", "/nowhere/x", ordinary], "cannot be written"),
+            (["--save", ordinary, ordinary], "cannot be made"),
+            (["--kinds"], "--kinds wants a value"),
         ]
         for words, line in wrong:
             status, out, err = called(*words)
@@ -217,7 +318,10 @@ class Answers(unittest.TestCase):
         part = to_json(Answer({}, {"0": "x"}, [Variant((Fault("lost", "0", None),), {"same": About()})]))
         variant = part["variants"][0]
         wrong: tuple[object, ...] = (
-            part | {"variants": [variant | {"outcomes": [{"is": "no outcome", "what": ""}]}]}, part | {"variants": [variant | {"faults": [{"kind": "never", "step": 0}]}]}, [], {},
+            part | {"variants": [variant | {"outcomes": [{"is": "no outcome", "what": ""}]}]},
+            part | {"variants": [variant | {"faults": [{"kind": "never", "step": 0}]}]},
+            [],
+            {},
         )
         with tempfile.NamedTemporaryFile("w") as file:
             for each in (*map(json.dumps, wrong), '{"a":' * 10_000, "\0"):
@@ -226,7 +330,9 @@ class Answers(unittest.TestCase):
                 file.write(each)
                 file.flush()
                 status, out, err = called("--merge", file.name)
-                self.assertEqual((status, out, err), (2, "", f"lte_sec: status 2: what-if: {file.name} is not what --json writes\n"))
+                self.assertEqual(
+                    (status, out, err), (2, "", f"lte_sec: status 2: what-if: {file.name} is not what --json writes\n")
+                )
 
     def test_no_folder_is_written_unless_one_is_named(self) -> None:
         with unittest.mock.patch("os.access", return_value=False):
@@ -240,7 +346,11 @@ class Answers(unittest.TestCase):
     def test_with_json_nothing_else_is_printed(self) -> None:
         for name, status, why in (
             ("ladder/first.txt", 3, "this is a ladder text: ./lte_sec ladder takes it"),
-            ("run/coincidence.toml", 7, "the scenario itself ends at a coincidence, so that nothing can be compared with it"),
+            (
+                "run/coincidence.toml",
+                7,
+                "the scenario itself ends at a coincidence, so that nothing can be compared with it",
+            ),
         ):
             ran = launched("--json", EXAMPLES / name)
             self.assertEqual((ran.returncode, json.loads(ran.stdout)), (status, {"error": why, "status": status}))
@@ -254,7 +364,11 @@ class Answers(unittest.TestCase):
         with tempfile.TemporaryDirectory() as room:
             file = Path(room) / "matrix.svg"
             launched("--picture", file, EXAMPLES / "run/ordinary.toml")
-            letters = [node.firstChild.data for node in xml.dom.minidom.parse(str(file)).getElementsByTagName("text") if node.firstChild]
+            letters = [
+                node.firstChild.data
+                for node in xml.dom.minidom.parse(str(file)).getElementsByTagName("text")
+                if node.firstChild
+            ]
         self.assertTrue({"lost", "late", "twice", "again", "s", "x", "Path Switch Request"} <= set(letters))
 
     def test_the_outcomes_have_an_order(self) -> None:

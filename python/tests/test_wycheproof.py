@@ -14,7 +14,11 @@ from .standin import StandIn
 WAYS = ("uplink", "downlink")
 # The members of a file and of a test, as the project's schemas of version 1 have them.
 FILE = {"algorithm", "schema", "generatorVersion", "numberOfTests", "header", "notes", "testGroups"}
-TESTS = {"MacTest": {"key", "msg", "tag"}, "IndCpaTest": {"key", "iv", "msg", "ct"}, "MacWithIvTest": {"key", "iv", "msg", "tag"}}
+TESTS = {
+    "MacTest": {"key", "msg", "tag"},
+    "IndCpaTest": {"key", "iv", "msg", "ct"},
+    "MacWithIvTest": {"key", "iv", "msg", "tag"},
+}
 BUGS = {"AUTH_BYPASS", "BASIC", "CONFIDENTIALITY", "FUNCTIONALITY", "UNKNOWN"}
 
 
@@ -25,10 +29,23 @@ def answers(lines: list[str]) -> list[str]:
         word, *fields = line.split(" ")
         if word in ("eea1", "eea2", "eea3", "eia1", "eia2", "eia3"):
             key, count, bearer, direction, text = fields
-            told.append(getattr(calls, word)(bytes.fromhex(key), int(count), int(bearer), WAYS.index(direction), bytes.fromhex(text.replace("-", ""))).hex() or "-")
+            told.append(
+                getattr(calls, word)(
+                    bytes.fromhex(key),
+                    int(count),
+                    int(bearer),
+                    WAYS.index(direction),
+                    bytes.fromhex(text.replace("-", "")),
+                ).hex()
+                or "-"
+            )
         elif word == "kasme":
             plmn, sqn = bytes.fromhex(fields[2]), bytes.fromhex(fields[3])
-            told.append(hmac.digest(bytes.fromhex(fields[0] + fields[1]), b"\x10" + plmn + b"\0\3" + sqn + b"\0\6", "sha256").hex())
+            told.append(
+                hmac.digest(
+                    bytes.fromhex(fields[0] + fields[1]), b"\x10" + plmn + b"\0\3" + sqn + b"\0\6", "sha256"
+                ).hex()
+            )
         else:
             parent = bytes.fromhex(fields[0])
             if word == "nh":

@@ -146,7 +146,12 @@ class Core:
         sync = CALLS.nh(root, kenb) if self.is_ahead else kenb
         self.link = CoreLink(self.next, root, 1 if self.is_ahead else 0, sync, station)
         self.next += 1
-        return Reply(to=bytes([5, station]), record=record, derived=(kenb, sync) if self.is_ahead else (kenb,), note=Note(0, INITIAL, kenb))
+        return Reply(
+            to=bytes([5, station]),
+            record=record,
+            derived=(kenb, sync) if self.is_ahead else (kenb,),
+            note=Note(0, INITIAL, kenb),
+        )
 
     def protected(self, pdu: bytes) -> Reply:
         context = self.in_use()
@@ -182,7 +187,9 @@ class Core:
             raise Refused("NumberSpent")
         kenb = CALLS.kenb(context.root, self.trigger)
         self.trigger = None
-        return self.begun(b"\x20" + octets(self.next) + spelled_cell(cell) + self.caps + kenb, context.root, kenb, self.sites[cell])
+        return self.begun(
+            b"\x20" + octets(self.next) + spelled_cell(cell) + self.caps + kenb, context.root, kenb, self.sites[cell]
+        )
 
     def Release(self) -> Reply:
         if self.link is None:
@@ -196,7 +203,13 @@ class Core:
             raise Refused("WrongKind", pdu[:1])
         if self.link is None or self.link.number != told["connection"]:
             raise Refused("OldConnection", octets(self.link.number if self.link else 0), octets(told["connection"]))
-        reply: Reply = {0x22: self.switched, 0x24: self.required, 0x26: self.ordered, 0x28: self.notified, 0x29: self.cancelled}[told["kind"]](self.link, told)
+        reply: Reply = {
+            0x22: self.switched,
+            0x24: self.required,
+            0x26: self.ordered,
+            0x28: self.notified,
+            0x29: self.cancelled,
+        }[told["kind"]](self.link, told)
         return reply
 
     def stepped(self, link: CoreLink) -> Note:
@@ -223,7 +236,13 @@ class Core:
         note = self.stepped(link)
         link.station = told["station"]
         record = b"\x23" + octets(link.number) + octets(told["number"]) + bytes([note.ncc]) + note.key
-        return Reply(to=bytes([5, link.station]), record=record, derived=(note.key,), note=note, alarm=told["capabilities"] != self.latest)
+        return Reply(
+            to=bytes([5, link.station]),
+            record=record,
+            derived=(note.key,),
+            note=note,
+            alarm=told["capabilities"] != self.latest,
+        )
 
     def required(self, link: CoreLink, told: dict[str, Any]) -> Reply:
         """A Handover Required goes on to the target with the next pair (7.2.8.4.3)."""
@@ -231,12 +250,28 @@ class Core:
         target = self.target(told["cell"])
         self.attempts[told["station"]] = told["attempt"]
         note = self.stepped(link)
-        record = b"\x25" + octets(link.number) + bytes([told["station"]]) + octets(told["attempt"]) + told["cell"] + self.caps + bytes([note.ncc]) + note.key
+        record = (
+            b"\x25"
+            + octets(link.number)
+            + bytes([told["station"]])
+            + octets(told["attempt"])
+            + told["cell"]
+            + self.caps
+            + bytes([note.ncc])
+            + note.key
+        )
         return Reply(to=bytes([5, target]), record=record, derived=(note.key,), note=note)
 
     def ordered(self, link: CoreLink, told: dict[str, Any]) -> Reply:
         """An acknowledgement goes on to the source as a Handover Command."""
-        record = b"\x27" + octets(told["connection"]) + octets(told["attempt"]) + told["cell"] + bytes([told["NCC"], told["algorithms"]]) + octets(told["air"])
+        record = (
+            b"\x27"
+            + octets(told["connection"])
+            + octets(told["attempt"])
+            + told["cell"]
+            + bytes([told["NCC"], told["algorithms"]])
+            + octets(told["air"])
+        )
         return Reply(to=bytes([5, told["source"]]), record=record)
 
     def notified(self, link: CoreLink, told: dict[str, Any]) -> Reply:

@@ -21,7 +21,8 @@ INITIAL, HORIZONTAL, VERTICAL = 0, 1, 2
 
 
 class Phone:
-    """What the phone has: capabilities, what the last authentication left, the context in use, and its connection, if it has or waits for one."""
+    """What the phone has: capabilities, what the last authentication left, the context in use, and its connection, if
+    it has or waits for one."""
 
     def __init__(self, setup: Input):
         self.caps: bytes = setup.fields["caps"]  # type: ignore[assignment]
@@ -186,7 +187,15 @@ class Phone:
         star = CALLS.kenb_star(kenb, *place_of(text["cell"]))
         return self.arrived(text, star, root, (0, kenb), (kenb,), INITIAL)
 
-    def arrived(self, text: dict[str, Any], star: bytes, root: bytes, chain: tuple[int, bytes], made: tuple[bytes, ...], way: int) -> Reply:
+    def arrived(
+        self,
+        text: dict[str, Any],
+        star: bytes,
+        root: bytes,
+        chain: tuple[int, bytes],
+        made: tuple[bytes, ...],
+        way: int,
+    ) -> Reply:
         """New keys, all bearers anew, and the Complete to the target."""
         self.link = link = RadioLink(text["station"], text["air"], text["algorithms"] >> 4, star, root, chain, True)
         sent = link.signalled(SRB1, b"\4", link.eea)

@@ -31,12 +31,22 @@ def identity(bearer: int) -> int:
 
 
 class RadioLink:
-    """A connection: station, air address, keys and COUNTs; the chain of NH, and whether a Complete may be sent again."""
+    """A connection: station, air address, keys and COUNTs; the chain of NH, and whether a Complete may be sent
+    again."""
 
     sends, takes = UP, DOWN
 
-    def __init__(self, station: int, air: int, eea: int, kenb: bytes, root: bytes, chain: tuple[int, bytes], by_handover: bool):
-        self.station, self.air, self.eea, self.kenb, self.root, self.by_handover = station, air, eea, kenb, root, by_handover
+    def __init__(
+        self, station: int, air: int, eea: int, kenb: bytes, root: bytes, chain: tuple[int, bytes], by_handover: bool
+    ):
+        self.station, self.air, self.eea, self.kenb, self.root, self.by_handover = (
+            station,
+            air,
+            eea,
+            kenb,
+            root,
+            by_handover,
+        )
         self.number, self.sync = chain
         self.rrc_enc, self.rrc_int, self.up_enc = self.derived = key(kenb, 3, eea), key(kenb, 4, 2), key(kenb, 5, eea)
         self.counts = {bearer: Counts() for bearer in RADIO}
@@ -49,7 +59,9 @@ class RadioLink:
         count = self.counts[bearer].take()
         head = bytes([count % 32])
         plain = text + mac(self.rrc_int, count, identity(bearer), self.sends, head + text)
-        return Reply(to=self.to(bearer), record=head + ciphered(eea, self.rrc_enc, count, identity(bearer), self.sends, plain))
+        return Reply(
+            to=self.to(bearer), record=head + ciphered(eea, self.rrc_enc, count, identity(bearer), self.sends, plain)
+        )
 
     def opened(self, bearer: int, pdu: bytes, eea: int) -> tuple[bytes, int]:
         """The text of a PDU on an SRB, and its COUNT."""
@@ -67,7 +79,11 @@ class RadioLink:
     def packed(self, bearer: int, text: bytes) -> Reply:
         """A user packet on a DRB under the next COUNT, of which it has 12 bits; it has no MAC (TS 36.323 5.6)."""
         count = self.counts[bearer].take()
-        return Reply(to=self.to(bearer), record=octets(0x8000 | count % 4096, 2) + ciphered(self.eea, self.up_enc, count, identity(bearer), self.sends, text))
+        return Reply(
+            to=self.to(bearer),
+            record=octets(0x8000 | count % 4096, 2)
+            + ciphered(self.eea, self.up_enc, count, identity(bearer), self.sends, text),
+        )
 
     def unpacked(self, bearer: int, pdu: bytes) -> bytes:
         """The text of a user packet that came (TS 36.323 5.1.2.1.3)."""

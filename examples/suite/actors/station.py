@@ -38,7 +38,8 @@ class Radio(RadioLink):
 
 @dataclasses.dataclass
 class Attempt:
-    """A handover, or a key change: over X2, S1 or within; its number, target, how far it is, and what its command says."""
+    """A handover, or a key change: over X2, S1 or within; its number, target, how far it is, and what its command
+    says."""
 
     kind: str
     number: int
@@ -132,10 +133,26 @@ class Station:
     # Records (TS 36.413, TS 36.423)
 
     def S1(self, pdu: bytes) -> Reply:
-        return self.record({0x20: self.initial, 0x21: self.released, 0x23: self.answered, 0x25: self.prepared, 0x27: self.acknowledged, 0x29: self.cancelled, 0x34: self.modified}, records.S1, pdu)
+        return self.record(
+            {
+                0x20: self.initial,
+                0x21: self.released,
+                0x23: self.answered,
+                0x25: self.prepared,
+                0x27: self.acknowledged,
+                0x29: self.cancelled,
+                0x34: self.modified,
+            },
+            records.S1,
+            pdu,
+        )
 
     def X2(self, pdu: bytes) -> Reply:
-        return self.record({0x30: self.prepared, 0x31: self.acknowledged, 0x32: self.cancelled, 0x33: self.source_released}, records.X2, pdu)
+        return self.record(
+            {0x30: self.prepared, 0x31: self.acknowledged, 0x32: self.cancelled, 0x33: self.source_released},
+            records.X2,
+            pdu,
+        )
 
     def record(self, taken: dict[int, Any], forms: dict[int, tables.Form], pdu: bytes) -> Reply:
         if pdu[:1] in (b"\x30", b"\x31", b"\x32", b"\x33") or pdu[:1] and pdu[0] in records.S1:
@@ -158,7 +175,9 @@ class Station:
         self.last, self.preparations = conn, []
         self.context = Context(conn, told["cell"], told["capabilities"], radio, starting=True)
         command = bytes([1, eea << 4 | 2, self.id]) + octets(radio.air)
-        return dataclasses.replace(radio.signalled(SRB1, command, 0), derived=radio.derived, note=Note(0, GIVEN, radio.kenb))
+        return dataclasses.replace(
+            radio.signalled(SRB1, command, 0), derived=radio.derived, note=Note(0, GIVEN, radio.kenb)
+        )
 
     def released(self, told: dict[str, Any]) -> Reply:
         context = self.ue()
@@ -194,12 +213,27 @@ class Station:
         radio = Radio(self.id, air, eea, star)
         self.last, self.seen[source] = conn, attempt
         self.preparations = [each for each in self.preparations if each.conn >= conn]
-        self.preparations.append(Preparation(conn, source, attempt, "X2" if over_x2 else "S1", cell, told["capabilities"], radio, told["NCC"]))
+        self.preparations.append(
+            Preparation(
+                conn, source, attempt, "X2" if over_x2 else "S1", cell, told["capabilities"], radio, told["NCC"]
+            )
+        )
         algorithms = bytes([eea << 4 | 2])
         if over_x2:
             record = b"\x31" + octets(conn) + octets(attempt) + cell + algorithms + octets(air)
-            return Reply(to=bytes([6, source]), record=record, derived=radio.derived, note=Note(told["NCC"], GIVEN, star))
-        record = b"\x26" + octets(conn) + bytes([source]) + octets(attempt) + cell + bytes([told["NCC"]]) + algorithms + octets(air)
+            return Reply(
+                to=bytes([6, source]), record=record, derived=radio.derived, note=Note(told["NCC"], GIVEN, star)
+            )
+        record = (
+            b"\x26"
+            + octets(conn)
+            + bytes([source])
+            + octets(attempt)
+            + cell
+            + bytes([told["NCC"]])
+            + algorithms
+            + octets(air)
+        )
         return Reply(to=b"\3", record=record, derived=(star, *radio.derived), note=Note(told["NCC"], VERTICAL, star))
 
     def star(self, key: bytes, cell: bytes) -> bytes:
@@ -209,7 +243,11 @@ class Station:
     def acknowledged(self, told: dict[str, Any]) -> Reply:
         """Handover Command on S1, or the acknowledgement on X2: the attempt is ready."""
         attempt = self.ue().attempt
-        if attempt is None or attempt.kind != ("S1" if told["kind"] == 0x27 else "X2") or attempt.number != told["attempt"]:
+        if (
+            attempt is None
+            or attempt.kind != ("S1" if told["kind"] == 0x27 else "X2")
+            or attempt.number != told["attempt"]
+        ):
             raise Refused("NoAttempt")
         if attempt.stage != "open":
             raise Refused("Repeated", octets(attempt.number), octets(attempt.number))
@@ -232,7 +270,8 @@ class Station:
         return Reply()
 
     def modified(self, told: dict[str, Any]) -> Reply:
-        """UE Context Modification Request: KeNB* of the new KeNB for the same cell, and the order to the phone (TS 33.401 7.2.9.2)."""
+        """UE Context Modification Request: KeNB* of the new KeNB for the same cell, and the order to the phone (TS
+        33.401 7.2.9.2)."""
         context = self.ue()
         if context.conn != told["connection"]:
             raise Refused("OldConnection", octets(context.conn), octets(told["connection"]))
@@ -248,15 +287,23 @@ class Station:
         star = self.star(told["KeNB"], context.cell)
         radio = Radio(self.id, air, context.radio.eea, star)
         self.last = told["next connection"]
-        self.preparations = [Preparation(self.last, self.id, number, "within", context.cell, context.caps, radio, 0, context.origin)]
+        self.preparations = [
+            Preparation(self.last, self.id, number, "within", context.cell, context.caps, radio, 0, context.origin)
+        ]
         context.attempt = Attempt("key change", number, self.id, context.cell, "commanded", eea=radio.eea, air=air)
-        return dataclasses.replace(self.ordered(context, context.attempt), derived=(star, *radio.derived), note=Note(0, GIVEN, star))
+        return dataclasses.replace(
+            self.ordered(context, context.attempt), derived=(star, *radio.derived), note=Note(0, GIVEN, star)
+        )
 
     # The radio (TS 36.331, TS 36.323)
 
     def Air(self, air: int, bearer: int, pdu: bytes) -> Reply:
         if self.context is not None and self.context.radio.air == air:
-            return self.starting(self.context, bearer, pdu) if self.context.starting else self.connected(self.context.radio, bearer, pdu)
+            return (
+                self.starting(self.context, bearer, pdu)
+                if self.context.starting
+                else self.connected(self.context.radio, bearer, pdu)
+            )
         found = [each for each in self.preparations if each.radio.air == air]
         if not found:
             raise Refused("NotAddressed")
@@ -303,7 +350,14 @@ class Station:
 
     def request(self, context: Context) -> bytes:
         """A Path Switch Request under the number that is outstanding."""
-        return b"\x22" + octets(context.conn) + bytes([self.id]) + octets(context.outstanding or 0) + context.cell + context.caps
+        return (
+            b"\x22"
+            + octets(context.conn)
+            + bytes([self.id])
+            + octets(context.outstanding or 0)
+            + context.cell
+            + context.caps
+        )
 
     # Acts
 
@@ -319,11 +373,21 @@ class Station:
     def over_x2(self, context: Context, target: int, cell: bytes) -> Reply:
         number = self.draw()
         star, note = self.begun(context, Attempt("X2", number, target, cell))
-        record = b"\x30" + octets(context.conn) + bytes([self.id]) + octets(number) + cell + context.caps + bytes([note.ncc]) + star
+        record = (
+            b"\x30"
+            + octets(context.conn)
+            + bytes([self.id])
+            + octets(number)
+            + cell
+            + context.caps
+            + bytes([note.ncc])
+            + star
+        )
         return Reply(to=bytes([6, target]), record=record, derived=(star,), note=note)
 
     def begun(self, context: Context, attempt: Attempt) -> tuple[bytes, Note]:
-        """KeNB* of the unused pair, which moves into the attempt, or else of the KeNB in use (TS 33.401 7.2.8.4.1, 7.2.8.4.2)."""
+        """KeNB* of the unused pair, which moves into the attempt, or else of the KeNB in use (TS 33.401 7.2.8.4.1,
+        7.2.8.4.2)."""
         pair, context.pair = context.pair, None
         attempt.ncc, base = pair if pair else (context.ncc, context.radio.kenb)
         attempt.spent, context.attempt = pair, attempt
@@ -343,13 +407,21 @@ class Station:
         attempt = Attempt("within", number, target, cell, "ready", eea=context.radio.eea, air=air)
         star, note = self.begun(context, attempt)
         radio = Radio(self.id, air, attempt.eea, star)
-        self.preparations.append(Preparation(context.conn, self.id, number, "within", cell, context.caps, radio, note.ncc, context.origin))
+        self.preparations.append(
+            Preparation(context.conn, self.id, number, "within", cell, context.caps, radio, note.ncc, context.origin)
+        )
         return Reply(derived=(star, *radio.derived), note=note)
 
     def ordered(self, context: Context, attempt: Attempt) -> Reply:
         """The command of an attempt on SRB1: a Reconfiguration, or the order of a key change."""
         ncc = b"" if attempt.kind == "key change" else bytes([attempt.ncc])
-        text = (b"\3" if ncc else b"\6") + attempt.cell + ncc + bytes([attempt.eea << 4 | 2, attempt.target]) + octets(attempt.air)
+        text = (
+            (b"\3" if ncc else b"\6")
+            + attempt.cell
+            + ncc
+            + bytes([attempt.eea << 4 | 2, attempt.target])
+            + octets(attempt.air)
+        )
         return context.radio.signalled(SRB1, text, context.radio.eea)
 
     def Command(self) -> Reply:
@@ -372,10 +444,18 @@ class Station:
             raise Refused("CommandSent")
         context.attempt, context.pair = None, context.pair or attempt.spent
         if attempt.kind == "X2":
-            return Reply(to=bytes([6, attempt.target]), record=b"\x32" + octets(context.conn) + bytes([self.id]) + octets(attempt.number))
+            return Reply(
+                to=bytes([6, attempt.target]),
+                record=b"\x32" + octets(context.conn) + bytes([self.id]) + octets(attempt.number),
+            )
         if attempt.kind == "S1":
-            return Reply(to=b"\3", record=b"\x29" + octets(context.conn) + bytes([self.id]) + octets(attempt.number) + attempt.cell)
-        self.preparations = [each for each in self.preparations if (each.source, each.attempt) != (self.id, attempt.number)]
+            return Reply(
+                to=b"\3",
+                record=b"\x29" + octets(context.conn) + bytes([self.id]) + octets(attempt.number) + attempt.cell,
+            )
+        self.preparations = [
+            each for each in self.preparations if (each.source, each.attempt) != (self.id, attempt.number)
+        ]
         return Reply()
 
     def Ask(self) -> Reply:

@@ -54,7 +54,7 @@ def fields_of(forms: dict[int, tables.Form], octets: bytes) -> dict[str, Any]:
     found: dict[str, Any] = {"kind": octets[0]}
     place = 1
     for name, width in form:
-        value = octets[place:place + width]
+        value = octets[place : place + width]
         number = int.from_bytes(value, "big")
         if is_wrong(name, value, number):
             raise fault(BAD_FIELD, place + 2 if name == "cell" and place_of(value)[0] <= 503 else place)
@@ -108,7 +108,9 @@ class Security:
         self.enc, self.int = key(root, 1, eea), key(root, 2, 2)
 
     def sealed(self, header: int, way: int, text: bytes, count: int) -> bytes:
-        covered = bytes([count % 256]) + (text if header in (1, 3) else ciphered(self.eea, self.enc, count, 0, way, text))
+        covered = bytes([count % 256]) + (
+            text if header in (1, 3) else ciphered(self.eea, self.enc, count, 0, way, text)
+        )
         return bytes([header << 4 | 7]) + mac(self.int, count, 0, way, covered) + covered
 
     def sent(self, header: int, way: int, text: bytes) -> bytes:

@@ -1,4 +1,5 @@
-"""start.py NUMBER WORD..: a wrong actor, that of the edit with this number in `edits`, counted from 0, with the words of its program."""
+"""start.py NUMBER WORD..: a wrong actor, that of the edit with this number in `edits`, counted from 0, with the words
+of its program."""
 import pathlib
 import sys
 import types
@@ -9,7 +10,8 @@ ACTORS = HERE.parent / "actors"
 
 
 class Mutant(NamedTuple):
-    """A wrong actor: whose it is, what is wrong, the scenario and the row by which it is told, and the edits, each with what is taken out and what is put in."""
+    """A wrong actor: whose it is, what is wrong, the scenario and the row by which it is told, and the edits, each with
+    what is taken out and what is put in."""
 
     actor: str
     wrong: str

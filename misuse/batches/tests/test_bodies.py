@@ -15,11 +15,22 @@ class TheList(unittest.TestCase):
     def test_another_body_and_one_that_is_not_listed_are_named(self) -> None:
         for changed in ("growth/lists.rt reserve", "edge_io/host.rt start"):
             with self.subTest(changed):
-                self.assertEqual(differences(MISUSE.parent / "crates", {**LISTED, changed: "Err(AllocError)"}), [changed])
-        self.assertEqual(differences(MISUSE.parent / "crates", {name: LISTED[name] for name in LISTED if name != "growth/maps.rt insert"}), ["growth/maps.rt insert"])
+                self.assertEqual(
+                    differences(MISUSE.parent / "crates", {**LISTED, changed: "Err(AllocError)"}), [changed]
+                )
+        self.assertEqual(
+            differences(
+                MISUSE.parent / "crates", {name: LISTED[name] for name in LISTED if name != "growth/maps.rt insert"}
+            ),
+            ["growth/maps.rt insert"],
+        )
 
     def test_a_body_is_what_stands_between_its_braces(self) -> None:
-        text = "pub fn a<T>(x: T) -> u8\n    ensures { All (λ y. y ≡ y) x }\n{\n    let y = 1;\n    y\n}\n\ntrait B {\n    fn c(&self)\n        ensures { d };\n}\n\nimpl B for E {\n    fn c(&self) {\n        f()\n    }\n\n    fn g() {}\n}\n"
+        text = (
+            "pub fn a<T>(x: T) -> u8\n    ensures { All (λ y. y ≡ y) x }\n{\n    let y = 1;\n    y\n}\n\ntrait B "
+            "{\n    fn c(&self)\n        ensures { d };\n}\n\nimpl B for E {\n    fn c(&self) {\n        f()\n   "
+            " }\n\n    fn g() {}\n}\n"
+        )
         self.assertEqual(list(bodies_in(text.split("\n"))), [("a", "let y = 1; y"), ("c", "f()"), ("g", "")])
 
 

@@ -119,10 +119,15 @@ class Edits(unittest.TestCase):
 
     def test_edit_of_two_functions(self) -> None:
         found = place(edit(("self.left", "0"), ("    MOST", "    7")), TEXTS)
-        self.assertEqual([it.path for it in found.functions], ["text::counter::TextSource::read", "text::counter::count"])
+        self.assertEqual(
+            [it.path for it in found.functions], ["text::counter::TextSource::read", "text::counter::count"]
+        )
 
     def test_import_beside_a_body_changes_nothing_else(self) -> None:
-        self.assertEqual([it.path for it in self.functions_of(("use std::fmt;", "use std::mem;"), ("    MOST", "    7"))], ["text::counter::count"])
+        self.assertEqual(
+            [it.path for it in self.functions_of(("use std::fmt;", "use std::mem;"), ("    MOST", "    7"))],
+            ["text::counter::count"],
+        )
         self.assertEqual(self.functions_of(("use std::fmt;", "use std::mem;")), ())
 
     def functions_of(self, *pairs: tuple[str, str]) -> tuple[Function, ...]:
@@ -140,11 +145,19 @@ class Batches(unittest.TestCase):
         return place(edit(*pairs, name=name), TEXTS)
 
     def test_two_of_one_function_go_apart(self) -> None:
-        one, other, third = self.placed(("+= by", "-= by")), self.placed(("+= by", "+= 1")), self.placed(("self.left", "0"))
+        one, other, third = (
+            self.placed(("+= by", "-= by")),
+            self.placed(("+= by", "+= 1")),
+            self.placed(("self.left", "0")),
+        )
         self.assertEqual(plan.batches([one, other, third], TEXTS), [(one, third), (other,)])
 
     def test_constant_goes_by_itself(self) -> None:
-        one, other, third = self.placed(("+= by", "-= by")), self.placed(("= 8", "= 9")), self.placed(("self.left", "0"))
+        one, other, third = (
+            self.placed(("+= by", "-= by")),
+            self.placed(("= 8", "= 9")),
+            self.placed(("self.left", "0")),
+        )
         self.assertEqual(plan.batches([one, other, third], TEXTS), [(one, third), (other,)])
 
     def test_edit_whose_new_text_is_the_old_of_another_goes_apart(self) -> None:
@@ -160,7 +173,11 @@ class Keeping(unittest.TestCase):
 
     def test_found_until_something_changes(self) -> None:
         with tempfile.TemporaryDirectory() as room:
-            crate, kept, of_it = self.crates(pathlib.Path(room), "1"), Kept(pathlib.Path(room, "kept")), edit(("a", "b"))
+            crate, kept, of_it = (
+                self.crates(pathlib.Path(room), "1"),
+                Kept(pathlib.Path(room, "kept")),
+                edit(("a", "b")),
+            )
             refused = Verdict(Kind.REFUSED, "f", ("returns",))
             kept.keep(crate, of_it, refused)
             self.assertEqual(kept.find(crate, of_it), refused)
@@ -194,9 +211,13 @@ class Table(unittest.TestCase):
         new = dict([table.row(Edit("a", "z", b"", ()), Verdict(Kind.REFUSED, "f", ("one",)))])
         self.assertEqual(table.differences(old, new, {"a"}), ["- a x f one", "+ a z f one"])
         self.assertEqual(table.differences(old, {("a", "x"): "a x f two"}, {"a"}), ["- a x f one", "+ a x f two"])
-        self.assertEqual(table.differences(old, {("a", "x"): "a x f one two"}, {"a"}), ["- a x f one", "+ a x f one two"])
+        self.assertEqual(
+            table.differences(old, {("a", "x"): "a x f one two"}, {"a"}), ["- a x f one", "+ a x f one two"]
+        )
         self.assertEqual(table.differences(old, {("a", "x"): "a x f one"}, {"a"}), [])
-        self.assertEqual(table.differences(old, {("b", "y"): "b y g two", ("b", "z"): "b z g one"}, {"b"}), ["+ b z g one"])
+        self.assertEqual(
+            table.differences(old, {("b", "y"): "b y g two", ("b", "z"): "b z g one"}, {"b"}), ["+ b z g one"]
+        )
         self.assertEqual(table.renewed(old, new, {"a"}), {("a", "z"): "a z f one", ("b", "y"): "b y g two"})
         with tempfile.TemporaryDirectory() as room:
             file = pathlib.Path(room, "refused")

@@ -22,11 +22,17 @@ class Refused(unittest.TestCase):
     """Edits in `hold`, `root`, `reserve` and `find_by` at one time."""
 
     def test_search_did_not_prove_its_goal(self) -> None:
-        self.assertEqual(judged("four_refused.out", "row::LadderRow::hold"), Verdict(Kind.REFUSED, "row::LadderRow::hold", ("returns-in-Core",)))
+        self.assertEqual(
+            judged("four_refused.out", "row::LadderRow::hold"),
+            Verdict(Kind.REFUSED, "row::LadderRow::hold", ("returns-in-Core",)),
+        )
         self.assertEqual(judged("four_refused.out", "ladder::Ladder::reserve").goals, ("returns-clause-spare",))
 
     def test_each_of_two_goals_is_told(self) -> None:
-        self.assertEqual(judged("four_refused.out", "ladder::Ladder::root").goals, ("returns-in-Root-clause-repeated", "returns-in-Root-clause-cause"))
+        self.assertEqual(
+            judged("four_refused.out", "ladder::Ladder::root").goals,
+            ("returns-in-Root-clause-repeated", "returns-in-Root-clause-cause"),
+        )
 
     def test_its_answer_fits_no_longer(self) -> None:
         both = ("returns-clause-place", "returns-in_err-place-clause-place")
@@ -39,35 +45,44 @@ class Refused(unittest.TestCase):
     def test_function_that_calls_an_edited_one_and_has_an_open_goal(self) -> None:
         self.assertEqual(judged("callers.out", "ladder::Ladder::add").goals, ("returns-in-Some-2-clause-coincidence",))
 
-
     def test_table_is_refused_by_a_lemma_that_functions_stand_on(self) -> None:
         found = judge(sample("lemma_refused.out"), (), is_by_itself=True)
         self.assertEqual((found.kind, found.function), (Kind.REFUSED, "round_tables::mixed_column"))
         self.assertIn("SBoxTable.all_entries", found.goals)
 
-
     def test_goal_that_is_false_counts_though_its_name_is_new(self) -> None:
         found = judged("other_goals.out", "chain::Chain::steps_to")
-        self.assertEqual(found, Verdict(Kind.REFUSED, "chain::Chain::steps_to", ("returns-else-ncc-self-clause-there",)))
+        self.assertEqual(
+            found, Verdict(Kind.REFUSED, "chain::Chain::steps_to", ("returns-else-ncc-self-clause-there",))
+        )
 
     def test_goals_with_new_names_that_are_only_open_are_weak(self) -> None:
         text = (SAMPLES / "other_goals.out").read_text("utf-8").replace("; the facts known there allow values", "")
-        self.assertEqual(judge(read_said(text), (Function("chain::Chain::steps_to"),), is_by_itself=True).kind, Kind.WEAK)
+        self.assertEqual(
+            judge(read_said(text), (Function("chain::Chain::steps_to"),), is_by_itself=True).kind, Kind.WEAK
+        )
 
 
 class NotRefused(unittest.TestCase):
     """What fails the gate."""
 
     def test_function_with_no_open_goal_is_proved(self) -> None:
-        self.assertEqual(judged("four_refused.out", "ladder::Ladder::push"), Verdict(Kind.PROVED, "ladder::Ladder::push"))
+        self.assertEqual(
+            judged("four_refused.out", "ladder::Ladder::push"), Verdict(Kind.PROVED, "ladder::Ladder::push")
+        )
         self.assertEqual(judged("name_went.out", "ladder::Ladder::reserve").kind, Kind.PROVED)
 
     def test_closure_counts_with_its_function(self) -> None:
         said = sample("four_refused.out")
-        self.assertTrue(any(Function("ladder::position_of").has(it.path) for it in said.lines if "position+FnMut" in it.path))
+        self.assertTrue(
+            any(Function("ladder::position_of").has(it.path) for it in said.lines if "position+FnMut" in it.path)
+        )
 
     def test_name_that_went_is_weak(self) -> None:
-        self.assertEqual(judged("name_went.out", "ladder::Ladder::add"), Verdict(Kind.WEAK, "ladder::Ladder::add", ("push-requires-clause-made",)))
+        self.assertEqual(
+            judged("name_went.out", "ladder::Ladder::add"),
+            Verdict(Kind.WEAK, "ladder::Ladder::add", ("push-requires-clause-made",)),
+        )
 
     def test_by_itself_a_caller_refuses_it(self) -> None:
         self.assertEqual(judged("four_refused.out", "ladder::Ladder::push", is_by_itself=True).kind, Kind.REFUSED)

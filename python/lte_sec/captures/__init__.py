@@ -1,1 +1,2 @@
-"""What captures have: files, packets, messages with their fields, cells, stations, and the links that a trace covers."""
+"""What captures have: files, packets, messages with their fields, cells, stations, and the links that a trace
+covers."""

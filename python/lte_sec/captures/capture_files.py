@@ -1,7 +1,8 @@
 """Reading a capture of S1AP, X2AP and RRC through Wireshark's `tshark`.
 
-`tshark` does all the decoding: SCTP messages in parts and sent again, ASN.1, the containers of RRC. Its JSON is read packet by packet.
-NAS it need not decode: its dissector takes some ciphertext for plain, and then loses the keys behind it.
+`tshark` does all the decoding: SCTP messages in parts and sent again, ASN.1, the containers of RRC. Its JSON is read
+packet by packet. NAS it need not decode: its dissector takes some ciphertext for plain, and then loses the keys behind
+it.
 """
 from __future__ import annotations
 
@@ -27,14 +28,21 @@ from .packets import CHUNK, cut
 from .scanner import of_lines
 
 LAYERS = "frame ip ipv6 sctp s1ap x2ap lte_rrc exported_pdu diameter gtpv2 data _ws.malformed"
-FILTER = "s1ap or x2ap or lte_rrc or diameter.KASME or gtpv2.mm_context_kasme or user_dlt or (sctp and frame.cap_len < frame.len)"
+FILTER = (
+    "s1ap or x2ap or lte_rrc or diameter.KASME or gtpv2.mm_context_kasme or user_dlt or (sctp and frame.cap_len "
+    "< frame.len)"
+)
 WORDS = ["-n", "--disable-protocol", "nas-eps", "-T", "json", "-J", LAYERS, "-Y", FILTER]  # what tshark is asked for
 SMALL = 1 << 13  # octets of a file that are read at once: so few that what is wrong comes in the order of its lines
 PACKAGE = "tshark is not here; Debian and Ubuntu have it in the package tshark (apt-get install tshark)"
-TextReader = Callable[[str, str, str], Iterator[Message]]  # the text of a packet, the label of its capture, the name of that
+TextReader = Callable[
+    [str, str, str], Iterator[Message]
+]  # the text of a packet, the label of its capture, the name of that
 
 
-def messages(pieces: Iterable[str], label: str = "", named: str = "the text", of: TextReader = of_packet) -> Iterator[Message]:
+def messages(
+    pieces: Iterable[str], label: str = "", named: str = "the text", of: TextReader = of_packet
+) -> Iterator[Message]:
     """The messages of a capture, from tshark's JSON in pieces; `label` stands before the number of each frame."""
     for text in cut(pieces, named):
         yield from of(text, label, named)
@@ -52,7 +60,11 @@ def read(capture: Path, label: str = "", dlts: Sequence[str] = ()) -> Iterator[M
     """The messages of a capture file, or of what tshark made of it elsewhere (`.json` or `.json.gz`, see `WORDS`)."""
     if not capture.is_file():
         raise TraceError(f"there is no capture {capture}")
-    return read_json(capture, label) if capture.name.endswith((".json", ".json.gz")) else read_capture(capture, label, dlts)
+    return (
+        read_json(capture, label)
+        if capture.name.endswith((".json", ".json.gz"))
+        else read_capture(capture, label, dlts)
+    )
 
 
 def read_json(capture: Path, label: str) -> Iterator[Message]:
@@ -78,7 +90,9 @@ def read_capture(capture: Path, label: str, dlts: Sequence[str] = ()) -> Iterato
         with subprocess.Popen(words, stdout=subprocess.PIPE, stderr=said, bufsize=CHUNK) as tshark:
             assert tshark.stdout is not None
             try:
-                for last in messages(pieces(iter(partial(tshark.stdout.read, CHUNK), b""), "replace"), label, str(capture), of_lines):
+                for last in messages(
+                    pieces(iter(partial(tshark.stdout.read, CHUNK), b""), "replace"), label, str(capture), of_lines
+                ):
                     yield last
             except TraceError:
                 if tshark.wait() == 0:
@@ -94,6 +108,11 @@ def read_capture(capture: Path, label: str, dlts: Sequence[str] = ()) -> Iterato
 
 
 def read_all(captures: list[Path], dlts: Sequence[str] = ()) -> Kept:
-    """The messages of one capture, or of several in the order of their times; frames of all but the first have its file's name."""
-    found = Kept(message for place, capture in enumerate(captures) for message in told(read(capture, f"{capture.name} " if place else "", dlts), "read"))
+    """The messages of one capture, or of several in the order of their times; frames of all but the first have its
+    file's name."""
+    found = Kept(
+        message
+        for place, capture in enumerate(captures)
+        for message in told(read(capture, f"{capture.name} " if place else "", dlts), "read")
+    )
     return found.by_time() if len(captures) > 1 else found

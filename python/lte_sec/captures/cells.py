@@ -1,4 +1,5 @@
-"""Cells and stations: from a file, and from what a trace itself tells of them (X2 Setup, S1 Setup, handover commands)."""
+"""Cells and stations: from a file, and from what a trace itself tells of them (X2 Setup, S1 Setup, handover
+commands)."""
 from __future__ import annotations
 
 from collections.abc import Iterable, Iterator
@@ -46,7 +47,8 @@ class Cells:
             self.given.add(site.eci)
 
     def learn(self, site: Site) -> None:
-        """Takes a cell in; what a file says stays, and what a station says of its own cells rather than of a neighbour's."""
+        """Takes a cell in; what a file says stays, and what a station says of its own cells rather than of a
+        neighbour's."""
         if site.eci not in self.given and (site.up is not None or site.eci not in self.sites):
             self.sites[site.eci] = site
             if site.station:
@@ -58,14 +60,20 @@ class Cells:
 
     def at(self, eci: int) -> Site | None:
         """A cell as it is at the place that is read."""
-        return next((site for place, site in reversed(self.changes.get(eci, [])) if place <= self.now), self.sites.get(eci))
+        return next(
+            (site for place, site in reversed(self.changes.get(eci, [])) if place <= self.now), self.sites.get(eci)
+        )
 
     def station(self, eci: int | None) -> str:
         """The name of the station that has a cell."""
         if eci is None:
             return ""
         site = self.sites.get(eci)
-        return site.station if site and site.station else self.names.get(eci >> 8) or self.names.get(eci) or f"eNB {eci >> 8:x}"
+        return (
+            site.station
+            if site and site.station
+            else self.names.get(eci >> 8) or self.names.get(eci) or f"eNB {eci >> 8:x}"
+        )
 
     def of(self, station: str) -> list[Site]:
         return [self.at(site.eci) or site for site in self.sites.values() if self.station(site.eci) == station]
@@ -81,18 +89,26 @@ class Cells:
         """EARFCN-DLs, and what is taken in their place: EARFCN-ULs, and of wide ones the low 16 bits and 65535."""
         down = {site.earfcn for site in self.every()}
         wide = {earfcn for earfcn in down if earfcn > WIDE}
-        return sorted(down | {site.up for site in self.every() if site.up is not None and site.up <= GREATEST_EARFCN} | {e & WIDE for e in wide} | ({WIDE} if wide else set()))
+        return sorted(
+            down
+            | {site.up for site in self.every() if site.up is not None and site.up <= GREATEST_EARFCN}
+            | {e & WIDE for e in wide}
+            | ({WIDE} if wide else set())
+        )
 
     def pairs(self) -> set[tuple[int, int]]:
         return {(site.pci, site.earfcn) for site in self.every()}
 
 
 def read_cells(file: Path) -> list[Site]:
-    """The cells of a file: in each line the station, ECI in hex, PCI, EARFCN-DL and, if wanted, EARFCN-UL; `#` begins a remark."""
+    """The cells of a file: in each line the station, ECI in hex, PCI, EARFCN-DL and, if wanted, EARFCN-UL; `#` begins a
+    remark."""
     try:
         lines = of_file(file, "the cells").decode().splitlines()
     except UnicodeDecodeError as fault:
-        raise TraceError(f"the cells {file} cannot be read: octet {fault.object[fault.start]:02x} is not UTF-8 text") from None
+        raise TraceError(
+            f"the cells {file} cannot be read: octet {fault.object[fault.start]:02x} is not UTF-8 text"
+        ) from None
     found = []
     for place, line in enumerate(lines, 1):
         words = line.partition("#")[0].split()

@@ -1,7 +1,9 @@
-"""Which links a trace covers, counted before it is judged: what happens on the others leaves no message, and may all the same be lawful.
+"""Which links a trace covers, counted before it is judged: what happens on the others leaves no message, and may all
+the same be lawful.
 
-A link without any message is not covered. Where the trace has both directions of some link, one direction of another counts as not covered
-only if the other presupposes it or has four messages or more: a station that sent one request and was never answered is no half a tap.
+A link without any message is not covered. Where the trace has both directions of some link, one direction of another
+counts as not covered only if the other presupposes it or has four messages or more: a station that sent one request and
+was never answered is no half a tap.
 """
 from __future__ import annotations
 
@@ -17,8 +19,15 @@ UP, DOWN = "up", "down"
 WAYS = (UP, DOWN)
 ENOUGH = 4  # messages of the other direction
 ANSWERS = (  # messages of a station that something from the core brought about
-    "InitialContextSetupResponse", "InitialContextSetupFailure", "HandoverRequestAcknowledge", "HandoverFailure", "HandoverNotify", "UEContextReleaseComplete",
-    "UEContextModificationResponse", "UEContextModificationFailure", "UEContextSuspendRequest",
+    "InitialContextSetupResponse",
+    "InitialContextSetupFailure",
+    "HandoverRequestAcknowledge",
+    "HandoverFailure",
+    "HandoverNotify",
+    "UEContextReleaseComplete",
+    "UEContextModificationResponse",
+    "UEContextModificationFailure",
+    "UEContextSuspendRequest",
 )
 SHOWN = 6  # links that the note names of a kind
 LINK = "a link is S1/STATION, S1/STATION/up, S1/STATION/down or X2/STATION/STATION"
@@ -59,9 +68,13 @@ class Coverage:
     covers: tuple[Word, ...] = ()
     lacks: tuple[Word, ...] = ()
     stations: dict[str, None] = field(default_factory=dict)  # all that the trace names, in order
-    presupposed: set[tuple[str, str]] = field(default_factory=set)  # directions of S1 in which something was sent, as a message of the other shows
+    presupposed: set[tuple[str, str]] = field(
+        default_factory=set
+    )  # directions of S1 in which something was sent, as a message of the other shows
 
-    answered: dict[tuple[str, str], bool] = field(default_factory=dict, init=False, repr=False, compare=False)  # of S1, as it is asked for each message
+    answered: dict[tuple[str, str], bool] = field(
+        default_factory=dict, init=False, repr=False, compare=False
+    )  # of S1, as it is asked for each message
 
     def s1_seen(self, station: str, way: str, number: int = 1) -> None:
         self.answered.clear()
@@ -89,7 +102,12 @@ class Coverage:
         if any(one.of_s1(station, way) for one in self.covers):
             return True
         back = self.s1_counts[station, DOWN if way == UP else UP]
-        return self.s1_counts[station, way] > 0 or 0 < back < ENOUGH and (station, way) not in self.presupposed and self.has_both_of_s1()
+        return (
+            self.s1_counts[station, way] > 0
+            or 0 < back < ENOUGH
+            and (station, way) not in self.presupposed
+            and self.has_both_of_s1()
+        )
 
     def has_both_of_s1(self) -> bool:
         return any(self.s1_counts[station, UP] and self.s1_counts[station, DOWN] for station in self.stations)
@@ -106,11 +124,13 @@ class Coverage:
 
     @cached_property
     def whole(self) -> bool:
-        """Whether S1 of all stations that the trace names is covered; kept, as it is asked for each message of a phone that is not known."""
+        """Whether S1 of all stations that the trace names is covered; kept, as it is asked for each message of a phone
+        that is not known."""
         return all(self.s1(station) for station in self.stations)
 
     def closed(self, station: str) -> bool:
-        """Whether a phone cannot come to a station unseen: S1 of all that the trace names is covered, and X2 to this one from another."""
+        """Whether a phone cannot come to a station unseen: S1 of all that the trace names is covered, and X2 to this
+        one from another."""
         return self.whole and any(target == station for _, target in self.x2_counts)
 
     # -- the note at the head of a report
@@ -121,16 +141,23 @@ class Coverage:
         lines = [f"links covered: {'; '.join(found) if found else 'none'}"]
         lacking = list(self.of_s1(False))
         if lacking:
-            lines.append(f"links not covered: {'; '.join(lacking)}: a key that a lawful course there gives is right, so that a fault there may pass as lawful")
+            lines.append(
+                f"links not covered: {'; '.join(lacking)}: a key that a lawful course there gives is right, so that "
+                "a fault there may pass as lawful"
+            )
         return lines
 
     def of_s1(self, covered: bool) -> Iterator[str]:
         whole = [station for station in self.stations if self.s1(station)]
-        halves = {station: [way for way in WAYS if self.s1(station, way)] for station in self.stations if station not in whole}
+        halves = {
+            station: [way for way in WAYS if self.s1(station, way)] for station in self.stations if station not in whole
+        }
         if covered:
             texts = [*whole, *(f"{station} {ways[0]}" for station, ways in halves.items() if ways)]
         else:
-            texts = [station if not ways else f"{station} {DOWN if ways == [UP] else UP}" for station, ways in halves.items()]
+            texts = [
+                station if not ways else f"{station} {DOWN if ways == [UP] else UP}" for station, ways in halves.items()
+            ]
         if texts:
             yield f"S1 of {listed(texts)}"
 
@@ -151,7 +178,8 @@ def listed(texts: list[str]) -> str:
 
 
 def presupposes(message: Message, way: str, is_switched: bool) -> bool:
-    """Whether a message of S1 shows that something was sent in the other direction: it names the identity that the other end gave, or answers.
+    """Whether a message of S1 shows that something was sent in the other direction: it names the identity that the
+    other end gave, or answers.
 
     A path switch names the core's identity too, which the source told over X2, and its answer may fail.
     """

@@ -99,7 +99,11 @@ BEFORE_NAMES = ("X2", "S6a", "GTPv2")  # links that stand before the names of th
 
 def title(message: Message) -> str:
     """The name of a message in a line: X2's have it before them, as some are named as S1's."""
-    return "RRC" if message.link == "RRC" else shown(f"{message.link} {message.name}" if message.link in BEFORE_NAMES else message.name)
+    return (
+        "RRC"
+        if message.link == "RRC"
+        else shown(f"{message.link} {message.name}" if message.link in BEFORE_NAMES else message.name)
+    )
 
 
 def octets(text: object) -> bytes:
@@ -129,7 +133,9 @@ def is_tree(value: object) -> TypeGuard[Pairs]:
     return isinstance(value, list) and bool(value) and isinstance(value[0], tuple)
 
 
-def leaves(pairs: Pairs, ie: int = -1, path: tuple[str, ...] = ()) -> Iterator[tuple[tuple[str, ...], int, str, object]]:
+def leaves(
+    pairs: Pairs, ie: int = -1, path: tuple[str, ...] = ()
+) -> Iterator[tuple[tuple[str, ...], int, str, object]]:
     """Each value below, with the names above it and the number of the innermost IE it stands in."""
     for name, value in pairs:
         if name in ("s1ap.id", "x2ap.id"):
@@ -142,7 +148,9 @@ def leaves(pairs: Pairs, ie: int = -1, path: tuple[str, ...] = ()) -> Iterator[t
 
 def fresh(base: Message, link: str, name: str) -> Message:
     """A message of a frame, with lists of its own."""
-    lists: dict[str, list[object]] = {each: [] for each in ("nas", "sites", "gummeis", "reestablishment", "secrets", "kasmes")}
+    lists: dict[str, list[object]] = {
+        each: [] for each in ("nas", "sites", "gummeis", "reestablishment", "secrets", "kasmes")
+    }
     return replace(base, link=link, name=name, **lists)
 
 

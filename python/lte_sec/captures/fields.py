@@ -21,26 +21,47 @@ def three(text: object) -> int:
 
 
 SIMPLE: dict[str, tuple[str, Callable[[object], object]]] = {
-    "s1ap.ENB_UE_S1AP_ID": ("enb_id", number), "s1ap.eNB_UE_S1AP_ID": ("enb_id", number),
-    "s1ap.MME_UE_S1AP_ID": ("mme_id", number), "s1ap.mME_UE_S1AP_ID": ("mme_id", number), "x2ap.mME_UE_S1AP_ID": ("mme_id", number),
-    "s1ap.SecurityKey": ("key", key), "x2ap.key_eNodeB_star": ("key", key), "s1ap.nextHopParameter": ("nh", key),
-    "s1ap.nextHopChainingCount": ("ncc", number), "x2ap.nextHopChainingCount": ("ncc", number),
+    "s1ap.ENB_UE_S1AP_ID": ("enb_id", number),
+    "s1ap.eNB_UE_S1AP_ID": ("enb_id", number),
+    "s1ap.MME_UE_S1AP_ID": ("mme_id", number),
+    "s1ap.mME_UE_S1AP_ID": ("mme_id", number),
+    "x2ap.mME_UE_S1AP_ID": ("mme_id", number),
+    "s1ap.SecurityKey": ("key", key),
+    "x2ap.key_eNodeB_star": ("key", key),
+    "s1ap.nextHopParameter": ("nh", key),
+    "s1ap.nextHopChainingCount": ("ncc", number),
+    "x2ap.nextHopChainingCount": ("ncc", number),
     "s1ap.m_TMSI": ("tmsi", lambda text: bits(text, 32) if ":" in str(text) else number(text)),
     "s1ap.Source_ToTarget_TransparentContainer": ("container", octets),
     "s1ap.Target_ToSource_TransparentContainer": ("container", octets),
     "x2ap.TargeteNBtoSource_eNBTransparentContainer": ("container", octets),
-    "s1ap.HandoverType": ("kind", number), "s1ap.RRC_Establishment_Cause": ("cause", number),
-    "lte-rrc.sourcePhysCellId": ("source_pci", number), "lte-rrc.sourceUE_Identity": ("rnti", octets),
-    "s1ap.CellIdentity": ("eci", eci_of), "x2ap.eUTRANcellIdentifier": ("eci", lambda text: bits(text, 28)),
+    "s1ap.HandoverType": ("kind", number),
+    "s1ap.RRC_Establishment_Cause": ("cause", number),
+    "lte-rrc.sourcePhysCellId": ("source_pci", number),
+    "lte-rrc.sourceUE_Identity": ("rnti", octets),
+    "s1ap.CellIdentity": ("eci", eci_of),
+    "x2ap.eUTRANcellIdentifier": ("eci", lambda text: bits(text, 28)),
     "x2ap.EUTRANCellIdentifier": ("eci", lambda text: bits(text, 28)),
     "lte-rrc.cellIdentity": ("source_eci", lambda text: bits(text, 28)),
-    "s1ap.macroENB_ID": ("station", lambda text: bits(text, 20)), "x2ap.macro_eNB_ID": ("station", lambda text: bits(text, 20)),
-    "s1ap.homeENB_ID": ("station", lambda text: bits(text, 28)), "x2ap.home_eNB_ID": ("station", lambda text: bits(text, 28)),
-    "s1ap.ENBname": ("station_name", str), "s1ap.MMEname": ("core_name", str),
+    "s1ap.macroENB_ID": ("station", lambda text: bits(text, 20)),
+    "x2ap.macro_eNB_ID": ("station", lambda text: bits(text, 20)),
+    "s1ap.homeENB_ID": ("station", lambda text: bits(text, 28)),
+    "x2ap.home_eNB_ID": ("station", lambda text: bits(text, 28)),
+    "s1ap.ENBname": ("station_name", str),
+    "s1ap.MMEname": ("core_name", str),
 }
-SECRETS = {"x2ap.SgNBSecurityKey": "S-KgNB", "x2ap.sgNB_SecurityKey": "S-KgNB", "x2ap.SeNBSecurityKey": "S-KeNB", "x2ap.seNB_SecurityKey": "S-KeNB"}
+SECRETS = {
+    "x2ap.SgNBSecurityKey": "S-KgNB",
+    "x2ap.sgNB_SecurityKey": "S-KgNB",
+    "x2ap.SeNBSecurityKey": "S-KeNB",
+    "x2ap.seNB_SecurityKey": "S-KeNB",
+}
 CAPABILITIES = ("encryptionAlgorithms", "integrityProtectionAlgorithms")
-GROUPS, CODES = ("s1ap.mME_Group_ID", "s1ap.MME_Group_ID", "x2ap.mME_Group_ID"), ("s1ap.mME_Code", "s1ap.MME_Code", "x2ap.mME_Code")
+GROUPS, CODES = ("s1ap.mME_Group_ID", "s1ap.MME_Group_ID", "x2ap.mME_Group_ID"), (
+    "s1ap.mME_Code",
+    "s1ap.MME_Code",
+    "x2ap.mME_Code",
+)
 NAS_PDUS, X2_ID = ("s1ap.NAS_PDU", "s1ap.nAS_PDU"), "x2ap.UE_X2AP_ID"
 REESTABLISHMENT = "lte-rrc.AdditionalReestabInfo_element"
 OTHER_CELLS = ("uE_HistoryInformation_tree", "neighbour_Info_tree")
@@ -59,7 +80,8 @@ class Filling:
         self.able: dict[str, int] = {}
 
     def walk(self, pairs: Pairs, ie: int = -1, path: tuple[str, ...] = (), within: bool = False) -> None:
-        """Takes each field below, with the names above it, the number of the innermost IE, and whether it is of a cell for re-establishment."""
+        """Takes each field below, with the names above it, the number of the innermost IE, and whether it is of a cell
+        for re-establishment."""
         for name, value in pairs:
             take = TAKES[name]
             if take is numbers:
@@ -80,7 +102,11 @@ class Filling:
         """What several fields say together."""
         message, able = self.message, self.able
         if self.radio:
-            message.command, message.algorithms, message.reestablishment = command(self.radio, b""), algorithms(self.radio), reestablishments(self.radio)
+            message.command, message.algorithms, message.reestablishment = (
+                command(self.radio, b""),
+                algorithms(self.radio),
+                reestablishments(self.radio),
+            )
         if self.groups and self.codes:
             message.gummeis = [(group, code) for group in self.groups for code in self.codes]
         if len(able) == len(CAPABILITIES):
@@ -106,6 +132,7 @@ def simple(attribute: str, read: Callable[[object], object]) -> Take:
     def take(filling: Filling, value: object, ie: int) -> None:
         if getattr(filling.message, attribute) in (None, ""):
             setattr(filling.message, attribute, read(value))
+
     return take
 
 
@@ -124,6 +151,7 @@ def secret(name: str) -> Take:
 def capability(name: str) -> Take:
     def take(filling: Filling, value: object, ie: int) -> None:
         filling.able.setdefault(name, three(value))
+
     return take
 
 
@@ -140,8 +168,13 @@ def code(filling: Filling, value: object, ie: int) -> None:
 
 
 EXACT: dict[str, Take] = {
-    **dict.fromkeys(NUMBERED, numbers), **dict.fromkeys(NAS_PDUS, nas), X2_ID: x2_id, **dict.fromkeys(GROUPS, group), **dict.fromkeys(CODES, code),
-    **{name: secret(told) for name, told in SECRETS.items()}, **{name: simple(*told) for name, told in SIMPLE.items()},
+    **dict.fromkeys(NUMBERED, numbers),
+    **dict.fromkeys(NAS_PDUS, nas),
+    X2_ID: x2_id,
+    **dict.fromkeys(GROUPS, group),
+    **dict.fromkeys(CODES, code),
+    **{name: secret(told) for name, told in SECRETS.items()},
+    **{name: simple(*told) for name, told in SIMPLE.items()},
 }
 SIMPLE_OF_RADIO = {name: EXACT[name] for name in SIMPLE if name.startswith("lte-rrc.")}
 
@@ -173,7 +206,11 @@ TAKES = Takes()
 
 
 def algorithms(radio: Radio) -> tuple[int, int] | None:
-    found = {name: number(value) for _, name, value in reversed(radio) if name in ("lte-rrc.cipheringAlgorithm", "lte-rrc.integrityProtAlgorithm")}
+    found = {
+        name: number(value)
+        for _, name, value in reversed(radio)
+        if name in ("lte-rrc.cipheringAlgorithm", "lte-rrc.integrityProtAlgorithm")
+    }
     return (found["lte-rrc.cipheringAlgorithm"], found["lte-rrc.integrityProtAlgorithm"]) if len(found) == 2 else None
 
 
@@ -182,12 +219,21 @@ def reestablishments(radio: Radio) -> list[Reestablishment]:
     items: dict[tuple[str, ...], dict[str, object]] = {}
     for path, name, value in radio:
         if REESTABLISHMENT in path:
-            items.setdefault(path[:path.index(REESTABLISHMENT) + 1], {})[name.removeprefix("lte-rrc.")] = value
-    return [Reestablishment(bits(one["cellIdentity"], 28), key(one["key_eNodeB_Star"]), octets(one["shortMAC_I"]))
-            for one in items.values() if {"cellIdentity", "key_eNodeB_Star", "shortMAC_I"} <= set(one)]
+            items.setdefault(path[: path.index(REESTABLISHMENT) + 1], {})[name.removeprefix("lte-rrc.")] = value
+    return [
+        Reestablishment(bits(one["cellIdentity"], 28), key(one["key_eNodeB_Star"]), octets(one["shortMAC_I"]))
+        for one in items.values()
+        if {"cellIdentity", "key_eNodeB_Star", "shortMAC_I"} <= set(one)
+    ]
 
 
-TOLD = ("targetPhysCellId", "nextHopChainingCount", "dl_CarrierFreq", "dl_CarrierFreq_v9e0", "keyChangeIndicator")  # what a command tells
+TOLD = (
+    "targetPhysCellId",
+    "nextHopChainingCount",
+    "dl_CarrierFreq",
+    "dl_CarrierFreq_v9e0",
+    "keyChangeIndicator",
+)  # what a command tells
 
 
 def command(radio: Radio, whole: bytes) -> Command | None:
@@ -204,4 +250,10 @@ def command(radio: Radio, whole: bytes) -> Command | None:
     earfcn = found.get("dl_CarrierFreq")
     if earfcn == WIDE:
         earfcn = found.get("dl_CarrierFreq_v9e0", earfcn)
-    return Command(found.get("nextHopChainingCount"), found.get("targetPhysCellId"), earfcn, bool(found.get("keyChangeIndicator")), whole)
+    return Command(
+        found.get("nextHopChainingCount"),
+        found.get("targetPhysCellId"),
+        earfcn,
+        bool(found.get("keyChangeIndicator")),
+        whole,
+    )

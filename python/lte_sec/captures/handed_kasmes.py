@@ -1,4 +1,5 @@
-"""KASMEs that a capture itself has: those that a home network answers over S6a, and those that a core hands on over GTPv2-C."""
+"""KASMEs that a capture itself has: those that a home network answers over S6a, and those that a core hands on over
+GTPv2-C."""
 from __future__ import annotations
 
 from ..common.causes import Cause
@@ -10,7 +11,8 @@ LINKS = {"S6a": "s6a", "GTPv2": "gtp"}
 
 
 class Handed:
-    """The KASMEs of the messages that were not given, named by link, frame and place, and a line for each message with some."""
+    """The KASMEs of the messages that were not given, named by link, frame and place, and a line for each message with
+    some."""
 
     def __init__(self, given: list[Kasme]):
         self.known = {one.value: one.name for one in given}
@@ -21,7 +23,9 @@ class Handed:
         names = []
         for place, value in enumerate(message.kasmes, 1):
             if value not in self.known:
-                name = f"{LINKS[message.link]}-{message.frame.replace(' ', '-')}" + (f".{place}" if len(message.kasmes) > 1 else "")
+                name = f"{LINKS[message.link]}-{message.frame.replace(' ', '-')}" + (
+                    f".{place}" if len(message.kasmes) > 1 else ""
+                )
                 self.known[value] = name_apart(name, self.known.values())
                 self.found.append(Kasme(self.known[value], value))
             names.append(self.known[value])

@@ -17,8 +17,12 @@ Reader = Callable[[Message, Pairs], Iterator[Message]]
 UNREADABLE = "unreadable"  # the link of what is no message, but has unknown fields
 STATION_END, CORE_END = "station:0", "core:0"  # the ends of S1AP that came without addresses
 HEADS = {  # the fields of a frame that are looked at, by layer
-    "frame": ("frame.number", "frame.time_epoch", "frame.encap_type", "frame.cap_len", "frame.len"), "data": ("data.data",), "exported_pdu": ("exported_pdu.exported_pdu",),
-    "ip": ("ip.src", "ip.dst"), "ipv6": ("ipv6.src", "ipv6.dst"), "sctp": ("sctp.srcport", "sctp.dstport", "sctp.verification_tag"),
+    "frame": ("frame.number", "frame.time_epoch", "frame.encap_type", "frame.cap_len", "frame.len"),
+    "data": ("data.data",),
+    "exported_pdu": ("exported_pdu.exported_pdu",),
+    "ip": ("ip.src", "ip.dst"),
+    "ipv6": ("ipv6.src", "ipv6.dst"),
+    "sctp": ("sctp.srcport", "sctp.dstport", "sctp.verification_tag"),
 }
 OUTCOMES = ("initiatingMessage_element", "successfulOutcome_element", "unsuccessfulOutcome_element")
 
@@ -47,18 +51,29 @@ def of_packet(text: str, label: str, named: str) -> Iterator[Message]:
 
 
 def based(label: str, told: Mapping[str, str], numbers: Iterable[str], named: str) -> Message:
-    """What all messages of a frame have: its number and time, the addresses and ports of its ends, and the numbers of SCTP's DATA chunks."""
+    """What all messages of a frame have: its number and time, the addresses and ports of its ends, and the numbers of
+    SCTP's DATA chunks."""
     try:
         time, chunks = float(told.get("frame.time_epoch", "")), tuple([int(one) for one in numbers if one.isdigit()])
     except ValueError:
         raise TraceError(f"{named} is not what tshark -T json prints: a packet without its time") from None
     source = f"{told.get('ip.src') or told.get('ipv6.src', '')}:{told.get('sctp.srcport', '')}"
     target = f"{told.get('ip.dst') or told.get('ipv6.dst', '')}:{told.get('sctp.dstport', '')}"
-    return Message(label + told.get("frame.number", ""), time, "", "", source, target, told.get("sctp.verification_tag", ""), chunks)
+    return Message(
+        label + told.get("frame.number", ""),
+        time,
+        "",
+        "",
+        source,
+        target,
+        told.get("sctp.verification_tag", ""),
+        chunks,
+    )
 
 
 def heads(layers: Pairs) -> dict[str, str]:
-    """The fields of a frame, each of the innermost layer that has it (with bundled messages SCTP is shown in pieces)."""
+    """The fields of a frame, each of the innermost layer that has it (with bundled messages SCTP is shown in
+    pieces)."""
     found: dict[str, str] = {}
     for layer, value in layers:
         if layer in HEADS and is_tree(value):
@@ -82,7 +97,8 @@ def cut_off(told: Mapping[str, str]) -> str:
 
 
 def with_ends(message: Message) -> Message:
-    """A message of S1 that came without addresses, as in a capture of S1AP alone, with the two ends that its name tells."""
+    """A message of S1 that came without addresses, as in a capture of S1AP alone, with the two ends that its name
+    tells."""
     if message.link == "S1" and (message.source, message.target) == (":", ":"):
         ends = (STATION_END, CORE_END) if message.name in FROM_STATION else (CORE_END, STATION_END)
         message.source, message.target = ends
@@ -117,12 +133,19 @@ def pdu(base: Message, layer: str, value: Pairs) -> Iterator[Message]:
 def rrc(base: Message, value: Pairs, exported: str) -> Iterator[Message]:
     """The message of an RRC layer of its own: an exported PDU, or what Wireshark deciphered."""
     radio = [(path, name, below) for path, _, name, below in leaves(value)]
-    names = [part for path, _, _ in radio for part in path if part.startswith("lte-rrc.") and part.endswith("_element") and "_Message" not in part]
+    names = [
+        part
+        for path, _, _ in radio
+        for part in path
+        if part.startswith("lte-rrc.") and part.endswith("_element") and "_Message" not in part
+    ]
     if names:
         name = names[0].removeprefix("lte-rrc.").removesuffix("_element")
         told = command(radio, octets(exported) if exported else b"")
         nas = [octets(below) for _, field, below in radio if field.startswith("lte-rrc.dedicatedInfoNAS")]
-        yield replace(begun(base, "RRC", name[0].upper() + name[1:]), command=told, algorithms=algorithms(radio), nas=nas)
+        yield replace(
+            begun(base, "RRC", name[0].upper() + name[1:]), command=told, algorithms=algorithms(radio), nas=nas
+        )
 
 
 def diameter(base: Message, value: Pairs) -> Iterator[Message]:
@@ -136,7 +159,8 @@ GTP_NAMES = {"129": "IdentificationResponse", "131": "ContextResponse", "133": "
 
 
 def gtpv2(base: Message, value: Pairs) -> Iterator[Message]:
-    """The MM context of Forward Relocation Request, Context Response and Identification Response (TS 29.274 7.3.1, 7.3.6, 8.38)."""
+    """The MM context of Forward Relocation Request, Context Response and Identification Response (TS 29.274 7.3.1,
+    7.3.6, 8.38)."""
     found: dict[str, object] = {}
     for _, _, name, below in leaves(value):
         found.setdefault(name.removeprefix("gtpv2."), below)
@@ -148,13 +172,18 @@ def gtpv2(base: Message, value: Pairs) -> Iterator[Message]:
     old = None
     if {"mm_context_old_kasme", "mm_context.old_nh", "old_ncc"} <= set(found):
         old_ksi = number(found["old_ksiasme"]) if "old_ksiasme" in found else None
-        old = MmContext(key(found["mm_context_old_kasme"]), old_ksi, key(found["mm_context.old_nh"]), number(found["old_ncc"]))
+        old = MmContext(
+            key(found["mm_context_old_kasme"]), old_ksi, key(found["mm_context.old_nh"]), number(found["old_ncc"])
+        )
     context = MmContext(kasme, ksi, nh, number(found["mm_context_ncc"]) if "mm_context_ncc" in found else None, old)
     name = GTP_NAMES.get(str(found.get("message_type", "")), "message with an MM context")
     yield replace(begun(base, "GTPv2", name), kasmes=[kasme, *([old.kasme] if old else [])], mm=context)
 
 
 READERS: dict[str, Reader] = {
-    "s1ap": lambda message, value: pdu(message, "s1ap", value), "x2ap": lambda message, value: pdu(message, "x2ap", value),
-    "lte_rrc": lambda message, value: rrc(message, value, ""), "diameter": diameter, "gtpv2": gtpv2,
+    "s1ap": lambda message, value: pdu(message, "s1ap", value),
+    "x2ap": lambda message, value: pdu(message, "x2ap", value),
+    "lte_rrc": lambda message, value: rrc(message, value, ""),
+    "diameter": diameter,
+    "gtpv2": gtpv2,
 }

@@ -1,7 +1,8 @@
-"""Link types of captures that Wireshark does not decode by itself: DLT 147 to 162, of which each writer makes what it likes.
+"""Link types of captures that Wireshark does not decode by itself: DLT 147 to 162, of which each writer makes what it
+likes.
 
-srsRAN writes S1AP alone as DLT 150, and the NAS messages of a phone as 148. `--dlt 150=s1ap` says what a number is. NAS alone is
-read here as it stands; which way a message went is told by its type, or by its MAC.
+srsRAN writes S1AP alone as DLT 150, and the NAS messages of a phone as 148. `--dlt 150=s1ap` says what a number is. NAS
+alone is read here as it stands; which way a message went is told by its type, or by its MAC.
 """
 from __future__ import annotations
 
@@ -13,14 +14,23 @@ from ..common.terms import COMPUTED, DOWN, NAS_INTEGRITY, UP, Derivations, Trace
 from .decoding import Message, fresh
 from .message_store import Kept, Messages
 
-RAW, CUT, ALONE = "raw", "cut", "NAS"  # links: of a frame that is not decoded, of the end of a capture that was cut, of a message of NAS alone
+RAW, CUT, ALONE = (
+    "raw",
+    "cut",
+    "NAS",
+)  # links: of a frame that is not decoded, of the end of a capture that was cut, of a message of NAS alone
 FIRST, LAST = 147, 162
 USER_0 = 45  # the number that Wireshark gives to DLT 147 (WTAP_ENCAP_USER0)
 NAS = "nas-eps"
 PROTOCOLS = ("s1ap", "x2ap", NAS, "mac-lte-framed", "lte_rrc.ul_dcch", "lte_rrc.dl_dcch")
 USUAL = {148: NAS, 150: "s1ap"}  # as srsRAN writes them
 RANGE = f"--dlt is NUMBER=PROTOCOL, as 150=s1ap; NUMBER {FIRST} to {LAST}, PROTOCOL one of {', '.join(PROTOCOLS)}"
-SEALED, SHORT = (1, 2, 3, 4), 12  # security headers with a MAC of four octets, and of the Service Request (TS 24.301 9.3.1)
+SEALED, SHORT = (
+    1,
+    2,
+    3,
+    4,
+), 12  # security headers with a MAC of four octets, and of the Service Request (TS 24.301 9.3.1)
 OVERFLOWS = 4  # of a COUNT, that are tried
 # EMM messages that the phone sends, by type (TS 24.301 9.8); the others of its table come from the core.
 FROM_PHONE = frozenset((0x41, 0x43, 0x45, 0x46, 0x48, 0x4A, 0x4C, 0x4D, 0x51, 0x53, 0x56, 0x5C, 0x5E, 0x5F, 0x63))
@@ -51,11 +61,17 @@ def preference(number: int, protocol: str) -> str:
 
 def preferences(words: Sequence[str]) -> list[str]:
     """What tshark is told of link types. NAS it is not to decode."""
-    return [part for number, protocol in protocols(words).items() if protocol != NAS for part in ("-o", f"uat:user_dlts:{preference(number, protocol)}")]
+    return [
+        part
+        for number, protocol in protocols(words).items()
+        if protocol != NAS
+        for part in ("-o", f"uat:user_dlts:{preference(number, protocol)}")
+    ]
 
 
 def decoded(messages: Messages, words: Sequence[str], derivations: Derivations) -> Messages:
-    """The messages, with those of NAS alone in the place of their frames; a fault where nothing but frames of an unknown link type is there."""
+    """The messages, with those of NAS alone in the place of their frames; a fault where nothing but frames of an
+    unknown link type is there."""
     links = messages.links if isinstance(messages, Kept) else Counter(message.link for message in messages)
     if not links[RAW] and (links["S1"] or not links["RRC"]):
         return messages
@@ -65,7 +81,10 @@ def decoded(messages: Messages, words: Sequence[str], derivations: Derivations) 
     if unknown and all(message.link in (RAW, CUT) for message in messages):
         number = unknown[0]
         usual = USUAL.get(number, "s1ap")
-        raise TraceError(f"the capture has link type {number}, of which nothing tells what it is: --dlt {number}={usual} decodes it, or in Wireshark the line {preference(number, usual)} of its table user_dlts")
+        raise TraceError(
+            f"the capture has link type {number}, of which nothing tells what it is: --dlt {number}={usual} decodes "
+            f"it, or in Wireshark the line {preference(number, usual)} of its table user_dlts"
+        )
     ways, has_s1, found = Ways(derivations), links["S1"] > 0, Kept()
     for message in messages:
         if message.link != RAW:
@@ -99,7 +118,8 @@ class Ways:
         return UP if len(pdu) > 1 and pdu[0] == EMM and pdu[1] in FROM_PHONE else DOWN
 
     def ways(self, pdu: bytes) -> Iterator[int]:
-        """The directions under which a MAC is right, for a KASME, an algorithm and a COUNT that the message may have."""
+        """The directions under which a MAC is right, for a KASME, an algorithm and a COUNT that the message may
+        have."""
         derivations = self.derivations
         for place in range(len(derivations.kasmes)):
             for identity in COMPUTED:

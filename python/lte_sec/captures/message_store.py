@@ -18,13 +18,19 @@ from .decoding import Command, Message
 
 RICH = ("reestablishment", "sites", "mm")  # fields that have objects of their own; most messages have none
 PLAIN = tuple(one.name for one in fields(Message) if one.name not in (*RICH, "command"))
-PLAIN_OF, RICH_OF, COMMAND_OF = attrgetter(*PLAIN), attrgetter(*RICH), attrgetter(*(one.name for one in fields(Command)))
+PLAIN_OF, RICH_OF, COMMAND_OF = (
+    attrgetter(*PLAIN),
+    attrgetter(*RICH),
+    attrgetter(*(one.name for one in fields(Command))),
+)
 BLOCK = 1 << 16  # octets that are written or read at once
 
 
 def packed(message: Message) -> bytes:
     command, rich = message.command, RICH_OF(message)
-    return marshal.dumps((PLAIN_OF(message), None if command is None else COMMAND_OF(command), pickle.dumps(rich) if any(rich) else None))
+    return marshal.dumps(
+        (PLAIN_OF(message), None if command is None else COMMAND_OF(command), pickle.dumps(rich) if any(rich) else None)
+    )
 
 
 def unpacked(octets: bytes | memoryview) -> Message:
@@ -61,9 +67,12 @@ class Spool:
         self.waiting, self.written = [], self.end
         try:
             while octets:
-                octets = octets[self.file.write(octets):]
+                octets = octets[self.file.write(octets) :]
         except OSError as fault:
-            raise TraceError(f"the messages of the capture cannot be written to a file in {tempfile.gettempdir()}: {fault.strerror}; TMPDIR names another folder") from None
+            raise TraceError(
+                f"the messages of the capture cannot be written to a file in {tempfile.gettempdir()}: "
+                f"{fault.strerror}; TMPDIR names another folder"
+            ) from None
 
     def get(self, begin: int, size: int) -> memoryview:
         first = begin - self.at
@@ -71,7 +80,7 @@ class Spool:
             if begin + size > self.written:
                 self.flush()
             self.block, self.at, first = memoryview(os.pread(self.file.fileno(), max(BLOCK, size), begin)), begin, 0
-        return self.block[first:first + size]
+        return self.block[first : first + size]
 
 
 class Kept(Sequence[Message]):
@@ -95,10 +104,12 @@ class Kept(Sequence[Message]):
         return len(self.begins)
 
     @overload
-    def __getitem__(self, place: int) -> Message: ...
+    def __getitem__(self, place: int) -> Message:
+        ...
 
     @overload
-    def __getitem__(self, place: slice) -> list[Message]: ...
+    def __getitem__(self, place: slice) -> list[Message]:
+        ...
 
     def __getitem__(self, place: int | slice) -> Message | list[Message]:
         if isinstance(place, slice):

@@ -1,4 +1,5 @@
-"""The packets of what `tshark -T json` prints: each begins and ends in a line of its own, so that they are cut before they are read."""
+"""The packets of what `tshark -T json` prints: each begins and ends in a line of its own, so that they are cut before
+they are read."""
 from __future__ import annotations
 
 import json
@@ -70,7 +71,7 @@ def layers_of(text: str, named: str) -> Pairs:
     except (json.JSONDecodeError, TypeError, ValueError):
         again = text.rfind("\n" + FIRST)  # a packet begins anew: what came before is none
         if again >= 0:
-            return layers_of("{" + text[text.find("\n", again + 1):], named)
+            return layers_of("{" + text[text.find("\n", again + 1) :], named)
         layers = None
     if not is_tree(layers):
         raise TraceError(f"{named} is not what tshark -T json prints: a packet without layers")

@@ -1,7 +1,8 @@
-"""Messages of S1AP and X2AP from the lines of a packet, as tshark lays out its JSON: the same as `layers` has, in a third of its time.
+"""Messages of S1AP and X2AP from the lines of a packet, as tshark lays out its JSON: the same as `layers` has, in a
+third of its time.
 
-Only what tshark prints itself is read so. A packet of another form, or with anything that is rare (RRC of its own, bundled messages, cells
-of a setup, what does not decode), is handed to `layers`, which reads all JSON.
+Only what tshark prints itself is read so. A packet of another form, or with anything that is rare (RRC of its own,
+bundled messages, cells of a setup, what does not decode), is handed to `layers`, which reads all JSON.
 """
 from __future__ import annotations
 
@@ -11,7 +12,23 @@ from functools import lru_cache
 from re import Pattern
 
 from .decoding import Message, number
-from .fields import CAPABILITIES, CODES, GROUPS, MOST_NAMES, NAS_PDUS, OTHER_CELLS, REESTABLISHMENT, SECRETS, SIMPLE, SIMPLE_OF_RADIO, TAKES, TOLD, X2_ID, Filling, numbers
+from .fields import (
+    CAPABILITIES,
+    CODES,
+    GROUPS,
+    MOST_NAMES,
+    NAS_PDUS,
+    OTHER_CELLS,
+    REESTABLISHMENT,
+    SECRETS,
+    SIMPLE,
+    SIMPLE_OF_RADIO,
+    TAKES,
+    TOLD,
+    X2_ID,
+    Filling,
+    numbers,
+)
 from .layers import of_packet, with_ends
 from .link_types import user_dlt
 
@@ -19,7 +36,18 @@ LAYER = re.compile(r'\n        "([^"]+)": \{')
 BEHIND = re.compile(r'\},\n        "')  # a layer behind another
 LINKS = {"s1ap": "S1", "x2ap": "X2"}
 KNOWN = ("frame", "ip", "sctp")  # layers, one of each; others are of the link, and have nothing
-ORDER = ("frame.encap_type", "frame.time_epoch", "frame.number", "frame.len", "frame.cap_len", "ip.src", "ip.dst", "sctp.srcport", "sctp.dstport", "sctp.verification_tag")
+ORDER = (
+    "frame.encap_type",
+    "frame.time_epoch",
+    "frame.number",
+    "frame.len",
+    "frame.cap_len",
+    "ip.src",
+    "ip.dst",
+    "sctp.srcport",
+    "sctp.dstport",
+    "sctp.verification_tag",
+)
 UNKNOWN = frozenset(("ipv6", "s1ap", "x2ap", "lte_rrc", "diameter", "gtpv2", "exported_pdu", "_ws.malformed"))
 BODY = re.compile(r'"(?:s1ap|x2ap)\.value_element": \{\n {16}"((?:s1ap|x2ap)\.[^"]*_element)": \{\n')
 RARE_NAMES = ("X2Setup", "ENBConfigurationUpdate", "RerouteNASRequest")
@@ -37,10 +65,16 @@ LEAVES = [X2_ID, *NAS_PDUS, *SIMPLE, *SECRETS, *GROUPS, *CODES, *ABLE]
 WHOLE = "lte-rrc.handoverCommandMessage"
 RADIOS = [*SIMPLE_OF_RADIO, "lte-rrc.cipheringAlgorithm", "lte-rrc.integrityProtAlgorithm", WHOLE]
 # Each begins with letters that are rare in a packet, so that a search goes fast from one to the next.
-FIELD = re.compile(rf'''ap\.(?:(?:(?<="s1ap\.)({either("s1ap", LEAVES)})|(?<="x2ap\.)(id|{either("x2ap", LEAVES)}))": "([^"]*)"|(?<="(?:s1|x2)ap\.)({"|".join(OTHER_CELLS)}))''')
-RADIO = re.compile(rf'''-rrc\.(?<="lte-rrc\.)(?:({either("lte-rrc", RADIOS)})": "([^"]*)"|({either("lte-rrc", HANDOVER)})": \{{|({either("lte-rrc", [REESTABLISHMENT])}))''')
+FIELD = re.compile(
+    rf"""ap\.(?:(?:(?<="s1ap\.)({either("s1ap", LEAVES)})|(?<="x2ap\.)(id|{either("x2ap", LEAVES)}))": "([^"]*)"|(?<="(?:s1|x2)ap\.)({"|".join(OTHER_CELLS)}))"""
+)
+RADIO = re.compile(
+    rf"""-rrc\.(?<="lte-rrc\.)(?:({either("lte-rrc", RADIOS)})": "([^"]*)"|({either("lte-rrc", HANDOVER)})": \{{|({either("lte-rrc", [REESTABLISHMENT])}))"""
+)
 # Within a handover: what a command tells, and what `fields.command` may take for a number and is none.
-COMMAND = re.compile(rf'''-rrc\.(?<="lte-rrc\.)(?:({either("lte-rrc", [WHOLE])}|{"|".join(TOLD)})": "([^"]*)"|[^"]*": "(0[0-9]+)")''')
+COMMAND = re.compile(
+    rf"""-rrc\.(?<="lte-rrc\.)(?:({either("lte-rrc", [WHOLE])}|{"|".join(TOLD)})": "([^"]*)"|[^"]*": "(0[0-9]+)")"""
+)
 HEAD = [f'"{name}": "' for name in ORDER]
 TSN = re.compile(r'"sctp\.data_tsn_raw": "([^"]*)"')
 
@@ -79,8 +113,8 @@ def scanned(text: str, label: str, named: str) -> Message | None:
 
 
 def head(text: str, end: int) -> tuple[list[str], int]:
-    """The fields of a frame above its last layer, each the first of its name, if all are there in the order in which tshark prints them, else none; and
-    where the last one ends."""
+    """The fields of a frame above its last layer, each the first of its name, if all are there in the order in which
+    tshark prints them, else none; and where the last one ends."""
     found, at = list[str](), 0
     for mark in HEAD:
         first = text.find(mark, at, end)

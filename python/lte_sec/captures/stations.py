@@ -1,6 +1,8 @@
-"""Which station each message of a trace is of: by names that stations tell, by the cells of phones, and by the phones that stand there.
+"""Which station each message of a trace is of: by names that stations tell, by the cells of phones, and by the phones
+that stand there.
 
-Behind one end of S1 there may be several stations (a gateway of home stations): there each association of a phone has its own.
+Behind one end of S1 there may be several stations (a gateway of home stations): there each association of a phone has
+its own.
 """
 from __future__ import annotations
 
@@ -14,16 +16,45 @@ from .decoding import Message
 from .message_store import Messages
 
 FROM_STATION = {  # S1AP messages that a station sends (TS 36.413 9.1)
-    "InitialUEMessage", "UplinkNASTransport", "NASNonDeliveryIndication", "InitialContextSetupResponse", "InitialContextSetupFailure",
-    "UEContextReleaseRequest", "UEContextReleaseComplete", "UEContextModificationResponse", "UEContextModificationFailure",
-    "UEContextModificationIndication", "HandoverRequired", "HandoverRequestAcknowledge", "HandoverFailure", "HandoverNotify", "HandoverCancel",
-    "ENBStatusTransfer", "PathSwitchRequest", "S1SetupRequest", "ENBConfigurationUpdate", "UECapabilityInfoIndication", "E_RABSetupResponse",
-    "E_RABModifyResponse", "E_RABReleaseResponse", "E_RABReleaseIndication", "E_RABModificationIndication", "LocationReport",
-    "UEContextSuspendRequest", "UEContextResumeRequest", "CellTrafficTrace", "UERadioCapabilityMatchResponse",
+    "InitialUEMessage",
+    "UplinkNASTransport",
+    "NASNonDeliveryIndication",
+    "InitialContextSetupResponse",
+    "InitialContextSetupFailure",
+    "UEContextReleaseRequest",
+    "UEContextReleaseComplete",
+    "UEContextModificationResponse",
+    "UEContextModificationFailure",
+    "UEContextModificationIndication",
+    "HandoverRequired",
+    "HandoverRequestAcknowledge",
+    "HandoverFailure",
+    "HandoverNotify",
+    "HandoverCancel",
+    "ENBStatusTransfer",
+    "PathSwitchRequest",
+    "S1SetupRequest",
+    "ENBConfigurationUpdate",
+    "UECapabilityInfoIndication",
+    "E_RABSetupResponse",
+    "E_RABModifyResponse",
+    "E_RABReleaseResponse",
+    "E_RABReleaseIndication",
+    "E_RABModificationIndication",
+    "LocationReport",
+    "UEContextSuspendRequest",
+    "UEContextResumeRequest",
+    "CellTrafficTrace",
+    "UERadioCapabilityMatchResponse",
 }
 TELLS_CELL = ("InitialUEMessage", "UplinkNASTransport", "PathSwitchRequest", "HandoverNotify")
 NAMED = ("S1SetupRequest", "X2SetupRequest", "X2SetupResponse")
-BACK = ("HandoverRequestAcknowledge", "HandoverPreparationFailure", "UEContextRelease", "RetrieveUEContextRequest")  # of X2AP, from target to source
+BACK = (
+    "HandoverRequestAcknowledge",
+    "HandoverPreparationFailure",
+    "UEContextRelease",
+    "RetrieveUEContextRequest",
+)  # of X2AP, from target to source
 
 
 def station_end(message: Message) -> str:
@@ -59,7 +90,9 @@ class LinksSeen:
     """The links of messages, counted before all ends have names."""
 
     def __init__(self) -> None:
-        self.counts: dict[tuple[str, Known, Known | str], int] = {}  # of S1 by station and direction, of X2 by source and target
+        self.counts: dict[
+            tuple[str, Known, Known | str], int
+        ] = {}  # of S1 by station and direction, of X2 by source and target
         self.presupposed: set[tuple[str, Known, Known | str]] = set()
         self.switched: set[tuple[str, int | None]] = set()  # identities that a path switch brought
         self.pairs: dict[tuple[str, str, int | None], tuple[Known, Known]] = {}
@@ -70,14 +103,18 @@ class LinksSeen:
         self.counts[key] = self.counts.get(key, 0) + 1
         if message.name == "PathSwitchRequest":
             self.switched.add((message.source, message.enb_id))
-        elif key not in self.presupposed and presupposes(message, way, (message.source, message.enb_id) in self.switched):
+        elif key not in self.presupposed and presupposes(
+            message, way, (message.source, message.enb_id) in self.switched
+        ):
             self.presupposed.add(key)
 
     def of_x2(self, message: Message, cells: Cells) -> None:
         is_back = message.name in BACK
         source, target = (message.target, message.source) if is_back else (message.source, message.target)
         if message.name == "HandoverRequest":
-            self.pairs[source, target, message.old_x2] = Known(cells.station(message.source_eci), source), Known(cells.station(message.eci), target)
+            self.pairs[source, target, message.old_x2] = Known(cells.station(message.source_eci), source), Known(
+                cells.station(message.eci), target
+            )
         one, other = self.pairs.get((source, target, message.old_x2)) or (Known("", source), Known("", target))
         key = ("X2", other, one) if is_back else ("X2", one, other)
         self.counts[key] = self.counts.get(key, 0) + 1
@@ -85,7 +122,13 @@ class LinksSeen:
     def links(self, addresses: Mapping[str, str]) -> Iterator[LinkSeen]:
         for key, number in self.counts.items():
             kind, one, other = key
-            yield LinkSeen(kind, one.name(addresses), other if isinstance(other, str) else other.name(addresses), number, key in self.presupposed)
+            yield LinkSeen(
+                kind,
+                one.name(addresses),
+                other if isinstance(other, str) else other.name(addresses),
+                number,
+                key in self.presupposed,
+            )
 
 
 class Stations:
@@ -126,7 +169,11 @@ class Stations:
             if known != message.target:
                 self.alias[message.target] = known
         if message.source in self.alias or message.target in self.alias:
-            message = replace(message, source=self.alias.get(message.source, message.source), target=self.alias.get(message.target, message.target))
+            message = replace(
+                message,
+                source=self.alias.get(message.source, message.source),
+                target=self.alias.get(message.target, message.target),
+            )
             self.changed.append((place, message.source, message.target))
         self.learn(message)
         return message
@@ -135,7 +182,9 @@ class Stations:
         """What a message tells of names."""
         names = self.cells.addresses
         if message.name in NAMED and message.station is not None:
-            names[message.source] = self.cells.names.setdefault(message.station, message.station_name or f"eNB {message.station:x}")
+            names[message.source] = self.cells.names.setdefault(
+                message.station, message.station_name or f"eNB {message.station:x}"
+            )
             self.told.add(message.source)
         elif message.link == "S1" and message.name in TELLS_CELL and message.eci is not None:
             names.setdefault(message.source, self.cells.station(message.eci))
@@ -172,7 +221,13 @@ class Stations:
                 self.names[place] = legs[leg]
             if end not in self.told and message.mme_id is not None:
                 stand = stands.get(message.mme_id, Stand())
-                station = stand.target if message.name == "PathSwitchRequestAcknowledge" and stand.target else stand.station if not stand.target else ""
+                station = (
+                    stand.target
+                    if message.name == "PathSwitchRequestAcknowledge" and stand.target
+                    else stand.station
+                    if not stand.target
+                    else ""
+                )
                 if station:
                     self.votes.setdefault(end, Counter())[station] += 1
             self.seen.of_s1(message, self.names[place], end)
@@ -182,7 +237,12 @@ class Stations:
                 if votes:
                     self.cells.addresses[end] = votes.most_common(1)[0][0]
 
-    def follow(self, message: Message, stands: dict[int, Stand], asked: dict[tuple[str, str, int | None], tuple[int, int | None]]) -> None:
+    def follow(
+        self,
+        message: Message,
+        stands: dict[int, Stand],
+        asked: dict[tuple[str, str, int | None], tuple[int, int | None]],
+    ) -> None:
         """Where a phone is, as X2 shows it."""
         if message.name == "HandoverRequest" and message.mme_id is not None:
             asked[message.source, message.target, message.old_x2] = message.mme_id, message.eci

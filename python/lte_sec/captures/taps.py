@@ -1,4 +1,5 @@
-"""What several taps and clocks do to a trace: messages that a second tap shows again, and a clock of X2 that is not that of S1."""
+"""What several taps and clocks do to a trace: messages that a second tap shows again, and a clock of X2 that is not
+that of S1."""
 from __future__ import annotations
 
 from collections import Counter
@@ -23,13 +24,30 @@ def capture_of(message: Message) -> str:
 def alike(message: Message) -> tuple[object, ...]:
     """What two taps show alike of a message: all but frame, time and verification tag."""
     return (
-        message.link, message.name, message.source, message.target, message.enb_id, message.mme_id, message.old_x2, message.new_x2, message.key, message.nh, message.ncc,
-        message.eci, message.container, message.command, message.tmsi, tuple(message.nas), message.cause, message.fault,
+        message.link,
+        message.name,
+        message.source,
+        message.target,
+        message.enb_id,
+        message.mme_id,
+        message.old_x2,
+        message.new_x2,
+        message.key,
+        message.nh,
+        message.ncc,
+        message.eci,
+        message.container,
+        message.command,
+        message.tmsi,
+        tuple(message.nas),
+        message.cause,
+        message.fault,
     )
 
 
 class SecondTaps:
-    """Finds the messages that a second tap shows again. Of what may come again it keeps no more than a sum, and that for as long as it may."""
+    """Finds the messages that a second tap shows again. Of what may come again it keeps no more than a sum, and that
+    for as long as it may."""
 
     def __init__(self, messages: Messages, is_bounded: bool = True):
         self.messages, self.is_bounded = messages, is_bounded
@@ -99,7 +117,8 @@ TSNS, FAR = 1 << 32, 1 << 16  # of SCTP, and the widest gap that is taken for on
 
 
 class Gaps:
-    """Finds where the capture lost frames of S1: after one place and before another; SCTP's numbers of DATA chunks go on by one (RFC 9260 1.5).
+    """Finds where the capture lost frames of S1: after one place and before another; SCTP's numbers of DATA chunks go
+    on by one (RFC 9260 1.5).
 
     They are in the order of the second place.
     """
@@ -146,7 +165,8 @@ PhoneAndCell = tuple[Optional[int], Optional[int]]  # the core's identity for a 
 
 
 class Courses:
-    """Finds the handovers over X2 (answer, release) and the path switches (request, answer) of each phone to each cell."""
+    """Finds the handovers over X2 (answer, release) and the path switches (request, answer) of each phone to each
+    cell."""
 
     def __init__(self) -> None:
         self.asked: dict[tuple[str, str, int | None], PhoneAndCell] = {}
@@ -177,9 +197,11 @@ def courses(messages: Iterable[Message]) -> Courses:
     return found
 
 
-def answers(messages: Messages) -> tuple[dict[PhoneAndCell, list[ExchangeTimes]], dict[PhoneAndCell, list[ExchangeTimes]]]:
-    """The same where S1 up is not covered: an answer tells no cell, and is the latest time of its request. It may be that of a handover that the
-    trace does not show, so that this only offers a clock."""
+def answers(
+    messages: Messages,
+) -> tuple[dict[PhoneAndCell, list[ExchangeTimes]], dict[PhoneAndCell, list[ExchangeTimes]]]:
+    """The same where S1 up is not covered: an answer tells no cell, and is the latest time of its request. It may be
+    that of a handover that the trace does not show, so that this only offers a clock."""
     handovers = courses(messages).handovers
     merged: dict[PhoneAndCell, list[ExchangeTimes]] = {}
     switches: dict[PhoneAndCell, list[ExchangeTimes]] = {}
@@ -191,8 +213,11 @@ def answers(messages: Messages) -> tuple[dict[PhoneAndCell, list[ExchangeTimes]]
     return {phone: sorted(done, key=lambda one: one.begin) for phone, done in merged.items()}, switches
 
 
-def bounds(handovers: Mapping[PhoneAndCell, list[ExchangeTimes]], switches: Mapping[PhoneAndCell, list[ExchangeTimes]]) -> Bounds:
-    """What each handover over X2 says: its answer comes before the path switch, and its release after the answer to that.
+def bounds(
+    handovers: Mapping[PhoneAndCell, list[ExchangeTimes]], switches: Mapping[PhoneAndCell, list[ExchangeTimes]]
+) -> Bounds:
+    """What each handover over X2 says: its answer comes before the path switch, and its release after the answer to
+    that.
 
     Handovers of a phone to a cell are paired with its path switches from there only where there are as many.
     """
@@ -206,10 +231,16 @@ def bounds(handovers: Mapping[PhoneAndCell, list[ExchangeTimes]], switches: Mapp
 
 
 def on_one_clock(messages: Messages, found: Courses | None = None) -> tuple[Messages, str]:
-    """The messages in the order of one clock, and a note on the clock of X2 if that is another than that of S1: by the courses that were found, or else by
-    the answers of the core alone."""
+    """The messages in the order of one clock, and a note on the clock of X2 if that is another than that of S1: by the
+    courses that were found, or else by the answers of the core alone."""
     shift = (bounds(found.handovers, found.switches) if found is not None else bounds(*answers(messages))).shift()
     if shift == 0.0:
         return messages, ""
     moved = Kept(replace(one, time=one.time + shift) if one.link == "X2" else one for one in messages)
-    return moved.by_time(), f"the clock of X2 is {abs(shift) * 1000:.3f} ms or more {'early' if shift > 0 else 'late'} against that of S1, and is set right"
+    return (
+        moved.by_time(),
+        (
+            f"the clock of X2 is {abs(shift) * 1000:.3f} ms or more {'early' if shift > 0 else 'late'} against that "
+            "of S1, and is set right"
+        ),
+    )

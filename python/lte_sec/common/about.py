@@ -1,4 +1,5 @@
-"""Of what an answer is and by whom: the files that were read with their SHA-256, the version of the package, and whether its calls are proved."""
+"""Of what an answer is and by whom: the files that were read with their SHA-256, the version of the package, and
+whether its calls are proved."""
 from __future__ import annotations
 
 import hashlib
@@ -52,4 +53,8 @@ def digest(path: Path) -> str:
 
 def trace(paths: Iterable[Path], options: Iterable[str]) -> dict[str, object]:
     """What the document of a trace says of itself."""
-    return {"files": files(paths), "options": [shown(option) for option in options], "made": {"by": "lte_sec", "version": version(), "proved": is_proved()}}
+    return {
+        "files": files(paths),
+        "options": [shown(option) for option in options],
+        "made": {"by": "lte_sec", "version": version(), "proved": is_proved()},
+    }

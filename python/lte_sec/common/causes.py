@@ -1,7 +1,8 @@
-"""All that a verdict, a mistake or a note may say, in one table: each cause with its clause. A reason is a cause with its values.
+"""All that a verdict, a mistake or a note may say, in one table: each cause with its clause. A reason is a cause with
+its values.
 
-Code asks for causes and values alone. A text is made of them once, where it is told, and nothing reads it back: names in it may have any form.
-Clauses of TS 24.301, 36.331 and 29.274 are from memory, and so is TS 33.401 7.2.10.
+Code asks for causes and values alone. A text is made of them once, where it is told, and nothing reads it back: names
+in it may have any form. Clauses of TS 24.301, 36.331 and 29.274 are from memory, and so is TS 33.401 7.2.10.
 """
 from __future__ import annotations
 
@@ -25,11 +26,19 @@ class Severity(str, Enum):
     MISTAKE = "mistake"  # of an implementation, which gives these octets
 
 
-FAULT, DOUBT, REMARK, WARNING, NOTE, MISTAKE = Severity.FAULT, Severity.DOUBT, Severity.REMARK, Severity.WARNING, Severity.NOTE, Severity.MISTAKE
+FAULT, DOUBT, REMARK, WARNING, NOTE, MISTAKE = (
+    Severity.FAULT,
+    Severity.DOUBT,
+    Severity.REMARK,
+    Severity.WARNING,
+    Severity.NOTE,
+    Severity.MISTAKE,
+)
 
 
 class Cause(Enum):
-    """Each cause: how grave it is, what it says, and the standard with its clause. A key has the clause of the message that it is in (`clauses`)."""
+    """Each cause: how grave it is, what it says, and the standard with its clause. A key has the clause of the message
+    that it is in (`clauses`)."""
 
     def __init__(self, severity: Severity, says: str, standard: str = "", clause: str = ""):
         self.severity, self.says, self.standard, self.clause = severity, says, standard, clause
@@ -44,7 +53,15 @@ class Cause(Enum):
     NOT_JUDGED = DOUBT, "{what} not judged: {why}"
     NOT_JUDGED_IS = DOUBT, "{what} not judged: is {found}; {why}"
     IN_USE_BEFORE = FAULT, "in use before, from frame {frame} on", ACCESS, "7.2.6.2"
-    NEW_KASME = FAULT, "KeNB of a new KASME: a handover goes on from the KASME in use, until the key is changed within a cell (TS 33.401 7.2.10)", ACCESS, "7.2.10"
+    NEW_KASME = (
+        FAULT,
+        (
+            "KeNB of a new KASME: a handover goes on from the KASME in use, until the key is changed within a cell "
+            "(TS 33.401 7.2.10)"
+        ),
+        ACCESS,
+        "7.2.10",
+    )
     OCTETS = REMARK, "got {got}, wanted {wanted}"
     SHORT_MAC_WRONG = FAULT, "{what} [differs]: is {found}, wanted {wanted}", RADIO, "5.3.7.4"
 
@@ -72,13 +89,38 @@ class Cause(Enum):
     NEVER_PLAIN_UP = FAULT, "plain, which TS 24.301 4.4.4.3 does not allow this message", NAS, "4.4.4.3"
     CAPABILITIES_REPLAYED = FAULT, "replayed capabilities [differ]: are {found}, wanted {wanted}", NAS, "5.4.3.2"
     KSI_OF_NO_KEY = FAULT, "KSI [differs]: is 7, which means that there is no key", NAS, "5.4.3.2"
-    KSI_OF_COMMAND = FAULT, "KSI [differs]: is {found}, wanted {wanted}, that of the Authentication Request", NAS, "5.4.3.2"
+    KSI_OF_COMMAND = (
+        FAULT,
+        "KSI [differs]: is {found}, wanted {wanted}, that of the Authentication Request",
+        NAS,
+        "5.4.3.2",
+    )
     KSI_DIFFERS = FAULT, "KSI [differs]: is {found}, wanted {wanted}", NAS, "5.4.3.2"
     ALGORITHM_LACKS = FAULT, "{name}{identity} is commanded, which the phone does not have", ACCESS, "7.2.4.4"
-    EIA0_IN_USE = FAULT, "EIA0 in a secured connection without emergency, which TS 33.401 5.1.4.2 does not allow", ACCESS, "5.1.4.2"
-    EIA0_OUTSIDE = WARNING, "warning: EIA0 outside an emergency call, which TS 33.401 5.1.4.2 does not allow", ACCESS, "5.1.4.2"
-    COMPLETE_OF_OTHER_KASME = FAULT, "Security mode complete under the KASME before, where the Command brought another", NAS, "5.4.3.3"
-    COMPLETE_OF_OTHER_EIA = FAULT, "Security mode complete under EIA{found}, where the Command brought EIA{wanted}", NAS, "5.4.3.3"
+    EIA0_IN_USE = (
+        FAULT,
+        "EIA0 in a secured connection without emergency, which TS 33.401 5.1.4.2 does not allow",
+        ACCESS,
+        "5.1.4.2",
+    )
+    EIA0_OUTSIDE = (
+        WARNING,
+        "warning: EIA0 outside an emergency call, which TS 33.401 5.1.4.2 does not allow",
+        ACCESS,
+        "5.1.4.2",
+    )
+    COMPLETE_OF_OTHER_KASME = (
+        FAULT,
+        "Security mode complete under the KASME before, where the Command brought another",
+        NAS,
+        "5.4.3.3",
+    )
+    COMPLETE_OF_OTHER_EIA = (
+        FAULT,
+        "Security mode complete under EIA{found}, where the Command brought EIA{wanted}",
+        NAS,
+        "5.4.3.3",
+    )
     CONTEXT_REFUSED = FAULT, "under a context that the phone refused", NAS, "5.4.3.5"
 
     # What is said of commands, agreement, capabilities and contexts between cores
@@ -92,8 +134,18 @@ class Cause(Enum):
     AGREE = REMARK, "{move} {station}: phone and {station} agree on {key}"
     AGREEMENT_NOT_JUDGED = DOUBT, "{move} {station}: phone and {station} not judged"
     AGREEMENT_IN_DOUBT = DOUBT, "{move} {station}: phone and {station} not judged: {why}"
-    COME_APART = FAULT, "phone and {station} [come apart here]: the phone takes {phone}, {station} has {held}", ACCESS, "7.2.8.4.4"
-    STILL_APART = FAULT, "phone and {station} [are still apart]: the phone takes {phone}, {station} has {held}", ACCESS, "7.2.8.4.4"
+    COME_APART = (
+        FAULT,
+        "phone and {station} [come apart here]: the phone takes {phone}, {station} has {held}",
+        ACCESS,
+        "7.2.8.4.4",
+    )
+    STILL_APART = (
+        FAULT,
+        "phone and {station} [are still apart]: the phone takes {phone}, {station} has {held}",
+        ACCESS,
+        "7.2.8.4.4",
+    )
     CAPABILITIES_TOLD = FAULT, "capabilities [differ]: {why}", ACCESS, "7.2.4.2.1, 7.2.4.4"
     CAPABILITIES_HANDED_ON = FAULT, "capabilities [differ]: {why}", ACCESS, "7.2.4.2.2"
     CAPABILITIES_ARE = REMARK, "are {parts} (bits for algorithms 1, 2, 3)"
@@ -118,7 +170,10 @@ class Cause(Enum):
     TRIGGER_NOT_SHOWN = DOUBT, "the trace does not show the message that brought the connection"
     MODE_NOT_SHOWN = DOUBT, "the trace lacks the Security Mode exchange before it"
     KEY_NOT_SHOWN = DOUBT, "the trace does not show the key in use"
-    NH_NOT_SHOWN = DOUBT, "its NH may have come in an answer that the trace lacks, and the trace does not show where the chain begins"
+    NH_NOT_SHOWN = (
+        DOUBT,
+        "its NH may have come in an answer that the trace lacks, and the trace does not show where the chain begins",
+    )
     PHONE_CELL_UNKNOWN = DOUBT, "the cell of the phone is not known; name it with --cells"
     TARGET_CELL_UNKNOWN = DOUBT, "the target cell is not known; name it with --cells"
     CELL_UNKNOWN = DOUBT, "the cell is not known; name it with --cells"
@@ -135,10 +190,19 @@ class Cause(Enum):
     MANY_HISTORIES = DOUBT, "there were more than {most} lawful histories, and not all were kept"
     MANY_HANDOVERS = DOUBT, "there were more than {most} handovers without an end, and not all were kept"
     FAR_UPLINK = DOUBT, "right at a COUNT that was not tried, of an uplink message that the trace does not have"
-    SEARCH_ENDED = DOUBT, "right or wrong by whose messages these are, which the trace does not show; the search for that was ended"
+    SEARCH_ENDED = (
+        DOUBT,
+        "right or wrong by whose messages these are, which the trace does not show; the search for that was ended",
+    )
     HISTORY_FOUND = DOUBT, "a lawful history gives it, which lte_trace found and the judge did not"
-    HISTORY_WITHOUT_UNSEEN = DOUBT, "a lawful history gives it, which lte_trace found and the judge did not, with no unseen move"
-    HISTORY_WITH_UNSEEN = DOUBT, "a lawful history gives it, which lte_trace found and the judge did not: with {moves} unseen"
+    HISTORY_WITHOUT_UNSEEN = (
+        DOUBT,
+        "a lawful history gives it, which lte_trace found and the judge did not, with no unseen move",
+    )
+    HISTORY_WITH_UNSEEN = (
+        DOUBT,
+        "a lawful history gives it, which lte_trace found and the judge did not: with {moves} unseen",
+    )
     OTHER_TECHNOLOGY = DOUBT, "to another radio technology, which is left out"
     HANDOVER_NOT_SHOWN = DOUBT, "the trace does not show its handover"
     HANDOVER_NOT_CLEAR = DOUBT, "it is not clear which handover or phone it is of"
@@ -191,7 +255,10 @@ class Cause(Enum):
     # Notes and warnings
     FAR_AHEAD = WARNING, "warning: the core is {steps} steps of the chain ahead of the phone; at eight they come apart"
     CAME_TO_OTHER_CELL = NOTE, "the phone came to another cell of {station} than was prepared: {cell}"
-    IN_OTHER_CELL = NOTE, "the phone is in another cell of {station} now: a handover within it that the trace does not show"
+    IN_OTHER_CELL = (
+        NOTE,
+        "the phone is in another cell of {station} now: a handover within it that the trace does not show",
+    )
     AT_STATION = NOTE, "the phone is at {station} now: a handover that the trace does not show"
     CAME_ANEW = NOTE, "the phone comes to {station} anew: it was at a station that the trace does not show"
     WITHOUT_X2 = NOTE, "a handover to {station} without messages between the stations in the trace"
@@ -286,7 +353,9 @@ class Reason:
     def told(self, is_doubted: bool = False) -> str:
         """In words; where it is in doubt it blames nothing."""
         says = BLAME.sub("not judged" if is_doubted else r"\1", self.cause.says)
-        return says.format(**{name: told(value, is_doubted) if isinstance(value, tuple) else value for name, value in self.values})
+        return says.format(
+            **{name: told(value, is_doubted) if isinstance(value, tuple) else value for name, value in self.values}
+        )
 
     @property
     def clause(self) -> str:

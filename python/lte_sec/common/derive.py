@@ -1,7 +1,7 @@
 """Where keys and ciphers come from: proved code, as a library in this process or as the program `calc` in a pipe.
 
-Nothing else of this package computes a key, a MAC or a cipher. A library that was built without its proofs has the same code:
-`library.proved()` says which it is.
+Nothing else of this package computes a key, a MAC or a cipher. A library that was built without its proofs has the same
+code: `library.proved()` says which it is.
 """
 from __future__ import annotations
 
@@ -33,7 +33,9 @@ class Calc:
     budget = 60_000  # as a line in and out takes longer than a call
 
     def __init__(self, words: list[str]):
-        self.program = subprocess.Popen(words, stdin=subprocess.PIPE, stdout=subprocess.PIPE, stderr=subprocess.DEVNULL, text=True, encoding="ascii")
+        self.program = subprocess.Popen(
+            words, stdin=subprocess.PIPE, stdout=subprocess.PIPE, stderr=subprocess.DEVNULL, text=True, encoding="ascii"
+        )
 
     def answer(self, *words: object) -> str:
         """The answer to a line, without its line feed."""
@@ -104,7 +106,9 @@ def proved_calls() -> Calls:
 
 def program_of(launcher: Path) -> str:
     """The program `calc`, which the launcher builds where it is not there, and says so."""
-    ran = subprocess.run([str(launcher), "--program", "lte_calc"], stdin=subprocess.DEVNULL, stdout=subprocess.PIPE, text=True)
+    ran = subprocess.run(
+        [str(launcher), "--program", "lte_calc"], stdin=subprocess.DEVNULL, stdout=subprocess.PIPE, text=True
+    )
     if ran.returncode:
         raise TraceError("the proved calls cannot be built: ./lte_sec --program lte_calc says why")
     return ran.stdout.rstrip("\n").partition(" ")[2]

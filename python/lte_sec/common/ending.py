@@ -1,4 +1,5 @@
-"""How a word of Python ends: with its status; where its input or its output fails with 4 or 5 and one line; and never with a traceback.
+"""How a word of Python ends: with its status; where its input or its output fails with 4 or 5 and one line; and never
+with a traceback.
 
 With --json a word that fails and prints nothing prints why, as {"error": .., "status": N}.
 """
@@ -121,13 +122,18 @@ def is_open(descriptor: int) -> bool:
 
 
 def guard() -> None:
-    """Puts these streams in the place of Python's. A closed one is told where it is used; nothing that is opened later takes its number."""
+    """Puts these streams in the place of Python's. A closed one is told where it is used; nothing that is opened later
+    takes its number."""
     for descriptor in (0, 1, 2):
         if not is_open(descriptor):
             os.dup2(os.open(os.devnull, os.O_RDONLY if descriptor == 1 else os.O_WRONLY), descriptor)
     sys.stdin = io.TextIOWrapper(io.BufferedReader(StandardInput()), encoding="utf-8", errors="surrogateescape")
-    sys.stdout = io.TextIOWrapper(io.BufferedWriter(StandardOutput()), encoding="utf-8", errors="surrogateescape", line_buffering=os.isatty(1))
-    sys.stderr = io.TextIOWrapper(io.BufferedWriter(StandardErrorOctets()), encoding="utf-8", errors="backslashreplace", line_buffering=True)
+    sys.stdout = io.TextIOWrapper(
+        io.BufferedWriter(StandardOutput()), encoding="utf-8", errors="surrogateescape", line_buffering=os.isatty(1)
+    )
+    sys.stderr = io.TextIOWrapper(
+        io.BufferedWriter(StandardErrorOctets()), encoding="utf-8", errors="backslashreplace", line_buffering=True
+    )
 
 
 def ends(word: str, run: Callable[[], object]) -> NoReturn:
@@ -163,7 +169,9 @@ def tried(word: str, run: Callable[[], object]) -> int:
     except Exception as fault:
         if TRACE in os.environ:
             raise
-        return says(FAULT, f"{word} has a fault of its own, {type(fault).__name__}: {fault}; with {TRACE}=1 it says where")
+        return says(
+            FAULT, f"{word} has a fault of its own, {type(fault).__name__}: {fault}; with {TRACE}=1 it says where"
+        )
 
 
 def fails(status: int, why: str) -> None:

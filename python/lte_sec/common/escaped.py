@@ -1,9 +1,11 @@
-"""Names from outside, in one line: those that come from a capture, a file or a word of a call, whatever characters they have."""
+"""Names from outside, in one line: those that come from a capture, a file or a word of a call, whatever characters they
+have."""
 from __future__ import annotations
 
 
 def shown(text: str) -> str:
-    """The text, each character that is not printable as an escape: a line feed forges no line, and a lone surrogate can be written."""
+    """The text, each character that is not printable as an escape: a line feed forges no line, and a lone surrogate can
+    be written."""
     return text if text.isprintable() else "".join(one if one.isprintable() else escape(one) for one in text)
 
 

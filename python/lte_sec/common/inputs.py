@@ -1,4 +1,5 @@
-"""Reading no more than the programs read: a text of 16 MiB. What is longer, as a device without an end, ends with status 9."""
+"""Reading no more than the programs read: a text of 16 MiB. What is longer, as a device without an end, ends with
+status 9."""
 from __future__ import annotations
 
 import os

@@ -1,7 +1,8 @@
-"""Why a key, a MAC or a text is not the wanted one: the mistakes that implementations make, each with the octets that it gives.
+"""Why a key, a MAC or a text is not the wanted one: the mistakes that implementations make, each with the octets that
+it gives.
 
-All is octets in, causes out. The wrong derivations are made by Python's own SHA-256: they are no keys of the standard, so that no proved call
-gives them. The first mistake that gives the value names it; no answer is no reason.
+All is octets in, causes out. The wrong derivations are made by Python's own SHA-256: they are no keys of the standard,
+so that no proved call gives them. The first mistake that gives the value names it; no answer is no reason.
 """
 from __future__ import annotations
 
@@ -33,7 +34,9 @@ def reordered(value: bytes) -> Named:
     """What is written in another order: the whole, or each word of four or eight octets."""
     yield Cause.OCTETS_REVERSED.of(), value[::-1]
     for size in (4, 8):
-        yield Cause.WORDS_REVERSED.of(size=size), b"".join(value[at:at + size][::-1] for at in range(0, len(value), size))
+        yield Cause.WORDS_REVERSED.of(size=size), b"".join(
+            value[at : at + size][::-1] for at in range(0, len(value), size)
+        )
 
 
 # -- KeNB*
@@ -54,7 +57,9 @@ def star_mistakes(key: bytes, pci: int, earfcn: int) -> Named:
     yield Cause.CELL_LITTLE_ENDIAN.of(), kdf(key, STAR, *turned)
     for octets in (2, 3, 4):
         if octets != size and earfcn >> 8 * octets == 0:
-            yield Cause.EARFCN_SIZE.of(found=octets, wanted=size), kdf(key, STAR, cell[0], earfcn.to_bytes(octets, "big"))
+            yield Cause.EARFCN_SIZE.of(found=octets, wanted=size), kdf(
+                key, STAR, cell[0], earfcn.to_bytes(octets, "big")
+            )
     if size == 3:
         yield Cause.EARFCN_CUT.of(), kdf(key, STAR, cell[0], cell[1][1:])
     yield Cause.PCI_CUT.of(), kdf(key, STAR, bytes([pci & 255]), cell[1])
@@ -85,7 +90,9 @@ def count_mistakes(count: int) -> Iterator[tuple[Reason, int]]:
     for far in (1, 2, 32, 64, 256, 65536):
         for other in (count - far, count + far):
             if 0 <= other < 1 << 32:
-                yield (Cause.COUNT_LESS if other < count else Cause.COUNT_MORE).of(found=other, far=far, wanted=count), other
+                yield (Cause.COUNT_LESS if other < count else Cause.COUNT_MORE).of(
+                    found=other, far=far, wanted=count
+                ), other
 
 
 def kenb_mistakes(kasme: bytes, count: int) -> Named:
@@ -131,7 +138,8 @@ def nh_mistakes(kasme: bytes, sync: bytes) -> Named:
 
 
 def algorithm(value: bytes, key: bytes, type: int, identity: int) -> Why:
-    """The mistake by which this is the algorithm key of a key, an algorithm type and identity, or the half of it that is used."""
+    """The mistake by which this is the algorithm key of a key, an algorithm type and identity, or the half of it that
+    is used."""
     return first(value, algorithm_mistakes(key, type, identity, len(value)))
 
 
@@ -142,7 +150,9 @@ def algorithm_mistakes(key: bytes, type: int, identity: int, size: int = 32) -> 
         yield Cause.OTHER_HALF.of(), whole[:size]
         yield Cause.HALF_OF_ABOVE.of(which="first"), key[:size]
         yield Cause.HALF_OF_ABOVE.of(which="last"), key[-size:]
-    yield Cause.SWAPPED.of(one="algorithm type", other="identity"), kdf(key, ALGORITHM, bytes([identity]), bytes([type]))[-size:]
+    yield Cause.SWAPPED.of(one="algorithm type", other="identity"), kdf(
+        key, ALGORITHM, bytes([identity]), bytes([type])
+    )[-size:]
     yield Cause.NO_LENGTHS.of(), kdf(key, ALGORITHM, bytes([type]), bytes([identity]), lengths=False)[-size:]
     yield Cause.TWO_OCTETS.of(), kdf(key, ALGORITHM, bytes([0, type]), bytes([0, identity]))[-size:]
     yield Cause.LEFT_OUT.of(what="the identity"), kdf(key, ALGORITHM, bytes([type]))[-size:]
@@ -169,7 +179,9 @@ class ProtectedNas:
 
     def ciphered(self) -> Ciphered:
         """Its text, as it is ciphered."""
-        return Ciphered(self.kasme, NAS_ENCRYPTION, self.eea, (NAS_INTEGRITY, self.eia), self.direction, self.count, 0, self.pdu[6:])
+        return Ciphered(
+            self.kasme, NAS_ENCRYPTION, self.eea, (NAS_INTEGRITY, self.eia), self.direction, self.count, 0, self.pdu[6:]
+        )
 
 
 def key_of(calls: Calls, nas: ProtectedNas, type: int) -> bytes:
@@ -180,8 +192,11 @@ def macs(calls: Calls) -> dict[int, Callable[[bytes, int, int, int, bytes], byte
     return {1: calls.eia1, 2: calls.eia2, 3: calls.eia3}
 
 
-def mac(calls: Calls, nas: ProtectedNas, others: Iterator[tuple[str, bytes]] = iter(()), tag: slice = slice(0, 4)) -> Why:
-    """The mistake by which this message has the MAC that it has, or `nas` as a Service Request its short MAC (then `tag` is its place in the MAC).
+def mac(
+    calls: Calls, nas: ProtectedNas, others: Iterator[tuple[str, bytes]] = iter(()), tag: slice = slice(0, 4)
+) -> Why:
+    """The mistake by which this message has the MAC that it has, or `nas` as a Service Request its short MAC (then
+    `tag` is its place in the MAC).
 
     `others` are other KASMEs with their names.
     """
@@ -203,7 +218,10 @@ def mac(calls: Calls, nas: ProtectedNas, others: Iterator[tuple[str, bytes]] = i
     if not is_short:
         tries += [
             (Cause.MAC_WITHOUT_NUMBER.of(), lambda: make(key, nas.count, 0, nas.direction, body[1:])),
-            (Cause.MAC_OVER_PLAIN.of(), lambda: make(key, nas.count, 0, nas.direction, body[:1] + deciphered(calls, nas))),
+            (
+                Cause.MAC_OVER_PLAIN.of(),
+                lambda: make(key, nas.count, 0, nas.direction, body[:1] + deciphered(calls, nas)),
+            ),
             (Cause.MAC_OVER_ZEROS.of(), lambda: make(key, nas.count, 0, nas.direction, nas.pdu[:1] + bytes(4) + body)),
             (Cause.MAC_OVER_HEADER.of(), lambda: make(key, nas.count, 0, nas.direction, nas.pdu[:1] + body)),
         ]
@@ -212,10 +230,18 @@ def mac(calls: Calls, nas: ProtectedNas, others: Iterator[tuple[str, bytes]] = i
     return found or other_mac(calls, nas, value, body, tag, others)
 
 
-def other_mac(calls: Calls, nas: ProtectedNas, value: bytes, body: bytes, tag: slice, others: Iterator[tuple[str, bytes]]) -> Why:
+def other_mac(
+    calls: Calls, nas: ProtectedNas, value: bytes, body: bytes, tag: slice, others: Iterator[tuple[str, bytes]]
+) -> Why:
     """Another algorithm, COUNT or KASME."""
     for eia in COMPUTED:
-        if eia != nas.eia and macs(calls)[eia](calls.algorithm_key(nas.kasme, NAS_INTEGRITY, eia)[16:], nas.count, 0, nas.direction, body)[tag] == value:
+        if (
+            eia != nas.eia
+            and macs(calls)[eia](
+                calls.algorithm_key(nas.kasme, NAS_INTEGRITY, eia)[16:], nas.count, 0, nas.direction, body
+            )[tag]
+            == value
+        ):
             return Cause.MAC_OF_EIA.because(eia=eia)
     low = body[0] if tag == slice(0, 4) and body else nas.count & 31
     for name, kasme in others:
@@ -246,7 +272,8 @@ NAMES = {1: "KNASenc", 2: "KNASint", 3: "KRRCenc", 4: "KRRCint", 5: "KUPenc"}  #
 
 @dataclass(frozen=True)
 class Ciphered:
-    """What is ciphered, or should be: the key above its key, which has this type, and what it should be ciphered by; `beside` are a type and an identity of the key beside it."""
+    """What is ciphered, or should be: the key above its key, which has this type, and what it should be ciphered by;
+    `beside` are a type and an identity of the key beside it."""
 
     above: bytes
     type: int
@@ -260,10 +287,13 @@ class Ciphered:
 
 def ciphers(calls: Calls, it: Ciphered, bearers: Iterable[int], counts: Iterable[int], was: str = "ciphered") -> Named:
     """What the octets are where they were ciphered, or deciphered, by mistake, each made only when it is asked for."""
+
     def key(type: int, identity: int) -> bytes:
         return calls.algorithm_key(it.above, type, identity)
 
-    def under(of: bytes, eea: int = it.eea, count: int = it.count, bearer: int = it.bearer, direction: int = it.direction) -> bytes:
+    def under(
+        of: bytes, eea: int = it.eea, count: int = it.count, bearer: int = it.bearer, direction: int = it.direction
+    ) -> bytes:
         return cipher(calls, eea, of, count, bearer, direction, it.body)
 
     whole, name = key(it.type, it.eea), NAMES[it.type]
@@ -289,16 +319,20 @@ def near(count: int) -> Iterator[int]:
 
 
 def text(calls: Calls, nas: ProtectedNas, reads: Callable[[bytes], bool]) -> tuple[Why, bytes]:
-    """The mistake by which the text of this message was ciphered, and the text; `reads` says whether octets are a NAS message."""
+    """The mistake by which the text of this message was ciphered, and the text; `reads` says whether octets are a NAS
+    message."""
     it = nas.ciphered()
     for why, plain in ciphers(calls, it, (1, 2, 3, 31), (nas.count & 255, *near(nas.count), *range(300))):
-        if reads(plain) and (plain[:1] == b"\x07" or why.cause is not Cause.CIPHERED_AT_COUNT):  # a COUNT is believed only of EMM: ESM reads by chance
+        if reads(plain) and (
+            plain[:1] == b"\x07" or why.cause is not Cause.CIPHERED_AT_COUNT
+        ):  # a COUNT is believed only of EMM: ESM reads by chance
             return (why,), plain
     return (), b""
 
 
 def ciphering(calls: Calls, it: Ciphered, bits: int, fits: Callable[[bytes], bool], was: str = "ciphered") -> Why:
-    """The mistake by which this was ciphered, on a bearer with so many bits of sequence number; `fits` says whether octets are what was meant."""
+    """The mistake by which this was ciphered, on a bearer with so many bits of sequence number; `fits` says whether
+    octets are what was meant."""
     counts = (it.count & (1 << bits) - 1, *near(it.count), *range(300))
     return next(((why,) for why, plain in ciphers(calls, it, range(32), counts, was) if fits(plain)), ())
 

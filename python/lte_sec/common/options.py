@@ -33,7 +33,8 @@ def options_of(word: str) -> dict[str, bool]:
 
 @dataclass
 class Words:
-    """The words of a call: what was given of each option of the table, and the words that are none. Some words have texts of their own for what is wrong."""
+    """The words of a call: what was given of each option of the table, and the words that are none. Some words have
+    texts of their own for what is wrong."""
 
     UNKNOWN: ClassVar[str] = "there is no option {option}; there are: {known}"
     WANTS: ClassVar[str] = "{option} wants a value"
@@ -44,7 +45,8 @@ class Words:
 
     @classmethod
     def read(cls: type[AnyWords], word: str, words: list[str]) -> AnyWords:
-        """Reads options and other words in any order; a value stands in the same word behind `=`, or is the next word."""
+        """Reads options and other words in any order; a value stands in the same word behind `=`, or is the next
+        word."""
         known = options_of(word)
         options, others, rest = {option: list[str]() for option in known}, list[str](), iter(words)
         for given in rest:

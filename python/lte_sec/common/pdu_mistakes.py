@@ -1,4 +1,5 @@
-"""Why a PDU of an SRB does not open: the mistakes that implementations make of its MAC-I, of its ciphering or of both."""
+"""Why a PDU of an SRB does not open: the mistakes that implementations make of its MAC-I, of its ciphering or of
+both."""
 from __future__ import annotations
 
 from collections.abc import Callable, Iterator
@@ -11,7 +12,8 @@ from .terms import COMPUTED, RRC_ENCRYPTION, RRC_INTEGRITY, Calls
 
 @dataclass(frozen=True)
 class Srb:
-    """A message on an SRB: KRRCint and KRRCenc, whole, and what its MAC should be of; `body` is the header and the text, ciphered by `eea`."""
+    """A message on an SRB: KRRCint and KRRCenc, whole, and what its MAC should be of; `body` is the header and the
+    text, ciphered by `eea`."""
 
     whole: bytes
     cipher: bytes
@@ -32,7 +34,10 @@ def srb(calls: Calls, value: bytes, it: Srb) -> Why:
         return Cause.MAC_ZEROS.because()
     tries: list[tuple[Reason, Callable[[], bytes]]] = [
         (Cause.MAC_OTHER_WAY.of(), lambda: make(key, it.count, it.bearer, 1 - it.direction, it.body)),
-        (Cause.MAC_FIRST_HALF.of(key="KRRCint"), lambda: make(it.whole[:16], it.count, it.bearer, it.direction, it.body)),
+        (
+            Cause.MAC_FIRST_HALF.of(key="KRRCint"),
+            lambda: make(it.whole[:16], it.count, it.bearer, it.direction, it.body),
+        ),
         (Cause.MAC_OF_KEY.of(key="KRRCenc"), lambda: make(it.cipher[16:], it.count, it.bearer, it.direction, it.body)),
         (Cause.MAC_REVERSED.of(), lambda: make(key, it.count, it.bearer, it.direction, it.body)[::-1]),
         (Cause.MAC_WITHOUT_HEADER.of(), lambda: make(key, it.count, it.bearer, it.direction, it.body[1:])),
@@ -69,19 +74,39 @@ class Pdu:
 
     def ciphered(self) -> Ciphered:
         """Text and MAC, as they are ciphered."""
-        return Ciphered(self.above, RRC_ENCRYPTION, self.eea, (RRC_INTEGRITY, self.eia), self.direction, self.count, self.bearer, self.octets[1:])
+        return Ciphered(
+            self.above,
+            RRC_ENCRYPTION,
+            self.eea,
+            (RRC_INTEGRITY, self.eia),
+            self.direction,
+            self.count,
+            self.bearer,
+            self.octets[1:],
+        )
 
     def is_sealed(self, calls: Calls, plain: bytes) -> bool:
         """Whether the MAC behind this text is right."""
         key = calls.algorithm_key(self.above, RRC_INTEGRITY, self.eia)[16:]
-        return macs(calls)[self.eia](key, self.count, self.bearer, self.direction, self.octets[:1] + plain[:-4]) == plain[-4:]
+        return (
+            macs(calls)[self.eia](key, self.count, self.bearer, self.direction, self.octets[:1] + plain[:-4])
+            == plain[-4:]
+        )
 
     def elsewhere(self) -> Iterator[tuple[Reason, Pdu]]:
         """The same for another direction, BEARER or COUNT."""
         yield Cause.THOSE_OTHER_WAY.of(), replace(self, direction=1 - self.direction)
-        yield from ((Cause.THOSE_OF_BEARER.of(bearer=bearer), replace(self, bearer=bearer)) for bearer in range(32) if bearer != self.bearer)
+        yield from (
+            (Cause.THOSE_OF_BEARER.of(bearer=bearer), replace(self, bearer=bearer))
+            for bearer in range(32)
+            if bearer != self.bearer
+        )
         counts = dict.fromkeys((self.count & 31, *near(self.count), *range(self.count & 31, self.count + 1024, 32)))
-        yield from ((Cause.THOSE_OF_COUNT.of(count=count), replace(self, count=count)) for count in counts if count != self.count)
+        yield from (
+            (Cause.THOSE_OF_COUNT.of(count=count), replace(self, count=count))
+            for count in counts
+            if count != self.count
+        )
 
 
 MAC_I, TEXT, BOTH = ("MAC-I",), ("text",), ("text", "MAC-I")  # the parts of a PDU that may be wrong
@@ -99,19 +124,33 @@ class PartsWrong:
 
 
 def pdu(calls: Calls, it: Pdu, wanted: bytes | None = None) -> PartsWrong:
-    """The mistake by which a PDU of an SRB does not open, of its MAC or of its ciphering or of both; `wanted` is its text, if it is known."""
+    """The mistake by which a PDU of an SRB does not open, of its MAC or of its ciphering or of both; `wanted` is its
+    text, if it is known."""
     plain = it.opened(calls)
     if it.eia not in COMPUTED or len(plain) < 4 or it.is_sealed(calls, plain):
         return PartsWrong()
-    whole, key = (calls.algorithm_key(it.above, type, identity) for type, identity in ((RRC_INTEGRITY, it.eia), (RRC_ENCRYPTION, it.eea)))
-    found = srb(calls, plain[-4:], Srb(whole, key, it.eia, it.direction, it.count, it.bearer, it.octets[:1] + plain[:-4], it.eea))
+    whole, key = (
+        calls.algorithm_key(it.above, type, identity)
+        for type, identity in ((RRC_INTEGRITY, it.eia), (RRC_ENCRYPTION, it.eea))
+    )
+    found = srb(
+        calls,
+        plain[-4:],
+        Srb(whole, key, it.eia, it.direction, it.count, it.bearer, it.octets[:1] + plain[:-4], it.eea),
+    )
     if found:
         return PartsWrong(MAC_I, found)
     if plain[:-4] == wanted:
         return PartsWrong()
     is_long = wanted is not None and len(wanted) >= SHORT
-    found = ciphering(calls, it.ciphered(), 5, lambda other: it.is_sealed(calls, other) or is_long and other[:-4] == wanted)
+    found = ciphering(
+        calls, it.ciphered(), 5, lambda other: it.is_sealed(calls, other) or is_long and other[:-4] == wanted
+    )
     if found:
         return PartsWrong(TEXT, found)
-    of_both = (why for why, other in it.elsewhere() if other.is_sealed(calls, other.opened(calls))) if it.eea in COMPUTED else iter(())
+    of_both = (
+        (why for why, other in it.elsewhere() if other.is_sealed(calls, other.opened(calls)))
+        if it.eea in COMPUTED
+        else iter(())
+    )
     return next((PartsWrong(BOTH, (why,)) for why in of_both), PartsWrong())

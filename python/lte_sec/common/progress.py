@@ -18,7 +18,9 @@ def told(items: Iterable[Unit], what: str, of: int = 0) -> Iterator[Unit]:
         yield item
         if number % LOOK == LOOK - 1 and time.monotonic() - last >= SECONDS:
             last = time.monotonic()
-            print(f"lte_sec: {number + 1:,}{f' of {of:,}' if of else ''} messages are {what}", file=sys.stderr, flush=True)
+            print(
+                f"lte_sec: {number + 1:,}{f' of {of:,}' if of else ''} messages are {what}", file=sys.stderr, flush=True
+            )
 
 
 class Rate:
@@ -36,4 +38,8 @@ class Rate:
             self.last = time.monotonic()
             rate = self.done / (self.last - self.began)
             left = max(0, self.total - self.done) / rate
-            print(f"lte_sec: {self.done:,} of up to {self.total:,} {self.what}, {rate:,.0f} a second, {left:,.0f} s more", file=sys.stderr, flush=True)
+            print(
+                f"lte_sec: {self.done:,} of up to {self.total:,} {self.what}, {rate:,.0f} a second, {left:,.0f} s more",
+                file=sys.stderr,
+                flush=True,
+            )

@@ -1,6 +1,7 @@
 """HMAC-SHA-256 for searches over very many keys: some ten times faster than one call for each.
 
-What is found by it is then made by the proved calls, so that it decides only what is looked at closer, and that nothing is found.
+What is found by it is then made by the proved calls, so that it decides only what is looked at closer, and that nothing
+is found.
 """
 from __future__ import annotations
 

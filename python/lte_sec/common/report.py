@@ -27,7 +27,8 @@ KEYS = ("KeNB", "KeNB*", "NH")
 
 @dataclass(frozen=True)
 class NasPart:
-    """What a line says of a NAS message beside its MAC: direction, header type and name, and the context that it stands under."""
+    """What a line says of a NAS message beside its MAC: direction, header type and name, and the context that it stands
+    under."""
 
     is_up: bool
     header: int
@@ -40,8 +41,10 @@ class NasPart:
 
 @dataclass
 class Line:
-    """What is judged in a message of a frame: `kind` is KeNB, KeNB*, NH, MAC, command, agreement, capabilities .., and `of` the cell for which the
-    message prepares it. What was found and wanted stands as derivation (of a key) or octets, and as octets alone in `hex` and `wanted_hex`."""
+    """What is judged in a message of a frame: `kind` is KeNB, KeNB*, NH, MAC, command, agreement, capabilities .., and
+    `of` the cell for which the message prepares it. What was found and wanted stands as derivation (of a key) or
+    octets, and as octets alone in `hex` and `wanted_hex`.
+    """
 
     frame: str
     message: str
@@ -105,8 +108,15 @@ class Line:
         """The text behind the frame."""
         inner = [one for part in self.said for one in part.all()]
         faults, remarks = (tuple(one for one in why if one not in inner) for why in (self.faults, self.remarks))
-        text = told((*self.said, *faults), bool(self.doubt)) + (f" ({told(remarks, bool(self.doubt))})" if remarks else "")
-        parts = [self.message if self.subject is None else self.subject, text, self.behind, f"({told(self.doubt)})" if self.doubt else ""]
+        text = told((*self.said, *faults), bool(self.doubt)) + (
+            f" ({told(remarks, bool(self.doubt))})" if remarks else ""
+        )
+        parts = [
+            self.message if self.subject is None else self.subject,
+            text,
+            self.behind,
+            f"({told(self.doubt)})" if self.doubt else "",
+        ]
         return shown(" ".join(filter(None, parts)))
 
     def __str__(self) -> str:
@@ -117,7 +127,8 @@ class HasVerdict(Protocol):
     """What has a verdict."""
 
     @property
-    def verdict(self) -> Verdict: ...
+    def verdict(self) -> Verdict:
+        ...
 
 
 def status(lines: Iterable[HasVerdict]) -> int:
@@ -148,18 +159,29 @@ def summary(found: Counter[Verdict]) -> str:
 
 
 def of_key(what: str, found: str, wanted: str, differs: bool, ncc: tuple[int, int] | None, where: str) -> Why:
-    """What is said of a key: what it is, what was wanted, and the NCC beside it as it is and as it was wanted. `where` is the clause of its message."""
-    parts = [Reason(Cause.KEY_DIFFERS, (("what", what), ("found", found), ("wanted", wanted)), where)] if differs else []
+    """What is said of a key: what it is, what was wanted, and the NCC beside it as it is and as it was wanted. `where`
+    is the clause of its message."""
+    parts = (
+        [Reason(Cause.KEY_DIFFERS, (("what", what), ("found", found), ("wanted", wanted)), where)] if differs else []
+    )
     if ncc is not None and ncc[0] != ncc[1]:
         parts.append(Reason(Cause.NCC_DIFFERS, (("found", ncc[0]), ("wanted", ncc[1])), where))
     if not parts:
-        return Cause.KEY_RIGHT.because(what=what, found=found) if ncc is None else Cause.KEY_AND_NCC_RIGHT.because(what=what, found=found, ncc=ncc[0])
+        return (
+            Cause.KEY_RIGHT.because(what=what, found=found)
+            if ncc is None
+            else Cause.KEY_AND_NCC_RIGHT.because(what=what, found=found, ncc=ncc[0])
+        )
     return tuple(parts) if differs else (*parts, Cause.KEY_IS.of(what=what, found=found))
 
 
 def unknown_line(frame: str, message: str, kind: str, why: Why, found: str = "", of: str = "") -> Line:
     what = f"{kind} {of}".rstrip()
-    said = Cause.NOT_JUDGED_IS.because(what=what, found=found, why=why) if found else Cause.NOT_JUDGED.because(what=what, why=why)
+    said = (
+        Cause.NOT_JUDGED_IS.because(what=what, found=found, why=why)
+        if found
+        else Cause.NOT_JUDGED.because(what=what, why=why)
+    )
     return Line(frame, message, kind, UNKNOWN, said, remarks=why, of=of, found=found)
 
 

@@ -1,6 +1,8 @@
-"""What the program's definitions number and name: answers, records, inputs, messages, faults, outcomes, and keys of a scenario.
+"""What the program's definitions number and name: answers, records, inputs, messages, faults, outcomes, and keys of a
+scenario.
 
-`tables.txt` is what the program `lte_tables` writes, which proves that each of them has its line; `python/check` compares the two.
+`tables.txt` is what the program `lte_tables` writes, which proves that each of them has its line; `python/check`
+compares the two.
 """
 from __future__ import annotations
 
@@ -19,7 +21,8 @@ def rows(of: str) -> list[str]:
 
 
 def answers() -> Iterator[tuple[int, Form]]:
-    """The answers by number: the name, and the values that each keeps. The values of one answer have one width in a reply."""
+    """The answers by number: the name, and the values that each keeps. The values of one answer have one width in a
+    reply."""
     for row in rows("answer"):
         number, name, octets, *values = row.split(" ")
         yield int(number), (name, tuple((value.partition("=")[0], int(octets) // len(values)) for value in values))
@@ -31,7 +34,9 @@ def records(of: str) -> dict[int, Form]:
     for on, kind, row in (row.split(" ", 2) for row in rows("record")):
         message, *fields = row.split(", ")
         if on == of:
-            found[int(kind)] = message, tuple((name, int(width)) for name, _, width in (field.rpartition(" ") for field in fields))
+            found[int(kind)] = message, tuple(
+                (name, int(width)) for name, _, width in (field.rpartition(" ") for field in fields)
+            )
     return found
 
 
@@ -46,4 +51,6 @@ def sent() -> dict[tuple[str, str], str]:
 
 
 ANSWERS = dict(answers())
-MESSAGES, FAULTS, OUTCOMES, HEALS, FIELDS = (tuple(rows(of)) for of in ("message", "fault", "outcome", "heals", "field"))
+MESSAGES, FAULTS, OUTCOMES, HEALS, FIELDS = (
+    tuple(rows(of)) for of in ("message", "fault", "outcome", "heals", "field")
+)

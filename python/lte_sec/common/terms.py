@@ -25,25 +25,46 @@ class TraceError(Exception):
 
 
 class Calls(Protocol):
-    """The calls that all keys and ciphers come from: octets in, octets out. `budget` says how far a search may go with them."""
+    """The calls that all keys and ciphers come from: octets in, octets out. `budget` says how far a search may go with
+    them."""
 
     budget: int
 
-    def kenb(self, kasme: bytes, count: int) -> bytes: ...
-    def nh(self, kasme: bytes, sync: bytes) -> bytes: ...
-    def kenb_star(self, key: bytes, pci: int, earfcn: int) -> bytes: ...
-    def algorithm_key(self, key: bytes, type: int, identity: int) -> bytes: ...
-    def eea1(self, key: bytes, count: int, bearer: int, direction: int, text: bytes) -> bytes: ...
-    def eea2(self, key: bytes, count: int, bearer: int, direction: int, text: bytes) -> bytes: ...
-    def eea3(self, key: bytes, count: int, bearer: int, direction: int, text: bytes) -> bytes: ...
-    def eia1(self, key: bytes, count: int, bearer: int, direction: int, text: bytes) -> bytes: ...
-    def eia2(self, key: bytes, count: int, bearer: int, direction: int, text: bytes) -> bytes: ...
-    def eia3(self, key: bytes, count: int, bearer: int, direction: int, text: bytes) -> bytes: ...
+    def kenb(self, kasme: bytes, count: int) -> bytes:
+        ...
+
+    def nh(self, kasme: bytes, sync: bytes) -> bytes:
+        ...
+
+    def kenb_star(self, key: bytes, pci: int, earfcn: int) -> bytes:
+        ...
+
+    def algorithm_key(self, key: bytes, type: int, identity: int) -> bytes:
+        ...
+
+    def eea1(self, key: bytes, count: int, bearer: int, direction: int, text: bytes) -> bytes:
+        ...
+
+    def eea2(self, key: bytes, count: int, bearer: int, direction: int, text: bytes) -> bytes:
+        ...
+
+    def eea3(self, key: bytes, count: int, bearer: int, direction: int, text: bytes) -> bytes:
+        ...
+
+    def eia1(self, key: bytes, count: int, bearer: int, direction: int, text: bytes) -> bytes:
+        ...
+
+    def eia2(self, key: bytes, count: int, bearer: int, direction: int, text: bytes) -> bytes:
+        ...
+
+    def eia3(self, key: bytes, count: int, bearer: int, direction: int, text: bytes) -> bytes:
+        ...
 
 
 @dataclass(frozen=True, eq=False)
 class Term:
-    """A derivation as a tree: its kind, its numbers, and the key that it is made from. Above an NH stands the KeNB of its chain.
+    """A derivation as a tree: its kind, its numbers, and the key that it is made from. Above an NH stands the KeNB of
+    its chain.
 
     A long connection without NHs makes KeNB* of KeNB* of .., so that nothing here goes up by a call for each.
     """
@@ -142,7 +163,8 @@ def unknown(term: Term) -> bool:
 
 @dataclass(frozen=True)
 class Key:
-    """A key and its derivation; `kasme` is the place of its KASME among those given. The same octets are the same key."""
+    """A key and its derivation; `kasme` is the place of its KASME among those given. The same octets are the same
+    key."""
 
     value: bytes
     term: Term = field(compare=False)
@@ -173,7 +195,11 @@ class Kasme:
 
 
 Cipher = Callable[[bytes, int, int, int, bytes], bytes]
-COMPUTED = (2, 1, 3)  # the algorithms that are computed here, by identity, in the order in which they are tried (TS 33.401 Annex B)
+COMPUTED = (
+    2,
+    1,
+    3,
+)  # the algorithms that are computed here, by identity, in the order in which they are tried (TS 33.401 Annex B)
 
 
 class Derivations:
@@ -191,7 +217,9 @@ class Derivations:
         if key is None:
             if len(self._kenbs) > KEPT:
                 self._kenbs.clear()
-            key = self._kenbs[kasme, count] = Key(self.calls.kenb(self.kasmes[kasme].value, count), Term("kenb", (count,)), kasme)
+            key = self._kenbs[kasme, count] = Key(
+                self.calls.kenb(self.kasmes[kasme].value, count), Term("kenb", (count,)), kasme
+            )
         return key
 
     def next_nh(self, kasme: int, sync: Key) -> Key:
@@ -203,7 +231,9 @@ class Derivations:
         return Key(self.calls.kenb_star(key.value, pci, earfcn), Term("star", (pci, earfcn), key.term), key.kasme)
 
     def algorithm(self, key: Key, type: int, identity: int) -> Key:
-        return Key(self.calls.algorithm_key(key.value, type, identity), Term("alg", (type, identity), key.term), key.kasme)
+        return Key(
+            self.calls.algorithm_key(key.value, type, identity), Term("alg", (type, identity), key.term), key.kasme
+        )
 
     def nas_key(self, kasme: int, type: int, identity: int) -> bytes:
         """The 16 octets of a NAS key that are used."""
@@ -218,7 +248,8 @@ class Derivations:
         return shown(self.kasmes[kasme].name) if kasme >= 0 else ""
 
     def shown(self, key: Key, beside: Key | None = None) -> str:
-        """The form of a key, with its base where it is another than that of the key beside it, and its KASME among several."""
+        """The form of a key, with its base where it is another than that of the key beside it, and its KASME among
+        several."""
         same = beside is not None and beside.kasme == key.kasme
         return self.form(key, beside) + ("" if same else self.whose(key))
 
@@ -235,7 +266,10 @@ class Derivations:
 DIGITS = 64  # of a KASME
 HEX = frozenset("0123456789abcdefABCDEF")
 LIKE_A_KEY = 32  # so many digits of a word are no name of a file
-ALMOST, MISTYPED = range(DIGITS - 2, DIGITS + 3), 4  # a word of about so many letters, of which at most so many are no digits, was meant for a KASME
+ALMOST, MISTYPED = (
+    range(DIGITS - 2, DIGITS + 3),
+    4,
+)  # a word of about so many letters, of which at most so many are no digits, was meant for a KASME
 
 
 def is_kasme(word: str) -> bool:
@@ -252,7 +286,9 @@ def kasme_fault(word: str) -> str:
         return f"write a KASME without 0x before its {DIGITS} hex digits: {word}"
     others = [place for place, digit in enumerate(bare) if digit not in HEX]
     if others and len(bare) in ALMOST and len(others) <= MISTYPED and not set(bare) & {"/", "."}:
-        return f"a KASME has {DIGITS} hex digits, and letter {others[0] + 1} of this word is '{bare[others[0]]}': {word}"
+        return (
+            f"a KASME has {DIGITS} hex digits, and letter {others[0] + 1} of this word is '{bare[others[0]]}': {word}"
+        )
     if len(bare) < LIKE_A_KEY or others:
         return ""
     if bare != digits and len(bare) == DIGITS:
@@ -263,7 +299,11 @@ def kasme_fault(word: str) -> str:
 def name_apart(name: str, names: Iterable[str]) -> str:
     """A name for a KASME, with a number where one of these is shown alike."""
     taken = set(map(shown, names))
-    return next(one for one in itertools.chain([name], (f"{name} ({number})" for number in itertools.count(2))) if shown(one) not in taken)
+    return next(
+        one
+        for one in itertools.chain([name], (f"{name} ({number})" for number in itertools.count(2)))
+        if shown(one) not in taken
+    )
 
 
 def kasmes_of(words: Iterable[str]) -> list[Kasme]:
@@ -273,7 +313,14 @@ def kasmes_of(words: Iterable[str]) -> list[Kasme]:
     for word in words:
         name, _, digits = word.rpartition("=")
         if not is_kasme(word):
-            raise TraceError(kasme_fault(word) or f"a KASME has {DIGITS} hex digits, with NAME= before them or not: {word}")
+            raise TraceError(
+                kasme_fault(word) or f"a KASME has {DIGITS} hex digits, with NAME= before them or not: {word}"
+            )
         names = [one.name for one in found]
-        found.append(Kasme(name_apart(name, names) if name else name_apart(f"KASME {len(found) + 1}", [*names, *given]), bytes.fromhex(digits)))
+        found.append(
+            Kasme(
+                name_apart(name, names) if name else name_apart(f"KASME {len(found) + 1}", [*names, *given]),
+                bytes.fromhex(digits),
+            )
+        )
     return found

@@ -3,8 +3,8 @@
     docs/cookbook/against PORT FRAMES
 
 FRAMES has each frame in a line after `>`, and the wanted reply in the next line, after `<`, in hex, as the files of
-examples/serve. At the first reply that differs its parts are shown beside the wanted ones (docs/FRAMES.md), and the status is 1.
-It is 2 where the words are others, the file does not read, or the actor is not reached or closes.
+examples/serve. At the first reply that differs its parts are shown beside the wanted ones (docs/FRAMES.md), and the
+status is 1. It is 2 where the words are others, the file does not read, or the actor is not reached or closes.
 """
 from __future__ import annotations
 
@@ -42,7 +42,11 @@ def pairs_of(file: pathlib.Path) -> list[tuple[bytes, bytes]]:
     """The frames of a file, each with the reply that is wanted."""
     try:
         lines = [line.split() for line in file.read_text().splitlines() if line]
-        if not lines or len(lines) % 2 or any(line[:1] != [">" if place % 2 == 0 else "<"] for place, line in enumerate(lines)):
+        if (
+            not lines
+            or len(lines) % 2
+            or any(line[:1] != [">" if place % 2 == 0 else "<"] for place, line in enumerate(lines))
+        ):
             wrong(f"{file} has no frames, each in a line after > with its reply in the next after <")
         octets = [bytes.fromhex(line[1]) for line in lines]
     except OSError as fault:

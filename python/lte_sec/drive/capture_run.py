@@ -3,11 +3,12 @@
     docs/cookbook/capture SCENARIO FOLDER
 
 The folder gets `pdcp.txt` and `nas.txt`, and a configuration for Wireshark: its preferences, and the keys of each
-connection as the table `pdcp_lte_ue_keys`. The time of a packet is the step that sent it, in seconds. Where words, files or the
-scenario are others it says so in one line, with status 2, or 1 where the scenario does not run.
+connection as the table `pdcp_lte_ue_keys`. The time of a packet is the step that sent it, in seconds. Where words,
+files or the scenario are others it says so in one line, with status 2, or 1 where the scenario does not run.
 
-A UE id does not mean a phone here: the n-th air address at which something was sent, counted from 1, has 10 n for what is not
-ciphered yet (the RRC Security Mode Command and its Complete) and 10 n + 1 for all else. So each id has one set of keys.
+A UE id does not mean a phone here: the n-th air address at which something was sent, counted from 1, has 10 n for what
+is not ciphered yet (the RRC Security Mode Command and its Complete) and 10 n + 1 for all else. So each id has one set
+of keys.
 """
 from __future__ import annotations
 
@@ -47,7 +48,9 @@ class Actor:
     """An actor at a port: `./lte_sec serve ..`, told in frames (docs/FRAMES.md)."""
 
     def __init__(self, *words: str):
-        self.program = subprocess.Popen([PROGRAM, "serve", *words], stdin=subprocess.DEVNULL, stdout=subprocess.PIPE, stderr=subprocess.DEVNULL)
+        self.program = subprocess.Popen(
+            [PROGRAM, "serve", *words], stdin=subprocess.DEVNULL, stdout=subprocess.PIPE, stderr=subprocess.DEVNULL
+        )
         assert self.program.stdout
         port = self.program.stdout.readline().strip()
         if not port.isdigit():
@@ -84,7 +87,9 @@ class System:
             priority = bytes(part.get("priority", [2, 0]))
             kind = b"\6" if name == "core" and part.get("first_ncc") == 2 else b"\0"
             self.actors[name].told(kind + number(len(priority), 1) + priority + number(part.get("first", 1), 4) + table)
-        self.sent: list[SentMessage] = []  # of each record: the step, the sender, its address, its octets, and whether it opens security
+        self.sent: list[
+            SentMessage
+        ] = []  # of each record: the step, the sender, its address, its octets, and whether it opens security
         self.keys: dict[bytes, bytes] = {}  # the KeNB of each station and air address
 
     def stop(self) -> None:
@@ -176,7 +181,9 @@ def algorithm_keys(report: str) -> dict[str, dict[int, tuple[int, str]]]:
     return keys
 
 
-def key_lines(places: list[bytes], keys: dict[bytes, bytes], derived: dict[str, dict[int, tuple[int, str]]]) -> Iterator[list[str]]:
+def key_lines(
+    places: list[bytes], keys: dict[bytes, bytes], derived: dict[str, dict[int, tuple[int, str]]]
+) -> Iterator[list[str]]:
     """The table of keys: UE id, RRC encryption, user plane encryption, RRC integrity, the last 16 octets of each."""
     for at, place in enumerate(places, 1):
         of = derived.get(keys[place].hex(), {}) if place in keys else {}

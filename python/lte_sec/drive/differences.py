@@ -16,7 +16,9 @@ def place_of(step: int | None) -> str:
 
 
 INITIAL, CHAINED = (frames.WAYS.index(way) for way in ("initial", "chained"))
-STANDARD = "this core may send the pair of NCC 2 first, as TS 33.401 7.2.8.1.1 has it: then write first_ncc = 2 in [core]"
+STANDARD = (
+    "this core may send the pair of NCC 2 first, as TS 33.401 7.2.8.1.1 has it: then write first_ncc = 2 in [core]"
+)
 
 
 def is_one_ahead(wanted: bytes, got: bytes) -> bool:
@@ -58,24 +60,32 @@ def commanded(steps: Sequence[scenarios.Step], lines: Sequence[bytes], place: in
     if not isinstance(record, int) or not -len(made) <= record < len(made):
         return None
     maker = steps[made[record]]
-    begun = [step for step, line in zip(steps[:made[record]], lines) if step["do"] in ("x2", "s1", "intra") and b" done" in line and step["station"] == maker.get("station")]
+    begun = [
+        step
+        for step, line in zip(steps[: made[record]], lines)
+        if step["do"] in ("x2", "s1", "intra") and b" done" in line and step["station"] == maker.get("station")
+    ]
     cell: list[int] | None = begun[-1]["cell"] if maker["do"] == "command" and begun else None
     return cell
 
 
 def replies_of(line: bytes, rest: bytes) -> tuple[int | None, bytes, bytes] | None:
-    """The step, None for the setup, the wanted reply and the one that came, of a last line that tells them: the reply is read as far as its length says."""
+    """The step, None for the setup, the wanted reply and the one that came, of a last line that tells them: the reply
+    is read as far as its length says."""
     form = DIFFERS.fullmatch(line)
     if not form:
         return None
     wanted, got = bytes.fromhex(form[2].decode()), bytes.fromhex(form[3].decode())
     if len(got) == 2:
-        got += rest[:int.from_bytes(got, "big")]
+        got += rest[: int.from_bytes(got, "big")]
     return None if form[1] == b"setup" else int(form[1]), wanted, got
 
 
-def difference_of(line: bytes, whose: bytes, rest: bytes, steps: Sequence[scenarios.Step] = (), lines: Sequence[bytes] = ()) -> Difference | None:
-    """What the last line tells where a reply differs; the steps and the lines before tell the cell of a phone's KeNB*."""
+def difference_of(
+    line: bytes, whose: bytes, rest: bytes, steps: Sequence[scenarios.Step] = (), lines: Sequence[bytes] = ()
+) -> Difference | None:
+    """What the last line tells where a reply differs; the steps and the lines before tell the cell of a phone's
+    KeNB*."""
     replies = replies_of(line, rest)
     if replies is None:
         return None
@@ -89,4 +99,10 @@ def difference_of(line: bytes, whose: bytes, rest: bytes, steps: Sequence[scenar
 def with_mistake(found: Difference, line: bytes, rest: bytes, program: str, scenario: bytes) -> Difference:
     """The difference, with the mistake by which the first key that differs was made, or a MAC or a ciphered text."""
     replies = replies_of(line, rest)
-    return dataclasses.replace(found, told=[*found.told, *map(str, mistakes.of_reply(program, scenario, *replies, found.actor))]) if replies else found
+    return (
+        dataclasses.replace(
+            found, told=[*found.told, *map(str, mistakes.of_reply(program, scenario, *replies, found.actor))]
+        )
+        if replies
+        else found
+    )

@@ -15,7 +15,8 @@ STATIONS = [str(number) for number in range(8)]
 
 @dataclasses.dataclass
 class DriveOptions:
-    """What the words ask for: the variables of commands, and for how long an actor may be silent where it is not the program that says so."""
+    """What the words ask for: the variables of commands, and for how long an actor may be silent where it is not the
+    program that says so."""
 
     more: dict[str, str]
     is_json: bool = False
@@ -45,7 +46,9 @@ def variable(option: str, command: str) -> tuple[str, str]:
     station = re.fullmatch(r"(\d+)=(.*)", command, re.S) if option == "--station" else None
     if station:
         if station[1] not in STATIONS:
-            raise WrongWords(f"there is no station {station[1]}: --station N=CMD takes N {STATIONS[0]} to {STATIONS[-1]}")
+            raise WrongWords(
+                f"there is no station {station[1]}: --station N=CMD takes N {STATIONS[0]} to {STATIONS[-1]}"
+            )
         name, command = f"{name}_{station[1]}", station[2]
     try:
         parts = shlex.split(command)

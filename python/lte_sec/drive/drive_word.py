@@ -1,8 +1,9 @@
-"""`./lte_sec drive` with actors of one's own: `[--json] [--timeout SECONDS] [--phone CMD] [--station [N=]CMD] [--core CMD] -- PROGRAM drive`, with the scenario as input.
+"""`./lte_sec drive` with actors of one's own: `[--json] [--timeout SECONDS] [--phone CMD] [--station [N=]CMD] [--core
+CMD] -- PROGRAM drive`, with the scenario as input.
 
-The program takes an actor's command from a variable, a word in a line (docs/COOKBOOK.md). Its output and status stay as they are.
-A reply that differs is told in words and in parts on standard error. With --json one document is printed in place of the report, and has both.
-Nothing that was started is left behind.
+The program takes an actor's command from a variable, a word in a line (docs/COOKBOOK.md). Its output and status stay as
+they are. A reply that differs is told in words and in parts on standard error. With --json one document is printed in
+place of the report, and has both. Nothing that was started is left behind.
 """
 from __future__ import annotations
 
@@ -40,9 +41,13 @@ TOLD = re.compile(rb"lte_sec: (phone|core|station [0-7]): its reply differs\n")
 REST = re.compile(rb"lte_sec: (?:phone|core|station [0-7]): it had still to say ([0-9a-f]+)\n")
 
 
-# A shell between the program, which stops an actor that failed at once, and the actor, which may still be writing why it did.
+# A shell between the program, which stops an actor that failed at once, and the actor, which may still be writing why
+# it did.
 OUTLIVES = ("/bin/sh", "-c", '"$@" & wait', "sh")
-PATIENCE, LATE = 10, 2  # seconds that the program waits for a reply; and that may go by here, on a busy machine, before the line above it is read
+PATIENCE, LATE = (
+    10,
+    2,
+)  # seconds that the program waits for a reply; and that may go by here, on a busy machine, before the line above it is read
 TO_HEAR = 20  # seconds that what is left on standard error may take when all has ended, on a busy machine
 
 
@@ -53,13 +58,15 @@ def outliving(found: dict[str, str]) -> dict[str, str]:
 
 def put(descriptor: int, octets: bytes) -> None:
     while octets:
-        octets = octets[os.write(descriptor, octets):]
+        octets = octets[os.write(descriptor, octets) :]
 
 
 class Driven:
     """The program, in a group of processes of its own, so that it ends with all that it started."""
 
-    def __init__(self, command: list[str], more: dict[str, str], is_kept: bool, text: IO[bytes] | None = None, printed: int = 0):
+    def __init__(
+        self, command: list[str], more: dict[str, str], is_kept: bool, text: IO[bytes] | None = None, printed: int = 0
+    ):
         """Starts it, with this text; so many lines of the report are printed already."""
         self.last, self.whose, self.rest, self.failed = b"", b"", b"", b""
         self.said: list[str] = []
@@ -70,10 +77,18 @@ class Driven:
         self.is_unwritten = False
         if text is not None:
             text.seek(0)
-        self.process = subprocess.Popen(command, stdin=text, stdout=subprocess.PIPE, stderr=subprocess.PIPE, env=os.environ | more, start_new_session=True)
+        self.process = subprocess.Popen(
+            command,
+            stdin=text,
+            stdout=subprocess.PIPE,
+            stderr=subprocess.PIPE,
+            env=os.environ | more,
+            start_new_session=True,
+        )
 
     def print_on(self, source: IO[bytes]) -> None:
-        """Hands on what the program prints, or keeps it, but for its last line. Where that fails the program, if it still writes, is to see it."""
+        """Hands on what the program prints, or keeps it, but for its last line. Where that fails the program, if it
+        still writes, is to see it."""
         with source:
             for line in source:
                 if self.last and not self.hands_on(self.last):
@@ -140,11 +155,16 @@ class Driven:
 
     def failure(self) -> str:
         """How an actor failed, and where."""
-        how = f"it was silent for {PATIENCE} seconds, where a reply was due" if self.is_silent() else "it closed the connection before it gave a whole reply"
+        how = (
+            f"it was silent for {PATIENCE} seconds, where a reply was due"
+            if self.is_silent()
+            else "it closed the connection before it gave a whole reply"
+        )
         return f"{place_of(self.step())}, {self.failed.decode()}: {self.how or how}"
 
     def fault(self) -> dict[str, object] | None:
-        """The actor that failed as --json has it: the step, None for the setup and where it did not come to one, the actor, and how."""
+        """The actor that failed as --json has it: the step, None for the setup and where it did not come to one, the
+        actor, and how."""
         if self.failed:
             return {"step": self.step(), "actor": self.failed.decode(), "how": self.failure().partition(": ")[2]}
         return {"step": None, "actor": self.said[0], "how": self.said[1]} if self.said else None
@@ -155,9 +175,18 @@ class Driven:
             os.killpg(self.process.pid, signal.SIGKILL)
 
 
-def document(status: int, report: list[str], found: Difference | None, failed: dict[str, object] | None) -> dict[str, object]:
-    """The document that --json prints: the status, the lines of the report, the reply that differs, and the actor that failed."""
-    return {"version": VERSION, "status": status, "report": report, "differs": dataclasses.asdict(found) if found else None, "failed": failed}
+def document(
+    status: int, report: list[str], found: Difference | None, failed: dict[str, object] | None
+) -> dict[str, object]:
+    """The document that --json prints: the status, the lines of the report, the reply that differs, and the actor that
+    failed."""
+    return {
+        "version": VERSION,
+        "status": status,
+        "report": report,
+        "differs": dataclasses.asdict(found) if found else None,
+        "failed": failed,
+    }
 
 
 def commands(more: dict[str, str], octets: bytes) -> dict[str, list[str]]:
@@ -172,7 +201,8 @@ def commands(more: dict[str, str], octets: bytes) -> dict[str, list[str]]:
 
 
 class Run:
-    """A run of the program over a scenario, or several where an actor takes longer than it waits; what was started is ended with it."""
+    """A run of the program over a scenario, or several where an actor takes longer than it waits; what was started is
+    ended with it."""
 
     def __init__(self, command: list[str], options: DriveOptions, scenario: bytes = b""):
         self.command, self.options, self.scenario = command, options, scenario
@@ -194,7 +224,9 @@ class Run:
         self.relays = Relays(commands(self.options.more, self.scenario), seconds)
         printed = 0
         while True:
-            self.driven = Driven(self.command, self.options.more | self.relays.variables(), self.options.is_json, text, printed)
+            self.driven = Driven(
+                self.command, self.options.more | self.relays.variables(), self.options.is_json, text, printed
+            )
             self.relays.begin()
             status = self.driven.run()
             self.relays.finish()
@@ -225,7 +257,12 @@ def printed(document: dict[str, object]) -> bool:
 
 def refusal(program: str, scenario: bytes) -> str:
     """Why the program refuses a scenario, as the launcher says it; nothing where no reason is found."""
-    said = subprocess.run([sys.executable, str(REASONS), "text", program, "drive"], input=scenario, stdout=subprocess.DEVNULL, stderr=subprocess.PIPE).stderr
+    said = subprocess.run(
+        [sys.executable, str(REASONS), "text", program, "drive"],
+        input=scenario,
+        stdout=subprocess.DEVNULL,
+        stderr=subprocess.PIPE,
+    ).stderr
     return HEAD.sub("", said.decode(errors="replace").strip())
 
 
@@ -242,13 +279,21 @@ def answered(run: Run) -> int:
     if driven.is_unwritten:
         return WRITING  # the launcher says so
     program = run.command[0]
-    found = difference_of(driven.last, driven.whose, driven.rest, steps_of(run.scenario), driven.lines) if status == DIFFERS_AT else None
+    found = (
+        difference_of(driven.last, driven.whose, driven.rest, steps_of(run.scenario), driven.lines)
+        if status == DIFFERS_AT
+        else None
+    )
     found = with_mistake(found, driven.last, driven.rest, program, run.scenario) if found else None
     for line in found.lines() if found else ():
         print(f"lte_sec: {line}", file=sys.stderr)
     if driven.report is not None:
         failed = driven.fault() if status == FAULT else None
-        told = document(status, driven.report, found, failed) if status in ANSWERS else no_answer(status, driven.report, program, run.scenario)
+        told = (
+            document(status, driven.report, found, failed)
+            if status in ANSWERS
+            else no_answer(status, driven.report, program, run.scenario)
+        )
         if not printed(told):
             return WRITING  # the launcher says so
     return status
@@ -274,11 +319,11 @@ def main() -> int:
     parts = sys.argv.index("--")
     try:
         options = DriveOptions.read(sys.argv[1:parts])
-        if not sys.argv[parts + 1:]:  # without a program only the words are read
+        if not sys.argv[parts + 1 :]:  # without a program only the words are read
             return 0
         scenario = sys.stdin.buffer.read(MOST + 1)
         has_stations(options.more, scenario)
-        run = Run(sys.argv[parts + 1:], options, scenario)
+        run = Run(sys.argv[parts + 1 :], options, scenario)
     except WrongWords as why:
         print(f"lte_sec: status 2: {why}", file=sys.stderr)
         return 2

@@ -51,7 +51,7 @@ class Octets:
         if self.place + size > len(self.octets):
             raise BadFrame(len(self.octets), "octets are missing")
         self.place += size
-        return self.octets[self.place - size:self.place]
+        return self.octets[self.place - size : self.place]
 
     def number(self, size: int, wanted: range | tuple[int, ...] | None = None, of: str = "number") -> int:
         """The next number, which must be one of those wanted."""
@@ -150,7 +150,8 @@ def shown(value: object) -> str:
     return str(value).replace(" ", "")
 
 
-# The fields of the frames of each role after the Setup, by their names; others have none. A field is a width, or a reader.
+# The fields of the frames of each role after the Setup, by their names; others have none. A field is a width, or a
+# reader.
 KSI, STATION = ("ksi", 1, range(7)), ("station", 1, range(8))
 PDU, CELL = ("pdu", LONGEST_RECORD), ("cell", cell)
 TEXT, PACKET = ("text", LONGEST_TEXT), ("text", LONGEST_PACKET)
@@ -183,21 +184,29 @@ FIELDS: dict[str, dict[str, tuple[Any, ...]]] = {
     },
 }
 INPUTS: dict[str, dict[int, tuple[Any, ...]]] = {
-    role: {kind: (name, *fields.get(name, ())) for kind, name in tables.inputs(role).items()} for role, fields in FIELDS.items()
+    role: {kind: (name, *fields.get(name, ())) for kind, name in tables.inputs(role).items()}
+    for role, fields in FIELDS.items()
 }
 OCTETS = ("kasme", "caps")  # fields that are octets and no numbers
-KINDS: dict[str, int] = {form[0]: kind for forms in INPUTS.values() for kind, form in forms.items()}  # a name has one kind for all roles
+KINDS: dict[str, int] = {
+    form[0]: kind for forms in INPUTS.values() for kind, form in forms.items()
+}  # a name has one kind for all roles
 
 
 SETUPS = {"phone": (0,), "station": (0,), "core": (0, 6)}  # the kinds of a Setup
 
 
 def read_setup(role: str, kind: int, octets: Octets) -> Input:
-    """The Setup of a role, after its kind. That of a core whose first pair of NH and NCC has NCC 2 is of kind 06 (TS 33.401 7.2.8.1.1)."""
+    """The Setup of a role, after its kind. That of a core whose first pair of NH and NCC has NCC 2 is of kind 06 (TS
+    33.401 7.2.8.1.1)."""
     if role == "phone":
         fields: dict[str, object] = {"caps": octets.take(2)}
     else:
-        fields = {"priority": algorithms(octets), "first": octets.number(4, range(1, 1 << 32), "first number"), "cells": sites(octets)}
+        fields = {
+            "priority": algorithms(octets),
+            "first": octets.number(4, range(1, 1 << 32), "first number"),
+            "cells": sites(octets),
+        }
     octets.end()
     return Input(kind, "Setup", fields | ({"first_ncc": 2} if kind == 6 else {}))
 
@@ -240,8 +249,8 @@ class Note:
 
 @dataclasses.dataclass(frozen=True)
 class Reply:
-    """A reply: the number of the answer and the octets of its values, the record sent with the octets of its address, the
-    text that was opened, the outputs of the derivations, the note of a key, and the alarm."""
+    """A reply: the number of the answer and the octets of its values, the record sent with the octets of its address,
+    the text that was opened, the outputs of the derivations, the note of a key, and the alarm."""
 
     answer: int = 0
     values: bytes = b""
@@ -262,13 +271,17 @@ class Reply:
         return framed(part + bytes([self.alarm]))
 
     def parts(self, names: Sequence[str] = ()) -> dict[str, str]:
-        """Its parts as texts, in order: those that it does not have are left out. `names` are those of what it derives."""
+        """Its parts as texts, in order: those that it does not have are left out. `names` are those of what it
+        derives."""
         found = {"answer": f"{self.answer} ({answer_text(self.answer, self.values)})"}
         if self.record is not None:
             found |= {"to": address_text(self.to), "record": self.record.hex()}
         if self.text is not None:
             found["text"] = self.text.hex()
-        found |= {names[place] if place < len(names) else f"derivation {place}": key.hex() for place, key in enumerate(self.derived)}
+        found |= {
+            names[place] if place < len(names) else f"derivation {place}": key.hex()
+            for place, key in enumerate(self.derived)
+        }
         if self.note is not None:
             found |= {"ncc": str(self.note.ncc), "way": WAYS[self.note.way], "key": self.note.key.hex()}
         return found | ({"alarm": "1"} if self.alarm else {})
@@ -279,7 +292,7 @@ def values_of(forms: tables.Fields, octets: bytes) -> dict[str, int | str]:
     found: dict[str, int | str] = {}
     place = 0
     for name, width in forms:
-        piece = octets[place:place + width]
+        piece = octets[place : place + width]
         place += width
         found[name] = int.from_bytes(piece, "big")
         if width == 2 or forms[0][0] == "count" and name != "count":
@@ -309,7 +322,7 @@ def read_address(octets: Octets) -> bytes:
     start = octets.place
     for name, width in ADDRESSES[octets.number(1, tuple(ADDRESSES), "address")][1]:
         octets.number(width, RADIO if name == "bearer" else None, name)
-    return octets.octets[start:octets.place]
+    return octets.octets[start : octets.place]
 
 
 def read_reply(body: bytes) -> Reply:
@@ -339,7 +352,8 @@ def read_reply(body: bytes) -> Reply:
 
 
 def differences(wanted: bytes, got: bytes, names: Sequence[str] = ()) -> list[str]:
-    """The differences of two replies: a line for each part, or one line if either is not a reply. `names` are those of what they derive."""
+    """The differences of two replies: a line for each part, or one line if either is not a reply. `names` are those of
+    what they derive."""
     if wanted == got:
         return []
     try:
@@ -350,5 +364,8 @@ def differences(wanted: bytes, got: bytes, names: Sequence[str] = ()) -> list[st
         want = read_reply(unframed(wanted)).parts(names)
     except BadFrame as bad:
         return [f"what is wanted is not a reply, {bad}: {wanted.hex()}"]
-    return [f"{name}: wanted {want.get(name, 'none')}, got {have.get(name, 'none')}"
-            for name in {**want, **have} if want.get(name) != have.get(name)]
+    return [
+        f"{name}: wanted {want.get(name, 'none')}, got {have.get(name, 'none')}"
+        for name in {**want, **have}
+        if want.get(name) != have.get(name)
+    ]

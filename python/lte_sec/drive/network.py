@@ -1,6 +1,7 @@
 """A scenario over actors that are served: who is told what at each step, and where the records go (docs/FRAMES.md).
 
-The steps are those of `run` (docs/SCENARIOS.md), and three more: `octets` over `s1` or `x2`, which nobody sent; `repeat`, which does its steps so many `times`.
+The steps are those of `run` (docs/SCENARIOS.md), and three more: `octets` over `s1` or `x2`, which nobody sent;
+`repeat`, which does its steps so many `times`.
 """
 from __future__ import annotations
 
@@ -13,7 +14,10 @@ from lte_sec.runs import scenarios
 BEARERS = {name: octet for octet, name in frames.BEARERS.items()}
 # Acts by what an actor is told then: phone and core, a station, and who sends something.
 BARE = {
-    "service": ("phone", "ServiceRequest"), "resend": ("phone", "ResendComplete"), "idle": ("phone", "GoIdle"), "smc": ("core", "StartSmc"),
+    "service": ("phone", "ServiceRequest"),
+    "resend": ("phone", "ResendComplete"),
+    "idle": ("phone", "GoIdle"),
+    "smc": ("core", "StartSmc"),
     "release": ("core", "Release"),
 }
 OF_STATION = {"command": "Command", "cancel": "Cancel", "ask": "Ask"}
@@ -34,7 +38,8 @@ class SentRecord(NamedTuple):
 
 
 class Told(NamedTuple):
-    """What an actor is told: its name, as `station 0`, the frame's kind and body, and by which input its record was made."""
+    """What an actor is told: its name, as `station 0`, the frame's kind and body, and by which input its record was
+    made."""
 
     actor: str
     body: bytes
@@ -103,10 +108,18 @@ class Network:
         table = self.setup.get("core", {})
         if actor != "core":
             table = next(station for station in self.setup["station"] if actor == f"station {station['id']}")
-        cells = [bytes([station["id"]]) + cell_of(cell) for station in self.setup["station"] for cell in station["cells"]]
+        cells = [
+            bytes([station["id"]]) + cell_of(cell) for station in self.setup["station"] for cell in station["cells"]
+        ]
         algorithms = bytes(table.get("priority", [2, 0]))
         kind = 6 if actor == "core" and table.get("first_ncc") == 2 else 0
-        return bytes([kind, len(algorithms)]) + algorithms + number(table.get("first", 1)) + bytes([len(cells)]) + b"".join(cells)
+        return (
+            bytes([kind, len(algorithms)])
+            + algorithms
+            + number(table.get("first", 1))
+            + bytes([len(cells)])
+            + b"".join(cells)
+        )
 
     def told(self, step: scenarios.Step) -> list[Told]:
         """Who is told what at a step."""
@@ -138,13 +151,21 @@ class Network:
             raise NoRecord(f"there is no record {place}")
         record = self.records[place]
         tag, rest = record.to[0], record.to[1:]
-        role, told, field = {0: ("phone", "Air", rest), 1: ("phone", "Nas", b""), 2: ("core", "Nas", b""), 3: ("core", "S1", b""), 4: ("station", "Air", rest[1:]),
-                             5: ("station", "S1", b""), 6: ("station", "X2", b"")}[tag]
+        role, told, field = {
+            0: ("phone", "Air", rest),
+            1: ("phone", "Nas", b""),
+            2: ("core", "Nas", b""),
+            3: ("core", "S1", b""),
+            4: ("station", "Air", rest[1:]),
+            5: ("station", "S1", b""),
+            6: ("station", "X2", b""),
+        }[tag]
         actor = f"station {rest[0]}" if role == "station" else role
         return [Told(actor, kind(told) + field + record.octets, record.made_by)]
 
     def run(self, tell: Callable[[int, Told, Any], Any]) -> None:
-        """All steps: `tell` is given each step's number, what is told and the step, and gives the reply of the written machine."""
+        """All steps: `tell` is given each step's number, what is told and the step, and gives the reply of the written
+        machine."""
         for place, step in enumerate(steps_of(self.steps)):
             for told in self.told(step):
                 reply: frames.Reply = tell(place, told, step)

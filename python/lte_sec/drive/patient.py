@@ -1,8 +1,8 @@
 """Actors of one's own that may take longer than the program waits for a reply: `drive --timeout SECONDS`.
 
-The program waits ten seconds. So each such actor is started here, once, and its octets go through here: the program is given a port of this
-process. Where an actor takes longer, the program ends; once the reply has come the program is started again, and is given what the actor has
-said so far. A run is deterministic, so that it comes to the same place.
+The program waits ten seconds. So each such actor is started here, once, and its octets go through here: the program is
+given a port of this process. Where an actor takes longer, the program ends; once the reply has come the program is
+started again, and is given what the actor has said so far. A run is deterministic, so that it comes to the same place.
 """
 from __future__ import annotations
 
@@ -122,7 +122,8 @@ class Relay:
         return piece
 
     def comes(self) -> bool:
-        """Whether the reply comes, for which the program did not wait, in the actor's time; the program is then started again."""
+        """Whether the reply comes, for which the program did not wait, in the actor's time; the program is then started
+        again."""
         while self.owes() and not self.is_late():
             ready, _, _ = select.select([self.peer.connection], [], [], TURN)
             if ready:
@@ -132,7 +133,11 @@ class Relay:
 
     def failure(self) -> str:
         """How it failed."""
-        return "it closed the connection before it gave a whole reply" if self.is_closed else f"it was silent for {self.seconds:g} seconds, where a reply was due"
+        return (
+            "it closed the connection before it gave a whole reply"
+            if self.is_closed
+            else f"it was silent for {self.seconds:g} seconds, where a reply was due"
+        )
 
     def hear_out(self) -> None:
         """Where it closed it may still be writing why: it has some seconds for that, once."""

@@ -1,4 +1,5 @@
-"""An actor that is served by another program: it is started, told frames, and ended with all that it started (docs/FRAMES.md, A session)."""
+"""An actor that is served by another program: it is started, told frames, and ended with all that it started
+(docs/FRAMES.md, A session)."""
 from __future__ import annotations
 
 import contextlib
@@ -25,12 +26,15 @@ class PeerFault(Exception):
 
 
 class Activity:
-    """What a process and those that it has started work: the processor time that they have used, and whether one of them is at work or waits for a processor or a disk.
+    """What a process and those that it has started work: the processor time that they have used, and whether one of
+    them is at work or waits for a processor or a disk.
 
     It is read of /proc. Where that is not there nothing is known, and nobody is at work.
     """
 
-    STATE, USED = 0, slice(11, 15)  # of the fields behind the name of a process: its own time and that of its children that have ended
+    STATE, USED = 0, slice(
+        11, 15
+    )  # of the fields behind the name of a process: its own time and that of its children that have ended
 
     def __init__(self, process: int):
         self.process = process
@@ -46,7 +50,11 @@ class Activity:
         try:
             with open(f"/proc/{process}/stat", "rb") as file:
                 fields = file.read().rpartition(b")")[2].split()
-            children = [child for task in os.listdir(f"/proc/{process}/task") for child in read_of(f"/proc/{process}/task/{task}/children").split()]
+            children = [
+                child
+                for task in os.listdir(f"/proc/{process}/task")
+                for child in read_of(f"/proc/{process}/task/{task}/children").split()
+            ]
         except OSError:
             return  # it has ended
         self.used += sum(map(int, fields[self.USED]))
@@ -61,7 +69,8 @@ def read_of(file: str) -> str:
 
 
 class Patience:
-    """How long an actor is waited for: so many seconds in which it does not work, and as many of a processor. On a busy machine it may take much longer by the clock."""
+    """How long an actor is waited for: so many seconds in which it does not work, and as many of a processor. On a busy
+    machine it may take much longer by the clock."""
 
     def __init__(self, process: int, seconds: float):
         self.work, self.seconds = Activity(process), seconds
@@ -83,13 +92,20 @@ class Peer:
     """A program in a group of processes of its own, that serves an actor."""
 
     def __init__(self, command: list[str], role: str, seconds: float, is_heard: bool = False):
-        """Starts it; where it is heard, what it writes to standard error goes to that of this program, and else is kept."""
+        """Starts it; where it is heard, what it writes to standard error goes to that of this program, and else is
+        kept."""
         self.seconds = seconds
         self.connection: socket.socket | None = None
         self.said = tempfile.TemporaryFile()
         heard = None if is_heard else self.said
         try:
-            self.process = subprocess.Popen([*command, "serve", *role.split()], stdin=subprocess.DEVNULL, stdout=subprocess.PIPE, stderr=heard, start_new_session=True)
+            self.process = subprocess.Popen(
+                [*command, "serve", *role.split()],
+                stdin=subprocess.DEVNULL,
+                stdout=subprocess.PIPE,
+                stderr=heard,
+                start_new_session=True,
+            )
         except OSError as why:
             self.said.close()
             raise PeerFault(f"its program did not start: {why.strerror}") from None
@@ -102,7 +118,10 @@ class Peer:
             is_there = self.comes(self.process.stdout)
             octets = os.read(self.process.stdout.fileno(), 64) if is_there else b""
             if not octets:
-                raise PeerFault("it ended and said no port" if is_there else f"it said no port within {self.seconds:g} seconds", not is_there)
+                raise PeerFault(
+                    "it ended and said no port" if is_there else f"it said no port within {self.seconds:g} seconds",
+                    not is_there,
+                )
             line += octets
         text = line.decode("ascii", "replace").removesuffix("\n")
         if not text.isdecimal() or text.startswith("0") or int(text) > 65535:
@@ -110,7 +129,8 @@ class Peer:
         return int(text)
 
     def comes(self, source: IO[bytes] | socket.socket) -> bool:
-        """Waits until there is something to read, or its end; whether there is, before the actor's patience is over. Mostly there is at once, and nothing is looked at."""
+        """Waits until there is something to read, or its end; whether there is, before the actor's patience is over.
+        Mostly there is at once, and nothing is looked at."""
         if select.select([source], [], [], min(TURN, self.seconds))[0]:
             return True
         patience = Patience(self.process.pid, max(0.0, self.seconds - TURN))
@@ -154,7 +174,8 @@ class Peer:
         return octets
 
     def words(self, is_silent: bool = False) -> str:
-        """The end of what it wrote to standard error; one that closed, and is not only silent, may still be writing why."""
+        """The end of what it wrote to standard error; one that closed, and is not only silent, may still be writing
+        why."""
         with contextlib.suppress(subprocess.TimeoutExpired):
             self.process.wait(0 if is_silent else TO_SAY)
         size = self.said.seek(0, os.SEEK_END)

@@ -1,4 +1,5 @@
-"""What a protected message of a run stands under: its keys, COUNT, BEARER and direction, found by trying the keys of the run."""
+"""What a protected message of a run stands under: its keys, COUNT, BEARER and direction, found by trying the keys of
+the run."""
 from __future__ import annotations
 
 from collections.abc import Iterator
@@ -19,7 +20,8 @@ Rows = dict[int, LadderRow]
 
 @dataclass(frozen=True)
 class BearerHistory:
-    """The rows of the run's ladder, and its steps up to a message; the direction of this, 0 up or 1 down, and its bearer's name."""
+    """The rows of the run's ladder, and its steps up to a message; the direction of this, 0 up or 1 down, and its
+    bearer's name."""
 
     rows: Rows
     steps: list[Step]
@@ -27,10 +29,15 @@ class BearerHistory:
     bearer: str
 
     def counts(self, number: int, size: int) -> Iterator[int]:
-        """The COUNTs with this sequence number that a bearer of the run may have come to: so many steps behind those that were skipped."""
+        """The COUNTs with this sequence number that a bearer of the run may have come to: so many steps behind those
+        that were skipped."""
         sums = [0]
         for step in reversed(self.steps):
-            if step["do"] == "skip" and step["bearer"] == self.bearer and (step["who"] == "phone") == (self.direction == 0):
+            if (
+                step["do"] == "skip"
+                and step["bearer"] == self.bearer
+                and (step["who"] == "phone") == (self.direction == 0)
+            ):
                 sums.append(sums[-1] + step["n"])
         for first in sums:
             yield from (count for count in range(first, first + len(self.steps) + 1) if count % size == number)
@@ -53,7 +60,10 @@ def nas(calls: Calls, course: BearerHistory, octets: bytes) -> ProtectedNas | No
     for kasme, eea in course.above(NAS_ENCRYPTION):
         for count in dict.fromkeys(course.counts(octets[5], 256)):
             it = ProtectedNas(kasme, eea if octets[0] >> 4 in CIPHERED else 0, EIA, course.direction, count, octets)
-            if macs(calls)[EIA](key_of(calls, it, NAS_INTEGRITY)[16:], count, 0, course.direction, octets[5:]) == octets[1:5]:
+            if (
+                macs(calls)[EIA](key_of(calls, it, NAS_INTEGRITY)[16:], count, 0, course.direction, octets[5:])
+                == octets[1:5]
+            ):
                 return it
     return None
 
@@ -75,5 +85,7 @@ def drb(calls: Calls, course: BearerHistory, octets: bytes, packet: bytes) -> Ci
         key = calls.algorithm_key(kenb, UP_ENCRYPTION, eea)[16:]
         for count in dict.fromkeys(course.counts(int.from_bytes(octets[:2], "big") & 0xFFF, 4096)):
             if cipher(calls, eea, key, count, course.number, course.direction, octets[2:]) == packet:
-                return Ciphered(kenb, UP_ENCRYPTION, eea, (RRC_ENCRYPTION, eea), course.direction, count, course.number, octets[2:])
+                return Ciphered(
+                    kenb, UP_ENCRYPTION, eea, (RRC_ENCRYPTION, eea), course.direction, count, course.number, octets[2:]
+                )
     return None

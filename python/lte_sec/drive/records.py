@@ -1,4 +1,5 @@
-"""Records by their fields (docs/FRAMES.md, Records) and what differs between two: named as S1AP, X2AP, NAS and RRC name them."""
+"""Records by their fields (docs/FRAMES.md, Records) and what differs between two: named as S1AP, X2AP, NAS and RRC name
+them."""
 from __future__ import annotations
 
 import dataclasses
@@ -7,7 +8,8 @@ from collections.abc import Sequence
 from lte_sec.common import tables
 from lte_sec.drive import frames
 
-# The records by kind, each with its fields and their widths in octets. A name in KEYS is that of a key: it is told to differ and not printed.
+# The records by kind, each with its fields and their widths in octets. A name in KEYS is that of a key: it is told to
+# differ and not printed.
 KEYS = ("KeNB", "KeNB*", "NH")
 TEXT = ("text", 0)  # a field to the end
 S1, X2, NAS, RRC = (tables.records(of) for of in ("s1", "x2", "nas", "rrc"))
@@ -37,7 +39,7 @@ def of_form(form: tables.Form, octets: bytes) -> Record | None:
         return None
     fields, place = {}, 0
     for name, width in parts:
-        fields[name] = shown(name, octets[place:place + width])
+        fields[name] = shown(name, octets[place : place + width])
         place += width
     return Record(message, fields)
 
@@ -48,17 +50,35 @@ def of_nas(octets: bytes) -> Record | None:
         return Record("plain NAS message", {"text": octets[1:].hex()})
     if len(octets) < 6:
         return None
-    return Record("NAS message", {"header": f"{octets[0]:02x}", "MAC": octets[1:5].hex(), "sequence number": str(octets[5]), "text": octets[6:].hex()})
+    return Record(
+        "NAS message",
+        {
+            "header": f"{octets[0]:02x}",
+            "MAC": octets[1:5].hex(),
+            "sequence number": str(octets[5]),
+            "text": octets[6:].hex(),
+        },
+    )
 
 
 def of_air(bearer: int, octets: bytes) -> Record | None:
     """A PDCP PDU: of an SRB its sequence number, text and MAC-I, of a DRB its sequence number and packet."""
     name = frames.BEARERS[bearer].upper()
     if bearer in frames.DRBS:
-        return Record(f"packet on {name}", {"sequence number": str(int.from_bytes(octets[:2], "big") & 0xFFF), "packet": octets[2:].hex()}) if len(octets) >= 2 else None
+        return (
+            Record(
+                f"packet on {name}",
+                {"sequence number": str(int.from_bytes(octets[:2], "big") & 0xFFF), "packet": octets[2:].hex()},
+            )
+            if len(octets) >= 2
+            else None
+        )
     if len(octets) < 5:
         return None
-    return Record(f"RRC message on {name}", {"sequence number": str(octets[0] & 0x1F), "text": octets[1:-4].hex(), "MAC-I": octets[-4:].hex()})
+    return Record(
+        f"RRC message on {name}",
+        {"sequence number": str(octets[0] & 0x1F), "text": octets[1:-4].hex(), "MAC-I": octets[-4:].hex()},
+    )
 
 
 def read(to: bytes, octets: bytes) -> Record | None:
@@ -82,7 +102,8 @@ def fields_that_differ(wanted: Record, got: Record) -> list[str]:
 
 
 def in_words(wanted: frames.Reply, got: frames.Reply) -> str | None:
-    """What differs between the records of two replies, in the words of the standards; None where they are the same or not read."""
+    """What differs between the records of two replies, in the words of the standards; None where they are the same or
+    not read."""
     if wanted.record is None or got.record is None:
         if wanted.record == got.record:
             return None
@@ -105,17 +126,28 @@ def in_words(wanted: frames.Reply, got: frames.Reply) -> str | None:
 NAS_KEYS, RADIO_KEYS = ["KNASenc", "KNASint"], ["KRRCenc", "KRRCint", "KUPenc"]
 # The derivations of a step (docs/FRAMES.md), by the role, the way of the note and how many there are.
 DERIVED: dict[tuple[str, str, int], list[str]] = {
-    ("phone", "", 1): ["KeNB"], ("phone", "", 2): NAS_KEYS, ("phone", "", 3): ["KeNB", *NAS_KEYS],
-    ("phone", "initial", 3): RADIO_KEYS, ("phone", "initial", 5): ["KeNB", "KeNB*", *RADIO_KEYS], ("phone", "horizontal", 4): ["KeNB*", *RADIO_KEYS],
-    ("station", "given", 3): RADIO_KEYS, ("station", "given", 4): ["KeNB*", *RADIO_KEYS],
-    ("station", "horizontal", 1): ["KeNB*"], ("station", "vertical", 1): ["KeNB*"],
-    ("station", "horizontal", 4): ["KeNB*", *RADIO_KEYS], ("station", "vertical", 4): ["KeNB*", *RADIO_KEYS],
-    ("core", "", 2): NAS_KEYS, ("core", "initial", 1): ["KeNB"], ("core", "initial", 2): ["KeNB", "NH"], ("core", "chained", 1): ["NH"],
+    ("phone", "", 1): ["KeNB"],
+    ("phone", "", 2): NAS_KEYS,
+    ("phone", "", 3): ["KeNB", *NAS_KEYS],
+    ("phone", "initial", 3): RADIO_KEYS,
+    ("phone", "initial", 5): ["KeNB", "KeNB*", *RADIO_KEYS],
+    ("phone", "horizontal", 4): ["KeNB*", *RADIO_KEYS],
+    ("station", "given", 3): RADIO_KEYS,
+    ("station", "given", 4): ["KeNB*", *RADIO_KEYS],
+    ("station", "horizontal", 1): ["KeNB*"],
+    ("station", "vertical", 1): ["KeNB*"],
+    ("station", "horizontal", 4): ["KeNB*", *RADIO_KEYS],
+    ("station", "vertical", 4): ["KeNB*", *RADIO_KEYS],
+    ("core", "", 2): NAS_KEYS,
+    ("core", "initial", 1): ["KeNB"],
+    ("core", "initial", 2): ["KeNB", "NH"],
+    ("core", "chained", 1): ["NH"],
 }
 
 
 def derivation_names(role: str, reply: frames.Reply, known: Sequence[int] | None = None) -> list[str]:
-    """What each derivation of a reply makes, KeNB* with its cell where the record names it or where it is known; nothing where a step derives otherwise."""
+    """What each derivation of a reply makes, KeNB* with its cell where the record names it or where it is known;
+    nothing where a step derives otherwise."""
     way, count = frames.WAYS[reply.note.way] if reply.note else "", len(reply.derived)
     names = DERIVED.get((role, way, count), [])
     if role == "phone" and way == "vertical" and count > 4:
@@ -127,8 +159,8 @@ def derivation_names(role: str, reply: frames.Reply, known: Sequence[int] | None
 
 
 def differences(wanted: bytes, got: bytes, actor: str = "", cell: Sequence[int] | None = None) -> list[str]:
-    """The differences of two replies: first what differs in the record, in words, then a line for each part, in hex; derivations by name where the actor is
-    known. `cell` is that of a phone's KeNB*, which its reply does not tell."""
+    """The differences of two replies: first what differs in the record, in words, then a line for each part, in hex;
+    derivations by name where the actor is known. `cell` is that of a phone's KeNB*, which its reply does not tell."""
     try:
         want, have = (frames.read_reply(frames.unframed(octets)) for octets in (wanted, got))
     except frames.BadFrame:

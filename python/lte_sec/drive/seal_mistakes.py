@@ -1,4 +1,5 @@
-"""Why a protected message of a driven actor is not the wanted one, or is refused where it is right: the mistakes of `reasons`, of MACs and ciphers."""
+"""Why a protected message of a driven actor is not the wanted one, or is refused where it is right: the mistakes of
+`reasons`, of MACs and ciphers."""
 from __future__ import annotations
 
 import dataclasses
@@ -70,7 +71,8 @@ class ActorStep:
 
 
 def mistakes(calls: Calls, step: ActorStep, wanted: frames.Reply, got: frames.Reply) -> list[PartsWrong]:
-    """The mistake by which a message that was sent is another, or one that came is refused or opened to another text."""
+    """The mistake by which a message that was sent is another, or one that came is refused or opened to another
+    text."""
     if not is_protected(wanted, got):
         return []
     if got.answer == MAC_FAILS and (got.answer, got.values) != (wanted.answer, wanted.values):
@@ -103,7 +105,11 @@ def sent(calls: Calls, step: ActorStep, wanted: frames.Reply, record: bytes) -> 
         return sent_nas(calls, protected.nas(calls, step.course(direction, bearer), wanted.record), record)
     if bearer.startswith("srb"):
         it = protected.srb(calls, step.course(direction, bearer), wanted.record)
-        found = pdu_reasons.pdu(calls, dataclasses.replace(it, octets=record), it.opened(calls)[:-4]) if it else PartsWrong()
+        found = (
+            pdu_reasons.pdu(calls, dataclasses.replace(it, octets=record), it.opened(calls)[:-4])
+            if it
+            else PartsWrong()
+        )
         return [found] if found.why else []
     return sent_packet(calls, step, direction, bearer, wanted.record, record) if bearer else []
 
@@ -112,16 +118,28 @@ def sent_nas(calls: Calls, it: reasons.ProtectedNas | None, record: bytes) -> li
     if it is None or len(record) < 6:
         return []
     plain, own = reasons.deciphered(calls, it), dataclasses.replace(it, pdu=record)
-    of_text = reasons.ciphering(calls, own.ciphered(), 8, lambda text: text == plain) if record[6:] != it.pdu[6:] else ()
+    of_text = (
+        reasons.ciphering(calls, own.ciphered(), 8, lambda text: text == plain) if record[6:] != it.pdu[6:] else ()
+    )
     of_mac = reasons.mac(calls, own)
-    return [PartsWrong((name,), why) for name, why in (("text", of_text if reasons.is_sure(of_text, plain) else ()), ("MAC", of_mac)) if why]
+    return [
+        PartsWrong((name,), why)
+        for name, why in (("text", of_text if reasons.is_sure(of_text, plain) else ()), ("MAC", of_mac))
+        if why
+    ]
 
 
-def sent_packet(calls: Calls, step: ActorStep, direction: int, bearer: str, wanted: bytes, record: bytes) -> list[PartsWrong]:
+def sent_packet(
+    calls: Calls, step: ActorStep, direction: int, bearer: str, wanted: bytes, record: bytes
+) -> list[PartsWrong]:
     act = step.scenario.steps[step.place]
     packet = bytes.fromhex(act["text"]) if act["do"] == "user" else b""
     it = protected.drb(calls, step.course(direction, bearer), wanted, packet)
-    why = reasons.ciphering(calls, dataclasses.replace(it, body=record[2:]), 12, lambda plain: plain == packet) if it else ()
+    why = (
+        reasons.ciphering(calls, dataclasses.replace(it, body=record[2:]), 12, lambda plain: plain == packet)
+        if it
+        else ()
+    )
     return [PartsWrong(("packet",), why)] if reasons.is_sure(why, packet) else []
 
 
@@ -139,7 +157,11 @@ def came(step: ActorStep) -> tuple[str, bytes]:
 def opened(calls: Calls, step: ActorStep, wanted: bytes, got: bytes) -> list[PartsWrong]:
     """Of a packet that is right, and that an actor deciphers otherwise."""
     bearer, octets = came(step)
-    it = protected.drb(calls, step.course(int(step.role == "phone"), bearer), octets, wanted) if bearer.startswith("drb") else None
+    it = (
+        protected.drb(calls, step.course(int(step.role == "phone"), bearer), octets, wanted)
+        if bearer.startswith("drb")
+        else None
+    )
     why = reasons.ciphering(calls, it, 12, lambda plain: plain == got, "deciphered") if it else ()
     return [PartsWrong(("text",), why)] if reasons.is_sure(why, got) else []
 
@@ -160,6 +182,13 @@ def refused_srb(calls: Calls, it: pdu_reasons.Pdu, computed: bytes, received: by
     if plain[-4:] != received:
         why = reasons.ciphering(calls, it.ciphered(), 5, lambda other: other[-4:] == received, "deciphered")
         return [PartsWrong(("text",), why)] if why else []
-    whole, key = (calls.algorithm_key(it.above, type, identity) for type, identity in ((RRC_INTEGRITY, it.eia), (RRC_ENCRYPTION, it.eea)))
-    why = pdu_reasons.srb(calls, computed, pdu_reasons.Srb(whole, key, it.eia, it.direction, it.count, it.bearer, it.octets[:1] + plain[:-4], it.eea))
+    whole, key = (
+        calls.algorithm_key(it.above, type, identity)
+        for type, identity in ((RRC_INTEGRITY, it.eia), (RRC_ENCRYPTION, it.eea))
+    )
+    why = pdu_reasons.srb(
+        calls,
+        computed,
+        pdu_reasons.Srb(whole, key, it.eia, it.direction, it.count, it.bearer, it.octets[:1] + plain[:-4], it.eea),
+    )
     return [PartsWrong(("the MAC-I that it wants",), why)] if why else []

@@ -1,8 +1,8 @@
 """`./lte_sec calc --strict`: `PROGRAM` answers the lines on standard input, and the status is 1 if a MAC failed.
 
-The answers are passed on as they come. A line that is bad, or another fault of the program, keeps its own status. Behind the answers is said
-by which mistake the MAC of a line `nas` or `srb` is wrong, and which line `nas` opens to no NAS message. For this the lines are read again, from
-the file that they are or from the launcher's copy.
+The answers are passed on as they come. A line that is bad, or another fault of the program, keeps its own status.
+Behind the answers is said by which mistake the MAC of a line `nas` or `srb` is wrong, and which line `nas` opens to no
+NAS message. For this the lines are read again, from the file that they are or from the launcher's copy.
 """
 from __future__ import annotations
 
@@ -24,7 +24,9 @@ from lte_sec.common.terms import Calls
 FAILS = (b"mac fails", b"no count", b"no algorithm")
 FAILED = re.compile(rb"mac fails (\d+) wanted [0-9a-f]{8} got [0-9a-f]{8} text (?:[0-9a-f]+|-)")
 OPENED = re.compile(rb"opens [1-4] (\d+) ([0-9a-f]+)(?: unchecked)?")  # a NAS message
-FITTED = re.compile(r"(no algorithm but \w+ )?opens [1-4] (\d+) eia(\d)((?: eea\d [0-9a-f]+)*)")  # the same with `any` algorithms
+FITTED = re.compile(
+    r"(no algorithm but \w+ )?opens [1-4] (\d+) eia(\d)((?: eea\d [0-9a-f]+)*)"
+)  # the same with `any` algorithms
 MOST, MOST_TOLD = 16_777_216, 20  # octets of a file that is read again; lines that are told
 COPY = "LTE_SEC_COPY"  # a variable: the file into which the launcher copies lines that come through a pipe
 
@@ -38,13 +40,24 @@ def is_file() -> bool:
 
 
 def lines_again(from_file: bool) -> list[tuple[int, list[str]]]:
-    """The lines that have answers, with their numbers: of the file that they are, or of their copy. A line that is cut there is left out."""
+    """The lines that have answers, with their numbers: of the file that they are, or of their copy. A line that is cut
+    there is left out."""
     try:
-        text = os.pread(0, MOST, 0) if from_file else Path(os.environ[COPY]).read_bytes()[:MOST] if COPY in os.environ else b""
+        text = (
+            os.pread(0, MOST, 0)
+            if from_file
+            else Path(os.environ[COPY]).read_bytes()[:MOST]
+            if COPY in os.environ
+            else b""
+        )
     except OSError:
         text = b""
     lines = text.split(b"\n")[: -1 if len(text) >= MOST else None]
-    return [(number, line.decode(errors="replace").split(" ")) for number, line in enumerate(lines, 1) if line and not line.startswith(b"#")]
+    return [
+        (number, line.decode(errors="replace").split(" "))
+        for number, line in enumerate(lines, 1)
+        if line and not line.startswith(b"#")
+    ]
 
 
 def mistake(calls: Calls, words: list[str], answer: bytes) -> str:
@@ -66,12 +79,23 @@ def wrong(parts: tuple[str, ...], why: causes.Why) -> str:
     names = ["MAC" if part == "MAC-I" else part for part in parts]
     if not why:
         return ""
-    return f"{' and '.join(names)} are wrong: {causes.told(why)}" if len(names) > 1 else f"the {names[0]} is wrong: {causes.told(why)}"
+    return (
+        f"{' and '.join(names)} are wrong: {causes.told(why)}"
+        if len(names) > 1
+        else f"the {names[0]} is wrong: {causes.told(why)}"
+    )
 
 
 def reads(text: bytes) -> bool:
     """Whether a text begins as a NAS message does, by the rule of `calc` (docs/CALC.md)."""
-    return len(text) > 1 and text[0] == 7 and text[1] >> 6 == 1 or len(text) > 2 and text[0] & 15 == 2 and text[2] >> 6 == 3
+    return (
+        len(text) > 1
+        and text[0] == 7
+        and text[1] >> 6 == 1
+        or len(text) > 2
+        and text[0] & 15 == 2
+        and text[2] >> 6 == 3
+    )
 
 
 def is_odd(answer: bytes) -> bool:
@@ -81,7 +105,8 @@ def is_odd(answer: bytes) -> bool:
 
 
 def fitting(calc: Calc, words: list[str], answer: bytes) -> str:
-    """What would fit a line `nas` with given algorithms whose MAC is right at no COUNT, or whose text is no NAS message, or nothing."""
+    """What would fit a line `nas` with given algorithms whose MAC is right at no COUNT, or whose text is no NAS
+    message, or nothing."""
     opened = OPENED.fullmatch(answer)
     if words[0] != "nas" or words[2] == "any" or answer != b"no count" and opened is None:
         return ""
@@ -123,7 +148,9 @@ def main(command: list[str]) -> int:
         *lines, rest = (rest + octets).split(b"\n")
         failed += sum(line.startswith(FAILS) for line in lines)
         if len(wrong) < MOST_TOLD:
-            wrong += [(count + place, line) for place, line in enumerate(lines) if line.startswith(FAILS) or is_odd(line)]
+            wrong += [
+                (count + place, line) for place, line in enumerate(lines) if line.startswith(FAILS) or is_odd(line)
+            ]
         count += len(lines)
     status = process.wait()
     if status == 1:

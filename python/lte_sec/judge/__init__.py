@@ -1,1 +1,2 @@
-"""The judge of keys, and of a whole trace: lawful histories, KeNB, NH and KeNB*, handovers, readings, and blames that are asked of the proved program."""
+"""The judge of keys, and of a whole trace: lawful histories, KeNB, NH and KeNB*, handovers, readings, and blames that
+are asked of the proved program."""

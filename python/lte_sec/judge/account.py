@@ -1,7 +1,7 @@
 """What was seen of a trace: each message with its link, ends and connection, and each value of it with its verdict.
 
-Reading hands this list over, and lines, JSON and annotations are written from it alone. It is the only way from the judge to what is
-built on it; all texts in it are shown in one line each (`escaped`).
+Reading hands this list over, and lines, JSON and annotations are written from it alone. It is the only way from the
+judge to what is built on it; all texts in it are shown in one line each (`escaped`).
 """
 from __future__ import annotations
 
@@ -62,7 +62,8 @@ class Seen:
 
 @dataclass(frozen=True)
 class Use:
-    """A key that a station had in use for a connection, from a frame on, and the algorithms of its bearers where the trace tells them."""
+    """A key that a station had in use for a connection, from a frame on, and the algorithms of its bearers where the
+    trace tells them."""
 
     connection: int
     frame: str
@@ -93,10 +94,12 @@ class Late(Sequence[Thing]):
         return iter(self.all)
 
     @overload
-    def __getitem__(self, place: int) -> Thing: ...
+    def __getitem__(self, place: int) -> Thing:
+        ...
 
     @overload
-    def __getitem__(self, place: slice) -> Sequence[Thing]: ...
+    def __getitem__(self, place: slice) -> Sequence[Thing]:
+        ...
 
     def __getitem__(self, place: int | slice) -> Thing | Sequence[Thing]:
         return self.all[place]
@@ -135,7 +138,8 @@ class Membership:
 
 
 def phones(lines: Iterable[tuple[int, Line]], membership: Membership) -> dict[int, int]:
-    """The phone of each connection: connections are of one phone where they share a KASME, by what is right, or an M-TMSI."""
+    """The phone of each connection: connections are of one phone where they share a KASME, by what is right, or an
+    M-TMSI."""
     group: dict[int, int] = {}
 
     def first(one: int) -> int:
@@ -144,7 +148,11 @@ def phones(lines: Iterable[tuple[int, Line]], membership: Membership) -> dict[in
         return one
 
     shared: dict[object, int] = {}
-    told = [(membership.connections[place], line.kasme) for place, line in lines if place in membership.connections and line.kasme and line.verdict == RIGHT]
+    told = [
+        (membership.connections[place], line.kasme)
+        for place, line in lines
+        if place in membership.connections and line.kasme and line.verdict == RIGHT
+    ]
     for connection, mark in [*told, *membership.tmsis.items()]:
         group[first(connection)] = first(shared.setdefault(mark, connection))
     every = sorted(set(membership.connections.values()))
@@ -159,13 +167,29 @@ def link_of(message: Message, names: Mapping[str, str], is_up: bool) -> Link:
     return Link("S1", source, target, UP) if is_up else Link("S1", target, source, DOWN)
 
 
-def account(messages: Sequence[Message], told: LinesInOrder, membership: Callable[[], Membership], names: Mapping[str, str], up: Iterable[str], head: Iterable[str], derivations: Derivations, uses: Callable[[], Iterable[Use]]) -> Account:
-    """The list of what was seen, of lines in the order of their places; `names` are those of stations by address, `up` the messages of S1 that a station sends."""
+def account(
+    messages: Sequence[Message],
+    told: LinesInOrder,
+    membership: Callable[[], Membership],
+    names: Mapping[str, str],
+    up: Iterable[str],
+    head: Iterable[str],
+    derivations: Derivations,
+    uses: Callable[[], Iterable[Use]],
+) -> Account:
+    """The list of what was seen, of lines in the order of their places; `names` are those of stations by address, `up`
+    the messages of S1 that a station sends."""
     late = Late(lambda: all_seen(messages, list(told.placed()), membership(), names, frozenset(up)))
     return Account(late, tuple(map(shown, head)), derivations, Late(uses), told)
 
 
-def all_seen(messages: Sequence[Message], placed: list[tuple[int, Line]], membership: Membership, names: Mapping[str, str], up: frozenset[str]) -> Iterator[Seen]:
+def all_seen(
+    messages: Sequence[Message],
+    placed: list[tuple[int, Line]],
+    membership: Membership,
+    names: Mapping[str, str],
+    up: frozenset[str],
+) -> Iterator[Seen]:
     """Each message with its values."""
     values: dict[int, list[Line]] = {}
     for place, line in placed:
@@ -175,9 +199,17 @@ def all_seen(messages: Sequence[Message], placed: list[tuple[int, Line]], member
         connection, handover = membership.connections.get(place), membership.handovers.get(place)
         source, target = (End(shown(names.get(end) or end), shown(end)) for end in (one.source, one.target))
         yield Seen(
-            shown(one.frame), one.time, shown(one.name), link_of(one, names, one.name in up), source, target,
-            None if connection is None else connection + 1, None if handover is None else handover + 1,
-            None if connection is None else phone.get(connection), tuple(values.get(place, ())), one,
+            shown(one.frame),
+            one.time,
+            shown(one.name),
+            link_of(one, names, one.name in up),
+            source,
+            target,
+            None if connection is None else connection + 1,
+            None if handover is None else handover + 1,
+            None if connection is None else phone.get(connection),
+            tuple(values.get(place, ())),
+            one,
         )
 
 

@@ -36,7 +36,9 @@ class Attempts:
         self.targets: dict[Leg, PreparedAttempt] = {}  # by core's end and the target's MME-UE-S1AP-ID
         self.answers: dict[bytes, list[PreparedAttempt]] = {}  # by the container that comes back
         self.x2: dict[tuple[str, str, int | None], PreparedAttempt] = {}
-        self.retrieved: dict[tuple[str, str, int | None], int | None] = {}  # cells that phones resume in, by the ends and the new station's identity
+        self.retrieved: dict[
+            tuple[str, str, int | None], int | None
+        ] = {}  # cells that phones resume in, by the ends and the new station's identity
         self.commands: list[PreparedAttempt] = []  # RRC may still show their command
 
     def new(self, station: str, eci: int | None = None) -> Connection:
@@ -52,7 +54,8 @@ class Attempts:
             self.handovers[self.at] = attempt
 
     def arrived(self, connection: Connection, station: str, frame: str) -> None:
-        """The phone is at the target of a handover whose end the trace lacks, or where no handover that it shows leads to."""
+        """The phone is at the target of a handover whose end the trace lacks, or where no handover that it shows leads
+        to."""
         if station == connection.station or not station:
             return
         there = [attempt for attempt in connection.open_attempts() if attempt.station == station]

@@ -40,7 +40,8 @@ class ChainJudge(KenbJudge):
             yield found[number]
 
     def nh(self, connection: Connection, message: Message, station: str = "") -> list[Numbered]:
-        """Judges NH and NCC that are sent to a station, and keeps the histories that give them; answers the pairs that it may have: as sent, then as wanted."""
+        """Judges NH and NCC that are sent to a station, and keeps the histories that give them; answers the pairs that
+        it may have: as sent, then as wanted."""
         assert message.nh is not None and message.ncc is not None
         tried = [(chain, after) for chain in connection.cores() for after in self.due(connection, chain)]
         matches = [step for step in tried if step[1].sync.value == message.nh]
@@ -49,15 +50,24 @@ class ChainJudge(KenbJudge):
             return self.right_nh(connection, message, [step for step in matches if step[1] == match[1]])
         if matches:
             by_ncc = [step for step in tried if step[1].ncc == message.ncc and step[1].kasme == matches[0][1].kasme]
-            return self.two_numbers(connection, message, matches[0], by_ncc[0]) if by_ncc else self.right_nh(connection, message, matches[:1])
-        made = self.overdue(connection, message, station) or self.nh_of_change(connection, message) or self.nh_of_elsewhere(connection, message)
+            return (
+                self.two_numbers(connection, message, matches[0], by_ncc[0])
+                if by_ncc
+                else self.right_nh(connection, message, matches[:1])
+            )
+        made = (
+            self.overdue(connection, message, station)
+            or self.nh_of_change(connection, message)
+            or self.nh_of_elsewhere(connection, message)
+        )
         made = made or self.nh_of_lost(connection, message)
         return made or self.other_nh(connection, message, tried)
 
     # -- on what a trace lacks
 
     def nh_of_lost(self, connection: Connection, message: Message) -> list[Numbered] | None:
-        """An NH some steps on, where the capture lost frames since the last one: an exchange with the core may be among them."""
+        """An NH some steps on, where the capture lost frames since the last one: an exchange with the core may be among
+        them."""
         for begun in connection.cores() if self.lost_frames(connection.certain) else []:
             chain = begun
             for _ in range(CHAIN):
@@ -83,7 +93,8 @@ class ChainJudge(KenbJudge):
         return [Numbered(chain.sync, message.ncc)]
 
     def nh_of_nobody(self, connection: Connection, message: Message) -> list[Numbered] | None:
-        """An NH that no course gives which was tried of a phone without S1: one under a KASME that was not given may, or one with more steps."""
+        """An NH that no course gives which was tried of a phone without S1: one under a KASME that was not given may,
+        or one with more steps."""
         value, ncc = message.nh or b"", message.ncc or 0
         found = self.named(value, connection, [chain.sync for chain in connection.cores()])
         if found.known and not self.moves.reachable(connection, found, ncc):
@@ -103,24 +114,45 @@ class ChainJudge(KenbJudge):
 
     def late(self, connection: Connection, message: Message, station: str) -> Chain | None:
         """The chain at the number of an answer that is overdue: it comes to the station that had its NH before."""
-        chains = (self.numbered(connection, number) for number, told in sorted(connection.missed.items()) if not station or told in ("", station))
+        chains = (
+            self.numbered(connection, number)
+            for number, told in sorted(connection.missed.items())
+            if not station or told in ("", station)
+        )
         return next((chain for chain in chains if chain is not None and chain.sync.value == message.nh), None)
 
     def numbered(self, connection: Connection, number: int) -> Chain | None:
         """The chain of a connection at a number, from its beginning."""
         chain = next(iter(connection.cores()), None)
-        start = next((key for key in self.at_hand(connection) if chain is not None and key.term == (chain.sync.term.base() or NONE)), None)
-        return Chain(chain.kasme, start).step(self.derivations, number) if chain is not None and start is not None else None
+        start = next(
+            (
+                key
+                for key in self.at_hand(connection)
+                if chain is not None and key.term == (chain.sync.term.base() or NONE)
+            ),
+            None,
+        )
+        return (
+            Chain(chain.kasme, start).step(self.derivations, number)
+            if chain is not None and start is not None
+            else None
+        )
 
     # -- a key change that the trace lacks
 
     def unseen_changes(self, connection: Connection) -> list[Key]:
-        """The KeNBs that a key change may have brought: of another KASME than that of the chain, which a Security Mode exchange brought."""
+        """The KeNBs that a key change may have brought: of another KASME than that of the chain, which a Security Mode
+        exchange brought."""
         side = connection.side
         contexts = [(side.trigger.context, side.trigger.counts)] if side.trigger is not None else []
         contexts += [(side.pending, (side.pending.next[UP],))] if side.pending is not None else []
         chain = next((one.kasme for one in connection.cores()), None)
-        return [self.derivations.kenb(one.kasme, count) for one, counts in contexts if one.given and chain not in (None, one.kasme) for count in counts]
+        return [
+            self.derivations.kenb(one.kasme, count)
+            for one, counts in contexts
+            if one.given and chain not in (None, one.kasme)
+            for count in counts
+        ]
 
     def changed_unseen(self, connection: Connection, kenb: Key, histories: list[History]) -> None:
         """A key change to this KeNB came, and these histories are left."""
@@ -138,16 +170,22 @@ class ChainJudge(KenbJudge):
                 if chain.sync.value == message.nh and chain.ncc == message.ncc:
                     self.judged(message, "NH", chain.sync, chain.sync, (message.ncc, message.ncc), LOST_CHANGE)
                     phone = PhoneKeys(UNKNOWN_KEY, 0, begun, True)
-                    self.changed_unseen(connection, kenb, [History(chain, one.held, phone) for one in connection.histories])
+                    self.changed_unseen(
+                        connection, kenb, [History(chain, one.held, phone) for one in connection.histories]
+                    )
                     return [Numbered(chain.sync, message.ncc)]
         return None
 
     def is_foreign(self, connection: Connection) -> bool:
-        """Whether a KASME that was not given is in use for NAS, so that a key change may bring it for the keys of stations."""
-        return any(context is not None and not context.given for context in (connection.side.current, connection.side.pending))
+        """Whether a KASME that was not given is in use for NAS, so that a key change may bring it for the keys of
+        stations."""
+        return any(
+            context is not None and not context.given for context in (connection.side.current, connection.side.pending)
+        )
 
     def begins_at(self, connection: Connection, found: Key) -> None:
-        """A key that is not judged and whose derivation is found tells where the chain begins: from here on only the core's number is in doubt."""
+        """A key that is not judged and whose derivation is found tells where the chain begins: from here on only the
+        core's number is in doubt."""
         count, number = counted(found.term.base()), numbered(found.term)
         if connection.cores() or count < 0:
             return
@@ -184,7 +222,14 @@ class ChainJudge(KenbJudge):
         likely = [chain for chain in chains if not found.known and chain.ncc == message.ncc] + chains
         wanted = next((chain for chain in likely if chain.sync.term.base() != NONE), likely[0])
         kasmes = self.derivations.kasmes
-        why = self.reason(found, lambda: (reasons.nh(found.value, kasmes[chain.kasme].value, sync.value) for chain in connection.cores() for sync in self.syncs(connection, chain)))
+        why = self.reason(
+            found,
+            lambda: (
+                reasons.nh(found.value, kasmes[chain.kasme].value, sync.value)
+                for chain in connection.cores()
+                for sync in self.syncs(connection, chain)
+            ),
+        )
         if message.name == "HandoverRequest" and found.term.kind == "kenb" and found.kasme != wanted.kasme:
             why = Cause.NEW_KASME.because()
         self.judged(message, "NH", found, wanted.sync, (message.ncc, wanted.ncc), why)
@@ -193,11 +238,18 @@ class ChainJudge(KenbJudge):
         return [Numbered(found, message.ncc), Numbered(wanted.sync, wanted.ncc)]
 
     def sent_or_wanted(self, connection: Connection, found: Key, number: int, wanted: Chain) -> list[Chain]:
-        """The chains that the core may go on with behind an NH that differs: from that, from the wanted one, or from what was before."""
+        """The chains that the core may go on with behind an NH that differs: from that, from the wanted one, or from
+        what was before."""
         same = found.term.base() == wanted.sync.term.base() and found.kasme == wanted.kasme
         numbers = [number, wanted.number] if same and number else [wanted.number, number]
-        before = [] if found.known else connection.cores()[:1]  # where nothing tells what was sent, the core may not have stepped
-        chains = [*(Chain(wanted.kasme, found, one) for one in dict.fromkeys(numbers) if one or not number), wanted, *before]
+        before = (
+            [] if found.known else connection.cores()[:1]
+        )  # where nothing tells what was sent, the core may not have stepped
+        chains = [
+            *(Chain(wanted.kasme, found, one) for one in dict.fromkeys(numbers) if one or not number),
+            wanted,
+            *before,
+        ]
         return [*chains, Chain(found.kasme, found, number)] if found.kasme not in (-1, wanted.kasme) else chains
 
     def syncs(self, connection: Connection, chain: Chain) -> Iterator[Key]:
@@ -228,16 +280,23 @@ class ChainJudge(KenbJudge):
         pairs = [Numbered(chain.sync, message.ncc or 0)]
         return pairs if message.ncc == chain.ncc else [*pairs, Numbered(chain.sync, chain.ncc)]
 
-    def two_numbers(self, connection: Connection, message: Message, by_key: ChainStep, by_ncc: ChainStep) -> list[Numbered]:
-        """An NH of one number that is due and the NCC of another: one of them is the fault, and the next answer tells which."""
+    def two_numbers(
+        self, connection: Connection, message: Message, by_key: ChainStep, by_ncc: ChainStep
+    ) -> list[Numbered]:
+        """An NH of one number that is due and the NCC of another: one of them is the fault, and the next answer tells
+        which."""
         ncc, key, other = message.ncc or 0, by_key[1], by_ncc[1]
         lines = {
             key.number: self.line_of(message, "NH", key.sync, key.sync, (ncc, key.ncc)),
             other.number: self.line_of(message, "NH", key.sync, other.sync, (ncc, ncc)),
         }
-        likely = sorted((by_key, by_ncc), key=lambda step: FIRST.index(step[1].number) if step[1].number in FIRST else -1)
+        likely = sorted(
+            (by_key, by_ncc), key=lambda step: FIRST.index(step[1].number) if step[1].number in FIRST else -1
+        )
         self.lines.append(lines[likely[0][1].number])
-        connection.undecided = Undecided(len(self.lines) - 1, lines[likely[0][1].number], lines[likely[1][1].number], likely[1][1].number)
+        connection.undecided = Undecided(
+            len(self.lines) - 1, lines[likely[0][1].number], lines[likely[1][1].number], likely[1][1].number
+        )
         connection.steps(likely)
         connection.asked = 0
         return [Numbered(key.sync, ncc), Numbered(key.sync, key.ncc), Numbered(other.sync, ncc)]

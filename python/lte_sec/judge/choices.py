@@ -1,8 +1,9 @@
 """Choices of a reading: what no value proves, and what the links that a trace does not cover leave open.
 
-A key of 256 bits or a MAC of 32 proves the unseen step that it needs, so that rules take that at once, where it is licensed. Whose a message
-is, and whether a connection ended, no value proves: there a reading takes the likeliest, and notes the offer of the other. Where something
-differs behind an offer, the messages concerned are read again with it (`rereading`).
+A key of 256 bits or a MAC of 32 proves the unseen step that it needs, so that rules take that at once, where it is
+licensed. Whose a message is, and whether a connection ended, no value proves: there a reading takes the likeliest, and
+notes the offer of the other. Where something differs behind an offer, the messages concerned are read again with it
+(`rereading`).
 """
 from __future__ import annotations
 

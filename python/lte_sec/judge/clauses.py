@@ -1,4 +1,5 @@
-"""The clause of the standard that says which key a message has: by what the key is and by the message. All other causes have their clause themselves."""
+"""The clause of the standard that says which key a message has: by what the key is and by the message. All other causes
+have their clause themselves."""
 from __future__ import annotations
 
 from ..captures.decoding import Message, title
@@ -10,7 +11,8 @@ CHANGE = "UEContextModificationRequest"
 
 
 def of_key(message: Message, kind: str, is_prepared: bool, why: Why) -> str:
-    """The clause of a KeNB, an NH or a KeNB*, which may be prepared for another cell than the target's; that of its cause goes before it."""
+    """The clause of a KeNB, an NH or a KeNB*, which may be prepared for another cell than the target's; that of its
+    cause goes before it."""
     own = next((one.clause for one in why if one.clause), "")
     if own:
         return own

@@ -23,8 +23,14 @@ class Connections(Handovers):
     restarts: dict[str, int]  # by station's end, the place where its S1 last began anew
 
     def is_late(self, connection: Connection, message: Message, station: str) -> bool:
-        """Whether an answer comes to a station that the phone has left since: its NH is overdue, and says nothing of where the phone is."""
-        return station != connection.station and station in connection.left and message.nh is not None and self.judge.late(connection, message, station) is not None
+        """Whether an answer comes to a station that the phone has left since: its NH is overdue, and says nothing of
+        where the phone is."""
+        return (
+            station != connection.station
+            and station in connection.left
+            and message.nh is not None
+            and self.judge.late(connection, message, station) is not None
+        )
 
     def connection(self, message: Message, station: str, leg: Leg, at_core: Leg) -> Connection | None:
         """The connection that a message belongs to."""
@@ -39,15 +45,20 @@ class Connections(Handovers):
         found = self.legs.get(leg) if message.enb_id is not None and not new_leg else None
         known = self.mmes.get(-1 if message.mme_id is None else message.mme_id, {})
         found = found or known.get(at_core[0]) or known.get(ANY_CORE)
-        if found is not None and self.may_be_new(found, message, station, leg, at_core) and self.choices.takes(self.at, Offer.NEW):
+        if (
+            found is not None
+            and self.may_be_new(found, message, station, leg, at_core)
+            and self.choices.takes(self.at, Offer.NEW)
+        ):
             found = self.new(station)
         if found is None and (message.enb_id is not None or message.mme_id is not None):
             found = self.new(station, message.eci if message.name in TELLS_CELL else None)
         return found
 
     def may_be_new(self, connection: Connection, message: Message, station: str, leg: Leg, at_core: Leg) -> bool:
-        """Whether a message down may be of a new connection whose first message the trace cannot show. Its identities must be free: the core gives a new
-        one to this eNB-UE-S1AP-ID, or S1 began anew, or the release may have passed unseen too."""
+        """Whether a message down may be of a new connection whose first message the trace cannot show. Its identities
+        must be free: the core gives a new one to this eNB-UE-S1AP-ID, or S1 began anew, or the release may have passed
+        unseen too."""
         if message.name in FROM_STATION or self.coverage.s1(station, FROM_STATIONS):
             return False
         bound = connection.legs.get(leg)

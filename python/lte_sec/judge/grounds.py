@@ -1,4 +1,5 @@
-"""What all readings of a trace stand on: its messages, what is known of its network, and what of these a reading asks for again and again."""
+"""What all readings of a trace stand on: its messages, what is known of its network, and what of these a reading asks
+for again and again."""
 from __future__ import annotations
 
 from array import array
@@ -44,7 +45,11 @@ class FirstPlaces:
 
 def number_of(frame: str) -> int | None:
     """The number of a frame that is written as one."""
-    return int(frame) if frame.isdecimal() and frame.isascii() and (frame[0] != "0" or frame == "0") and len(frame) < 19 else None
+    return (
+        int(frame)
+        if frame.isdecimal() and frame.isascii() and (frame[0] != "0" or frame == "0") and len(frame) < 19
+        else None
+    )
 
 
 class Index:
@@ -102,7 +107,12 @@ class Grounds:
     coverage: Coverage
 
     def __post_init__(self) -> None:
-        self.messages, self.cells, self.stations, self.index = self.work.messages, self.work.cells, self.work.stations, self.work.index
+        self.messages, self.cells, self.stations, self.index = (
+            self.work.messages,
+            self.work.cells,
+            self.work.stations,
+            self.work.index,
+        )
         self.first = self.index.first
         self.search = DerivationSearch(self.derivations, self.cells, budget=self.budget)
 

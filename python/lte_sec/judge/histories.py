@@ -1,8 +1,9 @@
-"""Lawful histories of a connection: what core, station and phone have, crossed, and how each step of the standard changes them.
+"""Lawful histories of a connection: what core, station and phone have, crossed, and how each step of the standard
+changes them.
 
-A history is one way in which TS 33.401 7.2.8 and 7.2.9 let things come to what a trace has shown so far. Mostly there is one. After a key
-that differs there are those that go on from what was sent and those that go on from what was wanted. Each key that comes keeps the
-histories that give it.
+A history is one way in which TS 33.401 7.2.8 and 7.2.9 let things come to what a trace has shown so far. Mostly there
+is one. After a key that differs there are those that go on from what was sent and those that go on from what was
+wanted. Each key that comes keeps the histories that give it.
 """
 from __future__ import annotations
 
@@ -70,7 +71,8 @@ class PhoneKeys:
 
 @dataclass(frozen=True)
 class Held:
-    """What the serving station has: its key in use with its NCC, and the pair of NH and NCC that it has stored and not used."""
+    """What the serving station has: its key in use with its NCC, and the pair of NH and NCC that it has stored and not
+    used."""
 
     key: Key = UNKNOWN_KEY
     ncc: int = 0
@@ -87,7 +89,8 @@ class Held:
 
 @dataclass(frozen=True)
 class History:
-    """What core, serving station and phone have. Without a core it is not known where the chain begins, without a phone not what it has."""
+    """What core, serving station and phone have. Without a core it is not known where the chain begins, without a phone
+    not what it has."""
 
     core: Chain | None = None
     held: Held = field(default_factory=Held)
@@ -95,9 +98,14 @@ class History:
     is_old: bool = False  # it goes on from before a key change that has no answer yet
 
     def refreshed(self, derivations: Derivations, cell: Cell) -> History:
-        """A step of station and phone to a cell of the station: a handover within it, a re-establishment, a resumption."""
+        """A step of station and phone to a cell of the station: a handover within it, a re-establishment, a
+        resumption."""
         base = self.held.base()
-        return replace(self, held=Held(derivations.star(base.key, *cell), base.ncc), phone=self.phone and self.phone.takes(derivations, base.ncc, cell))
+        return replace(
+            self,
+            held=Held(derivations.star(base.key, *cell), base.ncc),
+            phone=self.phone and self.phone.takes(derivations, base.ncc, cell),
+        )
 
     def stores(self, pair: Numbered) -> History:
         """The station stores NH and NCC for the next handover (7.2.8.4.1)."""
@@ -109,10 +117,12 @@ class History:
 
 
 def merged(found: Iterable[History]) -> list[History]:
-    """Histories without those that are equal to one before, as many as are kept; one of which nothing is known if there are none."""
+    """Histories without those that are equal to one before, as many as are kept; one of which nothing is known if there
+    are none."""
     return list(islice(dict.fromkeys(found), MOST)) or [History()]
 
 
 def renewed(derivations: Derivations, kenb: Key, cell: Cell | None = None) -> PhoneKeys:
-    """The phone that took a KeNB from its KASME: at a connection, or with a cell at a key change (TS 33.401 7.2.9.2)."""
+    """The phone that took a KeNB from its KASME: at a connection, or with a cell at a key change (TS 33.401
+    7.2.9.2)."""
     return PhoneKeys(derivations.star(kenb, *cell) if cell else kenb, 0, Chain(kenb.kasme, kenb))

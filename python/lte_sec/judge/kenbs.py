@@ -21,7 +21,8 @@ class KenbJudge(KeyLines):
     """Judges KeNB."""
 
     def wanted_kenbs(self, connection: Connection) -> list[Key]:
-        """The KeNB that is due: at the COUNT of the trigger; where its MAC is wrong, also at the COUNT that was to come."""
+        """The KeNB that is due: at the COUNT of the trigger; where its MAC is wrong, also at the COUNT that was to
+        come."""
         trigger, pending = connection.side.trigger, connection.side.pending
         counts: list[tuple[int, int]] = []
         if trigger is not None and trigger.context.given:
@@ -56,7 +57,9 @@ class KenbJudge(KeyLines):
             self.used(connection)
             return match, [match]
         why = self.not_due(connection, wanted)
-        found = self.mistaken(message.key, [] if why else wanted) or self.named(message.key, connection, [] if why else wanted)
+        found = self.mistaken(message.key, [] if why else wanted) or self.named(
+            message.key, connection, [] if why else wanted
+        )
         self.used(connection)
         mistake = () if why else self.kenb_reason(found, wanted)
         if not why and not found.known and not mistake and self.lacks_uplink(connection):
@@ -70,21 +73,32 @@ class KenbJudge(KeyLines):
 
     def mistaken(self, value: bytes, wanted: list[Key]) -> Key | None:
         """The KeNB of a COUNT that is taken for a wanted one."""
-        tried = (self.derivations.kenb(key.kasme, other) for key in wanted for _, other in reasons.count_mistakes(counted(key.term)))
+        tried = (
+            self.derivations.kenb(key.kasme, other)
+            for key in wanted
+            for _, other in reasons.count_mistakes(counted(key.term))
+        )
         return next((key for key in tried if key.value == value), None)
 
     def kenb_reason(self, found: Key, wanted: list[Key]) -> Why:
         """The mistake of a KeNB: of its COUNT, or one that no derivation gives."""
         kasmes, counts = self.derivations.kasmes, [(one.kasme, counted(one.term)) for one in wanted]
         if found.term.kind == "kenb" and found.kasme == wanted[0].kasme:
-            return next(((one,) for one, other in reasons.count_mistakes(counts[0][1]) if other == counted(found.term)), ())
-        return self.reason(found, lambda: (reasons.kenb(found.value, kasmes[kasme].value, count) for kasme, count in counts))
+            return next(
+                ((one,) for one, other in reasons.count_mistakes(counts[0][1]) if other == counted(found.term)), ()
+            )
+        return self.reason(
+            found, lambda: (reasons.kenb(found.value, kasmes[kasme].value, count) for kasme, count in counts)
+        )
 
     def again_in_use(self, message: Message, key: Key) -> None:
-        """A KeNB that was in use before: each has a fresh COUNT (TS 33.401 7.2.6.2), unless the first was refused or never taken."""
+        """A KeNB that was in use before: each has a fresh COUNT (TS 33.401 7.2.6.2), unless the first was refused or
+        never taken."""
         line = self.line_of(message, "KeNB", key, key)
         line.verdict, line.remarks = DIFFERS, Cause.IN_USE_BEFORE.because(frame=self.in_use[key.value])
-        line.said = Cause.KEY_COMES_AGAIN.because(what="KeNB", found=f"{line.found}{self.derivations.whose(key)}", why=line.remarks)
+        line.said = Cause.KEY_COMES_AGAIN.because(
+            what="KeNB", found=f"{line.found}{self.derivations.whose(key)}", why=line.remarks
+        )
         self.lines.append(line)
 
     def comes_into_use(self, connection: Connection) -> None:
@@ -107,13 +121,18 @@ class KenbJudge(KeyLines):
         self.last_sent[key.kasme] = connection
 
     def kenb_of_elsewhere(self, connection: Connection, value: bytes) -> Key | None:
-        """A KeNB of an uplink message that the trace does not show, since it has not that direction of the station's S1."""
+        """A KeNB of an uplink message that the trace does not show, since it has not that direction of the station's
+        S1."""
         if not self.lacks_uplink(connection):
             return None
         found = self.moves.of_kenb(connection, value)
         if found is None and not connection.based:
             other = self.named(value, connection, [])
-            found = other if other.term.kind == "kenb" and self.moves.may_be_made(other.kasme, counted(other.term)) else None
+            found = (
+                other
+                if other.term.kind == "kenb" and self.moves.may_be_made(other.kasme, counted(other.term))
+                else None
+            )
         if found is not None:
             self.in_use_under(connection.side, found.kasme)
         return found
@@ -123,7 +142,8 @@ class KenbJudge(KeyLines):
         return bool(connection.away) or not self.coverage.s1(connection.station, FROM_STATION)
 
     def in_use_under(self, side: NasSide, kasme: int) -> None:
-        """A KASME is in use, as a KeNB shows whose message the trace does not have. The phone may have taken its last Command or refused it."""
+        """A KASME is in use, as a KeNB shows whose message the trace does not have. The phone may have taken its last
+        Command or refused it."""
         pending = side.pending if side.pending is not None and side.pending.kasme == kasme else None
         context = self.book.contexts.setdefault(kasme, pending or self.book.context(kasme, guessed=True))
         self.book.follows(side.current, context)
@@ -136,7 +156,12 @@ class KenbJudge(KeyLines):
     def not_due(self, connection: Connection, wanted: list[Key]) -> Why:
         """Why a KeNB cannot be judged, or nothing."""
         side = connection.side
-        if side.pending is not None and not side.pending.given or side.trigger is not None and not side.trigger.context.given:
+        if (
+            side.pending is not None
+            and not side.pending.given
+            or side.trigger is not None
+            and not side.trigger.context.given
+        ):
             return NOT_GIVEN
         if not wanted:
             return Cause.TRIGGER_NOT_SHOWN.because()
@@ -146,7 +171,8 @@ class KenbJudge(KeyLines):
         return ()
 
     def kenb_of_unseen(self, connection: Connection, value: bytes) -> Key | None:
-        """The KeNB of a new KASME whose Security Mode exchange the trace lacks: it is made at one of the first COUNTs."""
+        """The KeNB of a new KASME whose Security Mode exchange the trace lacks: it is made at one of the first
+        COUNTs."""
         side = connection.side
         for kasme in self.book.unused() if self.licensed_here(connection) else []:
             for count in range(FEW):
@@ -165,9 +191,15 @@ class KenbJudge(KeyLines):
         kasmes = [trigger.context.kasme] if trigger and trigger.context.given else []
         return [Chain(kasme, key) for kasme in dict.fromkeys([*kasmes, key.kasme]) if kasme >= 0]
 
-    def begun(self, connection: Connection, keys: list[Key], held: list[Held], phone: PhoneKeys | None) -> list[History]:
-        """The histories behind a KeNB that was one of these, and what the station makes of each: core and station go on from the same one,
-        or from two where the message alone was wrong."""
-        chains: dict[int, list[Chain | None]] = {place: [*self.chains(connection, key)] or [None] for place, key in enumerate(keys)}
+    def begun(
+        self, connection: Connection, keys: list[Key], held: list[Held], phone: PhoneKeys | None
+    ) -> list[History]:
+        """The histories behind a KeNB that was one of these, and what the station makes of each: core and station go on
+        from the same one, or from two where the message alone was wrong."""
+        chains: dict[int, list[Chain | None]] = {
+            place: [*self.chains(connection, key)] or [None] for place, key in enumerate(keys)
+        }
         same = [History(chain, one, phone) for begun, one in paired(chains.values(), held) for chain in begun]
-        return merged([*same, *(History(chain, one, phone) for begun in chains.values() for chain in begun for one in held)])
+        return merged(
+            [*same, *(History(chain, one, phone) for begun in chains.values() for chain in begun for one in held)]
+        )

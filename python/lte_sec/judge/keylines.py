@@ -25,10 +25,14 @@ OTHERS = 16  # contexts of other phones whose KeNBs are at hand for the search
 class KeyLines:
     """What judges of keys share: what is known of the trace, and the lines so far."""
 
-    def __init__(self, book: ServiceBook, cells: Cells, search: DerivationSearch, firsts: dict[str, int], coverage: Coverage):
+    def __init__(
+        self, book: ServiceBook, cells: Cells, search: DerivationSearch, firsts: dict[str, int], coverage: Coverage
+    ):
         self.book, self.cells, self.search, self.firsts, self.coverage = book, cells, search, firsts, coverage
         self.moves = Moves(book, cells, coverage)
-        self.reply: Callable[[int], Command | None] = lambda place: None  # what the target of a handover over X2 answers, by the place of its request
+        self.reply: Callable[
+            [int], Command | None
+        ] = lambda place: None  # what the target of a handover over X2 answers, by the place of its request
         self.in_use: dict[bytes, str] = {}  # KeNBs that stations took, with the frame of each
         self.last_sent: dict[int, Connection] = {}  # by KASME, the connection of the last KeNB
         self.gaps: list[tuple[int, int]] = []  # places between which the capture lost frames
@@ -40,10 +44,12 @@ class KeyLines:
     # -- what may have passed unseen
 
     def licensed(self, connection: Connection) -> bool:
-        """Whether a whole exchange between core and station may have passed that the trace does not show: no rule takes one without this.
+        """Whether a whole exchange between core and station may have passed that the trace does not show: no rule takes
+        one without this.
 
-        S1 down of the station is not covered; the phone is or was where S1 is not; the trace shows nothing of the connection before, which may have
-        begun before it or at any station; or the capture lost frames since the last line that is right.
+        S1 down of the station is not covered; the phone is or was where S1 is not; the trace shows nothing of the
+        connection before, which may have begun before it or at any station; or the capture lost frames since the last
+        line that is right.
         """
         return connection.proved is None and not self.coverage.whole or self.licensed_here(connection)
 
@@ -65,11 +71,17 @@ class KeyLines:
     def at_hand(self, connection: Connection) -> list[Key]:
         """The keys of a connection, the most likely first."""
         held = [*connection.states(), *(one for states in connection.left.values() for one in states)]
-        keys = [one.base().key for one in held] + [one.key for one in held] + [chain.sync for chain in connection.cores()]
+        keys = (
+            [one.base().key for one in held] + [one.key for one in held] + [chain.sync for chain in connection.cores()]
+        )
         if connection.phone:
             keys += [connection.phone.key, connection.phone.chain.sync]
         keys += [key for _, _, key in connection.keys[-8:]]
-        bases = [self.derivations.kenb(key.kasme, counted(key.term.base())) for key in keys if counted(key.term.base()) >= 0 and key.kasme >= 0]
+        bases = [
+            self.derivations.kenb(key.kasme, counted(key.term.base()))
+            for key in keys
+            if counted(key.term.base()) >= 0 and key.kasme >= 0
+        ]
         context = connection.side.current
         own = [(context.kasme, context.next[UP])] if context and context.given else []
         others = [(one.kasme, one.next[UP]) for one in list(self.book.contexts.values())[-OTHERS:] if one.given]
@@ -92,21 +104,54 @@ class KeyLines:
     def show(self, key: Key, beside: Key | None = None) -> str:
         return self.derivations.shown(key, beside)
 
-    def judged(self, message: Message, kind: str, found: Key, wanted: Key, ncc: tuple[int, int] | None = None, why: Why = (), cell: Cell | None = None, of: str = "") -> Line:
+    def judged(
+        self,
+        message: Message,
+        kind: str,
+        found: Key,
+        wanted: Key,
+        ncc: tuple[int, int] | None = None,
+        why: Why = (),
+        cell: Cell | None = None,
+        of: str = "",
+    ) -> Line:
         line = self.line_of(message, kind, found, wanted, ncc, why, of)
         line.cell = cell
         self.lines.append(line)
         return line
 
-    def line_of(self, message: Message, kind: str, found: Key, wanted: Key, ncc: tuple[int, int] | None = None, why: Why = (), of: str = "") -> Line:
+    def line_of(
+        self,
+        message: Message,
+        kind: str,
+        found: Key,
+        wanted: Key,
+        ncc: tuple[int, int] | None = None,
+        why: Why = (),
+        of: str = "",
+    ) -> Line:
         """The line of a key; `of` says for which cell a message prepares it."""
         differs = found.value != wanted.value
-        forms = self.show(found, wanted if differs else None), self.derivations.form(wanted, found) + self.derivations.whose(wanted)
+        forms = self.show(found, wanted if differs else None), self.derivations.form(
+            wanted, found
+        ) + self.derivations.whose(wanted)
         if differs and not found.known and wanted.value:
             why = (*why, Cause.OCTETS.of(got=found.value.hex(), wanted=wanted.value.hex()))
         said = report.of_key(f"{kind} {of}".rstrip(), *forms, differs, ncc, of_key(message, kind, of != "", why))
         verdict = DIFFERS if differs or ncc is not None and ncc[0] != ncc[1] else RIGHT
-        line = Line(message.frame, title(message), kind, verdict, said, remarks=why, of=of, found=found.form, wanted=wanted.form, base=found.base, kasme=self.derivations.name(found.kasme))
+        line = Line(
+            message.frame,
+            title(message),
+            kind,
+            verdict,
+            said,
+            remarks=why,
+            of=of,
+            found=found.form,
+            wanted=wanted.form,
+            base=found.base,
+            kasme=self.derivations.name(found.kasme),
+        )
         line.hex, line.wanted_hex, line.key, line.wanted_key = found.value.hex(), wanted.value.hex(), found, wanted
         line.ncc, line.wanted_ncc = ncc or (None, None)
         return line

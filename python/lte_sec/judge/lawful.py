@@ -1,8 +1,9 @@
 """Blames of keys, asked of the proved program `lte_trace`: whether a lawful history gives what was captured.
 
-The judge says `differs` where it finds no lawful history. Before that is told, the program searches for one of its own: of the moves of the
-standard in the cells, at the COUNTs and between the taps of the trace, with so many unseen moves between two messages. A blame that it explains
-becomes `not judged`. One that it does not explain is confirmed by proof, as far as moves and bound go.
+The judge says `differs` where it finds no lawful history. Before that is told, the program searches for one of its own:
+of the moves of the standard in the cells, at the COUNTs and between the taps of the trace, with so many unseen moves
+between two messages. A blame that it explains becomes `not judged`. One that it does not explain is confirmed by proof,
+as far as moves and bound go.
 """
 from __future__ import annotations
 
@@ -17,7 +18,9 @@ from .trace import Trace
 
 FAR_BOUND = 6  # unseen moves between two messages, without moves over the air
 ASKS = 64  # of a phone: each leaves out one message that no history gives
-NOT_BUILT = "blames of keys are not confirmed by proof: the program lte_trace is not built (./lte_sec --prove builds it)"
+NOT_BUILT = (
+    "blames of keys are not confirmed by proof: the program lte_trace is not built (./lte_sec --prove builds it)"
+)
 
 
 @dataclass
@@ -27,7 +30,9 @@ class Verdicts:
     confirmed: dict[int, bool] = field(default_factory=dict)  # whether no number of unseen moves on links gives it
     bounds: dict[int, int] = field(default_factory=dict)  # within how many unseen moves it is confirmed
     explained: dict[int, Why] = field(default_factory=dict)  # what the history rests on that gives it
-    never: set[int] = field(default_factory=set)  # those that no history of any length gives, with moves over the air too
+    never: set[int] = field(
+        default_factory=set
+    )  # those that no history of any length gives, with moves over the air too
     open: int = 0
 
     def head(self, is_proved: bool) -> Iterator[str]:
@@ -39,23 +44,31 @@ class Verdicts:
             never = sum(one in self.never for one in found)
             if found:
                 yield (
-                    f"blames of keys confirmed {how}: {len(found)}; no lawful history of these cells and COUNTs with at most {bound} unseen move{'s' if bound > 1 else ''} between two messages gives them"
+                    f"blames of keys confirmed {how}: {len(found)}; no lawful history of these cells and COUNTs with "
+                    f"at most {bound} unseen move{'s' if bound > 1 else ''} between two messages gives them"
                     + (f", and for {closed} none without moves over the air, however many go unseen" if closed else "")
                     + (f", and for {never} none of any length, with moves over the air too" if never else "")
                 )
         if self.explained:
             yield f"blames of keys withdrawn: {len(self.explained)}; lte_trace finds a lawful history"
         if self.open:
-            yield f"blames of keys not confirmed: {self.open}; their search was given up, or no history has the message whatever its key"
+            yield (
+                f"blames of keys not confirmed: {self.open}; their search was given up, or no history has the "
+                "message whatever its key"
+            )
 
 
 def asked(phone: Phone, taken: Program, verdicts: Verdicts) -> None:
-    """Asks for the blames of a phone, the first first. A message whose key no history gives is passed over then, and what follows is asked again.
+    """Asks for the blames of a phone, the first first. A message whose key no history gives is passed over then, and
+    what follows is asked again.
 
-    Where no history has the message at all, whatever its key, the moves of the question are too few to judge by: what is left is not confirmed.
+    Where no history has the message at all, whatever its key, the moves of the question are too few to judge by: what
+    is left is not confirmed.
     """
     blamed = [one for one in phone.sightings if one.value is not None]
-    waiting: dict[int, bool] = {}  # blames that no history explains, until it is seen that one has the message with another key
+    waiting: dict[
+        int, bool
+    ] = {}  # blames that no history explains, until it is seen that one has the message with another key
     for _ in range(ASKS):
         answer = phone.ask(taken)
         at = answer.explained if answer is not None else 0
@@ -64,7 +77,9 @@ def asked(phone: Phone, taken: Program, verdicts: Verdicts) -> None:
             verdicts.bounds.update(dict.fromkeys(waiting, phone.bound))
             waiting = {}
         if answer is not None and at >= len(phone.sightings):
-            verdicts.explained.update((id(value), why) for value, why in told(phone, taken) if id(value) not in verdicts.confirmed)
+            verdicts.explained.update(
+                (id(value), why) for value, why in told(phone, taken) if id(value) not in verdicts.confirmed
+            )
             return
         first = phone.sightings[at]
         if answer is None or first.passed or not first.key:
@@ -104,7 +119,9 @@ def confirmed(trace: Trace, taken: Program | None = None) -> Account:
     for one in seen.messages:
         if one.phone is not None:
             phones.setdefault(one.phone, []).append(one)
-    to_ask = [messages for messages in phones.values() if any(is_blamed(value) for one in messages for value in one.values)]
+    to_ask = [
+        messages for messages in phones.values() if any(is_blamed(value) for one in messages for value in one.values)
+    ]
     if not to_ask:
         return seen
     if taken is None:
@@ -112,5 +129,14 @@ def confirmed(trace: Trace, taken: Program | None = None) -> Account:
     verdicts = Verdicts()
     for messages in to_ask:
         asked(Phone(trace, messages), taken, verdicts)
-    found = tuple(replace(one, values=tuple(withdrawn(value, verdicts.explained[id(value)]) if id(value) in verdicts.explained else value for value in one.values)) for one in seen.messages)
+    found = tuple(
+        replace(
+            one,
+            values=tuple(
+                withdrawn(value, verdicts.explained[id(value)]) if id(value) in verdicts.explained else value
+                for value in one.values
+            ),
+        )
+        for one in seen.messages
+    )
     return replace(seen, messages=found, told=None, head=(*seen.head, *verdicts.head(taken.is_proved)))

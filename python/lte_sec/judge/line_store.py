@@ -13,7 +13,8 @@ BATCH, NEWEST = 256, 4096  # lines that are written at once, and that stay in me
 
 
 class KeptLines:
-    """Lines in the order in which they were made. What is written is not changed any more, but for lines that others take the place of."""
+    """Lines in the order in which they were made. What is written is not changed any more, but for lines that others
+    take the place of."""
 
     def __init__(self) -> None:
         self.recent: list[Line] = []  # from `begin` on
@@ -34,7 +35,7 @@ class KeptLines:
 
     def since(self, before: int) -> Sequence[Line]:
         """The lines from a number on, of which none is written."""
-        return self.recent[before - self.begin:]
+        return self.recent[before - self.begin :]
 
     def __len__(self) -> int:
         return self.begin + len(self.recent)
@@ -89,7 +90,14 @@ class KeptLines:
     def put(self, lines: list[Line]) -> None:
         """Has these lines in place of all, in memory."""
         self.recent, self.begin, self.is_held = lines, 0, True
-        self.batches, self.firsts, self.places, self.changed, self.counts, self.last = [], array("q"), array("q"), {}, Counter(), (-1, [])
+        self.batches, self.firsts, self.places, self.changed, self.counts, self.last = (
+            [],
+            array("q"),
+            array("q"),
+            {},
+            Counter(),
+            (-1, []),
+        )
 
     def sort(self, first: Callable[[str], int | None]) -> tuple[LinesInOrder, LinesInOrder]:
         """The lines in the order of the first messages of their frames; and so in the order of their own messages."""
@@ -99,7 +107,9 @@ class KeptLines:
             firsts.append(0 if place is None else place)
             places.append(firsts[-1] if line.place is None else line.place)
         by_frame = sorted(range(len(self)), key=firsts.__getitem__)
-        return LinesInOrder(self, by_frame, places), LinesInOrder(self, sorted(by_frame, key=places.__getitem__), places)
+        return LinesInOrder(self, by_frame, places), LinesInOrder(
+            self, sorted(by_frame, key=places.__getitem__), places
+        )
 
 
 class LinesInOrder:

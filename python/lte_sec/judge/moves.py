@@ -1,7 +1,8 @@
-"""What may have happened on links that a trace does not cover: lawful histories of core, station and phone, the likeliest first.
+"""What may have happened on links that a trace does not cover: lawful histories of core, station and phone, the
+likeliest first.
 
-A move changes a history as TS 33.401 7.2.8 and 7.2.9 have it: the core steps its chain, a pair of NH and NCC is given and stored, a key
-is handed on for a cell, a KeNB is made anew.
+A move changes a history as TS 33.401 7.2.8 and 7.2.9 have it: the core steps its chain, a pair of NH and NCC is given
+and stored, a key is handed on for a cell, a KeNB is made anew.
 """
 from __future__ import annotations
 
@@ -33,7 +34,8 @@ class Moves:
     # -- where the phone was
 
     def came(self, connection: Connection, station: str) -> None:
-        """The phone is at a station: where S1 down of that is not covered, what the core gives it is not seen. Nothing else sets where a phone is."""
+        """The phone is at a station: where S1 down of that is not covered, what the core gives it is not seen. Nothing
+        else sets where a phone is."""
         connection.station = station
         if station and not self.coverage.s1(station, DOWN):
             self.was_at(connection, station)
@@ -48,7 +50,11 @@ class Moves:
 
     def why(self, connection: Connection) -> Why:
         """The condition under which a value that no history gives may be right."""
-        return Cause.WAS_ANYWHERE.because() if connection.away == [ANYWHERE] else Cause.WAS_AT.because(stations=" and ".join(connection.away[-2:]))
+        return (
+            Cause.WAS_ANYWHERE.because()
+            if connection.away == [ANYWHERE]
+            else Cause.WAS_AT.because(stations=" and ".join(connection.away[-2:]))
+        )
 
     def remark(self, connection: Connection) -> Why:
         return Cause.LAWFUL_WHERE.because(why=self.why(connection))
@@ -56,13 +62,15 @@ class Moves:
     # -- moves
 
     def cells_of(self, connection: Connection) -> list[Cell]:
-        """The cells that an unseen step may have been for: those of the station, and those of stations where the phone was."""
+        """The cells that an unseen step may have been for: those of the station, and those of stations where the phone
+        was."""
         named = dict.fromkeys([connection.station, *reversed(connection.away)])
         sites = [site for station in named for site in self.cells.of(station)]
         return list(dict.fromkeys((site.pci, site.earfcn) for site in sites))[:CELLS]
 
     def renewals(self, connection: Connection) -> Iterator[Key]:
-        """The KeNBs that a connection or key change may have brought that the trace does not show: none that was sent before."""
+        """The KeNBs that a connection or key change may have brought that the trace does not show: none that was sent
+        before."""
         if connection.based:
             return
         side, book = connection.side, self.book
@@ -71,7 +79,10 @@ class Moves:
         in_use = dict.fromkeys([*(chain.kasme for chain in connection.cores()), *(one.kasme for one in contexts)])
         tried: dict[tuple[int, int], None] = {}
         for kasme in in_use:
-            known = [*([book.contexts[kasme]] if kasme in book.contexts else []), *(one for one in contexts if one.kasme == kasme)]
+            known = [
+                *([book.contexts[kasme]] if kasme in book.contexts else []),
+                *(one for one in contexts if one.kasme == kasme),
+            ]
             first = max(0, known[0].next[UPLINK] - AROUND) if known else 0
             tried |= dict.fromkeys((kasme, count) for count in range(first, first + COUNTS + AROUND))
         tried |= dict.fromkeys((kasme, count) for kasme in book.unused()[:KASMES] for count in range(FIRSTS))
@@ -95,7 +106,8 @@ class Moves:
                 yield History(chain, Held(key, chain.ncc), PhoneKeys(key, chain.ncc, chain))
 
     def unseen(self, connection: Connection) -> Iterator[Iterator[History]]:
-        """The histories of a phone that was where S1 is not covered: those that go on from what is known, then those of each new KeNB."""
+        """The histories of a phone that was where S1 is not covered: those that go on from what is known, then those of
+        each new KeNB."""
         cells = self.cells_of(connection)
         yield self.going_on(connection, cells)
         for kenb in self.renewals(connection):
@@ -135,13 +147,18 @@ class Moves:
                 for _ in range(STEPS + 1):
                     before, chain = chain, chain.step(self.derivations)
                     if chain.sync.value == nh and chain.ncc == ncc:
-                        found.append(History(chain, Held(UNKNOWN_KEY, before.ncc), PhoneKeys(UNKNOWN_KEY, before.ncc, before, True)))
+                        found.append(
+                            History(
+                                chain, Held(UNKNOWN_KEY, before.ncc), PhoneKeys(UNKNOWN_KEY, before.ncc, before, True)
+                            )
+                        )
             if found:
                 return found
         return []
 
     def of_star(self, connection: Connection, key: bytes, ncc: int, cell: Cell) -> list[History]:
         """The histories in which the station makes this KeNB* for a cell."""
+
         def makes(base: Numbered) -> bool:
             return base.ncc == ncc and self.derivations.calls.kenb_star(base.key.value, *cell) == key
 
@@ -156,44 +173,68 @@ class Moves:
         return next(filter(None, (list(filter(fits, histories)) for histories in self.unseen(connection))), [])
 
     def of_kenb(self, connection: Connection, key: bytes) -> Key | None:
-        """A KeNB of an uplink message that the trace does not show: of any COUNT near, never one that was sent before."""
+        """A KeNB of an uplink message that the trace does not show: of any COUNT near, never one that was sent
+        before."""
         return next((one for one in self.renewals(connection) if one.value == key), None)
 
     def reachable(self, connection: Connection, key: Key, ncc: int, cell: Cell | None = None) -> bool:
-        """Whether links that the trace does not cover may have brought this NH, or this KeNB* for a cell, however many steps that takes: it goes on from
-        a chain of the connection, or from a KeNB that was not sent before. What is tried has bounds, and this has none."""
+        """Whether links that the trace does not cover may have brought this NH, or this KeNB* for a cell, however many
+        steps that takes: it goes on from a chain of the connection, or from a KeNB that was not sent before. What is
+        tried has bounds, and this has none.
+        """
         count, number, cells = counted(key.term.base()), numbered(key.term), key.term.cells()
         if key.term.kind != ("nh" if cell is None else "star") or cell is not None and cells[0] != cell:
             return False
         if count < 0 or key.kasme < 0 or ncc != number % CHAIN or not set(cells[1:]) <= self.unseen_cells(connection):
             return False
-        if any(chain.kasme == key.kasme and chain.sync.term.base() == key.term.base() and number > chain.number for chain in connection.cores()):
+        if any(
+            chain.kasme == key.kasme and chain.sync.term.base() == key.term.base() and number > chain.number
+            for chain in connection.cores()
+        ):
             return True
         return not connection.based and self.may_be_made(key.kasme, count)
 
     def unseen_cells(self, connection: Connection) -> set[Cell]:
-        """The cells in which the phone may have been: those of stations where it was, and of those whose S1 is not covered."""
+        """The cells in which the phone may have been: those of stations where it was, and of those whose S1 is not
+        covered."""
         was_at = {connection.station, *connection.left}
-        stations = {station for station in map(self.cells.station, self.cells.sites) if station in was_at or not self.coverage.s1(station, DOWN)}
+        stations = {
+            station
+            for station in map(self.cells.station, self.cells.sites)
+            if station in was_at or not self.coverage.s1(station, DOWN)
+        }
         return {(site.pci, site.earfcn) for site in self.cells.every() if self.cells.station(site.eci) in stations}
 
     def may_be_made(self, kasme: int, count: int) -> bool:
         """Whether a KeNB may be made at this COUNT: it is not behind those that were used, and was not sent before."""
         context = self.book.contexts.get(kasme)
-        return (context is None or count >= context.next[UPLINK] - AROUND) and self.derivations.kenb(kasme, count).value not in self.sent
+        return (context is None or count >= context.next[UPLINK] - AROUND) and self.derivations.kenb(
+            kasme, count
+        ).value not in self.sent
 
     def takes(self, connection: Connection, histories: list[History]) -> None:
         """The connection goes on from these histories; the KeNB that they begin at was made then."""
         connection.asked, connection.missed, connection.undecided = 0, {}, None
-        self.sent |= {self.derivations.kenb(one.core.kasme, count).value for one in histories if one.core is not None for count in [counted(one.core.sync.term.base())] if count >= 0}
+        self.sent |= {
+            self.derivations.kenb(one.core.kasme, count).value
+            for one in histories
+            if one.core is not None
+            for count in [counted(one.core.sync.term.base())]
+            if count >= 0
+        }
         connection.keeps([replace(one, phone=one.phone or connection.phone) for one in histories])
         self.is_certain(connection)
         connection.parted = False
 
     def is_certain(self, connection: Connection) -> None:
-        """The core's chain is certain again, wherever the phone was before; what the phone did there with NAS stays open."""
+        """The core's chain is certain again, wherever the phone was before; what the phone did there with NAS stays
+        open."""
         connection.side.away |= bool(connection.away)
-        connection.away = [station for station in connection.away if station == connection.station and not self.coverage.s1(station, DOWN)]
+        connection.away = [
+            station
+            for station in connection.away
+            if station == connection.station and not self.coverage.s1(station, DOWN)
+        ]
 
     def lost(self, connection: Connection) -> None:
         """No history gives a value, and one under a KASME that was not given might: from here on nothing is known."""

@@ -23,7 +23,12 @@ VARIABLE = "LTE_SEC_TRACE"  # `proved` or `unproved`, and the path of the progra
 NEVER = ("out-of-order", "out-of-place", "out-of-reach")  # said of a message that no history gives, of any length
 MOST_STEPS = 255  # of a chain, to a key whose derivation is told
 MOST_TOLD = 8  # moves of such a history that are told
-ANSWERED = {"PathSwitchRequestAcknowledge": "PathSwitchRequest", "UEContextSuspendResponse": "UEContextSuspendRequest", "UEContextResumeResponse": "UEContextResumeRequest", "HandoverRequest": "HandoverRequired"}
+ANSWERED = {
+    "PathSwitchRequestAcknowledge": "PathSwitchRequest",
+    "UEContextSuspendResponse": "UEContextSuspendRequest",
+    "UEContextResumeResponse": "UEContextResumeRequest",
+    "HandoverRequest": "HandoverRequired",
+}
 TAKEN = "UEContextModificationResponse"
 REQUESTS = tuple(ANSWERED.values())
 PLAIN = {
@@ -56,12 +61,18 @@ class Program:
     def ask(self, question: str) -> Found | None:
         """The answer to a question; None where the search was given up."""
         try:
-            ran = subprocess.run([self.path], input=question, capture_output=True, text=True, timeout=SECONDS, check=False)
+            ran = subprocess.run(
+                [self.path], input=question, capture_output=True, text=True, timeout=SECONDS, check=False
+            )
         except (OSError, subprocess.TimeoutExpired):
             return None
         first, *moves = ran.stdout.splitlines() or [""]
         words = first.split()
-        return Found(int(words[1]), "closed" in words, tuple(moves), not set(NEVER).isdisjoint(words)) if ran.returncode == 0 and words[:1] == ["explained"] else None
+        return (
+            Found(int(words[1]), "closed" in words, tuple(moves), not set(NEVER).isdisjoint(words))
+            if ran.returncode == 0 and words[:1] == ["explained"]
+            else None
+        )
 
 
 def program() -> Program | None:
@@ -72,7 +83,8 @@ def program() -> Program | None:
 
 @dataclass
 class Sighting:
-    """A message of a phone that tells of keys, as a question has it: the words before the key, and the key with its NCC."""
+    """A message of a phone that tells of keys, as a question has it: the words before the key, and the key with its
+    NCC."""
 
     at: str
     key: str = ""
@@ -82,7 +94,13 @@ class Sighting:
 
     @property
     def line(self) -> str:
-        return f"{self.at} {self.key}" if self.key and not self.passed else self.at if self.at.startswith(("asked ", "took ")) else f"any {self.at}"
+        return (
+            f"{self.at} {self.key}"
+            if self.key and not self.passed
+            else self.at
+            if self.at.startswith(("asked ", "took "))
+            else f"any {self.at}"
+        )
 
 
 @dataclass
@@ -96,10 +114,15 @@ class Numbering:
 
 
 def is_blamed(value: Line) -> bool:
-    """Whether a line says that a key, or its NCC, is another than any lawful history gives. A KeNB of another COUNT is not asked for: NAS tells its
-    COUNT, which the program does not see."""
+    """Whether a line says that a key, or its NCC, is another than any lawful history gives. A KeNB of another COUNT is
+    not asked for: NAS tells its COUNT, which the program does not see."""
     is_of_count = value.what == "KeNB" and value.key is not None and value.key.term.kind == "kenb"
-    return value.verdict == DIFFERS and value.what in KEYS and not is_of_count and (value.hex != value.wanted_hex or value.ncc != value.wanted_ncc)
+    return (
+        value.verdict == DIFFERS
+        and value.what in KEYS
+        and not is_of_count
+        and (value.hex != value.wanted_hex or value.ncc != value.wanted_ncc)
+    )
 
 
 def key_of(one: Seen) -> str:
@@ -133,7 +156,11 @@ class Phone:
 
     def was_changed(self, place: int) -> bool:
         """Whether the modification that is answered here brought a key."""
-        before = (one for one in reversed(self.messages[:place]) if one.kind == "UEContextModificationRequest" and one.connection == self.messages[place].connection)
+        before = (
+            one
+            for one in reversed(self.messages[:place])
+            if one.kind == "UEContextModificationRequest" and one.connection == self.messages[place].connection
+        )
         return any(one.decoded.key is not None for one in [next(before, None)] if one is not None)
 
     def place(self, one: Seen) -> str:
@@ -141,7 +168,10 @@ class Phone:
         message, link = one.decoded, one.link
         if link.kind == "X2" and message.key is not None and message.ncc is not None:
             cells = self.trace.cells  # the cells tell the stations, also where no X2 Setup names an end
-            return f"over {self.numbers.of(cells.station(message.source_eci) or link.one)} {self.numbers.of(cells.station(message.eci) or link.other)}"
+            return (
+                f"over {self.numbers.of(cells.station(message.source_eci) or link.one)} "
+                f"{self.numbers.of(cells.station(message.eci) or link.other)}"
+            )
         if link.kind != "S1":
             return ""
         station = self.numbers.of(link.one)
@@ -186,7 +216,14 @@ class Phone:
     def found(self) -> list[Key]:
         """The blamed keys whose derivation is found, from a KeNB on."""
         keys = (one.value.key for one in self.sightings if one.value is not None and one.value.key is not None)
-        return [key for key in keys if key.kasme >= 0 and key.term.is_of_station and numbered(key.term) <= MOST_STEPS and all(is_cell(*one) for one in key.term.cells())]
+        return [
+            key
+            for key in keys
+            if key.kasme >= 0
+            and key.term.is_of_station
+            and numbered(key.term) <= MOST_STEPS
+            and all(is_cell(*one) for one in key.term.cells())
+        ]
 
     def clues(self) -> Iterator[str]:
         """How these are made. The program makes them itself, so that it need not believe it."""
@@ -201,7 +238,11 @@ class Phone:
             self.kasmes[kasme] = len(self.kasmes)
             yield f"kasme {self.trace.derivations.kasmes[kasme].value.hex()}"
         for name, number in self.numbers.found.items():
-            yield from dict.fromkeys(f"cell {number} {site.pci} {site.earfcn}" for site in self.trace.cells.every() if self.trace.cells.station(site.eci) == name)
+            yield from dict.fromkeys(
+                f"cell {number} {site.pci} {site.earfcn}"
+                for site in self.trace.cells.every()
+                if self.trace.cells.station(site.eci) == name
+            )
         yield from (f"count {self.kasmes[kasme]} {count}" for kasme, count in due)
         yield from (f"first {number}" for number in self.firsts())
 
@@ -219,11 +260,19 @@ class Phone:
             if coverage.s1(name, UP):
                 yield from (f"covers {what} {number}" for what in ("took", "asked"))
         if not any(has(value.said, Cause.WITHOUT_X2) for one in self.messages for value in one.values):
-            yield from (f"covers over {found[one]} {found[other]}" for one in found for other in found if one != other and coverage.x2(one, other))
+            yield from (
+                f"covers over {found[one]} {found[other]}"
+                for one in found
+                for other in found
+                if one != other and coverage.x2(one, other)
+            )
 
     def fits(self) -> bool:
         """Whether the program takes a question of so many stations and KASMEs."""
-        return len(self.numbers.found) <= MOST and len({*(kasme for kasme, _ in self.counts()), *(key.kasme for key in self.found())}) <= MOST
+        return (
+            len(self.numbers.found) <= MOST
+            and len({*(kasme for kasme, _ in self.counts()), *(key.kasme for key in self.found())}) <= MOST
+        )
 
     def ask(self, taken: Program, told: bool = False) -> Found | None:
         """The answer to the question of all messages, with as many unseen moves as it can be searched with."""
@@ -236,7 +285,14 @@ class Phone:
 
     def question(self, bound: int, air: bool, upto: int | None = None, told: bool = False) -> str:
         self.kasmes = {}
-        head = [*self.moves(), *self.clues(), *self.taps(), f"bound {bound}", *(["air"] if air else []), *(["moves"] if told else [])]
+        head = [
+            *self.moves(),
+            *self.clues(),
+            *self.taps(),
+            f"bound {bound}",
+            *(["air"] if air else []),
+            *(["moves"] if told else []),
+        ]
         return "\n".join([*head, *(one.line for one in self.sightings[:upto])]) + "\n"
 
     # -- the answer
@@ -246,14 +302,18 @@ class Phone:
         name, *choices = move.split()
         stations = {str(number): station for station, number in self.numbers.found.items()}
         if name == "renew":
-            return f"a KeNB of COUNT {choices[1]} at {stations.get(choices[3], '?')}" + (", refused" if choices[-1] == "refused" else "")
+            return f"a KeNB of COUNT {choices[1]} at {stations.get(choices[3], '?')}" + (
+                ", refused" if choices[-1] == "refused" else ""
+            )
         if name == "offer":
             return f"a key change of COUNT {choices[1]}"
         if name == "refresh":
             return f"KeNB* within the station for cell {choices[0]}/{choices[1]}"
         if name in ("prepare", "require"):
             link = "X2" if name == "prepare" else "S1"
-            return f"a handover over {link} prepared at {stations.get(choices[0], '?')}" + (", besides another" if choices[-1] == "besides" else "")
+            return f"a handover over {link} prepared at {stations.get(choices[0], '?')}" + (
+                ", besides another" if choices[-1] == "besides" else ""
+            )
         return " ".join([PLAIN.get(name, name), *choices])
 
     def grounds(self, moves: Iterable[str]) -> Iterator[Why]:
@@ -268,4 +328,6 @@ class Phone:
                 continue
             few = unseen[-MOST_TOLD:]
             more = f"{len(unseen) - len(few)} more and " if len(few) < len(unseen) else ""
-            yield Cause.HISTORY_WITH_UNSEEN.because(moves=more + ", ".join(few)) if few else Cause.HISTORY_WITHOUT_UNSEEN.because()
+            yield Cause.HISTORY_WITH_UNSEEN.because(
+                moves=more + ", ".join(few)
+            ) if few else Cause.HISTORY_WITHOUT_UNSEEN.because()

@@ -24,8 +24,11 @@ class Said:
     lacks: tuple[str, ...] = ()
 
 
-def check(derivations: Derivations, cells: Cells, messages: Messages, budget: int | None = None, said: Said = Said()) -> Trace:
-    """Reads a trace. Where something differs and S1 does not tell the order of X2, it is read again by the clock that the answers of the core offer."""
+def check(
+    derivations: Derivations, cells: Cells, messages: Messages, budget: int | None = None, said: Said = Said()
+) -> Trace:
+    """Reads a trace. Where something differs and S1 does not tell the order of X2, it is read again by the clock that
+    the answers of the core offer."""
     before, work = copy.deepcopy(cells), Groundwork(cells, messages)
     second, handed, found = SecondTaps(messages), Handed(derivations.kasmes), Courses()
     for place, message in enumerate(messages):
@@ -44,7 +47,11 @@ def check(derivations: Derivations, cells: Cells, messages: Messages, budget: in
     trace = premises.read(work, [note for note in (taps, clock) if note])
     if not clock and faults(trace) and not all(trace.coverage.s1(station, UP) for station in trace.coverage.stations):
         moved, clock = on_one_clock(messages)
-        other = premises.read(groundwork(before, moved), [*([taps] if taps else []), f"{OTHERWISE}: {clock}"]) if clock else trace
+        other = (
+            premises.read(groundwork(before, moved), [*([taps] if taps else []), f"{OTHERWISE}: {clock}"])
+            if clock
+            else trace
+        )
         trace = min(trace, other, key=faults)
     return trace
 
@@ -71,8 +78,8 @@ class Premises:
     notes: list[Line]
 
     def read(self, work: Groundwork, head: list[str]) -> Trace:
-        """Reads messages in their order. Which NH a core sends first is seen in the whole trace: where both are, the more frequent one is wanted. Then
-        what other choices may explain is read again."""
+        """Reads messages in their order. Which NH a core sends first is seen in the whole trace: where both are, the
+        more frequent one is wanted. Then what other choices may explain is read again."""
         notes = [*work.done(), *self.notes]
         coverage = taken(work.stations.links(), self.said.covers, self.said.lacks)
         grounds = Grounds(work, self.derivations, {}, self.budget, coverage)

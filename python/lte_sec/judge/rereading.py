@@ -1,8 +1,9 @@
-"""The search for another reading of a trace: of all that take the offers differently, the one with the fewest differences counts.
+"""The search for another reading of a trace: of all that take the offers differently, the one with the fewest
+differences counts.
 
-What differs in the first reading and behind an offer is read again with that offer, best first, as far as the bounds go: so many readings of
-the messages concerned, and so many steps of a trace. Where a bound was reached, what differs behind the first offer is not judged. A step is a
-message that is read, so that no clock decides what is told.
+What differs in the first reading and behind an offer is read again with that offer, best first, as far as the bounds
+go: so many readings of the messages concerned, and so many steps of a trace. Where a bound was reached, what differs
+behind the first offer is not judged. A step is a message that is read, so that no clock decides what is told.
 """
 from __future__ import annotations
 
@@ -36,17 +37,29 @@ class Reading:
         return [line.place for line in self.lines if line.verdict == DIFFERS and line.place is not None]
 
     def cost(self) -> tuple[int, int, int]:
-        """The fewest differences first, then the least that is not judged, since a reading that knows nothing has no differences; then the fewest offers."""
+        """The fewest differences first, then the least that is not judged, since a reading that knows nothing has no
+        differences; then the fewest offers."""
         return len(self.differing()), sum(line.verdict == UNKNOWN for line in self.lines), len(self.tape)
 
     def open(self) -> list[tuple[int, Offer]]:
-        """The offers that the first difference may depend on, the nearest first: those of its connection behind the last line that is right, which says
-        whose its message is, and all connections that may have gone on."""
+        """The offers that the first difference may depend on, the nearest first: those of its connection behind the
+        last line that is right, which says whose its message is, and all connections that may have gone on."""
         first = min(self.differing())
         owner = self.owners.get(first)
-        right = [line.place for line in self.lines if line.verdict == RIGHT and line.place is not None and line.place < first and self.owners.get(line.place) == owner]
+        right = [
+            line.place
+            for line in self.lines
+            if line.verdict == RIGHT
+            and line.place is not None
+            and line.place < first
+            and self.owners.get(line.place) == owner
+        ]
         sure = max(right, default=-1)
-        found = [(place, offer) for place, offer in self.offers if place <= first and (offer is Offer.STAYS or place > sure and self.owners.get(place) == owner)]
+        found = [
+            (place, offer)
+            for place, offer in self.offers
+            if place <= first and (offer is Offer.STAYS or place > sure and self.owners.get(place) == owner)
+        ]
         return sorted(found, reverse=True)
 
 
@@ -98,14 +111,21 @@ def marks_of(trace: Trace, place: int) -> Iterator[Hashable]:
     if message.link == "S1":
         end = station_end(message)
         core = message.target if end == message.source else message.source
-        identities = (end, message.enb_id), ("core", core, message.mme_id), ("container", message.container), ("S-TMSI", message.tmsi)
+        identities = (
+            (end, message.enb_id),
+            ("core", core, message.mme_id),
+            ("container", message.container),
+            ("S-TMSI", message.tmsi),
+        )
         yield from (one for one in identities if one[-1] is not None)
 
 
 def reading(trace: Trace, places: set[int]) -> Reading:
     numbers = {id(one): number for number, one in enumerate(trace.connections)}
     return Reading(
-        trace.choices.taken, [one for one in trace.choices.met if one[0] in places], [line for line in trace.lines if line.place in places],
+        trace.choices.taken,
+        [one for one in trace.choices.met if one[0] in places],
+        [line for line in trace.lines if line.place in places],
         {place: numbers[id(one)] for place, one in trace.owners.items() if place in places},
     )
 
@@ -162,11 +182,15 @@ class Rereading:
             if frames:
                 yield f"{OTHERWISE}: {offer.value}, at frame{'s' if len(frames) > 1 else ''} {listed(frames)}"
         if self.withdrawn:
-            yield f"the search for other readings was ended: {self.withdrawn} that differ are not judged for that reason"
+            yield (
+                f"the search for other readings was ended: {self.withdrawn} that "
+                "differ are not judged for that reason"
+            )
 
 
 def read_again(trace: Trace) -> list[str]:
-    """Reads again what differs and other choices may explain, as far as the steps go that its messages give; the notes on it."""
+    """Reads again what differs and other choices may explain, as far as the steps go that its messages give; the notes
+    on it."""
     found = Rereading(trace)
     found.all()
     return list(found.head())

@@ -11,7 +11,10 @@ from .attempts import Attempts, Leg, PreparedAttempt
 from .histories import Numbered
 from .state import Attempt, Connection
 
-WAITING, NEAREST = 64, 1024  # commands that RRC may still show; connections in which a handover without a container is sought
+WAITING, NEAREST = (
+    64,
+    1024,
+)  # commands that RRC may still show; connections in which a handover without a container is sought
 INTRA_LTE = 0  # TS 36.413 9.2.1.13
 
 
@@ -22,7 +25,9 @@ class S1Handovers(Attempts):
 
     def handover_required(self, connection: Connection, message: Message, station: str, at_core: Leg) -> None:
         if message.kind not in (None, INTRA_LTE):
-            self.judge.lines.append(unknown_line(message.frame, title(message), "handover", Cause.OTHER_TECHNOLOGY.because()))
+            self.judge.lines.append(
+                unknown_line(message.frame, title(message), "handover", Cause.OTHER_TECHNOLOGY.because())
+            )
             return
         connection.asked += 1
         connection.algorithms = message.algorithms or connection.algorithms
@@ -36,11 +41,15 @@ class S1Handovers(Attempts):
         if message.nh is None or message.ncc is None:
             return
         station = self.cells.addresses.get(end) or self.cells.station(message.eci)
-        pairs = self.forwarded(connection, message) if connection.forwarded else self.judge.nh(connection, message, station)
+        pairs = (
+            self.forwarded(connection, message) if connection.forwarded else self.judge.nh(connection, message, station)
+        )
         connection.forwarded = []
         self.judge.capabilities(message, [connection.side.capabilities, connection.capabilities])
         connection.capabilities = message.capabilities or connection.capabilities
-        attempt = Attempt("S1", message.frame, station, message.eci, [], [pair.ncc for pair in pairs], self.judge.cell(message.eci))
+        attempt = Attempt(
+            "S1", message.frame, station, message.eci, [], [pair.ncc for pair in pairs], self.judge.cell(message.eci)
+        )
         attempt.pairs = pairs
         attempt.capabilities = message.capabilities
         self.judge.target_keys(attempt, attempt.cell)
@@ -49,17 +58,24 @@ class S1Handovers(Attempts):
         self.targets[core, message.mme_id] = (connection, attempt)
 
     def waiting(self, message: Message) -> Connection | None:
-        """The connection whose container this is: of several with the same octets, the one whose next NH this is, else the last."""
+        """The connection whose container this is: of several with the same octets, the one whose next NH this is, else
+        the last."""
         found = self.sources.get(message.container or b"", [])
         if len(found) < 2:
             return next(iter(found), None)
-        chosen = next((one for one in found if self.is_due(one, message)), found[-1] if len(found) <= WAITING else None)  # else not all were kept
+        chosen = next(
+            (one for one in found if self.is_due(one, message)), found[-1] if len(found) <= WAITING else None
+        )  # else not all were kept
         if chosen is not None:
             found.remove(chosen)
         return chosen
 
     def is_due(self, connection: Connection, message: Message) -> bool:
-        return any(after.sync.value == message.nh for chain in connection.cores() for after in self.judge.due(connection, chain))
+        return any(
+            after.sync.value == message.nh
+            for chain in connection.cores()
+            for after in self.judge.due(connection, chain)
+        )
 
     def steps_to(self, message: Message) -> Connection | None:
         """The connection that waits for a handover over S1 and whose next NH this is, where no container tells."""
@@ -81,15 +97,22 @@ class S1Handovers(Attempts):
 
     def handover_command(self, connection: Connection, message: Message, station: str, at_core: Leg) -> None:
         if message.kind not in (None, INTRA_LTE):
-            self.judge.lines.append(unknown_line(message.frame, title(message), "command", Cause.OTHER_TECHNOLOGY.because()))
+            self.judge.lines.append(
+                unknown_line(message.frame, title(message), "command", Cause.OTHER_TECHNOLOGY.because())
+            )
             return
         opened = [attempt for attempt in connection.open_attempts() if attempt.kind == "S1"]
         answered = self.answers.get(message.container or b"", [])
-        pair = next((one for one in reversed(answered) if one[0] is connection), answered[-1] if answered else (connection, opened[-1]) if opened else None)
+        pair = next(
+            (one for one in reversed(answered) if one[0] is connection),
+            answered[-1] if answered else (connection, opened[-1]) if opened else None,
+        )
         if pair is None:
             self.asked_unseen(connection, station)
             if message.command is not None or message.container is not None:
-                self.judge.lines.append(unknown_line(message.frame, title(message), "command", Cause.HANDOVER_NOT_SHOWN.because()))
+                self.judge.lines.append(
+                    unknown_line(message.frame, title(message), "command", Cause.HANDOVER_NOT_SHOWN.because())
+                )
             return
         self.belongs(*pair)
         self.commanded(pair, message)
@@ -127,7 +150,8 @@ class S1Handovers(Attempts):
     # -- requests that the trace cannot show, as S1 up of their station is not covered: the core's answers tell of them
 
     def asked_unseen(self, connection: Connection, station: str) -> bool:
-        """The core answers a request of this station: where that could not be seen, the chain may have stepped for it."""
+        """The core answers a request of this station: where that could not be seen, the chain may have stepped for
+        it."""
         is_unseen = not self.judge.coverage.s1(station, FROM_STATIONS)
         if is_unseen and not any(attempt.kind == "S1" for attempt in connection.open_attempts()):
             connection.asked += 1
@@ -140,9 +164,12 @@ class S1Handovers(Attempts):
             self.handover_cancelled(connection, message, station, at_core)
 
     def switched(self, connection: Connection, message: Message, station: str, at_core: Leg) -> None:
-        """The answer to a path switch: without its request, and where no handover leads here, the phone came back from elsewhere."""
+        """The answer to a path switch: without its request, and where no handover leads here, the phone came back from
+        elsewhere."""
         if not self.judge.coverage.s1(station, FROM_STATIONS) and station == connection.station:
-            unasked = next((one for one in reversed(connection.attempts) if one.over == "unasked" and one.station == station), None)
+            unasked = next(
+                (one for one in reversed(connection.attempts) if one.over == "unasked" and one.station == station), None
+            )
             if unasked is not None:
                 unasked.over = "done"
             elif connection.states() and not any(one.frame == message.frame for one in connection.attempts[-1:]):
@@ -175,7 +202,9 @@ class S1Handovers(Attempts):
         place = next((place for place, one in enumerate(self.derivations.kasmes) if one.value == context.kasme), None)
         known = [one for one in self.connections if one.side.current is not None and one.side.current.kasme == place]
         if place is None or not known:
-            self.judge.lines.append(unknown_line(message.frame, title(message), "MM context", Cause.CONNECTION_NOT_SHOWN.because()))
+            self.judge.lines.append(
+                unknown_line(message.frame, title(message), "MM context", Cause.CONNECTION_NOT_SHOWN.because())
+            )
             return
         connection = next((one for one in reversed(known) if one.asked), known[-1])
         self.belongs(connection)
@@ -194,15 +223,35 @@ class S1Handovers(Attempts):
         wanted = current.ksi if current else None
         name = self.derivations.name(place)
         if told is None or wanted is None or told == wanted:
-            said = Cause.KASME_RIGHT.because(name=name) if told is None else Cause.KASME_AND_KSI_RIGHT.because(name=name, ksi=told)
+            said = (
+                Cause.KASME_RIGHT.because(name=name)
+                if told is None
+                else Cause.KASME_AND_KSI_RIGHT.because(name=name, ksi=told)
+            )
             self.judge.lines.append(Line(message.frame, title(message), "KASME", RIGHT, said, kasme=name))
         else:
             said = (Cause.KASME_IS.of(name=name), Cause.KSI_OF_CONTEXT.of(found=told, wanted=wanted))
-            self.judge.lines.append(Line(message.frame, title(message), "KASME", DIFFERS, said, found=str(told), wanted=str(wanted), wanted_hex=str(wanted), kasme=name))
+            self.judge.lines.append(
+                Line(
+                    message.frame,
+                    title(message),
+                    "KASME",
+                    DIFFERS,
+                    said,
+                    found=str(told),
+                    wanted=str(wanted),
+                    wanted_hex=str(wanted),
+                    kasme=name,
+                )
+            )
 
     def forwarded(self, connection: Connection, message: Message) -> list[Numbered]:
         """The Handover Request of the next core has the NH and NCC that it was handed."""
         first = connection.forwarded[0]
-        found = first.key if first.key.value == message.nh else self.judge.named(message.nh or b"", connection, [first.key])
+        found = (
+            first.key if first.key.value == message.nh else self.judge.named(message.nh or b"", connection, [first.key])
+        )
         self.judge.judged(message, "NH", found, first.key, (message.ncc or 0, first.ncc), Cause.HANDED_ON.because())
-        return connection.forwarded if found is first.key else [Numbered(found, message.ncc or 0), *connection.forwarded]
+        return (
+            connection.forwarded if found is first.key else [Numbered(found, message.ncc or 0), *connection.forwarded]
+        )

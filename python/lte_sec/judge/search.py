@@ -1,7 +1,8 @@
 """The search for a derivation that gives a key: what it is where it is not what was wanted.
 
-The search goes from the likely to the far: from keys at hand (in use, stored, sent before), their chains and their KeNB*s, then from all
-KeNBs up to a COUNT. Cells are those known, and each PCI with each EARFCN (a mixed cell), at most once in a key.
+The search goes from the likely to the far: from keys at hand (in use, stored, sent before), their chains and their
+KeNB*s, then from all KeNBs up to a COUNT. Cells are those known, and each PCI with each EARFCN (a mixed cell), at most
+once in a key.
 """
 from __future__ import annotations
 
@@ -17,7 +18,9 @@ PCIS, EARFCNS = 504, 65536
 KEPT = 4096  # chains that are kept
 FEW = 6  # of the keys at hand, so many are taken further
 
-MadeStar = tuple[bytes, Key, tuple[Cell, ...]]  # octets, and of which key and for which cells, one after the other, they are KeNB*; of none the key itself
+MadeStar = tuple[
+    bytes, Key, tuple[Cell, ...]
+]  # octets, and of which key and for which cells, one after the other, they are KeNB*; of none the key itself
 
 
 def star_text(pci: int, earfcn: int) -> bytes:
@@ -44,14 +47,18 @@ class Budget:
 class DerivationSearch:
     """Bounds: COUNTs up to `counts`, chains up to `depth`, KeNB* of KeNB* up to `deep`."""
 
-    def __init__(self, derivations: Derivations, cells: Cells, counts: int = 300, depth: int = 16, deep: int = 3, budget: int = 0):
+    def __init__(
+        self, derivations: Derivations, cells: Cells, counts: int = 300, depth: int = 16, deep: int = 3, budget: int = 0
+    ):
         self.derivations, self.cells = derivations, cells
         self.counts, self.depth, self.deep = counts, depth, deep
         self.budget, self.idle = Budget(budget), Budget(budget // 4)
         self.tried = 0  # derivations so far
         self._found: dict[bytes, Key] = {}  # by their octets
         self._chains: dict[tuple[int, bytes], list[Key]] = {}
-        self._vain: dict[tuple[bytes, frozenset[Cell]], tuple[set[bytes], set[bytes]]] = {}  # by octets and cells, the keys that were tried near, and the firsts of them
+        self._vain: dict[
+            tuple[bytes, frozenset[Cell]], tuple[set[bytes], set[bytes]]
+        ] = {}  # by octets and cells, the keys that were tried near, and the firsts of them
 
     # -- candidates
 
@@ -99,7 +106,9 @@ class DerivationSearch:
     def made_stars(self, keys: Iterable[MadeStar], deep: int) -> Iterator[MadeStar]:
         """As `stars`, in their order, but made by `quick`."""
         plain, odd = list(keys), list[MadeStar]()
-        real, mixed = ([(cell, star_text(*cell)) for cell in sorted(cells)] for cells in (self.cells.pairs(), self.mixed()))
+        real, mixed = (
+            [(cell, star_text(*cell)) for cell in sorted(cells)] for cells in (self.cells.pairs(), self.mixed())
+        )
         for _ in range(deep):
             next_plain = list(stepped(plain, real))
             yield from next_plain
@@ -149,8 +158,8 @@ class DerivationSearch:
     def find(self, value: bytes, at_hand: Iterable[Key], target: int | None = None, judged: bool = True) -> Key | None:
         """The first derivation that gives these octets, or None; `target` is the PCI that a KeNB* is for.
 
-        Keys that are not judged, as those of phones without their KASME, have a budget of their own. What was found once is known to each
-        further reading of a trace, whose budget may be spent by then.
+        Keys that are not judged, as those of phones without their KASME, have a budget of their own. What was found
+        once is known to each further reading of a trace, whose budget may be spent by then.
         """
         keys = list({key.value: key for key in at_hand if key.known}.values())
         found = next((key for key in keys if key.value == value), None) or self._found.get(value)
@@ -159,17 +168,25 @@ class DerivationSearch:
         if not judged:
             found = self.sought(value, itertools.chain(self.near(keys, keys[:FEW]), self.far(keys)), self.idle)
         else:
-            found = self.sought_near(value, keys) or self.sought(value, itertools.chain(self.swept(keys, target), self.far(keys)), self.budget)
+            found = self.sought_near(value, keys) or self.sought(
+                value, itertools.chain(self.swept(keys, target), self.far(keys)), self.budget
+            )
         if found is not None:
             self._found[value] = found
         return found
 
     def sought_near(self, value: bytes, keys: list[Key]) -> Key | None:
-        """The first that is the key of what the keys at hand give: each is tried once in the cells that are known, though a trace is read again and again."""
+        """The first that is the key of what the keys at hand give: each is tried once in the cells that are known,
+        though a trace is read again and again."""
         if len(self._vain) > KEPT:
             self._vain.clear()
         tried, further = self._vain.setdefault((value, frozenset(self.cells.pairs())), (set(), set()))
-        found = self.sought(value, self.near([key for key in keys if key.value not in tried], [key for key in keys[:FEW] if key.value not in further]))
+        found = self.sought(
+            value,
+            self.near(
+                [key for key in keys if key.value not in tried], [key for key in keys[:FEW] if key.value not in further]
+            ),
+        )
         tried |= {key.value for key in keys}
         further |= {key.value for key in keys[:FEW]}
         return found

@@ -1,7 +1,8 @@
 """KeNB* against TS 33.401 for the target of a handover over X2: the lawful histories that give it, the likeliest first.
 
-They are tried in this order: as the trace shows it, what a trace lacks one half of, what was on links that it does not cover, what only
-the air shows. The first that gives the key says what the line rests on; those that do not give it are gone.
+They are tried in this order: as the trace shows it, what a trace lacks one half of, what was on links that it does not
+cover, what only the air shows. The first that gives the key says what the line rests on; those that do not give it are
+gone.
 """
 from __future__ import annotations
 
@@ -20,7 +21,11 @@ from .moves import ANYWHERE
 from .state import Attempt, Connection, Given
 
 BASES = 4  # keys for which a mistake is sought
-MANY, MIXED, WIDE = 16, 6, 1024  # refreshes that are tried: so many in turn, in so many cells, through so many ways of them
+MANY, MIXED, WIDE = (
+    16,
+    6,
+    1024,
+)  # refreshes that are tried: so many in turn, in so many cells, through so many ways of them
 LOST_ANSWER = Cause.LOST_ANSWER.because()
 
 
@@ -37,11 +42,18 @@ class StarJudge(ChainJudge):
     """Judges KeNB* too."""
 
     def after_unseen(self, connection: Connection, message: Message) -> None:
-        """Where the source names another own cell than the known one, there was a handover within it that the trace lacks."""
+        """Where the source names another own cell than the known one, there was a handover within it that the trace
+        lacks."""
         eci = message.source_eci if message.source_eci is not None else connection.told_eci
         cell = self.cell(eci)
         connection.eci = eci if connection.eci is None else connection.eci
-        if eci is None or cell is None or eci == connection.eci or self.cells.station(eci) != connection.station or not connection.states():
+        if (
+            eci is None
+            or cell is None
+            or eci == connection.eci
+            or self.cells.station(eci) != connection.station
+            or not connection.states()
+        ):
             return
         if any(attempt.kind == "within" and attempt.eci == eci for attempt in connection.attempts[-1:]):
             return
@@ -56,8 +68,14 @@ class StarJudge(ChainJudge):
         connection.keeps([*moved, *(one for one in came if one.core in cores), *connection.histories])
 
     def came_there(self, attempt: Attempt, cell: Cell) -> list[History]:
-        """The phone came to another cell of the target than was prepared, and KeNB* was made for that (TS 33.401 7.4.3, 7.2.8.4)."""
-        return [one.stores(pair).refreshed(self.derivations, cell) for pair in attempt.bases or attempt.pairs for one in attempt.before if pair.key.value]
+        """The phone came to another cell of the target than was prepared, and KeNB* was made for that (TS 33.401 7.4.3,
+        7.2.8.4)."""
+        return [
+            one.stores(pair).refreshed(self.derivations, cell)
+            for pair in attempt.bases or attempt.pairs
+            for one in attempt.before
+            if pair.key.value
+        ]
 
     def star(self, connection: Connection, message: Message) -> Made:
         """Judges a KeNB* and its NCC, and keeps the histories that give it."""
@@ -78,9 +96,21 @@ class StarJudge(ChainJudge):
             self.unjudged(message, "KeNB*", Cause.NH_NOT_SHOWN.because(), found)
             self.begins_at(connection, found)
             return Made([Given(Held(found, ncc))], doubt=Cause.STAR_NOT_JUDGED.because())
-        made = self.star_of_changed_cell(connection, message, bases) or self.star_of_elsewhere(connection, message, cell) or self.star_of_unseen(connection, message, cell)
-        made = made or self.star_of_refreshed(connection, message, first, cell) or self.star_of_nobody(connection, message, bases, cell)
-        return made or self.star_of_foreign(connection, message, bases) or self.other_star(connection, message, bases, first, cell)
+        made = (
+            self.star_of_changed_cell(connection, message, bases)
+            or self.star_of_elsewhere(connection, message, cell)
+            or self.star_of_unseen(connection, message, cell)
+        )
+        made = (
+            made
+            or self.star_of_refreshed(connection, message, first, cell)
+            or self.star_of_nobody(connection, message, bases, cell)
+        )
+        return (
+            made
+            or self.star_of_foreign(connection, message, bases)
+            or self.other_star(connection, message, bases, first, cell)
+        )
 
     def star_of_nothing(self, connection: Connection, message: Message, bases: list[Numbered]) -> Made:
         """A KeNB* of a source whose key is not known, or for a cell that is not."""
@@ -102,8 +132,11 @@ class StarJudge(ChainJudge):
         connection.keeps(histories)
         return Made([Given(Held(made, ncc))], [connection.histories[0].held.base()])
 
-    def star_of_nobody(self, connection: Connection, message: Message, bases: list[Numbered], cell: Cell) -> Made | None:
-        """A KeNB* that no course gives which was tried of a phone without S1: one under a KASME that was not given may, or one with more steps."""
+    def star_of_nobody(
+        self, connection: Connection, message: Message, bases: list[Numbered], cell: Cell
+    ) -> Made | None:
+        """A KeNB* that no course gives which was tried of a phone without S1: one under a KASME that was not given may,
+        or one with more steps."""
         if not connection.away:
             return None
         found = self.named(message.key or b"", connection, [base.key for base in bases])
@@ -115,25 +148,45 @@ class StarJudge(ChainJudge):
         return Made([Given(Held(found, message.ncc or 0))], doubt=why)
 
     def star_of_changed_cell(self, connection: Connection, message: Message, bases: list[Numbered]) -> Made | None:
-        """A KeNB* for another PCI of the target cell than is known, which the target's own answer has too: the cell has changed."""
+        """A KeNB* for another PCI of the target cell than is known, which the target's own answer has too: the cell has
+        changed."""
         told, site = self.reply(self.cells.now), self.cells.at(message.eci) if message.eci is not None else None
-        if told is None or site is None or told.pci is None or told.pci in self.cells.pcis() or site.eci in self.cells.given:
+        if (
+            told is None
+            or site is None
+            or told.pci is None
+            or told.pci in self.cells.pcis()
+            or site.eci in self.cells.given
+        ):
             return None
         now = replace(site, pci=told.pci, earfcn=told.earfcn if told.earfcn is not None else site.earfcn)
         for base in bases if is_cell(now.pci, now.earfcn) else []:
             made = self.derivations.star(base.key, now.pci, now.earfcn)
             if made.value == message.key:
                 self.cells.changed(now, self.cells.now)
-                self.judged(message, "KeNB*", made, made, (message.ncc or 0, base.ncc), Cause.PCI_IS_NEW.because(pci=now.pci), (now.pci, now.earfcn))
-                return self.made_by(connection, [one for one in connection.histories if one.held.base() == base], made, message.ncc or 0)
+                self.judged(
+                    message,
+                    "KeNB*",
+                    made,
+                    made,
+                    (message.ncc or 0, base.ncc),
+                    Cause.PCI_IS_NEW.because(pci=now.pci),
+                    (now.pci, now.earfcn),
+                )
+                return self.made_by(
+                    connection, [one for one in connection.histories if one.held.base() == base], made, message.ncc or 0
+                )
         return None
 
     def star_of_unknown_pci(self, message: Message, found: Key, bases: list[Numbered], cell: Cell) -> Why:
-        """Why a KeNB* for a PCI of no known cell may be right: the target may have told its source of it where the trace does not show X2."""
+        """Why a KeNB* for a PCI of no known cell may be right: the target may have told its source of it where the
+        trace does not show X2."""
         made_for = found.term.cells()[:1] if found.term.kind == "star" else []
         lawful = any(found.term.above == base.key.term and base.ncc == message.ncc for base in bases)
         target = self.cells.station(message.eci)
-        told = self.coverage.x2(target, self.cells.station(message.source_eci) or self.cells.addresses.get(message.source, ""))
+        told = self.coverage.x2(
+            target, self.cells.station(message.source_eci) or self.cells.addresses.get(message.source, "")
+        )
         if not lawful or told or not made_for or made_for[0][0] in self.cells.pcis() or made_for[0][1] != cell[1]:
             return ()
         return Cause.PCI_MAY_BE_NEW.because(pci=made_for[0][0], station=target)
@@ -153,10 +206,12 @@ class StarJudge(ChainJudge):
 
     # -- where the trace lacks one half
 
-    def unseen_chains(self, connection: Connection, ncc: int, by_key: bool = True) -> Iterator[tuple[Chain, list[History]]]:
-        """The chains with this NCC that the source may have been told in answers that the trace lacks, and the histories behind each: no station makes
-        an NH itself. Where the trace shows no request for it, a whole exchange is missing, which needs a link that is not covered or lost frames, and a
-        key that proves it."""
+    def unseen_chains(
+        self, connection: Connection, ncc: int, by_key: bool = True
+    ) -> Iterator[tuple[Chain, list[History]]]:
+        """The chains with this NCC that the source may have been told in answers that the trace lacks, and the
+        histories behind each: no station makes an NH itself. Where the trace shows no request for it, a whole exchange
+        is missing, which needs a link that is not covered or lost frames, and a key that proves it."""
         for number, told in sorted(connection.missed.items()):
             late = self.numbered(connection, number) if told in ("", connection.station) else None
             if late is not None and late.ncc == ncc:
@@ -167,21 +222,32 @@ class StarJudge(ChainJudge):
             for number in range(1, CHAIN + 1):
                 chain = chain.step(self.derivations)
                 if chain.ncc == ncc and (is_free or number in asked):
-                    yield chain, [replace(one.stores(Numbered(chain.sync, ncc)), core=chain) for one in connection.histories if one.core == begun]
+                    yield chain, [
+                        replace(one.stores(Numbered(chain.sync, ncc)), core=chain)
+                        for one in connection.histories
+                        if one.core == begun
+                    ]
 
     def told_elsewhere(self, connection: Connection) -> bool:
-        """Whether a whole exchange may have told the serving station an NH: its S1 is not covered in both directions, the capture lost frames, or the
-        trace does not show where the phone was. Elsewhere the core tells another station."""
-        return not self.coverage.s1(connection.station) or ANYWHERE in connection.away or self.lost_frames(connection.certain)
+        """Whether a whole exchange may have told the serving station an NH: its S1 is not covered in both directions,
+        the capture lost frames, or the trace does not show where the phone was. Elsewhere the core tells another
+        station."""
+        return (
+            not self.coverage.s1(connection.station)
+            or ANYWHERE in connection.away
+            or self.lost_frames(connection.certain)
+        )
 
     def told_unseen(self, connection: Connection, chain: Chain) -> None:
-        """The source was told this NH, in an answer that may come yet: X2 and S1 may be captured in another order than they were sent."""
+        """The source was told this NH, in an answer that may come yet: X2 and S1 may be captured in another order than
+        they were sent."""
         if chain.number not in connection.missed:
             connection.asked = 0
         connection.missed[chain.number] = connection.station
 
     def star_of_unseen(self, connection: Connection, message: Message, cell: Cell) -> Made | None:
-        """A KeNB* from an NH that the source was to get, in an answer that the trace lacks, or after a key change that it lacks."""
+        """A KeNB* from an NH that the source was to get, in an answer that the trace lacks, or after a key change that
+        it lacks."""
         ncc = message.ncc or 0
         for chain, histories in self.unseen_chains(connection, ncc):
             made = self.derivations.star(chain.sync, *cell)
@@ -204,7 +270,8 @@ class StarJudge(ChainJudge):
         return None
 
     def star_of_foreign(self, connection: Connection, message: Message, bases: list[Numbered]) -> Made | None:
-        """A KeNB* of a phone whose KASME was not given: a key change that the trace lacks may have brought its key, and NCC 0."""
+        """A KeNB* of a phone whose KASME was not given: a key change that the trace lacks may have brought its key, and
+        NCC 0."""
         begun = not message.ncc and all(base.ncc for base in bases)
         if connection.phone is not None and not begun and not self.is_foreign(connection):
             return None
@@ -226,8 +293,8 @@ class StarJudge(ChainJudge):
         return ([own] if own else []) + [one for one in others if one is not None][:MIXED]
 
     def refreshes(self, connection: Connection, histories: list[History]) -> Iterator[tuple[History, list[Cell]]]:
-        """The histories behind steps to cells of the station: re-establishments and handovers within it (TS 33.401 7.2.8.4.1,
-        7.2.9.3, TS 36.331 5.3.7). They end in the phone's own cell."""
+        """The histories behind steps to cells of the station: re-establishments and handovers within it (TS 33.401
+        7.2.8.4.1, 7.2.9.3, TS 36.331 5.3.7). They end in the phone's own cell."""
         cells = self.own_cells(connection)
         if not cells or self.cell(connection.eci) is None:
             return
@@ -268,7 +335,16 @@ class StarJudge(ChainJudge):
             if one.held == held:
                 yield one
 
-    def refreshed_star(self, connection: Connection, message: Message, wanted: Numbered, one: History, path: list[Cell], made: Key, also: Why) -> Made:
+    def refreshed_star(
+        self,
+        connection: Connection,
+        message: Message,
+        wanted: Numbered,
+        one: History,
+        path: list[Cell],
+        made: Key,
+        also: Why,
+    ) -> Made:
         """The line of a KeNB* that is right if the phone was refreshed; NCC is judged all the same."""
         if set(path) != {path[-1]}:
             how = Cause.IF_IN_CELLS.of(cells=" ".join(f"({pci},{earfcn})" for pci, earfcn in path))
@@ -283,7 +359,9 @@ class StarJudge(ChainJudge):
 
     # -- what no history gives
 
-    def other_star(self, connection: Connection, message: Message, bases: list[Numbered], wanted: Numbered, cell: Cell) -> Made:
+    def other_star(
+        self, connection: Connection, message: Message, bases: list[Numbered], wanted: Numbered, cell: Cell
+    ) -> Made:
         """A KeNB* that no lawful history gives."""
         assert message.key is not None
         ncc = message.ncc or 0

@@ -25,7 +25,8 @@ class Given:
 
 @dataclass
 class Attempt:
-    """A handover that was asked for: the target, what it was given (as it was sent, then as it was wanted), and what the command says."""
+    """A handover that was asked for: the target, what it was given (as it was sent, then as it was wanted), and what
+    the command says."""
 
     kind: str  # X2, S1, change (of the key, in the cell), within (a station) or unseen
     frame: str
@@ -63,18 +64,26 @@ class Connection:
 
     side: NasSide = field(default_factory=NasSide)
     mme: str = ""
-    legs: dict[tuple[str, int | None], int | None] = field(default_factory=dict)  # MME-UE-S1AP-ID by end and eNB-UE-S1AP-ID
+    legs: dict[tuple[str, int | None], int | None] = field(
+        default_factory=dict
+    )  # MME-UE-S1AP-ID by end and eNB-UE-S1AP-ID
     station: str = ""
     eci: int | None = None
     told_eci: int | None = None  # the cell that the station last told
     histories: list[History] = field(default_factory=lambda: [History()])  # the likeliest first, never none
-    left: dict[str, list[Held]] = field(default_factory=dict)  # what stations had that the phone left: the search looks there
+    left: dict[str, list[Held]] = field(
+        default_factory=dict
+    )  # what stations had that the phone left: the search looks there
     asked: int = 0  # requests to step the chain that have no answer yet
-    missed: dict[int, str] = field(default_factory=dict)  # numbers of NH whose answers come late, if at all, each with its station where that is known
+    missed: dict[int, str] = field(
+        default_factory=dict
+    )  # numbers of NH whose answers come late, if at all, each with its station where that is known
     attempts: list[Attempt] = field(default_factory=list)
     saved: list[History] | None = None  # before a key change that may fail
     algorithms: tuple[int, int] | None = None
-    based: bool = False  # a key tells at which KeNB the chain begins, and the phone was at no station without S1 since: only the core's number is in doubt
+    # a key tells at which KeNB the chain begins, and the phone was at no station without S1 since: only the core's
+    # number is in doubt
+    based: bool = False
     cut: Why = ()  # what was more than is kept, since the last KeNB of a connection
     parted: bool = False  # phone and station have come apart
     undecided: Undecided | None = None
@@ -82,7 +91,9 @@ class Connection:
     last: int = -1  # that of its last message of S1
     proved: int | None = None  # that of its last line that is right
     given: tuple[bytes, str] | None = None  # the last KeNB that its station was sent, and the frame
-    away: list[str] = field(default_factory=list)  # stations without S1 in the trace where the phone was since its keys were last certain
+    away: list[str] = field(
+        default_factory=list
+    )  # stations without S1 in the trace where the phone was since its keys were last certain
     resumed: bool = False  # the phone came back from suspension at its station
     capabilities: tuple[int, int] | None = None  # of the phone, as the core told the station
     forwarded: list[Numbered] = field(default_factory=list)  # NH and NCC that another core was given for this handover
@@ -109,7 +120,9 @@ class Connection:
 
     def steps(self, steps: list[tuple[Chain, Chain]]) -> None:
         """The core went on from one chain to another, by any of these steps: histories with other chains are gone."""
-        self.keeps([replace(one, core=after) for before, after in steps for one in self.histories if one.core == before])
+        self.keeps(
+            [replace(one, core=after) for before, after in steps for one in self.histories if one.core == before]
+        )
 
     def goes_on(self, cores: list[Chain]) -> None:
         """The core's chain is one of these, whatever it was."""
@@ -122,7 +135,8 @@ class Connection:
         self.left[self.station] = self.states()[:2]
 
     def open_attempts(self) -> list[Attempt]:
-        """The attempts that are not over; old ones that are go, so that a long connection takes no longer than many short ones."""
+        """The attempts that are not over; old ones that are go, so that a long connection takes no longer than many
+        short ones."""
         if len(self.attempts) > MANY_ATTEMPTS:
             old = [attempt for attempt in self.attempts[:-FEW_ATTEMPTS] if not attempt.over]
             self.cut = self.cut or (Cause.MANY_HANDOVERS.because(most=FEW_ATTEMPTS) if len(old) > FEW_ATTEMPTS else ())

@@ -25,9 +25,17 @@ class Learning:
         for site in message.sites:
             known = cells.at(site.eci)
             if not is_cell(site.pci, site.earfcn):
-                why = Cause.TELLS_NO_CELL.because(message=title(message), eci=f"{site.eci:07x}", pci=site.pci, earfcn=site.earfcn, ranges=RANGES)
+                why = Cause.TELLS_NO_CELL.because(
+                    message=title(message), eci=f"{site.eci:07x}", pci=site.pci, earfcn=site.earfcn, ranges=RANGES
+                )
                 self.faults.append(note_line(message.frame, why))
-            elif known is None or site.up is None or known.up is None or (known.pci, known.earfcn) == (site.pci, site.earfcn) or site.eci in cells.given:
+            elif (
+                known is None
+                or site.up is None
+                or known.up is None
+                or (known.pci, known.earfcn) == (site.pci, site.earfcn)
+                or site.eci in cells.given
+            ):
                 cells.learn(site)
             else:  # a station says that a cell of its own is another now
                 cells.changed(site, place)
@@ -45,7 +53,14 @@ class Learning:
         elif message.name == "HandoverCommand":
             eci = self.asked.get((message.target, message.enb_id))
         told = message.command
-        if eci is not None and eci not in self.said and told is not None and told.pci is not None and told.earfcn is not None and is_cell(told.pci, told.earfcn):
+        if (
+            eci is not None
+            and eci not in self.said
+            and told is not None
+            and told.pci is not None
+            and told.earfcn is not None
+            and is_cell(told.pci, told.earfcn)
+        ):
             self.said[eci] = Site(eci, told.pci, told.earfcn)
 
     def done(self) -> list[Line]:

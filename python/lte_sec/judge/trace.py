@@ -26,8 +26,13 @@ from .state import Connection
 
 FROM_PHONE = ("InitialUEMessage", "UplinkNASTransport")
 SERVED = (  # only the station that serves the phone has these
-    "UplinkNASTransport", "HandoverRequired", "PathSwitchRequestAcknowledge", "UEContextSuspendRequest", "UEContextSuspendResponse",
-    "UEContextResumeRequest", "UEContextResumeResponse",
+    "UplinkNASTransport",
+    "HandoverRequired",
+    "PathSwitchRequestAcknowledge",
+    "UEContextSuspendRequest",
+    "UEContextSuspendResponse",
+    "UEContextResumeRequest",
+    "UEContextResumeResponse",
 )
 RESTARTS = ("S1SetupRequest", "S1SetupResponse", "Reset", "ResetAcknowledge")
 JUDGED = (*KEYS, "command", "agreement")  # by histories
@@ -42,7 +47,12 @@ class Trace(Connections):
     def __init__(self, grounds: Grounds, taken: Tape = frozenset()):
         super().__init__()
         self.grounds, self.choices = grounds, Choices(taken)
-        self.messages, self.stations, self.gummeis, self.coverage = grounds.messages, grounds.stations, grounds.stations.gummeis, grounds.coverage
+        self.messages, self.stations, self.gummeis, self.coverage = (
+            grounds.messages,
+            grounds.stations,
+            grounds.stations.gummeis,
+            grounds.coverage,
+        )
         self.cells, self.derivations = grounds.cells, grounds.derivations
         self.book = ServiceBook(self.derivations, 10 * grounds.budget)
         self.judge = KeyJudge(self.book, self.cells, grounds.search, grounds.firsts, self.coverage)
@@ -103,7 +113,12 @@ class Trace(Connections):
     def goes_on_from(self, other: Trace, places: set[int]) -> None:
         """What another reading found of these messages takes the place of what this one found."""
         gone = {id(one) for place, one in self.owners.items() if place in places}
-        self.judge.lines.put([*(line for line in self.lines if line.place not in places), *(line for line in other.lines if line.place in places)])
+        self.judge.lines.put(
+            [
+                *(line for line in self.lines if line.place not in places),
+                *(line for line in other.lines if line.place in places),
+            ]
+        )
         self.connections = [*(one for one in self.connections if id(one) not in gone), *other.connections]
         self.owners = {**without(self.owners, places), **within(other.owners, places)}
         self.handovers = {**without(self.handovers, places), **within(other.handovers, places)}
@@ -112,7 +127,9 @@ class Trace(Connections):
         """Makes the list of what was seen."""
         self.by_frame, by_place = self.judge.lines.sort(self.grounds.first.get)
         names, head = self.stations.cores | self.cells.addresses, [*self.coverage.head(), *head]
-        self.seen = account(self.messages, by_place, self.membership, names, FROM_STATION, head, self.derivations, self.uses)
+        self.seen = account(
+            self.messages, by_place, self.membership, names, FROM_STATION, head, self.derivations, self.uses
+        )
 
     @property
     def lines(self) -> list[Line]:
@@ -127,7 +144,9 @@ class Trace(Connections):
         """The numbers of the connection and the handover of each message."""
         numbers = {id(connection): place for place, connection in enumerate(self.connections)}
         attempts: dict[int, int] = {}
-        handovers = {place: attempts.setdefault(id(attempt), len(attempts)) for place, attempt in sorted(self.handovers.items())}
+        handovers = {
+            place: attempts.setdefault(id(attempt), len(attempts)) for place, attempt in sorted(self.handovers.items())
+        }
         tmsis = {place: one.side.tmsi for place, one in enumerate(self.connections) if one.side.tmsi is not None}
         return Membership({place: numbers[id(one)] for place, one in self.owners.items()}, handovers, tmsis)
 
@@ -139,8 +158,8 @@ class Trace(Connections):
                 yield Use(number, shown(frame), shown(station), shown(self.derivations.shown(key)), key.value, eea, eia)
 
     def weigh(self, place: int, before: int) -> None:
-        """Decides of the lines of a message whether what no history gives is blamed: the only place that does, for keys, commands and agreement. Where
-        not all was kept, a history that was not tried may give it."""
+        """Decides of the lines of a message whether what no history gives is blamed: the only place that does, for
+        keys, commands and agreement. Where not all was kept, a history that was not tried may give it."""
         cut = self.owners[place].cut if place in self.owners else ()
         for line in self.judge.lines.since(before):
             if cut and line.verdict == DIFFERS and line.what in JUDGED:
@@ -156,9 +175,13 @@ class Trace(Connections):
         elif message.link == ALONE:
             self.nas_alone(message, place)
         elif message.link == UNREADABLE:
-            self.judge.lines.append(unknown_line(message.frame, "message", "of this frame", Cause.UNREADABLE.because(said=message.name)))
+            self.judge.lines.append(
+                unknown_line(message.frame, "message", "of this frame", Cause.UNREADABLE.because(said=message.name))
+            )
         elif message.link == CUT:
-            self.judge.lines.append(unknown_line(message.frame, "capture", "behind this frame", Cause.UNREADABLE.because(said=message.name)))
+            self.judge.lines.append(
+                unknown_line(message.frame, "capture", "behind this frame", Cause.UNREADABLE.because(said=message.name))
+            )
         elif message.command is not None:
             self.rrc(message, message.command)
 
@@ -171,14 +194,20 @@ class Trace(Connections):
     def left_over(self, message: Message, before: int) -> None:
         """Lines for keys that no rule here judges."""
         for name, _ in message.secrets:
-            self.judge.lines.append(unknown_line(message.frame, title(message), name, Cause.SECONDARY_STATION.because()))
-        if message.link in ("S1", "X2") and (message.key or message.nh) and not any(line.what in KEYS for line in self.judge.lines.since(before)):
+            self.judge.lines.append(
+                unknown_line(message.frame, title(message), name, Cause.SECONDARY_STATION.because())
+            )
+        if (
+            message.link in ("S1", "X2")
+            and (message.key or message.nh)
+            and not any(line.what in KEYS for line in self.judge.lines.since(before))
+        ):
             self.judge.lines.append(unknown_line(message.frame, title(message), "key", Cause.NO_RULE.because()))
 
     def later(self, message: Message, place: int) -> Iterator[tuple[int, bytes] | bytes]:
         """What comes after a message in the same connection at the same station: NAS messages and KeNBs."""
         places = self.grounds.index.by_leg.get((station_end(message), message.enb_id), ())
-        for after in places[bisect_right(places, place):]:
+        for after in places[bisect_right(places, place) :]:
             one = self.messages[after]
             if one.name == "InitialUEMessage":
                 return
@@ -228,14 +257,41 @@ class Trace(Connections):
                     self.judge.lines.append(note_line(message.frame, seen.warning))
 
     def nas_line(self, message: Message, seen: NasSeen) -> Line:
-        subject = f"NAS {'up' if seen.direction == UP else 'down'}" + (f" COUNT {seen.count}" if seen.count is not None else "") + f" header {seen.header}"
+        subject = (
+            f"NAS {'up' if seen.direction == UP else 'down'}"
+            + (f" COUNT {seen.count}" if seen.count is not None else "")
+            + f" header {seen.header}"
+        )
         kasme = "" if seen.kasme is None else self.derivations.name(seen.kasme)
-        behind = " ".join(filter(None, [seen.name, f"of {kasme}" if kasme and len(self.derivations.kasmes) > 1 else ""]))
+        behind = " ".join(
+            filter(None, [seen.name, f"of {kasme}" if kasme and len(self.derivations.kasmes) > 1 else ""])
+        )
         context = self.book.contexts.get(seen.kasme) if seen.kasme is not None else None
-        part = NasPart(seen.direction == UP, seen.header, seen.name, *((context.ksi, context.eea, context.eia) if context else (None, None, None)), -1 if seen.kasme is None else seen.kasme)
+        part = NasPart(
+            seen.direction == UP,
+            seen.header,
+            seen.name,
+            *((context.ksi, context.eea, context.eia) if context else (None, None, None)),
+            -1 if seen.kasme is None else seen.kasme,
+        )
         return Line(
-            message.frame, "NAS", "MAC", seen.verdict, of_mac(seen), tuple(seen.faults), seen.note, subject=subject, behind=behind, found=seen.mac, wanted=seen.wanted,
-            hex=seen.mac, wanted_hex=seen.wanted, kasme=kasme, count=seen.count, plain=seen.plain, nas=part,
+            message.frame,
+            "NAS",
+            "MAC",
+            seen.verdict,
+            of_mac(seen),
+            tuple(seen.faults),
+            seen.note,
+            subject=subject,
+            behind=behind,
+            found=seen.mac,
+            wanted=seen.wanted,
+            hex=seen.mac,
+            wanted_hex=seen.wanted,
+            kasme=kasme,
+            count=seen.count,
+            plain=seen.plain,
+            nas=part,
         )
 
 

@@ -1,4 +1,5 @@
-"""NAS contexts of a trace: what each KASME has, MACs and texts under it, and whose a temporary identity is (TS 24.301 4.4, 5.5.1)."""
+"""NAS contexts of a trace: what each KASME has, MACs and texts under it, and whose a temporary identity is (TS 24.301
+4.4, 5.5.1)."""
 from __future__ import annotations
 
 from dataclasses import replace
@@ -19,23 +20,29 @@ class ContextBook:
     def __init__(self, derivations: Derivations, effort: int | None = None):
         self.derivations = derivations
         effort = 10 * derivations.calls.budget if effort is None else effort
-        self.effort, self.cold = Effort(effort), Effort(effort, 4)  # for contexts that are known, and for those that began before the trace
+        self.effort, self.cold = Effort(effort), Effort(
+            effort, 4
+        )  # for contexts that are known, and for those that began before the trace
         self.rare = Effort(effort // RARE, 4)  # for these under another algorithm than the usual one
         self.contexts: dict[int, EpsSecurityContext] = {}
         self.lives: dict[int, Life] = {}  # by KASME
         self.phones: dict[int, int] = {}  # KASME by M-TMSI
         self.tmsis: dict[int, set[int]] = {}
-        self.turn = 0  # KASMEs are mostly given in the order of their authentications, so the search goes on from the last
+        self.turn = (
+            0  # KASMEs are mostly given in the order of their authentications, so the search goes on from the last
+        )
 
-    def context(self, kasme: int, eea: int = 2, eia: int = 2, ksi: int | None = None, guessed: bool = False) -> EpsSecurityContext:
-        """A context of a KASME that was given. A KASME lives once, so that COUNTs go on under each of its Commands, whether the one before was taken
-        or refused."""
+    def context(
+        self, kasme: int, eea: int = 2, eia: int = 2, ksi: int | None = None, guessed: bool = False
+    ) -> EpsSecurityContext:
+        """A context of a KASME that was given. A KASME lives once, so that COUNTs go on under each of its Commands,
+        whether the one before was taken or refused."""
         return EpsSecurityContext(kasme, eea, eia, ksi, self.lives.setdefault(kasme, Life()), guessed=guessed)
 
     def kasmes(self) -> list[int]:
         """The places of all KASMEs, from the one after that which was taken last."""
         every = range(len(self.derivations.kasmes))
-        return [*every[self.turn:], *every[:self.turn]]
+        return [*every[self.turn :], *every[: self.turn]]
 
     def unused(self) -> list[int]:
         """The places of the KASMEs that no message stood under so far."""
@@ -65,14 +72,19 @@ class ContextBook:
             self.guess(context, direction, count, pdu)
         if header not in (*CIPHERED, PARTLY) or context.eea == 0:
             return pdu[6:]
-        return self.deciphered(context, direction, count, pdu) if header != PARTLY and context.eea in COMPUTED and context.given else None
+        return (
+            self.deciphered(context, direction, count, pdu)
+            if header != PARTLY and context.eea in COMPUTED and context.given
+            else None
+        )
 
     def deciphered(self, context: EpsSecurityContext, direction: int, count: int, pdu: bytes) -> bytes:
         key = self.derivations.nas_key(context.kasme, NAS_ENCRYPTION, context.eea)
         return self.derivations.enciphers[context.eea](key, count, 0, direction, pdu[6:])
 
     def guess(self, context: EpsSecurityContext, direction: int, count: int, pdu: bytes) -> None:
-        """The ciphering of a context whose Command the trace lacks: that under which the text reads as a NAS message (9.2)."""
+        """The ciphering of a context whose Command the trace lacks: that under which the text reads as a NAS message
+        (9.2)."""
         for reads in (is_emm, is_nas):
             for eea in (*COMPUTED, 0):
                 if reads(self.deciphered(replace(context, eea=eea), direction, count, pdu) if eea else pdu[6:]):
@@ -88,12 +100,17 @@ class ContextBook:
         """The COUNT near the next one under which the MAC is right, or None."""
         if not self.judged(context):
             return None
-        return next((count for count in near(context, direction, pdu[5]) if self.has_mac(context, direction, count, pdu)), None)
+        return next(
+            (count for count in near(context, direction, pdu[5]) if self.has_mac(context, direction, count, pdu)), None
+        )
 
-    def accept(self, side: NasSide, context: EpsSecurityContext, direction: int, count: int, pdu: bytes, first: bool = False) -> Why:
+    def accept(
+        self, side: NasSide, context: EpsSecurityContext, direction: int, count: int, pdu: bytes, first: bool = False
+    ) -> Why:
         """Takes a message whose MAC is right; answers a remark, or the fault where a COUNT was used twice.
 
-        The same octets come again only at the newest COUNT, in their connection; a first message up also in another (TS 24.301 4.4.3.2).
+        The same octets come again only at the newest COUNT, in their connection; a first message up also in another (TS
+        24.301 4.4.3.2).
         """
         before, least = context.seen.get((direction, count)), context.next[direction]
         context.seen[direction, count] = pdu, side
@@ -106,18 +123,30 @@ class ContextBook:
             return Cause.COUNT_USED_TWICE.because()
         if first or count == least - 1 and before[1] is side:
             return Cause.SENT_AGAIN.because()
-        return Cause.REPLAY_BEHIND.because(behind=least - 1 - count) if before[1] is side else Cause.REPLAY_ELSEWHERE.because()
+        return (
+            Cause.REPLAY_BEHIND.because(behind=least - 1 - count)
+            if before[1] is side
+            else Cause.REPLAY_ELSEWHERE.because()
+        )
 
     def under(self, context: EpsSecurityContext, direction: int, count: int, pdu: bytes) -> EpsSecurityContext | None:
-        """The context with the integrity algorithm under which the MAC of a message is right: its own first, then the others."""
+        """The context with the integrity algorithm under which the MAC of a message is right: its own first, then the
+        others."""
         order = sorted(COMPUTED, key=lambda eia: eia != context.eia)
-        return next((one for one in (replace(context, eia=eia) for eia in order) if self.has_mac(one, direction, count, pdu)), None)
+        return next(
+            (one for one in (replace(context, eia=eia) for eia in order) if self.has_mac(one, direction, count, pdu)),
+            None,
+        )
 
     def whose(self, context: EpsSecurityContext, direction: int, pdu: bytes, count: int) -> Why:
         """The mistake behind a wrong MAC, or nothing."""
         kasmes = self.derivations.kasmes
         others = ((one.name, one.value) for place, one in enumerate(kasmes) if place != context.kasme)
-        return reasons.mac(self.derivations.calls, reasons.ProtectedNas(kasmes[context.kasme].value, context.eea, context.eia, direction, count, pdu), others)
+        return reasons.mac(
+            self.derivations.calls,
+            reasons.ProtectedNas(kasmes[context.kasme].value, context.eea, context.eia, direction, count, pdu),
+            others,
+        )
 
     # -- identities
 

@@ -8,15 +8,38 @@ from ..common.report import DIFFERS, Verdict
 from ..common.terms import DOWN, UP
 
 NAMES = {
-    0x41: "Attach request", 0x42: "Attach accept", 0x43: "Attach complete", 0x44: "Attach reject", 0x45: "Detach request",
-    0x46: "Detach accept", 0x48: "Tracking area update request", 0x49: "Tracking area update accept",
-    0x4A: "Tracking area update complete", 0x4B: "Tracking area update reject", 0x4C: "Extended service request",
-    0x4D: "Control plane service request", 0x4E: "Service reject", 0x4F: "Service accept", 0x50: "GUTI reallocation command",
-    0x51: "GUTI reallocation complete", 0x52: "Authentication request", 0x53: "Authentication response", 0x54: "Authentication reject",
-    0x55: "Identity request", 0x56: "Identity response", 0x5C: "Authentication failure", 0x5D: "Security mode command",
-    0x5E: "Security mode complete", 0x5F: "Security mode reject", 0x60: "EMM status", 0x61: "EMM information",
-    0x62: "Downlink NAS transport", 0x63: "Uplink NAS transport", 0x64: "CS service notification",
-    0x68: "Downlink generic NAS transport", 0x69: "Uplink generic NAS transport",
+    0x41: "Attach request",
+    0x42: "Attach accept",
+    0x43: "Attach complete",
+    0x44: "Attach reject",
+    0x45: "Detach request",
+    0x46: "Detach accept",
+    0x48: "Tracking area update request",
+    0x49: "Tracking area update accept",
+    0x4A: "Tracking area update complete",
+    0x4B: "Tracking area update reject",
+    0x4C: "Extended service request",
+    0x4D: "Control plane service request",
+    0x4E: "Service reject",
+    0x4F: "Service accept",
+    0x50: "GUTI reallocation command",
+    0x51: "GUTI reallocation complete",
+    0x52: "Authentication request",
+    0x53: "Authentication response",
+    0x54: "Authentication reject",
+    0x55: "Identity request",
+    0x56: "Identity response",
+    0x5C: "Authentication failure",
+    0x5D: "Security mode command",
+    0x5E: "Security mode complete",
+    0x5F: "Security mode reject",
+    0x60: "EMM status",
+    0x61: "EMM information",
+    0x62: "Downlink NAS transport",
+    0x63: "Uplink NAS transport",
+    0x64: "CS service notification",
+    0x68: "Downlink generic NAS transport",
+    0x69: "Uplink generic NAS transport",
 }
 PLAIN, COMMAND, COMPLETE, PARTLY = 0, 3, 4, 5  # security header types (TS 24.301 9.3.1)
 CIPHERED = (2, 4)
@@ -26,7 +49,8 @@ FOREIGN = -1  # the place of a KASME that was not given
 
 @dataclass
 class Life:
-    """What a KASME has from its authentication on, under whatever algorithms: the next COUNT of each direction, and what was sent at each."""
+    """What a KASME has from its authentication on, under whatever algorithms: the next COUNT of each direction, and
+    what was sent at each."""
 
     next: dict[int, int] = field(default_factory=lambda: {UP: 0, DOWN: 0})
     seen: dict[tuple[int, int], tuple[bytes, NasSide]] = field(default_factory=dict)
@@ -60,7 +84,8 @@ class EpsSecurityContext:
 
 @dataclass
 class Trigger:
-    """The uplink message that KeNB is made at: its context, the COUNTs that it may have, and whether its MAC is right."""
+    """The uplink message that KeNB is made at: its context, the COUNTs that it may have, and whether its MAC is
+    right."""
 
     context: EpsSecurityContext
     counts: tuple[int, ...]
@@ -74,7 +99,8 @@ class Trigger:
 
 @dataclass
 class NasSide:
-    """What a connection has of NAS: the context in use, the one that a Security Mode Command brought, and the trigger."""
+    """What a connection has of NAS: the context in use, the one that a Security Mode Command brought, and the
+    trigger."""
 
     current: EpsSecurityContext | None = None
     pending: EpsSecurityContext | None = None

@@ -1,4 +1,5 @@
-"""Which COUNT a message has, where a trace begins late or lacks messages: the least that fits, as far as 24 bits and the work allow."""
+"""Which COUNT a message has, where a trace begins late or lacks messages: the least that fits, as far as 24 bits and
+the work allow."""
 from __future__ import annotations
 
 from collections.abc import Callable, Iterator
@@ -19,7 +20,8 @@ def estimate(least: int, low: int, wrap: int = WRAP) -> int:
 
 
 def near(context: EpsSecurityContext, direction: int, low: int, wrap: int = WRAP) -> list[int]:
-    """The COUNTs to try first: the receiver's, then those of late messages, then those after messages that the trace lacks."""
+    """The COUNTs to try first: the receiver's, then those of late messages, then those after messages that the trace
+    lacks."""
     first = estimate(context.next[direction], low, wrap)
     late = [first - back * wrap for back in range(1, TRIES + 1) if first >= back * wrap]
     ahead = [first + on * wrap for on in range(1, TRIES + 1) if first + on * wrap < LIMIT]
@@ -32,8 +34,11 @@ class Effort:
     def __init__(self, left: int, part: int = 2):
         self.left, self.part, self.reached, self.tried = left, part, True, 0
 
-    def find(self, places: list[Place], low: int, wrap: int, fits: Callable[[Place, int], bool]) -> tuple[Place, int] | None:
-        """The first place (a KASME, or one with an algorithm) and COUNT with these low bits that fit, from the lowest COUNT on.
+    def find(
+        self, places: list[Place], low: int, wrap: int, fits: Callable[[Place, int], bool]
+    ) -> tuple[Place, int] | None:
+        """The first place (a KASME, or one with an algorithm) and COUNT with these low bits that fit, from the lowest
+        COUNT on.
 
         None if nothing fits or the work does not reach: `reached` says which.
         """

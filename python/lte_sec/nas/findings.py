@@ -1,4 +1,5 @@
-"""What is found of a NAS message: whether its MAC, its header type, its text and its order are right (TS 24.301 4.4, 5.4.3, 9.1 to 9.3)."""
+"""What is found of a NAS message: whether its MAC, its header type, its text and its order are right (TS 24.301 4.4,
+5.4.3, 9.1 to 9.3)."""
 from __future__ import annotations
 
 import re
@@ -40,22 +41,49 @@ class NasFindings(ContextBook):
             learn(side, direction, pdu)
             return None
         verdict, why = found
-        return NasSeen(direction, PLAIN, verdict, plain=pdu, note=why if verdict == UNKNOWN else (), faults=[*why] if verdict == DIFFERS else [])
+        return NasSeen(
+            direction,
+            PLAIN,
+            verdict,
+            plain=pdu,
+            note=why if verdict == UNKNOWN else (),
+            faults=[*why] if verdict == DIFFERS else [],
+        )
 
-    def found(self, side: NasSide, context: EpsSecurityContext, direction: int, pdu: bytes, count: int, note: Why = ()) -> NasSeen:
+    def found(
+        self, side: NasSide, context: EpsSecurityContext, direction: int, pdu: bytes, count: int, note: Why = ()
+    ) -> NasSeen:
         """The finding for a message whose MAC is right under a context and COUNT."""
         header, is_first = pdu[0] >> 4, direction == UP and side.initial and side.messages == 1
         note = self.accept(side, context, direction, count, pdu, is_first) or note
-        fault, plain = text_fault(self.derivations, context, direction, count, pdu, self.text(context, direction, count, pdu))
+        fault, plain = text_fault(
+            self.derivations, context, direction, count, pdu, self.text(context, direction, count, pdu)
+        )
         other = next((one.value("eea") for one in every(fault) if one.cause is Cause.CIPHERED_BY_EEA), None)
         if side.hidden and isinstance(other, int):  # an unseen exchange may have changed it
             context.eea, fault = other, ()
-        seen = NasSeen(direction, header, RIGHT, pdu[1:5].hex(), count, "", context.kasme if context.given else None, plain or None, note)
-        seen.text_right = not fault and header in CIPHERED and context.eea in COMPUTED and not context.guessed and bool(plain)
+        seen = NasSeen(
+            direction,
+            header,
+            RIGHT,
+            pdu[1:5].hex(),
+            count,
+            "",
+            context.kasme if context.given else None,
+            plain or None,
+            note,
+        )
+        seen.text_right = (
+            not fault and header in CIPHERED and context.eea in COMPUTED and not context.guessed and bool(plain)
+        )
         if is_fault(note):
             seen.note, seen.faults = (), [*note]
         wanted = self.header_wanted(side, context, direction, pdu, plain, is_first)
-        seen.faults += [HEADER_FAULTS.get(wanted, Cause.HEADER_DIFFERS).of(found=header, wanted=wanted)] if wanted != header else []
+        seen.faults += (
+            [HEADER_FAULTS.get(wanted, Cause.HEADER_DIFFERS).of(found=header, wanted=wanted)]
+            if wanted != header
+            else []
+        )
         seen.faults += fault
         if context.kasme in side.rejected and not side.hidden:
             seen.faults.append(Cause.CONTEXT_REFUSED.of())
@@ -66,7 +94,15 @@ class NasFindings(ContextBook):
         seen.verdict = DIFFERS if seen.faults else RIGHT
         return seen
 
-    def header_wanted(self, side: NasSide, context: EpsSecurityContext, direction: int, pdu: bytes, plain: bytes | None, is_first: bool) -> int:
+    def header_wanted(
+        self,
+        side: NasSide,
+        context: EpsSecurityContext,
+        direction: int,
+        pdu: bytes,
+        plain: bytes | None,
+        is_first: bool,
+    ) -> int:
         """The header type that a message must have (TS 24.301 4.4.5, 5.4.3); where several may stand, its own."""
         header, text = pdu[0] >> 4, pdu[6:8] if pdu[0] >> 4 == PARTLY else (plain or b"")[:2]
         kind = text[1] if len(text) == 2 and text[0] == EMM else None
@@ -93,15 +129,37 @@ class NasFindings(ContextBook):
         if not self.judged(context):
             context.next[direction] = max(context.next[direction], count + 1)
             note = Cause.EIA_NOT_COMPUTED.because(eia=context.eia) if context.given else NOT_GIVEN
-            return NasSeen(direction, header, UNKNOWN, pdu[1:5].hex(), count if context.given else None, "", context.kasme if context.given else None, self.text(context, direction, count, pdu), note)
+            return NasSeen(
+                direction,
+                header,
+                UNKNOWN,
+                pdu[1:5].hex(),
+                count if context.given else None,
+                "",
+                context.kasme if context.given else None,
+                self.text(context, direction, count, pdu),
+                note,
+            )
         wanted = self.mac(context, direction, count, pdu[5:]).hex()
         kasme = context.kasme if context.given else None
-        return NasSeen(direction, header, DIFFERS, pdu[1:5].hex(), count, wanted, kasme, self.text(context, direction, count, pdu), note)
+        return NasSeen(
+            direction,
+            header,
+            DIFFERS,
+            pdu[1:5].hex(),
+            count,
+            wanted,
+            kasme,
+            self.text(context, direction, count, pdu),
+            note,
+        )
 
     def nothing(self, direction: int, pdu: bytes, why: Why = NOT_GIVEN) -> NasSeen:
         return NasSeen(direction, pdu[0] >> 4, UNKNOWN, pdu[1:5].hex(), note=why)
 
-    def settled(self, side: NasSide, context: EpsSecurityContext, direction: int, pdu: bytes, count: int, note: Why = ()) -> NasSeen:
+    def settled(
+        self, side: NasSide, context: EpsSecurityContext, direction: int, pdu: bytes, count: int, note: Why = ()
+    ) -> NasSeen:
         """The finding for a right message, which may establish the secure exchange (TS 24.301 4.4.2.3)."""
         seen = self.found(side, context, direction, pdu, count, note)
         if direction == DOWN or pdu[0] >> 4 == COMPLETE:

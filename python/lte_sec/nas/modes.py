@@ -1,4 +1,5 @@
-"""Security Mode Command, Complete and Reject: which context they bring, and what each must say (TS 24.301 5.4.3, TS 33.401 7.2.4)."""
+"""Security Mode Command, Complete and Reject: which context they bring, and what each must say (TS 24.301 5.4.3, TS
+33.401 7.2.4)."""
 from __future__ import annotations
 
 from dataclasses import replace
@@ -16,22 +17,31 @@ class ModeBook(NasBook):
     """The NAS contexts of a trace, with what Security Mode messages do to them."""
 
     def command(self, side: NasSide, pdu: bytes, later: Later) -> NasSeen:
-        """A Security Mode Command: its own octets tell algorithms and KSI; the KASME is the one under which its MAC is right."""
+        """A Security Mode Command: its own octets tell algorithms and KSI; the KASME is the one under which its MAC is
+        right."""
         plain, seq = pdu[6:], pdu[5]
-        octet, ksi = (plain[2], plain[3] & 7) if len(plain) >= 4 and plain[:2] == bytes([EMM, MODE_COMMAND]) else (0x22, None)
+        octet, ksi = (
+            (plain[2], plain[3] & 7) if len(plain) >= 4 and plain[:2] == bytes([EMM, MODE_COMMAND]) else (0x22, None)
+        )
         eea, eia = octet >> 4 & 7, octet & 7
         side.commands += 1
         if eia == 0:
             side.pending = EpsSecurityContext(FOREIGN, eea, 0, ksi)
             right = pdu[1:5] == bytes(4)
-            return self.found(side, side.pending, DOWN, pdu, seq) if right else self.refused(side.pending, DOWN, pdu, seq)
+            return (
+                self.found(side, side.pending, DOWN, pdu, seq) if right else self.refused(side.pending, DOWN, pdu, seq)
+            )
         fresh = [self.context(kasme, eea, eia, ksi) for kasme in self.kasmes()]
         context = next((one for one in fresh if self.judged(one) and self.has_mac(one, DOWN, seq, pdu)), None)
         old = self.contexts.get(context.kasme) or (context if context.seen else None) if context else side.current
-        if old is not None and old.given and eia in COMPUTED:  # a KASME lives once: its COUNTs go on under other algorithms too
+        if (
+            old is not None and old.given and eia in COMPUTED
+        ):  # a KASME lives once: its COUNTs go on under other algorithms too
             count = self.opens(replace(old, eia=eia), DOWN, pdu)
             if count is not None:
-                side.pending = replace(old, eea=eea, eia=eia, ksi=ksi, guessed=False, resumed=old.kasme in self.contexts)
+                side.pending = replace(
+                    old, eea=eea, eia=eia, ksi=ksi, guessed=False, resumed=old.kasme in self.contexts
+                )
                 side.rejected.discard(old.kasme)  # the phone refused the Command before, not the KASME
                 return self.found(side, side.pending, DOWN, pdu, count)
         if context is not None:
@@ -47,7 +57,9 @@ class ModeBook(NasBook):
             seen.blame(Cause.COUNT_NOT_RESET.of(found=seen.count))
         return seen
 
-    def wrong_command(self, side: NasSide, pdu: bytes, fresh: list[EpsSecurityContext], ksi: int | None, later: Later) -> NasSeen:
+    def wrong_command(
+        self, side: NasSide, pdu: bytes, fresh: list[EpsSecurityContext], ksi: int | None, later: Later
+    ) -> NasSeen:
         """A Command under no KASME that was given, unless what follows it stands under one."""
         context = next((one for one in fresh if self.evidence(side, one, later)), None)
         side.authenticated, side.offered = False, None  # whatever KASME it brings, it used the authentication
@@ -62,9 +74,11 @@ class ModeBook(NasBook):
         return seen
 
     def evidence(self, side: NasSide, context: EpsSecurityContext, later: Later) -> bool:
-        """Whether what comes later in the connection stands under this new context; a MAC that is right tells its algorithm.
+        """Whether what comes later in the connection stands under this new context; a MAC that is right tells its
+        algorithm.
 
-        What stands under the context in use says nothing of a new one, and a KeNB of neither says that the Command brought another KASME.
+        What stands under the context in use says nothing of a new one, and a KeNB of neither says that the Command
+        brought another KASME.
         """
         for place, one in enumerate(later()):
             if place == AHEAD:
@@ -73,7 +87,12 @@ class ModeBook(NasBook):
                 return any(self.derivations.kenb(context.kasme, count).value == one for count in range(FIRST_COUNTS))
             direction, pdu = one
             in_use = side.current if side.current is not None and side.current.given else None
-            if in_use is not None and is_protected(pdu) and pdu[0] >> 4 not in (COMMAND, COMPLETE) and self.opens(in_use, direction, pdu) is not None:
+            if (
+                in_use is not None
+                and is_protected(pdu)
+                and pdu[0] >> 4 not in (COMMAND, COMPLETE)
+                and self.opens(in_use, direction, pdu) is not None
+            ):
                 continue
             if is_protected(pdu) and pdu[0] >> 4 == COMMAND:
                 break
@@ -88,8 +107,14 @@ class ModeBook(NasBook):
     def commanded(self, side: NasSide, context: EpsSecurityContext, plain: bytes, seen: NasSeen) -> None:
         """What a Security Mode Command says beside its COUNT: algorithms, KSI and replayed capabilities."""
         back = replayed(plain)
-        seen.blame(*capability_fault(side, plain), *algorithm_faults(side, context), *ksi_fault(side, plain[3] & 7 if len(plain) > 3 else None))
-        if back is not None and (side.capabilities is None or capability_fault(side, plain)):  # the core goes on from what it took
+        seen.blame(
+            *capability_fault(side, plain),
+            *algorithm_faults(side, context),
+            *ksi_fault(side, plain[3] & 7 if len(plain) > 3 else None),
+        )
+        if back is not None and (
+            side.capabilities is None or capability_fault(side, plain)
+        ):  # the core goes on from what it took
             side.capabilities = of_octets(back)
         secured, side.authenticated, side.offered = side.established or side.authenticated, False, None
         if context.eia == 0 and not side.emergency:
@@ -99,7 +124,8 @@ class ModeBook(NasBook):
                 seen.warning = Cause.EIA0_OUTSIDE.because()
 
     def completed(self, side: NasSide, context: EpsSecurityContext, count: int) -> list[Reason]:
-        """What is wrong with a Complete: it stands under the context that its Command brought, at one of its first COUNTs (5.4.3.3)."""
+        """What is wrong with a Complete: it stands under the context that its Command brought, at one of its first
+        COUNTs (5.4.3.3)."""
         brought, commands, begins = side.pending, side.commands, side.fresh
         side.commands, side.fresh = 0, False
         if brought is not None and brought.given and context.kasme != brought.kasme:
@@ -118,7 +144,11 @@ def algorithm_faults(side: NasSide, context: EpsSecurityContext) -> list[Reason]
     if told is None or len(told) < 2:
         return []
     chosen = ((context.eea, "EEA", told[0]), (context.eia, "EIA", told[1]))
-    return [Cause.ALGORITHM_LACKS.of(name=name, identity=identity) for identity, name, octet in chosen if identity and not octet >> 7 - identity & 1]
+    return [
+        Cause.ALGORITHM_LACKS.of(name=name, identity=identity)
+        for identity, name, octet in chosen
+        if identity and not octet >> 7 - identity & 1
+    ]
 
 
 def ksi_fault(side: NasSide, ksi: int | None) -> Why:

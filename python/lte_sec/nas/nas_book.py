@@ -1,7 +1,8 @@
-"""NAS messages of a trace: under which KASME and COUNT each stands, and whether its MAC is right (TS 24.301 4.4, 9.1 to 9.3).
+"""NAS messages of a trace: under which KASME and COUNT each stands, and whether its MAC is right (TS 24.301 4.4, 9.1 to
+9.3).
 
-A receiver takes the least COUNT above the last accepted one that has the sequence number of the message. So does this reading, and it
-also looks at the COUNTs before and after that, since a trace may lack messages or show them late.
+A receiver takes the least COUNT above the last accepted one that has the sequence number of the message. So does this
+reading, and it also looks at the COUNTs before and after that, since a trace may lack messages or show them late.
 """
 from __future__ import annotations
 
@@ -11,7 +12,18 @@ from dataclasses import replace
 from ..common.causes import Cause, Reason
 from ..common.report import DIFFERS, UNKNOWN
 from ..common.terms import COMPUTED, DOWN, UP
-from .contexts import CIPHERED, COMMAND, COMPLETE, FOREIGN, PLAIN, SERVICE_REQUEST, EpsSecurityContext, NasSeen, NasSide, Trigger
+from .contexts import (
+    CIPHERED,
+    COMMAND,
+    COMPLETE,
+    FOREIGN,
+    PLAIN,
+    SERVICE_REQUEST,
+    EpsSecurityContext,
+    NasSeen,
+    NasSide,
+    Trigger,
+)
 from .counts import WRAP, estimate
 from .findings import LOST_MODE, NasFindings
 from .plain import EMM, ESM
@@ -51,7 +63,11 @@ class NasBook(NasFindings):
             return self.service_request(side, pdu, later)
         if len(pdu) < 7:
             return NasSeen(direction, header, DIFFERS, pdu[1:5].hex(), faults=[Cause.TOO_SHORT.of()])
-        seen = self.command(side, pdu, later) if header == COMMAND and direction == DOWN else self.protected(side, direction, pdu, later)
+        seen = (
+            self.command(side, pdu, later)
+            if header == COMMAND and direction == DOWN
+            else self.protected(side, direction, pdu, later)
+        )
         self.reserved(seen)
         return seen
 
@@ -95,11 +111,14 @@ class NasBook(NasFindings):
             return self.refused(context, direction, pdu, count)
         return self.unopened(side, held, direction, pdu, complete, later)
 
-    def fewer(self, side: NasSide, context: EpsSecurityContext, direction: int, pdu: bytes, count: int, later: Later) -> int | None:
-        """The COUNT that is due, where a message with a wrong MAC there has no more faults than one at the COUNT that its MAC has.
+    def fewer(
+        self, side: NasSide, context: EpsSecurityContext, direction: int, pdu: bytes, count: int, later: Later
+    ) -> int | None:
+        """The COUNT that is due, where a message with a wrong MAC there has no more faults than one at the COUNT that
+        its MAC has.
 
-        At its own COUNT a message may have been used with other octets, its text may not read, and KeNB may be of another COUNT; at the one
-        that is due its MAC is wrong. The same octets again are a replay.
+        At its own COUNT a message may have been used with other octets, its text may not read, and KeNB may be of
+        another COUNT; at the one that is due its MAC is wrong. The same octets again are a replay.
         """
         due, before = estimate(context.next[direction], pdu[5]), context.seen.get((direction, count))
         if count == due or before is not None and before[0] == pdu:
@@ -108,12 +127,18 @@ class NasBook(NasFindings):
         key = next((one for one in later() if isinstance(one, bytes)), None) if first and context.given else None
 
         def faults(at: int) -> int:
-            reads = pdu[0] >> 4 not in CIPHERED or context.guessed or is_nas(self.text(context, direction, at, pdu) or pdu[6:])
+            reads = (
+                pdu[0] >> 4 not in CIPHERED
+                or context.guessed
+                or is_nas(self.text(context, direction, at, pdu) or pdu[6:])
+            )
             return (not reads) + (key is not None and self.derivations.kenb(context.kasme, at).value != key)
 
         return due if 1 + faults(due) <= (before is not None) + faults(count) else None
 
-    def foreign(self, side: NasSide, context: EpsSecurityContext, direction: int, pdu: bytes, complete: bool) -> NasSeen:
+    def foreign(
+        self, side: NasSide, context: EpsSecurityContext, direction: int, pdu: bytes, complete: bool
+    ) -> NasSeen:
         """A message under a KASME that was not given."""
         self.takes(side, context, complete, direction, (), complete)
         side.completed |= complete
@@ -128,8 +153,11 @@ class NasBook(NasFindings):
         side.missed += 1
         return self.nothing(direction, pdu)
 
-    def lost_mode(self, side: NasSide, direction: int, pdu: bytes, complete: bool) -> tuple[EpsSecurityContext, int] | None:
-        """The new context of a message whose Security Mode exchange the trace lacks, and its COUNT: those of an authentication begin at 0.
+    def lost_mode(
+        self, side: NasSide, direction: int, pdu: bytes, complete: bool
+    ) -> tuple[EpsSecurityContext, int] | None:
+        """The new context of a message whose Security Mode exchange the trace lacks, and its COUNT: those of an
+        authentication begin at 0.
 
         A Complete shows that its Command was sent. A KASME that the phone refused is known without another exchange.
         """
@@ -145,18 +173,32 @@ class NasBook(NasFindings):
         self.follows(side.current, context)
         side.current, side.pending, side.authenticated = context, None, False
         self.contexts[context.kasme] = context
-        side.trigger = Trigger(context, (count,) if complete else tuple(range(count if direction == UP else NEW)) or (0,), complete)
+        side.trigger = Trigger(
+            context, (count,) if complete else tuple(range(count if direction == UP else NEW)) or (0,), complete
+        )
         side.established = True
         return self.settled(side, context, direction, pdu, count, () if complete else LOST_MODE)
 
-    def other_algorithms(self, held: list[EpsSecurityContext], direction: int, pdu: bytes) -> tuple[EpsSecurityContext, int] | None:
-        """A context in use under other algorithms, which an exchange brought that the trace does not show, and the COUNT of a message under it."""
-        others = (replace(one, eia=eia, guessed=True, resumed=True) for one in held if one.given for eia in COMPUTED if eia != one.eia)
+    def other_algorithms(
+        self, held: list[EpsSecurityContext], direction: int, pdu: bytes
+    ) -> tuple[EpsSecurityContext, int] | None:
+        """A context in use under other algorithms, which an exchange brought that the trace does not show, and the
+        COUNT of a message under it."""
+        others = (
+            replace(one, eia=eia, guessed=True, resumed=True)
+            for one in held
+            if one.given
+            for eia in COMPUTED
+            if eia != one.eia
+        )
         found = ((one, self.opens(one, direction, pdu)) for one in others)
         return next(((one, count) for one, count in found if count is not None), None)
 
-    def unopened(self, side: NasSide, held: list[EpsSecurityContext], direction: int, pdu: bytes, complete: bool, later: Later) -> NasSeen:
-        """A message that does not open near the COUNTs of the context in use: a fault, a gap in the trace, or another context."""
+    def unopened(
+        self, side: NasSide, held: list[EpsSecurityContext], direction: int, pdu: bytes, complete: bool, later: Later
+    ) -> NasSeen:
+        """A message that does not open near the COUNTs of the context in use: a fault, a gap in the trace, or another
+        context."""
         context = next(one for one in held if one.given)
         count = estimate(context.next[direction], pdu[5])
         same, other, failing = self.ahead(context, direction, pdu, later)
@@ -167,14 +209,24 @@ class NasBook(NasFindings):
                 return self.renewed(side, *fresh, direction, pdu)
             if side.pending is not None and not side.pending.given:
                 return self.nothing(direction, pdu)
-            is_others = any(self.opens(one, direction, pdu) is not None for one in self.others(held))  # 32 bits say whose it is: no far COUNT is sought
-            far = None if is_others else self.effort.find([context.kasme], pdu[5], WRAP, lambda _, tried: self.has_mac(context, direction, tried, pdu))
+            is_others = any(
+                self.opens(one, direction, pdu) is not None for one in self.others(held)
+            )  # 32 bits say whose it is: no far COUNT is sought
+            far = (
+                None
+                if is_others
+                else self.effort.find(
+                    [context.kasme], pdu[5], WRAP, lambda _, tried: self.has_mac(context, direction, tried, pdu)
+                )
+            )
             if far is not None:
                 self.takes(side, context, complete, direction, (far[1],), True)
                 return self.settled(side, context, direction, pdu, far[1])
             if side.away:
                 return self.came_back(side, context, direction, pdu)
-            alone = complete and side.pending is None  # its Command, which the trace lacks, may have brought a KASME that was not given
+            alone = (
+                complete and side.pending is None
+            )  # its Command, which the trace lacks, may have brought a KASME that was not given
             if not other and (alone or side.authenticated or failing == {UP, DOWN}):
                 self.leaves(side, context)
                 return self.nothing(direction, pdu)
@@ -204,9 +256,11 @@ class NasBook(NasFindings):
         self.follows(context, unknown)
         side.current, side.trigger, side.authenticated = unknown, None, False
 
-    def ahead(self, context: EpsSecurityContext, direction: int, pdu: bytes, later: Later) -> tuple[bool, bool, set[int]]:
-        """What comes later in the connection under a context: whether a message of the same direction is right, one of the other, and
-        the directions of those that are not, this one too."""
+    def ahead(
+        self, context: EpsSecurityContext, direction: int, pdu: bytes, later: Later
+    ) -> tuple[bool, bool, set[int]]:
+        """What comes later in the connection under a context: whether a message of the same direction is right, one of
+        the other, and the directions of those that are not, this one too."""
         failing, tried = {direction}, 0
         other = False
         for one in later():
@@ -224,7 +278,15 @@ class NasBook(NasFindings):
                 other = True
         return False, other, failing
 
-    def takes(self, side: NasSide, context: EpsSecurityContext, complete: bool, direction: int, counts: tuple[int, ...], sure: bool) -> None:
+    def takes(
+        self,
+        side: NasSide,
+        context: EpsSecurityContext,
+        complete: bool,
+        direction: int,
+        counts: tuple[int, ...],
+        sure: bool,
+    ) -> None:
         """What a message changes: a Complete, or a right message under the pending context, puts that in use."""
         was_pending = context is side.pending
         if was_pending and (complete or sure):
@@ -242,7 +304,8 @@ class NasBook(NasFindings):
     # -- a connection that has no context so far
 
     def likely(self, side: NasSide, direction: int, pdu: bytes, later: Later) -> list[EpsSecurityContext]:
-        """The contexts of a connection that has none yet: by identity, else by the MAC; at last as one that began before the trace."""
+        """The contexts of a connection that has none yet: by identity, else by the MAC; at last as one that began
+        before the trace."""
         place = self.phones.get(side.tmsi) if side.tmsi is not None else None
         known = self.contexts.get(place) if place is not None else None
         others = [one for one in self.contexts.values() if one is not known] if side.missed < PATIENCE else []
@@ -252,7 +315,12 @@ class NasBook(NasFindings):
             return [right]
         if known is not None and self.told_ksi(pdu) == known.ksi is not None:
             return [known]
-        if place == FOREIGN or side.missed >= PATIENCE or pdu[0] >> 4 == COMPLETE and self.lost_mode(side, direction, pdu, True):
+        if (
+            place == FOREIGN
+            or side.missed >= PATIENCE
+            or pdu[0] >> 4 == COMPLETE
+            and self.lost_mode(side, direction, pdu, True)
+        ):
             return []
         return self.began_before(direction, pdu)
 
@@ -262,18 +330,25 @@ class NasBook(NasFindings):
 
     def began_before(self, direction: int, pdu: bytes) -> list[EpsSecurityContext]:
         """A context that began before the trace."""
+
         def fits(context: EpsSecurityContext, count: int) -> bool:
             return self.has_mac(context, direction, count, pdu)
 
-        usual, others = ([self.context(kasme, eia=eia, guessed=True) for eia in eias for kasme in self.unused()] for eias in (COMPUTED[:1], COMPUTED[1:]))
-        found = (self.cold.find(usual, pdu[5], WRAP, fits) or self.rare.find(others, pdu[5], WRAP, fits)) if usual else None
+        usual, others = (
+            [self.context(kasme, eia=eia, guessed=True) for eia in eias for kasme in self.unused()]
+            for eias in (COMPUTED[:1], COMPUTED[1:])
+        )
+        found = (
+            (self.cold.find(usual, pdu[5], WRAP, fits) or self.rare.find(others, pdu[5], WRAP, fits)) if usual else None
+        )
         if found is None:
             return []
         found[0].next[direction] = found[1]
         return [found[0]]
 
     def complete(self, side: NasSide) -> None:
-        """The pending context is in use: KeNB is made at the COUNT of the Complete that the trace shows later, or lacks."""
+        """The pending context is in use: KeNB is made at the COUNT of the Complete that the trace shows later, or
+        lacks."""
         if side.pending is not None:
             side.trigger = Trigger(side.pending, (side.pending.next[UP],), True)
             self.follows(side.current, side.pending)

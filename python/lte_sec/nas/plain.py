@@ -1,4 +1,5 @@
-"""NAS messages without protection, and what they tell: which may be plain (TS 24.301 4.4.4), and what a phone says it can do."""
+"""NAS messages without protection, and what they tell: which may be plain (TS 24.301 4.4.4), and what a phone says it
+can do."""
 from __future__ import annotations
 
 from ..common.causes import Cause, Why
@@ -12,10 +13,11 @@ NO_KEY = 7  # a KSI (9.9.3.21)
 EMERGENCY_ATTACH = 6  # TS 24.301 9.9.3.11
 NETWORK_CAPABILITY = 0x58  # of a Tracking Area Update Request (TS 24.301 8.2.29)
 MAY_BE_PLAIN = {
-    # TS 24.301 4.4.4.2: Identity, Authentication Request and Reject, Attach, Tracking Area Update and Service Reject, Detach Accept
+    # TS 24.301 4.4.4.2: Identity, Authentication Request and Reject, Attach, Tracking Area Update and Service Reject,
+    # Detach Accept
     DOWN: frozenset((0x55, 0x52, 0x54, 0x44, 0x4B, 0x4E, 0x46)),
-    # 4.4.4.3: Attach, Tracking Area Update and Detach Request, Detach Accept, Identity and Authentication Response, Authentication
-    # Failure, Security Mode Reject
+    # 4.4.4.3: Attach, Tracking Area Update and Detach Request, Detach Accept, Identity and Authentication Response,
+    # Authentication Failure, Security Mode Reject
     UP: frozenset((0x41, 0x48, 0x45, 0x46, 0x56, 0x53, 0x5C, 0x5F)),
 }
 # accept and complete of Attach, Tracking Area Update, GUTI reallocation and Security Mode, and its command (8.2, 4.4.5)
@@ -24,7 +26,8 @@ WITHOUT_VALUE = (0x80, 0xF0)  # information elements of one octet, type and valu
 
 
 def plain_verdict(side: NasSide, direction: int, kind: int | None) -> tuple[Verdict, Why] | None:
-    """What is found of a plain message, and why; None where it may be plain. `kind` is the type of an EMM message, None of others."""
+    """What is found of a plain message, and why; None where it may be plain. `kind` is the type of an EMM message, None
+    of others."""
     is_up = direction == UP
     if side.established:
         return DIFFERS, (Cause.PLAIN_UP if is_up else Cause.PLAIN_DOWN).because()
@@ -32,7 +35,11 @@ def plain_verdict(side: NasSide, direction: int, kind: int | None) -> tuple[Verd
         return DIFFERS, (Cause.NEVER_PLAIN_UP if is_up else Cause.NEVER_PLAIN_DOWN).because()
     if side.completed:
         return UNKNOWN, Cause.PLAIN_BEHIND_UNJUDGED.because()
-    return None if kind in MAY_BE_PLAIN[direction] else (UNKNOWN, (Cause.PLAIN_MAY_DROP_UP if is_up else Cause.PLAIN_MAY_DROP_DOWN).because())
+    return (
+        None
+        if kind in MAY_BE_PLAIN[direction]
+        else (UNKNOWN, (Cause.PLAIN_MAY_DROP_UP if is_up else Cause.PLAIN_MAY_DROP_DOWN).because())
+    )
 
 
 def learn(side: NasSide, direction: int, text: bytes) -> None:
@@ -42,7 +49,11 @@ def learn(side: NasSide, direction: int, text: bytes) -> None:
     if text[1] == AUTHENTICATION and direction == DOWN:
         side.authenticated, side.fresh, side.offered = True, True, text[2] & 7
     elif text[1] == MODE_REJECT:
-        if side.pending is not None and side.pending.given and (side.current is None or side.current.kasme != side.pending.kasme):
+        if (
+            side.pending is not None
+            and side.pending.given
+            and (side.current is None or side.current.kasme != side.pending.kasme)
+        ):
             side.rejected.add(side.pending.kasme)
         side.pending, side.authenticated, side.offered = None, False, None
     elif text[1] in (ATTACH_REQUEST, TRACKING_REQUEST) and direction == UP:
@@ -55,32 +66,35 @@ def learn(side: NasSide, direction: int, text: bytes) -> None:
 
 
 def network_capability(text: bytes) -> bytes | None:
-    """The UE network capability of an Attach or Tracking Area Update Request: EEA, EIA, and UEA, UIA where they are told (9.9.3.34)."""
+    """The UE network capability of an Attach or Tracking Area Update Request: EEA, EIA, and UEA, UIA where they are
+    told (9.9.3.34)."""
     if len(text) < 4 or len(text) < 4 + text[3]:
         return None
-    rest = text[4 + text[3]:]  # behind the identity
+    rest = text[4 + text[3] :]  # behind the identity
     if text[1] == ATTACH_REQUEST:
-        return rest[1:1 + rest[0]][:4] if rest and 2 <= rest[0] <= len(rest) - 1 else None
+        return rest[1 : 1 + rest[0]][:4] if rest and 2 <= rest[0] <= len(rest) - 1 else None
     while len(rest) >= 2:
         if rest[0] >= WITHOUT_VALUE[0]:
             rest = rest[1:]
             continue
         size = fixed_size(rest)
         if rest[0] == NETWORK_CAPABILITY:
-            return rest[2:2 + rest[1]][:4] if 2 <= rest[1] <= len(rest) - 2 else None
+            return rest[2 : 2 + rest[1]][:4] if 2 <= rest[1] <= len(rest) - 2 else None
         rest = rest[size:]
     return None
 
 
 def fixed_size(rest: bytes) -> int:
-    """The octets of the information element here: of those with a type and no length, those that stand before the capability (8.2.29)."""
+    """The octets of the information element here: of those with a type and no length, those that stand before the
+    capability (8.2.29)."""
     fixed = {0x52: 6, 0x55: 5, 0x5C: 3, 0x19: 4, 0x13: 6}
     return fixed.get(rest[0]) or 2 + rest[1]
 
 
 def replayed(text: bytes) -> bytes | None:
-    """The replayed security capabilities of a Security Mode Command: EEA, EIA, and UEA, UIA where they are told (8.2.20, 9.9.3.36)."""
-    return text[5:5 + text[4]][:4] if len(text) >= 5 and 2 <= text[4] <= len(text) - 5 else None
+    """The replayed security capabilities of a Security Mode Command: EEA, EIA, and UEA, UIA where they are told
+    (8.2.20, 9.9.3.36)."""
+    return text[5 : 5 + text[4]][:4] if len(text) >= 5 and 2 <= text[4] <= len(text) - 5 else None
 
 
 def of_octets(octets: bytes) -> tuple[int, int]:
@@ -89,7 +103,8 @@ def of_octets(octets: bytes) -> tuple[int, int]:
 
 
 def capability_fault(side: NasSide, text: bytes) -> Why:
-    """How the replayed capabilities differ from those that the phone told (TS 33.401 7.2.4.4, TS 24.301 5.4.3.2), or nothing."""
+    """How the replayed capabilities differ from those that the phone told (TS 33.401 7.2.4.4, TS 24.301 5.4.3.2), or
+    nothing."""
     told, back = side.told, replayed(text)
     if told is None or back is None:
         return ()

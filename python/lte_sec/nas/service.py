@@ -1,7 +1,7 @@
 """Service Requests: whose each is (TS 24.301 5.6.1, 9.9.3.28).
 
-A short MAC has 16 bits, so that of another phone fits by chance. A request belongs to a context only where KSI and S-TMSI allow it and
-the KeNB that follows does not speak against it; a KeNB that fits is proof.
+A short MAC has 16 bits, so that of another phone fits by chance. A request belongs to a context only where KSI and
+S-TMSI allow it and the KeNB that follows does not speak against it; a KeNB that fits is proof.
 """
 from __future__ import annotations
 
@@ -35,7 +35,8 @@ class ServiceBook(ModeBook):
     """The NAS contexts of a trace, for Service Requests too."""
 
     def short_mac(self, context: EpsSecurityContext, count: int, pdu: bytes) -> bytes:
-        """The short MAC of a Service Request: the last two octets of the MAC over its first two (TS 24.301 9.9.3.28)."""
+        """The short MAC of a Service Request: the last two octets of the MAC over its first two (TS 24.301
+        9.9.3.28)."""
         return self.mac(context, UP, count, pdu[:2])[2:4]
 
     def service_request(self, side: NasSide, pdu: bytes, later: Later) -> NasSeen:
@@ -43,8 +44,12 @@ class ServiceBook(ModeBook):
         if len(pdu) != SIZE:
             held = side.current is not None and side.current.given
             if held:
-                return NasSeen(UP, header, DIFFERS, told, faults=[Cause.SIZE_OF_REQUEST.of(wanted=SIZE, found=len(pdu))])
-            return NasSeen(UP, header, UNKNOWN, told, note=Cause.SIZE_NOT_OF_REQUEST.because(wanted=SIZE, found=len(pdu)))
+                return NasSeen(
+                    UP, header, DIFFERS, told, faults=[Cause.SIZE_OF_REQUEST.of(wanted=SIZE, found=len(pdu))]
+                )
+            return NasSeen(
+                UP, header, UNKNOWN, told, note=Cause.SIZE_NOT_OF_REQUEST.because(wanted=SIZE, found=len(pdu))
+            )
         owner = self.owner(side, pdu, later)
         if owner is None:
             return NasSeen(UP, header, UNKNOWN, told, plain=pdu, note=NOT_GIVEN)
@@ -52,7 +57,9 @@ class ServiceBook(ModeBook):
 
     def served(self, side: NasSide, pdu: bytes, owner: Owner) -> NasSeen:
         """The finding for a request whose context is known."""
-        began = owner.context.guessed and not owner.context.seen  # before the trace, which does not show under which algorithms
+        began = (
+            owner.context.guessed and not owner.context.seen
+        )  # before the trace, which does not show under which algorithms
         changed = self.changed(owner, pdu) if side.hidden or began else None
         context, ksi, note = changed or owner.context, pdu[1] >> 5, LOST_MODE if changed else ()
         wanted, side.current = self.short_mac(context, owner.count, pdu) if self.judged(context) else b"", context
@@ -62,7 +69,17 @@ class ServiceBook(ModeBook):
             self.knows(side.tmsi, context.kasme)
         side.trigger = Trigger(context, (owner.count,), right)
         note = (self.accept(side, context, UP, owner.count, pdu, True) or note) if right else ()
-        seen = NasSeen(UP, pdu[0] >> 4, RIGHT if right else DIFFERS, pdu[2:4].hex(), owner.count, wanted.hex(), context.kasme, pdu, note)
+        seen = NasSeen(
+            UP,
+            pdu[0] >> 4,
+            RIGHT if right else DIFFERS,
+            pdu[2:4].hex(),
+            owner.count,
+            wanted.hex(),
+            context.kasme,
+            pdu,
+            note,
+        )
         if not self.judged(context):
             seen.verdict, seen.note = UNKNOWN, Cause.EIA_NOT_COMPUTED.because(eia=context.eia)
         elif context.ksi is not None and context.ksi != ksi and right:
@@ -74,7 +91,8 @@ class ServiceBook(ModeBook):
         return seen
 
     def changed(self, owner: Owner, pdu: bytes) -> EpsSecurityContext | None:
-        """The context under other algorithms, where the short MAC is right only there: an exchange brought them that the trace does not show."""
+        """The context under other algorithms, where the short MAC is right only there: an exchange brought them that
+        the trace does not show."""
         context = owner.context
         if not self.judged(context) or self.short_mac(context, owner.count, pdu) == pdu[2:4]:
             return None
@@ -86,7 +104,11 @@ class ServiceBook(ModeBook):
         ksi, low = pdu[1] >> 5, pdu[1] & 31
         key = next((one for one in later() if isinstance(one, bytes)), None)
         place = self.phones.get(side.tmsi) if side.tmsi is not None else None
-        known = side.current if side.current and side.current.given else self.contexts.get(FOREIGN if place is None else place)
+        known = (
+            side.current
+            if side.current and side.current.given
+            else self.contexts.get(FOREIGN if place is None else place)
+        )
         allowed = [known] if known else [one for one in self.contexts.values() if self.may_be(one, ksi, place)]
         if key is not None:
             fits = known is not None and known.ksi in (None, ksi) and self.right_near(known, pdu, low) is not None
@@ -97,27 +119,41 @@ class ServiceBook(ModeBook):
                 if right is not None:
                     return Owner(proved.context, self.fewest(proved.context, (right, proved.count), pdu, low, key))
                 return proved if fits else self.explained(proved, pdu, low, allowed)
-        again = next((Owner(one, count, True) for one in allowed for count in near(one, UP, low, SHORT_WRAP) if one.seen.get((UP, count), (b"", side))[0] == pdu), None)
+        again = next(
+            (
+                Owner(one, count, True)
+                for one in allowed
+                for count in near(one, UP, low, SHORT_WRAP)
+                if one.seen.get((UP, count), (b"", side))[0] == pdu
+            ),
+            None,
+        )
         if again is not None:
             return again
         if known is not None and known.ksi in (None, ksi):
             return self.known_owner(known, pdu, low, key, later)
         return self.by_short_mac(allowed, pdu, low) if key is None else self.began(pdu, low, key)
 
-    def fewest(self, context: EpsSecurityContext, counts: Iterable[int], pdu: bytes, low: int, key: bytes | None) -> int:
+    def fewest(
+        self, context: EpsSecurityContext, counts: Iterable[int], pdu: bytes, low: int, key: bytes | None
+    ) -> int:
         """Of these COUNTs the one at which a request has the fewest faults, and of several the one that is due."""
         due = near(context, UP, low, SHORT_WRAP)[0]
         return min(counts, key=lambda count: (self.faults(context, count, pdu, key), count != due))
 
     def faults(self, context: EpsSecurityContext, count: int, pdu: bytes, key: bytes | None) -> int:
-        """How many faults a request has at a COUNT: its short MAC may be wrong, KeNB behind it of another COUNT, and the COUNT used with other octets."""
+        """How many faults a request has at a COUNT: its short MAC may be wrong, KeNB behind it of another COUNT, and
+        the COUNT used with other octets."""
         wrong = self.judged(context) and self.short_mac(context, count, pdu) != pdu[2:4]
         used = context.seen.get((UP, count), (pdu, None))[0] != pdu
         return wrong + used + (key is not None and self.derivations.kenb(context.kasme, count).value != key)
 
     def may_be(self, context: EpsSecurityContext, ksi: int, place: int | None) -> bool:
-        """Whether S-TMSI and KSI of a request allow a context: its phone has no other S-TMSI, and this S-TMSI is of no other phone."""
-        return context.ksi in (None, ksi) and (place is None and not self.tmsis.get(context.kasme) or place == context.kasme)
+        """Whether S-TMSI and KSI of a request allow a context: its phone has no other S-TMSI, and this S-TMSI is of no
+        other phone."""
+        return context.ksi in (None, ksi) and (
+            place is None and not self.tmsis.get(context.kasme) or place == context.kasme
+        )
 
     def right_near(self, context: EpsSecurityContext, pdu: bytes, low: int) -> int | None:
         """The COUNT near the next one under which the short MAC is right."""
@@ -128,14 +164,20 @@ class ServiceBook(ModeBook):
         """The context and COUNT whose KeNB follows."""
         kenb, kasmes = self.derivations.calls.kenb, self.derivations.kasmes
         tried = ((one, count) for one in contexts for count in near(one, UP, low, SHORT_WRAP))
-        return next((Owner(one, count, True) for one, count in tried if kenb(kasmes[one.kasme].value, count) == key), None)
+        return next(
+            (Owner(one, count, True) for one, count in tried if kenb(kasmes[one.kasme].value, count) == key), None
+        )
 
-    def known_owner(self, known: EpsSecurityContext, pdu: bytes, low: int, key: bytes | None, later: Later) -> Owner | None:
+    def known_owner(
+        self, known: EpsSecurityContext, pdu: bytes, low: int, key: bytes | None, later: Later
+    ) -> Owner | None:
         """A request of a phone that S-TMSI and KSI name, whose KeNB does not follow or does not fit."""
         due, right = near(known, UP, low, SHORT_WRAP)[0], self.right_near(known, pdu, low)
         if right is not None or not self.judged(known):
             return Owner(known, due if right is None else self.fewest(known, (right, due), pdu, low, key))
-        if key is None:  # what follows tells whether the phone has this context, and whether the core refused the request
+        if (
+            key is None
+        ):  # what follows tells whether the phone has this context, and whether the core refused the request
             same, other, _ = self.ahead(known, UP, pdu, later)
             refused = any(not isinstance(one, bytes) and one[1][:2] == REJECT for one in later())
             return Owner(known, due) if same or other or refused else None
@@ -155,12 +197,19 @@ class ServiceBook(ModeBook):
         """A request of a context that began before the trace, by the KeNB that it brings."""
         unused = self.unused()
         found = self.cold.find(unused, low, SHORT_WRAP, self.kenb_is(key)) if unused else None
-        return self.began_beside(pdu, low, key) if found is None else self.explained(Owner(self.begun_at(found[0], found[1]), found[1], True), pdu, low, [])
+        return (
+            self.began_beside(pdu, low, key)
+            if found is None
+            else self.explained(Owner(self.begun_at(found[0], found[1]), found[1], True), pdu, low, [])
+        )
 
     def began_beside(self, pdu: bytes, low: int, key: bytes) -> Owner | None:
         """The same where KeNB is of a COUNT beside that of the request, and the short MAC is right at this."""
         beside, is_key = [count for count in range(low - BESIDE, low + BESIDE + 1) if count >= 0], self.kenb_is(key)
-        found = next((self.begun_at(kasme, low) for kasme in self.unused()[:NEW] for count in beside if is_key(kasme, count)), None)
+        found = next(
+            (self.begun_at(kasme, low) for kasme in self.unused()[:NEW] for count in beside if is_key(kasme, count)),
+            None,
+        )
         right = None if found is None else self.right_near(found, pdu, low)
         return Owner(found, right) if found is not None and right is not None else None
 
@@ -168,8 +217,9 @@ class ServiceBook(ModeBook):
         return EpsSecurityContext(kasme, life=Life({UP: count, DOWN: 0}), guessed=True)
 
     def explained(self, owner: Owner, pdu: bytes, low: int, allowed: list[EpsSecurityContext]) -> Owner:
-        """KeNB proves a COUNT, and the short MAC is wrong there: where it is right at a COUNT near that, under another KASME at that COUNT, or
-        under a context that is allowed, KeNB is what is wrong. By chance a short MAC fits once in 65,536."""
+        """KeNB proves a COUNT, and the short MAC is wrong there: where it is right at a COUNT near that, under another
+        KASME at that COUNT, or under a context that is allowed, KeNB is what is wrong. By chance a short MAC fits once
+        in 65,536."""
         context, count = owner.context, owner.count
         if not self.judged(context) or self.short_mac(context, count, pdu) == pdu[2:4]:
             return owner

@@ -1,4 +1,5 @@
-"""Whether octets read as a NAS message: so whether a ciphered text was ciphered as it must be (TS 24.301 4.4.5, 9.2, 9.8)."""
+"""Whether octets read as a NAS message: so whether a ciphered text was ciphered as it must be (TS 24.301 4.4.5, 9.2,
+9.8)."""
 from __future__ import annotations
 
 from ..common.causes import Cause, Why
@@ -8,9 +9,38 @@ from ..common.terms import COMPUTED, Derivations
 from .contexts import CIPHERED, NAMES, EpsSecurityContext
 from .plain import ATTACH_REQUEST, EMM, ESM, TRACKING_REQUEST
 
-ESM_TYPES = frozenset((
-    0xC1, 0xC2, 0xC3, 0xC5, 0xC6, 0xC7, 0xC9, 0xCA, 0xCB, 0xCD, 0xCE, 0xD0, 0xD1, 0xD2, 0xD3, 0xD4, 0xD5, 0xD6, 0xD7, 0xD9, 0xDA, 0xDB, 0xDC, 0xE8, 0xE9, 0xEA, 0xEB, 0xEC,
-))
+ESM_TYPES = frozenset(
+    (
+        0xC1,
+        0xC2,
+        0xC3,
+        0xC5,
+        0xC6,
+        0xC7,
+        0xC9,
+        0xCA,
+        0xCB,
+        0xCD,
+        0xCE,
+        0xD0,
+        0xD1,
+        0xD2,
+        0xD3,
+        0xD4,
+        0xD5,
+        0xD6,
+        0xD7,
+        0xD9,
+        0xDA,
+        0xDB,
+        0xDC,
+        0xE8,
+        0xE9,
+        0xEA,
+        0xEB,
+        0xEC,
+    )
+)
 LEAST_BEARER = 5  # of an EPS bearer; 0 is none (TS 24.007 11.2.3.1.5)
 NEVER_CIPHERED = (ATTACH_REQUEST, TRACKING_REQUEST)  # 4.4.5
 
@@ -26,8 +56,11 @@ def is_nas(text: bytes) -> bool:
     return is_emm(text)
 
 
-def text_fault(derivations: Derivations, context: EpsSecurityContext, direction: int, count: int, pdu: bytes, plain: bytes | None) -> tuple[Why, bytes]:
-    """How the text of a message with a right MAC differs from what it must be, or nothing; and the text as it was meant."""
+def text_fault(
+    derivations: Derivations, context: EpsSecurityContext, direction: int, count: int, pdu: bytes, plain: bytes | None
+) -> tuple[Why, bytes]:
+    """How the text of a message with a right MAC differs from what it must be, or nothing; and the text as it was
+    meant."""
     if pdu[0] >> 4 not in CIPHERED or plain is None or is_nas(plain) or not context.given or context.guessed:
         return (), plain or b""
     nas = ProtectedNas(derivations.kasmes[context.kasme].value, context.eea, context.eia, direction, count, pdu)

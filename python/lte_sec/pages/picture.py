@@ -23,15 +23,34 @@ class Picture:
 
     def box(self, x: float, y: float, width: float, height: float, fill: str, stroke: str = PALE) -> None:
         self.reach(x + width, y + height)
-        self.parts.append(f'<rect x="{x}" y="{y}" width="{width}" height="{height}" rx="5" fill="{fill}" stroke="{stroke}"/>')
+        self.parts.append(
+            f'<rect x="{x}" y="{y}" width="{width}" height="{height}" rx="5" fill="{fill}" stroke="{stroke}"/>'
+        )
 
-    def line(self, points: Iterable[tuple[float, float]], colour: str = INK, dashed: bool = False, arrow: bool = True, width: float = 1.3) -> None:
+    def line(
+        self,
+        points: Iterable[tuple[float, float]],
+        colour: str = INK,
+        dashed: bool = False,
+        arrow: bool = True,
+        width: float = 1.3,
+    ) -> None:
         path = " ".join(f"{x},{y}" for x, y in points)
-        more = (' stroke-dasharray="5 4"' if dashed else "") + (f' marker-end="url(#{"red" if colour == RED else "tip"})"' if arrow else "")
+        more = (' stroke-dasharray="5 4"' if dashed else "") + (
+            f' marker-end="url(#{"red" if colour == RED else "tip"})"' if arrow else ""
+        )
         self.parts.append(f'<polyline points="{path}" fill="none" stroke="{colour}" stroke-width="{width}"{more}/>')
 
     def text(
-        self, x: float, y: float, words: str, size: float = 12, font: str = SANS, colour: str = INK, weight: str = "normal", anchor: str = "start"
+        self,
+        x: float,
+        y: float,
+        words: str,
+        size: float = 12,
+        font: str = SANS,
+        colour: str = INK,
+        weight: str = "normal",
+        anchor: str = "start",
     ) -> None:
         self.reach(x + (0.62 * size * len(words) if anchor == "start" else 0), y + 4)
         halo = ' stroke="#ffffff" stroke-width="3" paint-order="stroke"' if anchor == "middle" else ""
@@ -47,6 +66,11 @@ class Picture:
             f'<path d="M0,0.8 L8,4 L0,7.2 z" fill="{colour}"/></marker>'
             for name, colour in (("tip", INK), ("red", RED))
         )
-        head = f'<svg xmlns="http://www.w3.org/2000/svg" width="{width}" height="{height}" viewBox="0 0 {width} {height}" role="img">'
+        head = (
+            f'<svg xmlns="http://www.w3.org/2000/svg" width="{width}" height="{height}" viewBox="0 0 {width} '
+            f'{height}" role="img">'
+        )
         back = f'<rect width="{width}" height="{height}" fill="#ffffff"/>'
-        return "\n".join([head, f"<title>{escape(title)}</title>", f"<defs>{tips}</defs>", back, *self.parts, "</svg>", ""])
+        return "\n".join(
+            [head, f"<title>{escape(title)}</title>", f"<defs>{tips}</defs>", back, *self.parts, "</svg>", ""]
+        )

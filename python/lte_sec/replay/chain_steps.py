@@ -1,4 +1,5 @@
-"""The core's chain of NH as steps: which of the requests that the capture leaves without an answer the core got, by the next number.
+"""The core's chain of NH as steps: which of the requests that the capture leaves without an answer the core got, by the
+next number.
 
 A request has a block for its delivery to the core, which is filled or left empty once a later key tells.
 """
@@ -90,7 +91,9 @@ class ChainSteps(NasSteps):
 
     link: ReplayedConnection | None = None
     lost: Why = ()  # why what the capture has of this connection is not replayed
-    unanswered: list[tuple[Ask, int]] = field(default_factory=list)  # requests that the core got without an answer, with their numbers
+    unanswered: list[tuple[Ask, int]] = field(
+        default_factory=list
+    )  # requests that the core got without an answer, with their numbers
 
     @property
     def is_connected(self) -> bool:
@@ -120,7 +123,8 @@ class ChainSteps(NasSteps):
         return number - before
 
     def answered(self, key: KeySeen) -> Ask | None:
-        """The request that an answer with this NH is for: the latest. Those before it reached the core as the number tells."""
+        """The request that an answer with this NH is for: the latest. Those before it reached the core as the number
+        tells."""
         link = self.link
         assert link is not None
         if key.is_late:
@@ -150,7 +154,9 @@ class ChainSteps(NasSteps):
                 self.script.assume(asked.at.frame, NO_ANSWER)
                 self.unanswered.append((asked, before + place + 1))
             else:
-                self.script.assume(asked.at.frame, "it did not come to the core, since the next number is one that leaves it out")
+                self.script.assume(
+                    asked.at.frame, "it did not come to the core, since the next number is one that leaves it out"
+                )
                 for block in asked.behind:
                     block.clear()
 
@@ -175,24 +181,44 @@ class ChainSteps(NasSteps):
             link.asks, link.told = link.asks[reached:], number
         elif reached > 0 and link.came:
             self.unseen_steps(reached - len(link.asks) - 1, at)
-            asked = self.again(self.script.assume(at.frame, "a path switch and its answer are not in the capture before this"))
+            asked = self.again(
+                self.script.assume(at.frame, "a path switch and its answer are not in the capture before this")
+            )
             link.asks, link.told = [], number
         else:
             return False
-        self.give(asked, self.script.assume(asked.at.frame, "the answer to the path switch is not in the capture, and came: the next KeNB* is made from its NH"), {nh(number)})
+        self.give(
+            asked,
+            self.script.assume(
+                asked.at.frame,
+                "the answer to the path switch is not in the capture, and came: the next KeNB* is made from its NH",
+            ),
+            {nh(number)},
+        )
         return True
 
     def unseen_steps(self, count: int, at: At) -> None:
-        """Steps of the core's chain of which nothing shows: each a path switch that is asked for again, and whose answer is lost."""
+        """Steps of the core's chain of which nothing shows: each a path switch that is asked for again, and whose
+        answer is lost."""
         assert self.link is not None
         self.settle_asks(self.link.asks, len(self.link.asks))
         for _ in range(count):
-            self.reach(self.again(self.script.assume(at.frame, "a step of the core's chain of which the capture shows nothing")))
+            self.reach(
+                self.again(
+                    self.script.assume(at.frame, "a step of the core's chain of which the capture shows nothing")
+                )
+            )
 
     def again(self, at: At) -> Ask:
         """A path switch that the serving station asks for again."""
         assert self.link is not None
-        asked = Ask(at, self.script.act({"do": "ask", "station": self.script.station(self.link.station)}, at), self.script.name(), self.script.block(), self.link.station)
+        asked = Ask(
+            at,
+            self.script.act({"do": "ask", "station": self.script.station(self.link.station)}, at),
+            self.script.name(),
+            self.script.block(),
+            self.link.station,
+        )
         self.reach(asked)
         return asked
 

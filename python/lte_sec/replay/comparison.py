@@ -52,7 +52,9 @@ class ComparedKey:
         if self.verdict == ReplayVerdict.SAME:
             return f"{head}same: {here} (step {self.step})"
         run = self.run_term + (f" NCC {self.run_ncc}" if self.ncc is not None else "")
-        return f"{head}differs: the capture has {here}, the run {run} (step {self.step})" + (f"; it follows from frame {self.follows}" if self.follows else "")
+        return f"{head}differs: the capture has {here}, the run {run} (step {self.step})" + (
+            f"; it follows from frame {self.follows}" if self.follows else ""
+        )
 
 
 @dataclass(frozen=True)
@@ -123,7 +125,9 @@ def compared(script: Script, course: Course, rows: list[ReplayedKey], kasmes: di
     return done
 
 
-def beside(row: ReplayedKey, course: Course, steps: dict[str, int], keys: dict[str, RunKey], root: str, names: dict[str, str]) -> ComparedKey:
+def beside(
+    row: ReplayedKey, course: Course, steps: dict[str, int], keys: dict[str, RunKey], root: str, names: dict[str, str]
+) -> ComparedKey:
     key, met = row.key, row.met
     head = (met.frame, met.title, key.what)
     if not row.item:
@@ -134,9 +138,19 @@ def beside(row: ReplayedKey, course: Course, steps: dict[str, int], keys: dict[s
         return ComparedKey(*head, ReplayVerdict.NOT_REPLAYED, str(key.term), key.ncc, step=steps.get(row.item), why=why)
     ncc, run = int(line.note.ncc), keys[line.note.key]
     if line.note.key == key.value.hex() and key.ncc in (None, ncc):
-        return ComparedKey(*head, ReplayVerdict.SAME, str(key.term if key.term != NONE else run.term), key.ncc, str(run.term), ncc, steps[row.item])
+        return ComparedKey(
+            *head,
+            ReplayVerdict.SAME,
+            str(key.term if key.term != NONE else run.term),
+            key.ncc,
+            str(run.term),
+            ncc,
+            steps[row.item],
+        )
     own, other = str(key.term), str(run.term)
-    if key.term == run.term and line.note.key != key.value.hex():  # chains that begin at different KeNBs have like forms
+    if (
+        key.term == run.term and line.note.key != key.value.hex()
+    ):  # chains that begin at different KeNBs have like forms
         if key.base not in (run.base, key.term):
             own, other = f"{own} on {key.base}", f"{other} on {run.base}"
         if key.kasme != names.get(run.root):

@@ -49,7 +49,7 @@ class ConnectionSteps(S1Steps):
 
     def after(self, met: Met) -> Iterator[Met]:
         seen = 0
-        for one in self.met[self.place + 1:]:
+        for one in self.met[self.place + 1 :]:
             if one.connection == met.connection and one is not met:
                 seen += 1
                 yield one
@@ -93,7 +93,13 @@ class ConnectionSteps(S1Steps):
             return False
         if self.trigger == (kasme, count):
             return True
-        at = self.script.assume(met.frame, f"the message with uplink COUNT {count} that brought the connection is not in {self.whole}, or its MAC is wrong")
+        at = self.script.assume(
+            met.frame,
+            (
+                f"the message with uplink COUNT {count} that brought the connection is not in {self.whole}, or its "
+                "MAC is wrong"
+            ),
+        )
         if not self.service(count, at):
             self.lost = Cause.COUNT_HAS_PASSED.because(count=count)
             return False
@@ -130,7 +136,10 @@ class ConnectionSteps(S1Steps):
         if self.script.stations.get(station):
             return self.script.stations[station][0]
         cell = self.script.made_up(station)
-        self.script.assume(frame, f"the cell of {station} is not known; ({cell[0]},{cell[1]}) stands for it, and no key of a line needs it")
+        self.script.assume(
+            frame,
+            f"the cell of {station} is not known; ({cell[0]},{cell[1]}) stands for it, and no key of a line needs it",
+        )
         return cell
 
     def released(self, met: Met, at: At) -> None:
@@ -146,7 +155,8 @@ class ConnectionSteps(S1Steps):
     # -- key changes
 
     def changes(self, met: Met, at: At) -> None:
-        """UE Context Modification with a key: the station makes KeNB* of it for the phone's cell (TS 33.401 7.2.9.2)."""
+        """UE Context Modification with a key: the station makes KeNB* of it for the phone's cell (TS 33.401
+        7.2.9.2)."""
         link, told = self.link, due(met.key)
         if met.key is None:
             return
@@ -157,11 +167,27 @@ class ConnectionSteps(S1Steps):
             return self.not_replayed(met, Cause.CHANGE_REFUSED.because())
         kasme = told[0] or (self.context.kasme if self.context is not None else "")
         if kasme == link.kasme or told[1] != 0 or not self.has(kasme, met) or self.held is None:
-            self.lost = Cause.KENB_ON_THE_FLY.because() if kasme == link.kasme or told[1] else Cause.KASME_COMES_BACK.because()
+            self.lost = (
+                Cause.KENB_ON_THE_FLY.because() if kasme == link.kasme or told[1] else Cause.KASME_COMES_BACK.because()
+            )
             return self.not_replayed(met, self.lost)
         cell = self.told_cells.get(link.connection or 0)
-        if cell is not None and cell != link.cell and cell in self.own(link.station) and self.told_stations.get(link.connection or 0) == link.station:
-            self.step_within(cell, self.script.assume(met.frame, f"the phone is in cell ({cell[0]},{cell[1]}) of {link.station}, to which S1 and X2 show no handover"))
+        if (
+            cell is not None
+            and cell != link.cell
+            and cell in self.own(link.station)
+            and self.told_stations.get(link.connection or 0) == link.station
+        ):
+            self.step_within(
+                cell,
+                self.script.assume(
+                    met.frame,
+                    (
+                        f"the phone is in cell ({cell[0]},{cell[1]}) of {link.station}, "
+                        "to which S1 and X2 show no handover"
+                    ),
+                ),
+            )
         self.row(met, self.change(at))
         if link.cell in self.script.invented:
             self.lost = Cause.CHANGE_CELL_UNKNOWN.because(station=link.station)
@@ -188,16 +214,30 @@ class ConnectionSteps(S1Steps):
         if self.link is None:
             self.release_held(at, False)
         else:
-            self.change(self.script.assume(at.frame, "the key change to the KASME in use for NAS is not in the capture before this"))
+            self.change(
+                self.script.assume(
+                    at.frame, "the key change to the KASME in use for NAS is not in the capture before this"
+                )
+            )
 
     def changed_unseen(self, met: Met) -> None:
         """A key under the KASME of NAS, where the capture shows no key change to it."""
         key, link = met.key, self.link
-        if key is None or link is None or self.lost or key.verdict == DIFFERS or not key.kasme or key.kasme == link.kasme:
+        if (
+            key is None
+            or link is None
+            or self.lost
+            or key.verdict == DIFFERS
+            or not key.kasme
+            or key.kasme == link.kasme
+        ):
             return
         if self.has(key.kasme, met) and self.held is not None:
             self.change_now(At(met.frame, met.title))
 
     def nameless(self, what: str) -> str:
         """A name for a station that the capture does not name."""
-        return without(what, [*(one.station for one in self.met), *(self.station_of(site.eci) for site in self.cells.sites.values())])
+        return without(
+            what,
+            [*(one.station for one in self.met), *(self.station_of(site.eci) for site in self.cells.sites.values())],
+        )

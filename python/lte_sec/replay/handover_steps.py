@@ -1,5 +1,6 @@
-"""Handovers over X2 and within a station of a capture as steps, and the way of the phone. The command and the phone's Complete come only where the capture shows that the phone obeyed, so that
-a handover that fails can be cancelled: the machine takes no cancel behind the command."""
+"""Handovers over X2 and within a station of a capture as steps, and the way of the phone. The command and the phone's
+Complete come only where the capture shows that the phone obeyed, so that a handover that fails can be cancelled: the
+machine takes no cancel behind the command."""
 from __future__ import annotations
 
 from collections.abc import Iterator
@@ -36,7 +37,11 @@ class HandoverSteps(ChainSteps):
 
     def sites(self, station: str) -> list[Cell]:
         """The cells of a station."""
-        known = [self.cells.at(site.eci) or site for site in self.cells.sites.values() if self.station_of(site.eci) == station]
+        known = [
+            self.cells.at(site.eci) or site
+            for site in self.cells.sites.values()
+            if self.station_of(site.eci) == station
+        ]
         return [(site.pci, site.earfcn) for site in known]
 
     def own(self, station: str) -> set[Cell]:
@@ -51,12 +56,15 @@ class HandoverSteps(ChainSteps):
             return
         if link.open is not None and link.open.station == station:
             what = "the path switch" if link.open.kind == "X2" else "the Handover Notify"
-            self.obeyed(self.script.assume(at.frame, f"{what} is not in the capture and is taken as the standard has it"))
+            self.obeyed(
+                self.script.assume(at.frame, f"{what} is not in the capture and is taken as the standard has it")
+            )
         else:
             self.lost = Cause.HANDOVER_NOT_REPLAYED.because()
 
     def obeyed(self, at: At) -> None:
-        """The phone obeys: the target has its Complete. After X2 the path switch asks the core, after S1 the Notify tells it."""
+        """The phone obeys: the target has its Complete. After X2 the path switch asks the core, after S1 the Notify
+        tells it."""
         link = self.link
         assert link is not None and link.open is not None
         made = link.open
@@ -99,14 +107,23 @@ class HandoverSteps(ChainSteps):
             self.script.deliver(passed, at, False, block)
 
     def elsewhere(self, met: Met, at: At) -> None:
-        """The phone came to another cell of the target than was prepared (TS 33.401 7.4.3): the handover is made for that cell."""
+        """The phone came to another cell of the target than was prepared (TS 33.401 7.4.3): the handover is made for
+        that cell."""
         link, cell = self.link, self.cell_of(met.message.eci)
-        if link is None or link.open is None or cell is None or cell == link.open.cell or self.station_of(met.message.eci) != link.open.station:
+        if (
+            link is None
+            or link.open is None
+            or cell is None
+            or cell == link.open.cell
+            or self.station_of(met.message.eci) != link.open.station
+        ):
             return
         if self.is_nested(met, link.open.cell):
             return
         station, bases = link.open.station, link.open.bases
-        assumed = self.script.assume(at.frame, f"the phone came to cell ({cell[0]},{cell[1]}), for which the source makes the handover anew")
+        assumed = self.script.assume(
+            at.frame, f"the phone came to cell ({cell[0]},{cell[1]}), for which the source makes the handover anew"
+        )
         self.cancel(assumed)
         self.begin_x2(station, cell, bases, assumed, None)
 
@@ -140,7 +157,8 @@ class HandoverSteps(ChainSteps):
             self.made_from(met.key, cell, at)
 
     def for_reestablishment(self, met: Met, at: At) -> None:
-        """KeNB* of each cell that is prepared for re-establishment (TS 33.401 7.4.3): a handover to it that is cancelled makes the same."""
+        """KeNB* of each cell that is prepared for re-establishment (TS 33.401 7.4.3): a handover to it that is
+        cancelled makes the same."""
         link = self.link
         for key in met.more:
             one = next((one for one in met.message.reestablishment if one.key == key.value), None)
@@ -149,7 +167,9 @@ class HandoverSteps(ChainSteps):
             if link is None or self.lost or one is None or cell is None or station == link.station:
                 self.not_replayed(met, self.lost or Cause.CELLS_NOT_REPLAYED.because(), key)
                 continue
-            assumed = self.script.assume(met.frame, "KeNB* of a cell for re-establishment is made by a handover to it that is cancelled")
+            assumed = self.script.assume(
+                met.frame, "KeNB* of a cell for re-establishment is made by a handover to it that is cancelled"
+            )
             begin = self.begin_x2(station, cell, set(link.pairs or link.uses), assumed, None)
             if link.open is not None:
                 link.open.given.clear()
@@ -160,7 +180,8 @@ class HandoverSteps(ChainSteps):
         return self.station_of(met.message.eci) or shown(met.message.target)
 
     def made_from(self, key: KeySeen, cell: Cell, at: At) -> None:
-        """What a KeNB* is made from may tell of steps in cells of the source itself, and of an answer that the capture lacks."""
+        """What a KeNB* is made from may tell of steps in cells of the source itself, and of an answer that the capture
+        lacks."""
         link = self.link
         made = above(key.term)
         if link is None or made is None or made[1] != cell or key.verdict == DIFFERS or key.kasme != link.kasme:
@@ -178,7 +199,16 @@ class HandoverSteps(ChainSteps):
         if rest not in link.uses | link.pairs and not self.told_by_star(numbered(rest), at):
             return
         for one in within:
-            self.step_within(one, self.script.assume(at.frame, f"the phone was refreshed in cell ({one[0]},{one[1]}) of {link.station} before, which S1 and X2 do not show"))
+            self.step_within(
+                one,
+                self.script.assume(
+                    at.frame,
+                    (
+                        f"the phone was refreshed in cell ({one[0]},{one[1]}) of {link.station} before, which S1 and "
+                        "X2 do not show"
+                    ),
+                ),
+            )
 
     def step_within(self, cell: Cell, at: At) -> None:
         """A handover within the station, which stands for a re-establishment too: both make KeNB* for the cell."""
@@ -186,7 +216,9 @@ class HandoverSteps(ChainSteps):
         assert link is not None
         number = self.script.station(link.station)
         self.script.act({"do": "intra", "station": number, "cell": self.script.cell(link.station, cell)}, at)
-        self.script.deliver(self.script.deliver(self.script.act({"do": "command", "station": number}, at), at), at, False)
+        self.script.deliver(
+            self.script.deliver(self.script.act({"do": "command", "station": number}, at), at), at, False
+        )
         link.uses, link.pairs, link.cell = {star(base, cell) for base in link.pairs or link.uses}, set(), cell
 
     def x2_answered(self, met: Met, at: At) -> None:
@@ -207,7 +239,11 @@ class HandoverSteps(ChainSteps):
         if link is None or self.lost:
             return
         if link.open is not None and link.open.kind == "X2" and link.open.handover == met.handover:
-            self.obeyed(self.script.assume(met.frame, "the path switch is not in the capture and is taken as the standard has it"))
+            self.obeyed(
+                self.script.assume(
+                    met.frame, "the path switch is not in the capture and is taken as the standard has it"
+                )
+            )
         elif link.release:
             self.script.deliver(link.release, at, False)
             link.release = ""
@@ -237,7 +273,9 @@ class HandoverSteps(ChainSteps):
         if cell is None:
             self.lost = Cause.REPLAY_CELL_UNKNOWN.because()
             return
-        assumed = self.script.assume(met.frame, f"a handover over X2 to {met.station} whose messages between the stations are not in the capture")
+        assumed = self.script.assume(
+            met.frame, f"a handover over X2 to {met.station} whose messages between the stations are not in the capture"
+        )
         self.cancel(assumed)
         self.begin_x2(met.station, cell, set(link.pairs or link.uses), assumed, None)
         self.obeyed(assumed)
@@ -264,7 +302,11 @@ class HandoverSteps(ChainSteps):
             return self.not_replayed(met, self.lost or Cause.NO_ORIGIN.because())
         asked = self.answered(met.key)
         if asked is None and link.came:
-            asked = self.again(self.script.assume(met.frame, "the path switch is not in the capture and is taken as the standard has it"))
+            asked = self.again(
+                self.script.assume(
+                    met.frame, "the path switch is not in the capture and is taken as the standard has it"
+                )
+            )
             link.told = numbered(met.key.term) or link.told + 1
         if asked is None:
             return self.not_replayed(met, Cause.NO_PATH_SWITCH.because())

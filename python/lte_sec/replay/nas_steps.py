@@ -1,7 +1,9 @@
-"""NAS messages of a capture as steps: authentications, Security Mode exchanges, Service Requests, and texts under their COUNTs.
+"""NAS messages of a capture as steps: authentications, Security Mode exchanges, Service Requests, and texts under their
+COUNTs.
 
-A Security Mode Complete changes the key of a standing connection at once here. A product changes it later, and path switches between
-are answered from the old chain. So what comes from the Complete on waits for the key change that the capture shows, or a release.
+A Security Mode Complete changes the key of a standing connection at once here. A product changes it later, and path
+switches between are answered from the old chain. So what comes from the Complete on waits for the key change that the
+capture shows, or a release.
 """
 from __future__ import annotations
 
@@ -88,7 +90,9 @@ class NasSteps:
             self.mode_command(met, one, at)
         elif one.header == COMPLETE and one.is_up and self.commanded is not None and self.commanded.kasme == one.kasme:
             self.mode_complete(at)
-        elif self.has(one.kasme, met) and (one.header >= SERVICE_REQUEST or asks and one.header != COMPLETE or asks and one.count != 0):
+        elif self.has(one.kasme, met) and (
+            one.header >= SERVICE_REQUEST or asks and one.header != COMPLETE or asks and one.count != 0
+        ):
             self.later(lambda: self.service(one.count, at))
         elif self.context is not None and self.context.kasme == one.kasme and one.header not in (COMMAND, COMPLETE):
             self.later(lambda: self.text(one, at))
@@ -109,7 +113,13 @@ class NasSteps:
         chosen = plain[2] if len(plain) > 2 else 0x22
         self.script.null_ciphering = not chosen >> 4 & 7
         if chosen >> 4 & 7 not in (0, 2) or chosen & 7 != 2:
-            self.script.assume(frame, f"128-EEA2 and 128-EIA2 in place of EEA{chosen >> 4 & 7} and EIA{chosen & 7}; no key of a line depends on them")
+            self.script.assume(
+                frame,
+                (
+                    f"128-EEA2 and 128-EIA2 in place of EEA{chosen >> 4 & 7} and EIA{chosen & 7}; no key of a line "
+                    "depends on them"
+                ),
+            )
 
     def authenticate(self, kasme: str, ksi: int, at: At) -> None:
         """A new KASME, and the Security Mode Command of the core."""
@@ -162,7 +172,11 @@ class NasSteps:
         if self.context is not None and self.context.kasme == kasme:
             return True
         if self.commanded is not None and self.commanded.kasme == kasme:
-            self.mode_complete(self.script.assume(met.frame, f"the Security Mode Complete of {kasme} is not in {self.whole} before this"))
+            self.mode_complete(
+                self.script.assume(
+                    met.frame, f"the Security Mode Complete of {kasme} is not in {self.whole} before this"
+                )
+            )
             return True
         if kasme not in self.kasmes or kasme in self.used:
             return False
@@ -174,7 +188,8 @@ class NasSteps:
     # -- texts and requests
 
     def skip(self, is_up: bool, count: int, at: At) -> bool:
-        """Brings the sender to a COUNT, with an empty text before the receiver's estimate would fail; whether it is not behind."""
+        """Brings the sender to a COUNT, with an empty text before the receiver's estimate would fail; whether it is not
+        behind."""
         assert self.context is not None
         who, next_one = ("phone", self.context.up) if is_up else ("core", self.context.down)
         if not next_one <= count <= next_one + FARTHEST:

@@ -1,4 +1,5 @@
-"""Which messages of a capture are of one phone: those of connections that share a KASME, and of KASMEs that share a connection."""
+"""Which messages of a capture are of one phone: those of connections that share a KASME, and of KASMEs that share a
+connection."""
 from __future__ import annotations
 
 from dataclasses import dataclass, field
@@ -20,14 +21,20 @@ class CapturedPhone:
 
 
 def kasmes_of(connections: dict[int, list[Met]]) -> dict[int, list[str]]:
-    """The KASMEs that each connection stands under for sure: those of its NAS messages, and of its keys those that no NAS message has. Another
-    may be that of another phone, by a fault."""
-    nas = {number: [one.kasme for each in its for one in each.nas if one.is_right] for number, its in connections.items()}
+    """The KASMEs that each connection stands under for sure: those of its NAS messages, and of its keys those that no
+    NAS message has. Another may be that of another phone, by a fault."""
+    nas = {
+        number: [one.kasme for each in its for one in each.nas if one.is_right] for number, its in connections.items()
+    }
     of_nas = {name for names in nas.values() for name in names}
     found: dict[int, list[str]] = {}
     for number, its in connections.items():
-        keys = [each.key.kasme for each in its if each.key is not None and each.key.verdict != DIFFERS and each.key.kasme]
-        found[number] = list(dict.fromkeys([*nas[number], *(name for name in keys if name not in of_nas or not nas[number])]))
+        keys = [
+            each.key.kasme for each in its if each.key is not None and each.key.verdict != DIFFERS and each.key.kasme
+        ]
+        found[number] = list(
+            dict.fromkeys([*nas[number], *(name for name in keys if name not in of_nas or not nas[number])])
+        )
     return found
 
 
@@ -59,7 +66,8 @@ def phones_of(record: RecordedTrace) -> tuple[list[CapturedPhone], list[Met]]:
 
 
 def first_ncc(met: list[Met]) -> int:
-    """The number of the first NH that the core of these messages sends: the more frequent one where only one request stands for it."""
+    """The number of the first NH that the core of these messages sends: the more frequent one where only one request
+    stands for it."""
     votes: list[int] = []
     begun: dict[int | None, int] = {}  # of connections without an NH so far, the requests for one
     for one in met:

@@ -1,4 +1,5 @@
-"""What `replay` takes of a trace: each message with its connection, station, NAS messages and keys, all from the list of what was seen."""
+"""What `replay` takes of a trace: each message with its connection, station, NAS messages and keys, all from the list
+of what was seen."""
 from __future__ import annotations
 
 from dataclasses import dataclass, field
@@ -32,8 +33,8 @@ class CapturedNas:
 
 @dataclass(frozen=True)
 class KeySeen:
-    """A key of a message: what it is, its octets and NCC, the derivations that give it and that were wanted, as lines tell them, and what was
-    said of it."""
+    """A key of a message: what it is, its octets and NCC, the derivations that give it and that were wanted, as lines
+    tell them, and what was said of it."""
 
     what: str
     value: bytes
@@ -91,13 +92,27 @@ def key_of(value: Line, message: Message) -> KeySeen:
     term = value.key.term if value.key is not None else NONE
     wanted = value.wanted_key.term if value.wanted_key is not None else term
     base = term.base() or term
-    return KeySeen(value.what, octets, message.ncc, term.told(), wanted.told(), base.told(), value.kasme, value.verdict, value.reasons)
+    return KeySeen(
+        value.what,
+        octets,
+        message.ncc,
+        term.told(),
+        wanted.told(),
+        base.told(),
+        value.kasme,
+        value.verdict,
+        value.reasons,
+    )
 
 
 def met_of(place: int, seen: Seen, begun: set[int], cells: Cells) -> Met:
     """A message as it was seen; `begun` are the handovers before it."""
     message = seen.decoded
-    station = shown(cells.station(message.source_eci)) if seen.link.kind == "X2" and message.source_eci is not None else seen.link.one
+    station = (
+        shown(cells.station(message.source_eci))
+        if seen.link.kind == "X2" and message.source_eci is not None
+        else seen.link.one
+    )
     met = Met(seen.frame, seen.title, message, place, station, seen.connection, seen.handover)
     met.nas = [one for value in seen.values if (one := nas_of(value)) is not None]
     for value in seen.values:

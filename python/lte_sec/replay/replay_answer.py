@@ -65,18 +65,34 @@ class ReplayedCapture:
 
 def key_of(one: ComparedKey) -> dict[str, object]:
     return {
-        "frame": one.frame, "message": one.message, "what": one.what, "verdict": one.verdict.value, "is": one.term, "ncc": one.ncc,
-        "run": one.run_term, "run_ncc": one.run_ncc, "step": one.step, "reason": one.reason, "follows": one.follows or None, "text": one.text,
+        "frame": one.frame,
+        "message": one.message,
+        "what": one.what,
+        "verdict": one.verdict.value,
+        "is": one.term,
+        "ncc": one.ncc,
+        "run": one.run_term,
+        "run_ncc": one.run_ncc,
+        "step": one.step,
+        "reason": one.reason,
+        "follows": one.follows or None,
+        "text": one.text,
     }
 
 
 def document_of(part: ReplayedPart) -> dict[str, object]:
     done = part.done
     return {
-        "phone": part.number, "kasmes": part.kasmes, "file": part.file or None, "steps": len(done.course.items),
+        "phone": part.number,
+        "kasmes": part.kasmes,
+        "file": part.file or None,
+        "steps": len(done.course.items),
         "keys": [key_of(one) for one in done.told],
         "assumed": [{"frame": at.frame, "text": at.text} for at in done.script.assumed],
-        "refused": [{"step": one.step, "do": one.do, "frame": one.frame, "answer": one.answer, "text": one.text} for one in done.refused],
+        "refused": [
+            {"step": one.step, "do": one.do, "frame": one.frame, "answer": one.answer, "text": one.text}
+            for one in done.refused
+        ],
     }
 
 
@@ -84,8 +100,12 @@ def scenario_of(answer: ReplayedCapture, part: ReplayedPart) -> str:
     """The scenario as a text: above the steps of a message a remark with its frame."""
     script, course = part.done.script, part.done.course
     lines = [
-        f"# Phone {part.number} of {' and '.join(answer.captures)}, as a capture shows it.", f"# {SECRETS if answer.texts else NO_TEXTS}.",
-        *(f"# assumed: frame {at.frame}: {at.text}" for at in script.assumed), "", script.setup().rstrip(), "step = [",
+        f"# Phone {part.number} of {' and '.join(answer.captures)}, as a capture shows it.",
+        f"# {SECRETS if answer.texts else NO_TEXTS}.",
+        *(f"# assumed: frame {at.frame}: {at.text}" for at in script.assumed),
+        "",
+        script.setup().rstrip(),
+        "step = [",
     ]
     before = ""
     for item, step in paired(course.items, course.steps):

@@ -1,4 +1,5 @@
-"""The word `replay` of the launcher: `PROGRAM [OPTION].. CAPTURE.. KASME..`. docs/REPLAY.md has its lines and statuses."""
+"""The word `replay` of the launcher: `PROGRAM [OPTION].. CAPTURE.. KASME..`. docs/REPLAY.md has its lines and
+statuses."""
 from __future__ import annotations
 
 import json
@@ -21,7 +22,9 @@ FAILS, STOPPED = 6, 130
 USUAL_CAPS = "a020"  # EEA0, 128-EEA2 and 128-EIA2, which the profile has
 
 
-def walked(found: RecordedTrace, phone: CapturedPhone, met: list[Met], texts: bool, whole: str) -> tuple[Steps, int | None]:
+def walked(
+    found: RecordedTrace, phone: CapturedPhone, met: list[Met], texts: bool, whole: str
+) -> tuple[Steps, int | None]:
     """The steps of these messages, and the place at which their scenario is full."""
     script = Script(first_ncc=first_ncc(phone.met))
     own = {name: value for name, value in found.kasmes.items() if name in phone.kasmes}
@@ -44,7 +47,10 @@ def scenarios_of(found: RecordedTrace, phone: CapturedPhone, texts: bool) -> lis
                 continue
             steps, _ = walked(found, phone, met[:cut], texts, whole)
             met, whole = met[cut:], "this part of the capture"
-            steps.script.assume(met[0].frame, f"from here on another scenario, since one has at most {STATIONS} stations, and {CELLS} cells of each")
+            steps.script.assume(
+                met[0].frame,
+                f"from here on another scenario, since one has at most {STATIONS} stations, and {CELLS} cells of each",
+            )
         else:
             met = []
         done.append(steps)
@@ -54,7 +60,13 @@ def scenarios_of(found: RecordedTrace, phone: CapturedPhone, texts: bool) -> lis
 def capabilities(steps: Steps, phone: CapturedPhone) -> None:
     """The capabilities that the phone told, with the algorithms that the profile has."""
     told = next((met.message.capabilities for met in phone.met if met.message.capabilities is not None), None)
-    octets = bytes.fromhex(steps.script.caps) if steps.script.caps else bytes([told[0] << 4, told[1] << 4]) if told else bytes(2)
+    octets = (
+        bytes.fromhex(steps.script.caps)
+        if steps.script.caps
+        else bytes([told[0] << 4, told[1] << 4])
+        if told
+        else bytes(2)
+    )
     usual = bytes.fromhex(USUAL_CAPS)
     steps.script.caps = bytes(one | other for one, other in zip(octets, usual)).hex()
 
@@ -68,11 +80,23 @@ def replayed(program: str, found: RecordedTrace, captures: list[str], texts: boo
         for place, steps in enumerate(scenarios, 1):
             capabilities(steps, phone)
             done = compared(steps.script, steps.script.run(program), steps.rows, found.kasmes)
-            answer.parts.append(ReplayedPart(str(number) if len(scenarios) == 1 else f"{number}.{place}", phone.kasmes, done))
+            answer.parts.append(
+                ReplayedPart(str(number) if len(scenarios) == 1 else f"{number}.{place}", phone.kasmes, done)
+            )
     for met in others:
         if met.key is not None:
             why = Cause.OF_NO_PHONE if met.connection is None else Cause.NOT_GIVEN
-            answer.others.append(ComparedKey(met.frame, met.title, met.key.what, ReplayVerdict.NOT_REPLAYED, str(met.key.term), met.key.ncc, why=why.because()))
+            answer.others.append(
+                ComparedKey(
+                    met.frame,
+                    met.title,
+                    met.key.what,
+                    ReplayVerdict.NOT_REPLAYED,
+                    str(met.key.term),
+                    met.key.ncc,
+                    why=why.because(),
+                )
+            )
     return answer
 
 
@@ -93,7 +117,11 @@ def one_of(answer: ReplayedCapture, number: str) -> str:
     """The scenario of one phone."""
     found = next((part for part in answer.parts if part.number == number), None)
     if found is None:
-        raise TraceError(f"--phone is one of {', '.join(part.number for part in answer.parts) or 'none, for no phone of the capture is known'}: {number}")
+        raise TraceError(
+            "--phone is one of "
+            f"{', '.join(part.number for part in answer.parts) or 'none, for no phone of the capture is known'}: "
+            f"{number}"
+        )
     return scenario_of(answer, found)
 
 
@@ -110,7 +138,12 @@ def tell(answer: ReplayedCapture, words: TraceWords) -> int:
         print(*answer.lines(), sep="\n")
     sys.stdout.flush()
     if wanted or words.has("--save"):
-        print(f"lte_sec: {SECRETS}; --no-texts puts zeros in place of the texts" if answer.texts else f"lte_sec: {NO_TEXTS}", file=sys.stderr)
+        print(
+            f"lte_sec: {SECRETS}; --no-texts puts zeros in place of the texts"
+            if answer.texts
+            else f"lte_sec: {NO_TEXTS}",
+            file=sys.stderr,
+        )
     return answer.status()
 
 
@@ -120,7 +153,9 @@ def main(words: list[str]) -> int:
         if not words[0]:  # without a program only the words are read
             return 0
         trace = traced(given)
-        status = tell(replayed(words[0], record(trace), [file.name for file in given.files], not given.has("--no-texts")), given)
+        status = tell(
+            replayed(words[0], record(trace), [file.name for file in given.files], not given.has("--no-texts")), given
+        )
         return status or noted(trace)
     except TraceError as fault:
         print(f"lte_sec: status {fault.status}: replay: {fault}", file=sys.stderr)

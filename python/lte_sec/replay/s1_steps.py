@@ -26,7 +26,9 @@ class S1Steps(HandoverSteps):
     def begin_s1(self, station: str, cell: Cell, at: At) -> None:
         link = self.link
         assert link is not None
-        begin = self.script.act({"do": "s1", "station": self.script.station(link.station), "cell": self.script.cell(station, cell)}, at)
+        begin = self.script.act(
+            {"do": "s1", "station": self.script.station(link.station), "cell": self.script.cell(station, cell)}, at
+        )
         asked = self.ask(at, begin, link.station)
         given = self.script.block()
         asked.behind.append(given)
@@ -55,16 +57,27 @@ class S1Steps(HandoverSteps):
         made.request = self.script.deliver(asked.got, at, True, made.given)
 
     def came_to(self, met: Met, cell: Cell) -> Cell:
-        """The cell of the target to which the phone comes, where it is another than the prepared one: the request is made for it at once."""
+        """The cell of the target to which the phone comes, where it is another than the prepared one: the request is
+        made for it at once."""
         for after in self.after(met):
             if after.message.name == "HandoverNotify":
                 came = self.cell_of(after.message.eci)
                 same = self.station_of(after.message.eci) == self.station_of(met.message.eci)
                 if came is None or came == cell or not same or self.is_nested(after, cell):
                     return cell
-                self.script.assume(met.frame, f"the request is made for cell ({came[0]},{came[1]}), where the phone came to, and not for ({cell[0]},{cell[1]})")
+                self.script.assume(
+                    met.frame,
+                    (
+                        f"the request is made for cell ({came[0]},{came[1]}), where the phone came to, and not for "
+                        f"({cell[0]},{cell[1]})"
+                    ),
+                )
                 return came
-            if after.message.name == "HandoverRequired" or after.message.link == "X2" and after.message.name == "HandoverRequest":
+            if (
+                after.message.name == "HandoverRequired"
+                or after.message.link == "X2"
+                and after.message.name == "HandoverRequest"
+            ):
                 break
         return cell
 

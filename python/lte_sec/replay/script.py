@@ -1,7 +1,7 @@
 """The steps of a scenario as they are written for a capture: each with its frame, and what is assumed of it.
 
-An act or a delivery is an item of `courses`: a delivery names the item whose record it delivers. What a later message of the capture
-decides has a block of its own, which is filled or emptied then.
+An act or a delivery is an item of `courses`: a delivery names the item whose record it delivers. What a later message
+of the capture decides has a block of its own, which is filled or emptied then.
 """
 from __future__ import annotations
 
@@ -79,7 +79,9 @@ class Script:
     def made_up(self, name: str) -> Cell:
         """A cell for a station none of whose cells is known."""
         taken = {cell for cells in self.stations.values() for cell in cells}
-        cell = next((pci, GREATEST_EARFCN) for pci in range(GREATEST_PCI, -1, -1) if (pci, GREATEST_EARFCN) not in taken)
+        cell = next(
+            (pci, GREATEST_EARFCN) for pci in range(GREATEST_PCI, -1, -1) if (pci, GREATEST_EARFCN) not in taken
+        )
         self.cell(name, cell)
         self.invented.add(cell)
         return cell
@@ -126,10 +128,14 @@ class Script:
         setup: dict[str, object] = {"phone": {"caps": self.caps}}
         core: dict[str, object] = {"priority": [0, 2]} if self.null_ciphering else {}
         setup["core"] = core | {"first_ncc": self.first_ncc}
-        setup["station"] = [{"id": number, "cells": [list(cell) for cell in cells]} for number, cells in enumerate(self.stations.values())]
+        setup["station"] = [
+            {"id": number, "cells": [list(cell) for cell in cells]}
+            for number, cells in enumerate(self.stations.values())
+        ]
         return setup_text(setup)
 
     def run(self, program: str) -> Course:
-        """The course of the steps. What the capture does not show is not delivered, so all are taken to send in the scenario."""
+        """The course of the steps. What the capture does not show is not delivered, so all are taken to send in the
+        scenario."""
         items = list(self.items())
         return Runs(program, self.setup()).course(items, {item.name: True for item in items}, self.sends)

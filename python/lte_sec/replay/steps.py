@@ -1,4 +1,5 @@
-"""The messages of a phone as the steps of a scenario: its connections, key changes and handovers, in the order of the capture."""
+"""The messages of a phone as the steps of a scenario: its connections, key changes and handovers, in the order of the
+capture."""
 from __future__ import annotations
 
 from collections.abc import Callable
@@ -41,7 +42,8 @@ class Steps(ConnectionSteps):
     cut: int = 0  # the last place at which another scenario may begin
 
     def walk(self) -> int | None:
-        """Writes the steps of all messages, or as far as the scenario has room: the place of the first message that it has none for."""
+        """Writes the steps of all messages, or as far as the scenario has room: the place of the first message that it
+        has none for."""
         for self.place, met in enumerate(self.met):
             if self.may_begin(met):
                 self.cut = self.place
@@ -56,7 +58,11 @@ class Steps(ConnectionSteps):
         """Whether a scenario may begin with this message: a connection's first one, or a handover from an NH."""
         if met.message.name in ("InitialUEMessage", "HandoverRequired"):
             return True
-        made = above(met.key.term) if met.key is not None and met.message.link == "X2" and met.key.verdict == RIGHT else None
+        made = (
+            above(met.key.term)
+            if met.key is not None and met.message.link == "X2" and met.key.verdict == RIGHT
+            else None
+        )
         return made is not None and made[0].kind == "nh"
 
     def one(self, met: Met) -> None:
@@ -66,9 +72,18 @@ class Steps(ConnectionSteps):
         self.takes_cell(met)
         if met.connection not in self.begun:
             self.begins(met)
-        if message.name in SHOWS_STATION and message.link == "S1" and self.is_of(met) and (met.key is None or not met.key.is_late):
+        if (
+            message.name in SHOWS_STATION
+            and message.link == "S1"
+            and self.is_of(met)
+            and (met.key is None or not met.key.is_late)
+        ):
             self.comes_to(met.station, at)
-        if message.link == "X2" and message.name in ("HandoverRequest", "RetrieveUEContextResponse") and self.is_of(met):
+        if (
+            message.link == "X2"
+            and message.name in ("HandoverRequest", "RetrieveUEContextResponse")
+            and self.is_of(met)
+        ):
             self.comes_to(met.station, at)
         handler = HANDLERS.get((message.link, message.name))
         if handler is not None:
@@ -92,12 +107,23 @@ class Steps(ConnectionSteps):
         assert met.connection is not None
         self.begun.add(met.connection)
         name, key = met.message.name, self.first_key(met)
-        if name == "InitialUEMessage" or key is None or key.message.name == "InitialContextSetupRequest" or key.key is None:
+        if (
+            name == "InitialUEMessage"
+            or key is None
+            or key.message.name == "InitialContextSetupRequest"
+            or key.key is None
+        ):
             return
-        if self.link is not None and (key.key.kasme, key.key.base) == (self.link.kasme, self.link.base) and key.key.verdict != DIFFERS:
+        if (
+            self.link is not None
+            and (key.key.kasme, key.key.base) == (self.link.kasme, self.link.base)
+            and key.key.verdict != DIFFERS
+        ):
             self.link.connection = met.connection  # one KeNB is that of one connection
             return
-        at = self.script.assume(met.frame, f"the connection began before {self.whole}; its beginning is made from its first key")
+        at = self.script.assume(
+            met.frame, f"the connection began before {self.whole}; its beginning is made from its first key"
+        )
         if self.link is not None or self.held is not None:
             self.end(at)
         self.lost = self.begun_before(met, key, key.key, at)
@@ -130,9 +156,18 @@ class Steps(ConnectionSteps):
         return ()
 
     def begun_before_change(self, met: Met, first: Met, at: At) -> Why:
-        """Makes a connection under the KASME before a key change; no key of a line depends on it, so that it may be made up."""
+        """Makes a connection under the KASME before a key change; no key of a line depends on it, so that it may be
+        made up."""
         new = first.key.kasme if first.key is not None else ""
-        kasme = next((one.kasme for before in self.between(met, first) for one in before.nas if one.is_right and one.kasme not in (new, *self.used)), "")
+        kasme = next(
+            (
+                one.kasme
+                for before in self.between(met, first)
+                for one in before.nas
+                if one.is_right and one.kasme not in (new, *self.used)
+            ),
+            "",
+        )
         if not kasme:
             kasme = without(MADE_UP, [name for name, value in self.kasmes.items() if value != ZEROS])
             self.kasmes[kasme] = ZEROS
@@ -154,7 +189,11 @@ class Steps(ConnectionSteps):
         if met.message.name == "PathSwitchRequest" or not met.station:
             others = [self.station_of(site.eci) for site in self.cells.sites.values()]
             source = self.station_of(first.message.source_eci) if first.message.source_eci is not None else ""
-            return source or next((name for name in others if name != met.station), "") or self.nameless("a station before")
+            return (
+                source
+                or next((name for name in others if name != met.station), "")
+                or self.nameless("a station before")
+            )
         if met.message.name == "HandoverRequest" and met.message.link == "S1":
             return self.station_of(met.message.source_eci) or self.nameless("a station before")
         return met.station
@@ -172,13 +211,17 @@ class Steps(ConnectionSteps):
     def chain_of(self, met: Met, station: str, kasme: str, count: int, handovers: int, at: At, is_open: bool) -> None:
         """A connection at a COUNT, and so many handovers over X2 with their path switches, that end at a station."""
         assert met.connection is not None and self.context is not None
-        other = next((name for name in [self.station_of(site.eci) for site in self.cells.sites.values()] if name != station), "") or self.nameless("another station")
+        other = next(
+            (name for name in [self.station_of(site.eci) for site in self.cells.sites.values()] if name != station), ""
+        ) or self.nameless("another station")
         ways = [station if (handovers - turn) % 2 == 0 else other for turn in range(handovers + 1)]
         cells = {name: self.known_cell(met.connection, name, met.frame) for name in dict.fromkeys(ways)}
         item = self.script.act({"do": "connect", "cell": self.script.cell(ways[0], cells[ways[0]])}, at)
         self.script.deliver(self.script.deliver(self.script.deliver(item, at), at), at, False)
         self.trigger = None
-        self.link = link = ReplayedConnection(met.connection, ways[0], cells[ways[0]], kenb(count), kasme, {kenb(count)})
+        self.link = link = ReplayedConnection(
+            met.connection, ways[0], cells[ways[0]], kenb(count), kasme, {kenb(count)}
+        )
         for turn, name in enumerate(ways[1:], 1):
             bases = link.pairs or link.uses
             self.begin_x2(name, cells[name], set(bases), at, None)
@@ -200,7 +243,10 @@ class Steps(ConnectionSteps):
     def needs_link(self, met: Met) -> None:
         """A key of a connection whose Initial Context Setup Request the capture lacks."""
         if self.link is None and not self.lost and met.key is not None:
-            at = self.script.assume(met.frame, "the Initial Context Setup Request is not in the capture; the connection is made from this key")
+            at = self.script.assume(
+                met.frame,
+                "the Initial Context Setup Request is not in the capture; the connection is made from this key",
+            )
             self.lost = self.begun_before(met, met, met.key, at)
 
     def s1_request(self, met: Met, at: At) -> None:

@@ -1,7 +1,8 @@
-"""`audit --frames` of the launcher: `PROGRAM < SCENARIO` prints the audit, and behind each row the frame at which its key came into use.
+"""`audit --frames` of the launcher: `PROGRAM < SCENARIO` prints the audit, and behind each row the frame at which its
+key came into use.
 
-The audit is the proved program's. The frame is that of the first step whose line tells the key, or the key above it, by the remarks of
-the scenario.
+The audit is the proved program's. The frame is that of the first step whose line tells the key, or the key above it, by
+the remarks of the scenario.
 """
 from __future__ import annotations
 
@@ -40,7 +41,9 @@ def main(words: list[str]) -> int:
     except TraceError as fault:
         print(f"lte_sec: status {fault.status}: {fault}", file=sys.stderr)
         return fault.status
-    audit, report = (subprocess.run([words[0], word], input=octets, stdout=subprocess.PIPE) for word in ("audit", "run"))
+    audit, report = (
+        subprocess.run([words[0], word], input=octets, stdout=subprocess.PIPE) for word in ("audit", "run")
+    )
     rows = frames_of_rows(report.stdout.decode(), frames_of(octets.decode(errors="replace")))
     for line in audit.stdout.decode().splitlines():
         place = re.match(r"row (\d+) ", line)

@@ -1,8 +1,9 @@
 """What a list of items comes to, by the proved program.
 
-An item is an act, or the delivery of what another item sent. The program counts records, and a record that is not sent moves the
-numbers of all after it. So a list is run with a guess of which items send, until a run does what was guessed: that run is the list's
-course. A delivery of what was not sent falls away. What is sent where the scenario sends nothing is delivered at once.
+An item is an act, or the delivery of what another item sent. The program counts records, and a record that is not sent
+moves the numbers of all after it. So a list is run with a guess of which items send, until a run does what was guessed:
+that run is the list's course. A delivery of what was not sent falls away. What is sent where the scenario sends nothing
+is delivered at once.
 """
 from __future__ import annotations
 
@@ -91,12 +92,14 @@ class Runs:
         self.count += 1
         status, octets = self.ran(text(self.setup, steps).encode())
         if status not in (0, 7):
-            raise ProgramFails(f"the program ends with status {status} for a variant: {octets[:80].decode(errors='replace').strip()}")
+            raise ProgramFails(
+                f"the program ends with status {status} for a variant: {octets[:80].decode(errors='replace').strip()}"
+            )
         return octets.decode()
 
     def ran(self, given: bytes) -> tuple[int, bytes]:
-        """The status of a run, and what it writes. The program writes line by line, and a pipe would wake this process at each, so both texts
-        are in files; each process has its own."""
+        """The status of a run, and what it writes. The program writes line by line, and a pipe would wake this process
+        at each, so both texts are in files; each process has its own."""
         process = os.getpid()
         if process not in self.files:
             self.files[process] = os.memfd_create("scenario"), os.memfd_create("report")
@@ -105,7 +108,9 @@ class Runs:
             os.ftruncate(file, 0)
             os.lseek(file, 0, os.SEEK_SET)
         os.pwrite(scenario, given, 0)
-        status = subprocess.run([self.program, "run"], stdin=scenario, stdout=report, stderr=subprocess.DEVNULL).returncode
+        status = subprocess.run(
+            [self.program, "run"], stdin=scenario, stdout=report, stderr=subprocess.DEVNULL
+        ).returncode
         return status, os.pread(report, os.fstat(report).st_size, 0)
 
     def course(self, items: list[Item], usual: Mapping[str, bool], guess: Mapping[str, bool]) -> Course:
@@ -120,7 +125,9 @@ class GuessSearch:
         self.items, self.usual = items, usual
         self.guess = {**usual, **guess}
         self.delivered = {item.of for item in items if item.of is not None}
-        self.placed: list[tuple[Item, int | None]] = []  # each item that is thought to happen, and the number of its record
+        self.placed: list[
+            tuple[Item, int | None]
+        ] = []  # each item that is thought to happen, and the number of its record
         self.missing: list[tuple[int, Item]] = []  # each delivery that is thought to fall away, and its place
 
     def sends(self, name: str) -> bool:
@@ -155,14 +162,17 @@ class GuessSearch:
         while True:
             steps = self.place()
             report, count = runs.run(steps), count + 1
-            lines = [line for line in map(StepLine.read, report.split("\n", len(self.placed))[: len(self.placed)]) if line]
+            lines = [
+                line for line in map(StepLine.read, report.split("\n", len(self.placed))[: len(self.placed)]) if line
+            ]
             if not self.learn(lines, count > GUESSES):
                 items = [item for item, _ in self.placed]
                 return Course(items, {item.name: line for item, line in zip(items, lines)}, report, steps, count)
 
     def learn(self, lines: list[StepLine], strictly: bool) -> bool:
-        """Whether a run differs from the guess, which then takes in what is sure: what comes first, and, unless strictly, the lines
-        of actors to whom nothing came by a wrong number. Where that was wrong, a later run differs there first."""
+        """Whether a run differs from the guess, which then takes in what is sure: what comes first, and, unless
+        strictly, the lines of actors to whom nothing came by a wrong number. Where that was wrong, a later run differs
+        there first."""
         walk, missing, differs = Walk(self), iter([*self.missing, (len(lines), None)]), False
         at, lost = next(missing)
         for place, ((item, number), line) in enumerate(zip(self.placed, lines)):

@@ -1,4 +1,5 @@
-"""The demands of the standards, and where each is here: `./lte_sec demands [--json] [CLAUSE]`. docs/demands has them, and docs/DEMANDS.md is made of it."""
+"""The demands of the standards, and where each is here: `./lte_sec demands [--json] [CLAUSE]`. docs/demands has them,
+and docs/DEMANDS.md is made of it."""
 from __future__ import annotations
 
 import json
@@ -15,7 +16,16 @@ from ..common.options import Words, WrongWords
 TABLE = Path(__file__).resolve().parents[3] / "docs" / "demands"
 STATES = ("covered", "partly", "otherwise", "traces", "left out")
 # What a line below a demand begins with, and what parts the names behind it.
-EVIDENCE = {"by": ",", "rows": ";", "law": ",", "scenario": ",", "vectors": ",", "trace": ",", "assurance": ";", "remark": ""}
+EVIDENCE = {
+    "by": ",",
+    "rows": ";",
+    "law": ",",
+    "scenario": ",",
+    "vectors": ",",
+    "trace": ",",
+    "assurance": ";",
+    "remark": "",
+}
 TESTS = ("rows", "scenario", "vectors", "trace")
 HOME = "33.401"  # the document of a clause that names none
 VERSION = 1  # of the document that --json prints
@@ -28,7 +38,8 @@ class NoDemand(Exception):
 
 @dataclass
 class Demand:
-    """A demand in our words: its clauses, of whom it is, the group that it stands in, its state here, and what says so."""
+    """A demand in our words: its clauses, of whom it is, the group that it stands in, its state here, and what says
+    so."""
 
     clause: str
     who: str
@@ -80,7 +91,10 @@ def read(text: str) -> list[Demand]:
         else:
             parts = line.split(" | ", 3)
             if len(parts) != 4 or parts[2] not in STATES or not group:
-                raise NoDemand(f"line {number}: a demand is its clause, of whom, one of {', '.join(STATES)}, and its text, with | between, in a group")
+                raise NoDemand(
+                    f"line {number}: a demand is its clause, of whom, one of {', '.join(STATES)}, and its text, with "
+                    "| between, in a group"
+                )
             clause, who, state, told = parts
             found.append(Demand(clause, who, state, told, group))
     return found
@@ -112,7 +126,9 @@ def main(words: list[str]) -> int:
         clause = asked(given.others)
         found = [demand for demand in load() if not clause or demand.is_below(clause)]
         if not found:
-            raise WrongWords(f"no demand is of TS {clause}; docs/DEMANDS.md has them all, as ./lte_sec demands prints them")
+            raise WrongWords(
+                f"no demand is of TS {clause}; docs/DEMANDS.md has them all, as ./lte_sec demands prints them"
+            )
     except WrongWords as wrong:
         print(f"lte_sec: status 2: demands: {wrong}", file=sys.stderr)
         return 2

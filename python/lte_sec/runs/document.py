@@ -1,7 +1,9 @@
-"""Reads a TOML document with the places of its keys and values: as tomllib does, and keeps where each stands in the text.
+"""Reads a TOML document with the places of its keys and values: as tomllib does, and keeps where each stands in the
+text.
 
-A document is read whole, or its first fault is told. tomllib tells no places, knows only TOML 1.0, where the program reads 1.1 (an inline table
-may go over lines and may end with a comma), and is not in Python before 3.11. `scalars` reads what is no table and no array.
+A document is read whole, or its first fault is told. tomllib tells no places, knows only TOML 1.0, where the program
+reads 1.1 (an inline table may go over lines and may end with a comma), and is not in Python before 3.11. `scalars`
+reads what is no table and no array.
 """
 from __future__ import annotations
 
@@ -20,7 +22,8 @@ BARE_KEY = re.compile(r"[A-Za-z0-9_-]+")
 STRING = re.compile(r'"""(?:[^\\]|\\.)*?"{3,5}|\'\'\'.*?\'{3,5}|"(?:[^"\\\n]|\\.)*"|\'[^\'\n]*\'', re.DOTALL)
 PLAIN = re.compile(r"\d{4}-\d{2}-\d{2} \d{2}:[^\s,\]}#]*|[^\s,\[\]{}#=\"']+")
 ENDED = re.compile(r"\r?\n|#|\Z")
-# A pair of an inline table as most are written: a plain text, a number or an array, and the comma or bracket behind what is no array.
+# A pair of an inline table as most are written: a plain text, a number or an array, and the comma or bracket behind
+# what is no array.
 PAIR = re.compile(
     r"""[ \t\n]*([A-Za-z0-9_-]+)[ \t]*=[ \t]*(?:(?:"([^"\\\x00-\x08\x0a-\x1f\x7f]*)"(?!")|'([^'\x00-\x08\x0a-\x1f\x7f]*)'(?!')|(-?[1-9][0-9]{0,17}|0)(?![0-9A-Za-z_.:+-]))[ \t]*([,}])|(?=\[))"""
 )
@@ -34,7 +37,8 @@ class TooManyValues(Exception):
 
 
 class TextFault(Exception):
-    """Why a text is not what it must be: the reason, its place as an offset, and the line that the program prints for it."""
+    """Why a text is not what it must be: the reason, its place as an offset, and the line that the program prints for
+    it."""
 
     def __init__(self, place: int, reason: str, line: str = "refused text"):
         super().__init__(reason)
@@ -181,7 +185,8 @@ class DocumentReader:
                 return
 
     def inner(self, table: PlacedValue, place: int, name: str, by: str) -> PlacedValue:
-        """The table under a key of a table, which is made where it is not there; for a header the last of an array of tables."""
+        """The table under a key of a table, which is made where it is not there; for a header the last of an array of
+        tables."""
         value: PlacedValue = table.is_.setdefault(name, PlacedValue(place, {}, place))
         found = value
         if by == "header" and isinstance(value.is_, list) and value.is_:
@@ -247,7 +252,9 @@ def read(octets: bytes) -> PlacedValue:
     try:
         octets.decode()
     except UnicodeDecodeError as wrong:
-        raise TextFault(len(text_of(octets[:wrong.start])), f"octet {octets[wrong.start]:02x} is not UTF-8 text") from None
+        raise TextFault(
+            len(text_of(octets[: wrong.start])), f"octet {octets[wrong.start]:02x} is not UTF-8 text"
+        ) from None
     return DocumentReader(text_of(octets)).document()
 
 

@@ -1,4 +1,5 @@
-"""Handovers and key changes of a report of `run`: what became of each, read from the notes of its steps and from the rows of its ladder, in which a KeNB* has its cell."""
+"""Handovers and key changes of a report of `run`: what became of each, read from the notes of its steps and from the
+rows of its ladder, in which a KeNB* has its cell."""
 from __future__ import annotations
 
 import dataclasses
@@ -74,15 +75,15 @@ def read(text: str) -> Report:
     end = next((place for place, line in enumerate(lines) if re.fullmatch(r"end \d+ \d+ \d+", line)), None)
     if end is None:
         raise NoReport("it has no line `end`: it is cut, or ends at a coincidence or at a reply that differs")
-    report = Report([step_of(number, line) for number, line in enumerate(lines[:end])], rows_by_key(lines[end + 1:]))
+    report = Report([step_of(number, line) for number, line in enumerate(lines[:end])], rows_by_key(lines[end + 1 :]))
     if any(note.key not in report.rows for note in report.notes()):
         raise NoReport("a key of its steps is not in its rows")
     return report
 
 
 def is_prepared(report: Report, note: StepLine) -> bool:
-    """Whether a station came by the key of a cell of its own, at which the phone is to arrive: of another station's record
-    (given over X2, derived over S1), for a handover within itself, or at a key change."""
+    """Whether a station came by the key of a cell of its own, at which the phone is to arrive: of another station's
+    record (given over X2, derived over S1), for a handover within itself, or at a key change."""
     if note.station is None or report.row(note).word != "star":
         return False
     ways = {"x2": ["given"], "s1": ["vertical"], "air": ["given"], "": ["horizontal", "vertical"]}
@@ -101,15 +102,16 @@ def is_asked(note: StepLine) -> bool:
 
 @dataclasses.dataclass
 class Obeyed:
-    """A handover or key change that the phone obeyed: its key, and the steps at which stations prepared its cell and completed it."""
+    """A handover or key change that the phone obeyed: its key, and the steps at which stations prepared its cell and
+    completed it."""
 
     phone: StepLine
     prepared: list[StepLine]
     completed: StepLine | None = None
 
     def target(self) -> StepLine | None:
-        """The step at which the target came by its key: the last before the phone's, for a station has one attempt at a time. None where
-        the report does not tell it: where that one has another key, and one before has the phone's."""
+        """The step at which the target came by its key: the last before the phone's, for a station has one attempt at a
+        time. None where the report does not tell it: where that one has another key, and one before has the phone's."""
         same = [note for note in self.prepared if note.key == self.phone.key]
         if self.completed:
             return same[-1]
@@ -117,12 +119,14 @@ class Obeyed:
 
 
 def may_be_commanded(begun: StepLine, prepared: StepLine, behind: list[StepLine]) -> bool:
-    """Whether, by the steps behind what was prepared, its source may have sent the command for it: it did so before its next attempt. A key
-    change is commanded where its key is derived."""
+    """Whether, by the steps behind what was prepared, its source may have sent the command for it: it did so before its
+    next attempt. A key change is commanded where its key is derived."""
     if prepared.kind == "air":
         return True
     for step in behind:
-        is_source = step.station not in (None, prepared.station) if begun.kind == "s1" else step.station == begun.station
+        is_source = (
+            step.station not in (None, prepared.station) if begun.kind == "s1" else step.station == begun.station
+        )
         if is_source and step.kind == "air" and not step.way:
             return True
         if is_source and begun.kind != "s1" and (is_asked(step) or is_prepared_within(step)):
@@ -131,8 +135,8 @@ def may_be_commanded(begun: StepLine, prepared: StepLine, behind: list[StepLine]
 
 
 def obeyed(report: Report) -> list[Obeyed]:
-    """Each handover and key change that the phone obeyed. An air address is of one preparation, and a command names it; the report tells
-    neither, but that a preparation was not commanded."""
+    """Each handover and key change that the phone obeyed. An air address is of one preparation, and a command names it;
+    the report tells neither, but that a preparation was not commanded."""
     found: list[Obeyed] = []
     sources = {to.number: begun for begun, to in attempts(report) if to}
     prepared: dict[int, list[StepLine]] = {}
@@ -140,7 +144,7 @@ def obeyed(report: Report) -> list[Obeyed]:
         row = report.row(note)
         if note.who == "phone" and row.word == "star":
             at = [it for notes in prepared.values() for it in notes if report.row(it).cell == row.cell]
-            behind = {it.number: report.steps[it.number + 1:note.number] for it in at}
+            behind = {it.number: report.steps[it.number + 1 : note.number] for it in at}
             commanded = [it for it in at if may_be_commanded(sources.get(it.number, it), it, behind[it.number])]
             found.append(Obeyed(note, commanded or at))
         elif note.station is None:
@@ -149,7 +153,12 @@ def obeyed(report: Report) -> list[Obeyed]:
             prepared.setdefault(note.station, []).append(note)
         elif note.way == "completed":
             last = found[-1] if found else None
-            if last and not last.completed and note.key == last.phone.key and any((it.station, it.key) == (note.station, note.key) for it in last.prepared):
+            if (
+                last
+                and not last.completed
+                and note.key == last.phone.key
+                and any((it.station, it.key) == (note.station, note.key) for it in last.prepared)
+            ):
                 last.completed = note
             prepared[note.station] = []
         elif note.way == "given":
@@ -159,7 +168,8 @@ def obeyed(report: Report) -> list[Obeyed]:
 
 @dataclasses.dataclass(frozen=True)
 class KenbChange:
-    """What became of one handover or key change: its first and last step, the target, the cell, and how far apart the keys are."""
+    """What became of one handover or key change: its first and last step, the target, the cell, and how far apart the
+    keys are."""
 
     kind: str
     first: int
@@ -210,15 +220,17 @@ def of_obeyed(report: Report, made: Obeyed) -> KenbChange:
 
 
 def until(report: Report, begun: StepLine) -> Iterator[StepLine]:
-    """The steps after one at which an attempt began, up to the next attempt of that station, or of any at a key of another station."""
-    for step in report.steps[begun.number + 1:]:
+    """The steps after one at which an attempt began, up to the next attempt of that station, or of any at a key of
+    another station."""
+    for step in report.steps[begun.number + 1 :]:
         if step.station == begun.station and step.way and (is_asked(step) or is_prepared(report, step)):
             return
         yield step
 
 
 def of_begun(report: Report, begun: StepLine, prepared: StepLine | None) -> KenbChange:
-    """What became of an attempt that the phone did not obey: begun where a source derived the key, or else where a target did."""
+    """What became of an attempt that the phone did not obey: begun where a source derived the key, or else where a
+    target did."""
     cell, kind = report.row(begun).cell, KINDS[begun.kind]
     if prepared is None:
         return KenbChange(kind, begun.number, begun.number, None, cell, Outcome.NOT_PREPARED)
@@ -226,19 +238,28 @@ def of_begun(report: Report, begun: StepLine, prepared: StepLine | None) -> Kenb
     if kind == KEY_CHANGE:
         return KenbChange(*place, Outcome.NOT_OBEYED)
     after = [step for step in until(report, begun) if step.number > prepared.number]
-    sources = [step for step in after if (step.station != prepared.station if begun.kind == "s1" else step.station == begun.station)]
+    sources = [
+        step
+        for step in after
+        if (step.station != prepared.station if begun.kind == "s1" else step.station == begun.station)
+    ]
     is_silent = not any(step.station is not None and step.kind == "air" and not step.way for step in sources)
     return KenbChange(*place, Outcome.NOT_COMMANDED if is_silent else Outcome.NOT_TAKEN)
 
 
 def attempts(report: Report) -> list[tuple[StepLine, StepLine | None]]:
-    """Each handover and key change that began: the step at which its key was derived, and that at which its target had it."""
+    """Each handover and key change that began: the step at which its key was derived, and that at which its target had
+    it."""
     found: list[tuple[StepLine, StepLine | None]] = []
     for note in report.notes():
         if is_asked(note):
             found.append((note, None))
         elif is_prepared(report, note):
-            places = [place for place, (begun, to) in enumerate(found) if is_asked(begun) and to is None and begun.key == note.key]
+            places = [
+                place
+                for place, (begun, to) in enumerate(found)
+                if is_asked(begun) and to is None and begun.key == note.key
+            ]
             if note.kind == "x2" and places:
                 found[places[-1]] = (found[places[-1]][0], note)
             else:
@@ -248,9 +269,19 @@ def attempts(report: Report) -> list[tuple[StepLine, StepLine | None]]:
 
 def not_taken(report: Report) -> list[KenbChange]:
     """Each connection or key change of the core whose KeNB no station took."""
-    taken = {place for note in report.notes() if note.station is not None for row in [report.row(note)] for place in (row.number, row.parent)}
+    taken = {
+        place
+        for note in report.notes()
+        if note.station is not None
+        for row in [report.row(note)]
+        for place in (row.number, row.parent)
+    }
     begun = [note for note in report.notes() if note.who.startswith("core") and note.way == "initial"]
-    return [KenbChange(SET_UP, note.number, note.number, None, "", Outcome.NOT_PREPARED) for note in begun if report.row(note).number not in taken]
+    return [
+        KenbChange(SET_UP, note.number, note.number, None, "", Outcome.NOT_PREPARED)
+        for note in begun
+        if report.row(note).number not in taken
+    ]
 
 
 def items(report: Report) -> list[KenbChange]:

@@ -1,5 +1,5 @@
-"""The kinds of values that stand in a scenario and in lines: of each what may stand, as messages and docs/SCENARIOS.md say it, and
-what is wrong with another value."""
+"""The kinds of values that stand in a scenario and in lines: of each what may stand, as messages and docs/SCENARIOS.md
+say it, and what is wrong with another value."""
 from __future__ import annotations
 
 import dataclasses
@@ -23,8 +23,8 @@ class Setup:
 
 @dataclasses.dataclass(frozen=True)
 class ValueKind:
-    """What may stand, and what is wrong with a value in a scenario with this setup, which is nothing of a right one. The number
-    and the cells of a station join the setup. And the same as JSON Schema has it, as far as that goes."""
+    """What may stand, and what is wrong with a value in a scenario with this setup, which is nothing of a right one.
+    The number and the cells of a station join the setup. And the same as JSON Schema has it, as far as that goes."""
 
     may: str
     wrong: Callable[[PlacedValue, Setup], str]
@@ -76,6 +76,7 @@ def words(*these: str) -> ValueKind:
 
 def octets(count: int, exactly: bool = True) -> ValueKind:
     """Octets in hex: just so many, or at most so many."""
+
     def wrong(value: PlacedValue, setup: Setup) -> str:
         if not isinstance(value.is_, str):
             return f"is {shown(value)}"
@@ -83,14 +84,24 @@ def octets(count: int, exactly: bool = True) -> ValueKind:
         if other:
             return f"has '{other[0]}', which is not a hex digit"
         return f"has {digits} hex digits" if digits % 2 or digits > 2 * count or exactly and digits < 2 * count else ""
-    may = f"{2 * count} hex digits in quotes" if exactly else f"hex digits in quotes, two for each of at most {count:,} octets"
-    return ValueKind(may, wrong, {"type": "string", "pattern": f"^([0-9a-fA-F]{{2}}){{{'' if exactly else '0,'}{count}}}$"})
+
+    may = (
+        f"{2 * count} hex digits in quotes"
+        if exactly
+        else f"hex digits in quotes, two for each of at most {count:,} octets"
+    )
+    return ValueKind(
+        may, wrong, {"type": "string", "pattern": f"^([0-9a-fA-F]{{2}}){{{'' if exactly else '0,'}{count}}}$"}
+    )
 
 
 def wrong_cell(value: PlacedValue, setup: Setup) -> str:
     pair = value.is_ if isinstance(value.is_, list) and len(value.is_) == 2 else []
     parts = zip(("PCI", "EARFCN"), pair, (PCI, EARFCN))
-    return next((f"has {name} {shown(part)}" for name, part, most in parts if not is_whole(part, 0, most)), "" if pair else f"is {shown(value)}")
+    return next(
+        (f"has {name} {shown(part)}" for name, part, most in parts if not is_whole(part, 0, most)),
+        "" if pair else f"is {shown(value)}",
+    )
 
 
 def wrong_cells(value: PlacedValue, setup: Setup) -> str:
@@ -122,10 +133,28 @@ def is_priority(value: PlacedValue, setup: Setup) -> bool:
 
 
 PAIR = f"PCI 0 to {PCI} and EARFCN 0 to {EARFCN}"
-ONE_CELL: Schema = {"type": "array", "prefixItems": [whole(0, PCI), whole(0, EARFCN)], "items": {"type": "integer"}, "minItems": 2, "maxItems": 2}
-PRIORITY = kind("one or two different ones of 0 (EEA0) and 2 (128-EEA2), as [2, 0]", is_priority, {"enum": [[2, 0], [0, 2], [2], [0]]})
+ONE_CELL: Schema = {
+    "type": "array",
+    "prefixItems": [whole(0, PCI), whole(0, EARFCN)],
+    "items": {"type": "integer"},
+    "minItems": 2,
+    "maxItems": 2,
+}
+PRIORITY = kind(
+    "one or two different ones of 0 (EEA0) and 2 (128-EEA2), as [2, 0]",
+    is_priority,
+    {"enum": [[2, 0], [0, 2], [2], [0]]},
+)
 CELL = ValueKind(f"[PCI, EARFCN], {PAIR}", wrong_cell, ONE_CELL)
-CELLS = ValueKind(f"1 to {MOST_CELLS} cells [PCI, EARFCN] that no station has yet, {PAIR}", wrong_cells, {"type": "array", "items": ONE_CELL, "minItems": 1, "maxItems": MOST_CELLS})
+CELLS = ValueKind(
+    f"1 to {MOST_CELLS} cells [PCI, EARFCN] that no station has yet, {PAIR}",
+    wrong_cells,
+    {"type": "array", "items": ONE_CELL, "minItems": 1, "maxItems": MOST_CELLS},
+)
 NEW_STATION = kind("a number 0 to 7 that no station before it has", is_new_station, whole(0, 7))
 STATION = ValueKind("a station of the scenario", wrong_station, whole(0, 7))
-INTEGER = kind("a number, counted from 0, or back from the newest, which is -1", lambda value, _: type(value.is_) is int, {"type": "integer"})
+INTEGER = kind(
+    "a number, counted from 0, or back from the newest, which is -1",
+    lambda value, _: type(value.is_) is int,
+    {"type": "integer"},
+)

@@ -1,4 +1,5 @@
-"""The rows of the ladder of a report of `run` in words: what each is, what it is derived from, and who has held it. SVG and pages are made of them."""
+"""The rows of the ladder of a report of `run` in words: what each is, what it is derived from, and who has held it. SVG
+and pages are made of them."""
 from __future__ import annotations
 
 from collections.abc import Iterable, Sequence

@@ -1,7 +1,7 @@
 """The names of the messages that the steps of a report of `run` send.
 
-A report does not say what a record is, so a message has its name, in words of S1AP, X2AP, RRC and NAS, by what made its sender
-send it.
+A report does not say what a record is, so a message has its name, in words of S1AP, X2AP, RRC and NAS, by what made its
+sender send it.
 """
 from __future__ import annotations
 
@@ -53,6 +53,11 @@ class Names:
             return "X2 Handover Cancel" if line.kind == "x2" else "Handover Cancel"
         if who == "phone" and cause == "NAS Security Mode Command" and line.answer != "done":
             return "NAS Security Mode Reject"
-        if who == "station" and cause == "RRC Reconfiguration Complete" and line.note and self.origins.get((line.who, line.note.key)) == "Handover Request":
+        if (
+            who == "station"
+            and cause == "RRC Reconfiguration Complete"
+            and line.note
+            and self.origins.get((line.who, line.note.key)) == "Handover Request"
+        ):
             return "Handover Notify"
         return NAMES.get((who, cause), "record")

@@ -1,7 +1,8 @@
-"""The frames of the steps of a scenario, by its remarks: `# frame 28: X2 HandoverRequest` stands above the steps of a message.
+"""The frames of the steps of a scenario, by its remarks: `# frame 28: X2 HandoverRequest` stands above the steps of a
+message.
 
-A remark is of all steps below it, up to the next one or an empty line. `replay` writes them, and whoever writes a scenario of a
-capture by hand may.
+A remark is of all steps below it, up to the next one or an empty line. `replay` writes them, and whoever writes a
+scenario of a capture by hand may.
 """
 from __future__ import annotations
 
@@ -36,4 +37,10 @@ def named(step: int | str, frames: Mapping[int, str]) -> str:
 
 def with_frames(text: str, frames: Mapping[int, str]) -> str:
     """A text in which each step that it names has its frame."""
-    return NUMBERED.sub(lambda found: found[1] + re.sub(r"\d+", lambda one: named(str(one[0]), frames), str(found[2])), text) if frames else text
+    return (
+        NUMBERED.sub(
+            lambda found: found[1] + re.sub(r"\d+", lambda one: named(str(one[0]), frames), str(found[2])), text
+        )
+        if frames
+        else text
+    )

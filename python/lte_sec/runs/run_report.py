@@ -1,4 +1,5 @@
-"""A report of `run` as values: its steps with what they note, and the rows of its ladder. Nothing else reads its lines."""
+"""A report of `run` as values: its steps with what they note, and the rows of its ladder. Nothing else reads its
+lines."""
 from __future__ import annotations
 
 import re
@@ -28,7 +29,8 @@ class NotedKey:
 
 @dataclass(frozen=True)
 class StepLine:
-    """A step: who took it, the answer, the record sent and its kind, the note and the text. Its number does not tell it from another."""
+    """A step: who took it, the answer, the record sent and its kind, the note and the text. Its number does not tell it
+    from another."""
 
     who: str
     answer: str
@@ -58,15 +60,23 @@ class StepLine:
         number, who, station, answer, rest = found.groups()
         sent, note, text = SENT.search(rest), NOTE.search(rest), TEXT.search(rest)
         return StepLine(
-            who, answer, int(sent[1]) if sent else None, sent[2] if sent else "", NotedKey(note[3], note[2], note[1]) if note else None,
-            text[1] if text else None, rest.endswith(" alarm"), int(number), int(station) if station else None,
+            who,
+            answer,
+            int(sent[1]) if sent else None,
+            sent[2] if sent else "",
+            NotedKey(note[3], note[2], note[1]) if note else None,
+            text[1] if text else None,
+            rest.endswith(" alarm"),
+            int(number),
+            int(station) if station else None,
         )
 
 
 @dataclass
 class LadderRow:
-    """A row: its number, its word (root, kenb, nh, star, alg) with its values, its octets and holders; and what the rows above it tell: the row of its
-    KASME, the row with which its chain begins, and the number of the NH that it comes of, 0 of a KeNB."""
+    """A row: its number, its word (root, kenb, nh, star, alg) with its values, its octets and holders; and what the
+    rows above it tell: the row of its KASME, the row with which its chain begins, and the number of the NH that it
+    comes of, 0 of a KeNB."""
 
     number: int
     word: str
@@ -131,14 +141,18 @@ def rows_of(report: Iterable[str]) -> dict[int, LadderRow]:
     return rows
 
 
-def row_below(rows: dict[int, LadderRow], number: int, word: str, values: tuple[int, ...], key: str, holders: tuple[str, ...]) -> LadderRow:
+def row_below(
+    rows: dict[int, LadderRow], number: int, word: str, values: tuple[int, ...], key: str, holders: tuple[str, ...]
+) -> LadderRow:
     """A row, by the rows above it, which know of it from here on."""
     try:
         parent = rows[values[0]] if values else None
         goes_on = rows[values[1]] if word == "nh" else parent if word == "star" else None
     except (KeyError, IndexError):
         raise NoRow(f"row {number} is derived from a row that is not above it") from None
-    row = LadderRow(number, word, values, key, holders, parent.root if parent else number, goes_on.first if goes_on else number)
+    row = LadderRow(
+        number, word, values, key, holders, parent.root if parent else number, goes_on.first if goes_on else number
+    )
     row.chain = 0 if goes_on is None else goes_on.chain + (word == "nh")
     if parent is not None:
         {"alg": parent.algs, "star": parent.stars}.get(word, []).append(row)
@@ -148,4 +162,4 @@ def row_below(rows: dict[int, LadderRow], number: int, word: str, values: tuple[
 def behind_end(report: str) -> list[str]:
     """The lines behind the end of the steps; none of a report that did not come to it."""
     found = report.find(f"\n{END}")
-    return report[found + 1:].splitlines()[1:] if found >= 0 else []
+    return report[found + 1 :].splitlines()[1:] if found >= 0 else []

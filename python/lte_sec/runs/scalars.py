@@ -1,4 +1,5 @@
-"""The scalar values of TOML 1.1: (toml.io/en/v1.1.0) texts, numbers, true and false, dates and times, each from the token that stands for it."""
+"""The scalar values of TOML 1.1: (toml.io/en/v1.1.0) texts, numbers, true and false, dates and times, each from the
+token that stands for it."""
 from __future__ import annotations
 
 import datetime
@@ -9,11 +10,21 @@ Scalar = Union[str, int, float, bool, datetime.datetime, datetime.date, datetime
 
 WORDS: dict[str, Scalar] = {"true": True, "false": False}
 DECIMAL = re.compile(r"[+-]?(?:0|[1-9](?:_?[0-9])*)")
-OTHER_BASES = {16: re.compile(r"0x[0-9A-Fa-f](?:_?[0-9A-Fa-f])*"), 8: re.compile(r"0o[0-7](?:_?[0-7])*"), 2: re.compile(r"0b[01](?:_?[01])*")}
+OTHER_BASES = {
+    16: re.compile(r"0x[0-9A-Fa-f](?:_?[0-9A-Fa-f])*"),
+    8: re.compile(r"0o[0-7](?:_?[0-7])*"),
+    2: re.compile(r"0b[01](?:_?[01])*"),
+}
 FLOAT = re.compile(rf"{DECIMAL.pattern}(?:\.[0-9](?:_?[0-9])*)?(?:[eE][+-]?[0-9](?:_?[0-9])*)?|[+-]?(?:inf|nan)")
 DATE, CLOCK = r"(\d{4})-(\d{2})-(\d{2})", r"(\d{2}):(\d{2})(?::(\d{2})(?:\.(\d{1,6})\d*)?)?"
 MOMENT = re.compile(rf"{DATE}[Tt ]{CLOCK}(?:([Zz])|([+-])(\d{{2}}):(\d{{2}}))?", re.ASCII)
-ESCAPE = re.compile(r"\\(?:(?P<one>[btnfre\"\\])|x(?P<two>[0-9A-Fa-f]{2})|u(?P<four>[0-9A-Fa-f]{4})|U(?P<eight>[0-9A-Fa-f]{8})|(?P<fold>[ \t]*\n[ \t\n]*)|(?P<none>.?))", re.DOTALL)
+ESCAPE = re.compile(
+    (
+        r"\\(?:(?P<one>[btnfre\"\\])|x(?P<two>[0-9A-Fa-f]{2})|u(?P<four>[0-9A-Fa-f]{4})|U(?P<eight>[0-9A-Fa-f]{8})|(?P<fold>[ "
+        r"\t]*\n[ \t\n]*)|(?P<none>.?))"
+    ),
+    re.DOTALL,
+)
 STANDS_FOR = {"b": "\b", "t": "\t", "n": "\n", "f": "\f", "r": "\r", "e": "\x1b", '"': '"', "\\": "\\"}
 CONTROL = re.compile(r"[\x00-\x08\x0b-\x1f\x7f]")
 
@@ -61,7 +72,9 @@ def moment_of(token: str) -> Scalar:
         if found[9]:
             away = datetime.timedelta(hours=int(found[10]), minutes=int(found[11]))
             zone = datetime.timezone(away if found[9] == "+" else -away)
-        return datetime.datetime(int(found[1]), int(found[2]), int(found[3]), *clock(found[4], found[5], found[6], found[7]), tzinfo=zone)
+        return datetime.datetime(
+            int(found[1]), int(found[2]), int(found[3]), *clock(found[4], found[5], found[6], found[7]), tzinfo=zone
+        )
     if found := re.fullmatch(DATE, token, re.ASCII):
         return datetime.date(int(found[1]), int(found[2]), int(found[3]))
     if found := re.fullmatch(CLOCK, token, re.ASCII):

@@ -1,4 +1,5 @@
-"""The fields of the tables of a scenario, in the order in which they are looked at. A test compares them with docs/SCENARIOS.md."""
+"""The fields of the tables of a scenario, in the order in which they are looked at. A test compares them with
+docs/SCENARIOS.md."""
 import dataclasses
 
 from .kinds import CELL, CELLS, INTEGER, NEW_STATION, PRIORITY, STATION, ValueKind, number, octets, words
@@ -6,8 +7,8 @@ from .kinds import CELL, CELLS, INTEGER, NEW_STATION, PRIORITY, STATION, ValueKi
 
 @dataclasses.dataclass(frozen=True)
 class Field:
-    """A field: its name, its kind, what holds where it is left out, if it may be, and, where another field can rule it out,
-    that field and the words of it that call for this one."""
+    """A field: its name, its kind, what holds where it is left out, if it may be, and, where another field can rule it
+    out, that field and the words of it that call for this one."""
 
     name: str
     kind: ValueKind
@@ -35,7 +36,10 @@ def of_phone(phones: int) -> Field:
 def of_actor(name: str) -> list[Field]:
     """An actor under this name, and a bearer of it."""
     bearers = {"phone": ("nas", *SRBS, *DRBS), "station": SRBS + DRBS, "core": ("nas",)}
-    return [Field(name, words(*bearers)), *(Field("bearer", words(*those), when=(name, actor)) for actor, those in bearers.items())]
+    return [
+        Field(name, words(*bearers)),
+        *(Field("bearer", words(*those), when=(name, actor)) for actor, those in bearers.items()),
+    ]
 
 
 def sent(bearers: tuple[str, ...], most: int) -> list[Field]:
@@ -59,7 +63,10 @@ STEPS: dict[str, list[Field]] = {
     "skip": [ACTOR, Field("station", STATION, when=("who", "station")), *ITS_BEARERS, Field("n", number(0, NUMBER))],
     "inject": [
         *of_actor("to"),
-        *(Field(name, kind, when=("bearer", *SRBS, *DRBS)) for name, kind in (("station", STATION), ("air", number(0, NUMBER)))),
+        *(
+            Field(name, kind, when=("bearer", *SRBS, *DRBS))
+            for name, kind in (("station", STATION), ("air", number(0, NUMBER)))
+        ),
         Field("octets", octets(1536, exactly=False)),
     ],
 }

@@ -38,7 +38,8 @@ def read(octets: bytes) -> Scenario:
 
 
 def table_of(octets: bytes) -> dict[str, Any]:
-    """The document by Python's own reader, which is fast; by that of this package where Python has none, and of what is new in TOML 1.1."""
+    """The document by Python's own reader, which is fast; by that of this package where Python has none, and of what is
+    new in TOML 1.1."""
     if sys.version_info >= (3, 11):
         import tomllib
 

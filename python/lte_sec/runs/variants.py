@@ -19,7 +19,8 @@ CONNECTED = ("Service Request", "NAS Security Mode Complete")
 
 @dataclass(frozen=True)
 class Fault:
-    """A fault of one message: its kind, the item that delivers the message, and for `late` and `twice` the item after which it comes."""
+    """A fault of one message: its kind, the item that delivers the message, and for `late` and `twice` the item after
+    which it comes."""
 
     kind: str
     item: str
@@ -83,7 +84,12 @@ def moved(items: list[Item], at: int, to: int) -> set[str]:
 def put_behind(items: list[Item], at: int, to: int, names: set[str]) -> list[Item]:
     """The items, in which those with these names, from one place on, stand behind another place."""
     between = items[at : to + 1]
-    return [*items[:at], *(it for it in between if it.name not in names), *(it for it in between if it.name in names), *items[to + 1 :]]
+    return [
+        *items[:at],
+        *(it for it in between if it.name not in names),
+        *(it for it in between if it.name in names),
+        *items[to + 1 :],
+    ]
 
 
 class Faults:
@@ -94,7 +100,8 @@ class Faults:
         self.of = {item.name: item for item in original.items}
 
     def put(self, items: list[Item], fault: Fault, mark: str = "'") -> list[Item] | None:
-        """The list with a fault more, whose own items have this mark; None where the list does not have its item or its place."""
+        """The list with a fault more, whose own items have this mark; None where the list does not have its item or its
+        place."""
         places = {item.name: at for at, item in enumerate(items)}
         at = places.get(fault.item)
         to = places.get(fault.after) if fault.after is not None else at
@@ -133,24 +140,44 @@ class Faults:
         station = int(sender[8:]) if sender.startswith("station") else None
         first, second, third, fourth = (f"{item.name}{letter}{mark}" for letter in "abcd")
         acts: dict[str, Step] = {
-            "RRC Reconfiguration": {"do": "command", "station": station}, "RRC Reconfiguration Complete": {"do": "resend"},
-            "Path Switch Request": {"do": "ask", "station": station}, "Service Request": {"do": "service"},
+            "RRC Reconfiguration": {"do": "command", "station": station},
+            "RRC Reconfiguration Complete": {"do": "resend"},
+            "Path Switch Request": {"do": "ask", "station": station},
+            "Service Request": {"do": "service"},
         }
         if message in acts:
             return [act(first, acts[message], source.name), delivery(item.name, first)]
         asked = self.of.get(source.of or "")
         if message == "Path Switch Request Acknowledge" and asked:
-            return [act(first, {"do": "ask", "station": int(self.original.lines[asked.name].who[8:])}, source.name), delivery(second, first), delivery(item.name, second)]
-        opened = source if message == "X2 Handover Request" else asked if message == "X2 Handover Request Acknowledge" else None
+            return [
+                act(first, {"do": "ask", "station": int(self.original.lines[asked.name].who[8:])}, source.name),
+                delivery(second, first),
+                delivery(item.name, second),
+            ]
+        opened = (
+            source
+            if message == "X2 Handover Request"
+            else asked
+            if message == "X2 Handover Request Acknowledge"
+            else None
+        )
         if opened is None or opened.do != "x2":
             return None
-        begin = [act(first, {"do": "cancel", "station": opened.step["station"]}, source.name), delivery(second, first), act(third, opened.step, second)]
-        return [*begin, delivery(item.name, third)] if source is opened else [*begin, delivery(fourth, third), delivery(item.name, fourth)]
+        begin = [
+            act(first, {"do": "cancel", "station": opened.step["station"]}, source.name),
+            delivery(second, first),
+            act(third, opened.step, second),
+        ]
+        return (
+            [*begin, delivery(item.name, third)]
+            if source is opened
+            else [*begin, delivery(fourth, third), delivery(item.name, fourth)]
+        )
 
 
 def own_guess(items: list[Item], usual: Mapping[str, bool]) -> dict[str, bool]:
-    """A first guess of which items send: those that send in the scenario, if what makes them happen does; and what a fault has sent
-    again."""
+    """A first guess of which items send: those that send in the scenario, if what makes them happen does; and what a
+    fault has sent again."""
     guess: dict[str, bool] = {}
     happening: set[str] = set()
     delivered = {item.of for item in items}

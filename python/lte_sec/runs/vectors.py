@@ -1,7 +1,8 @@
 """Test vectors as a JSON document in the manner of Wycheproof: `./lte_sec vectors [--seed N] [--count N]`.
 
-The inputs are drawn by a seed, near the ends of their ranges; every output is an answer of the proved program `calc`. The same seed
-and count give the same document. A test that is `invalid` must be refused, for the reason that its flag names.
+The inputs are drawn by a seed, near the ends of their ranges; every output is an answer of the proved program `calc`.
+The same seed and count give the same document. A test that is `invalid` must be refused, for the reason that its flag
+names.
 """
 from __future__ import annotations
 
@@ -21,7 +22,10 @@ CalcFields = dict[str, str]
 # Why a test is invalid: what was done, and what a receiver must find.
 FLAGS = {
     "MacBit": "one bit of the message or of its MAC is turned: the MAC fails",
-    "WrongCount": "the receiver's least COUNT is above that of the sender, so that it takes the next one with this sequence number: the MAC fails",
+    "WrongCount": (
+        "the receiver's least COUNT is above that of the sender, so that it takes the next one with this "
+        "sequence number: the MAC fails"
+    ),
     "CountSpent": "no COUNT from the least one on has this sequence number: the COUNTs are spent",
     "Cut": "the message ends before its header and MAC do",
 }
@@ -29,7 +33,8 @@ FLAGS = {
 
 @dataclasses.dataclass
 class DrawnCase:
-    """A test before it is answered: the line of calc and its fields; why it is invalid; how a message is made first, and spoilt."""
+    """A test before it is answered: the line of calc and its fields; why it is invalid; how a message is made first,
+    and spoilt."""
 
     word: str
     fields: CalcFields
@@ -45,10 +50,14 @@ def line_of(word: str, fields: CalcFields) -> str:
 
 def answers(lines: list[str]) -> list[str]:
     """What calc answers, line by line."""
-    ran = subprocess.run([str(TOP / "lte_sec"), "calc"], input="".join(f"{line}\n" for line in lines), capture_output=True, text=True)
+    ran = subprocess.run(
+        [str(TOP / "lte_sec"), "calc"], input="".join(f"{line}\n" for line in lines), capture_output=True, text=True
+    )
     told = ran.stdout.splitlines()
     if len(told) != len(lines) or ran.returncode not in (0, 3):
-        raise TraceError(ran.stderr.strip().splitlines()[-1] if ran.stderr.strip() else f"calc ends with status {ran.returncode}")
+        raise TraceError(
+            ran.stderr.strip().splitlines()[-1] if ran.stderr.strip() else f"calc ends with status {ran.returncode}"
+        )
     return told
 
 
@@ -76,19 +85,27 @@ class Draws:
         return self.random.choice(of)
 
     def algorithms(self) -> str:
-        """Those of encryption and integrity, as calc takes them; null integrity has no MAC that fails, and is not drawn."""
+        """Those of encryption and integrity, as calc takes them; null integrity has no MAC that fails, and is not
+        drawn."""
         return f"{self.one('0', '1', '2', '3')}/{self.one('1', '2', '3')}"
 
     def bit(self, octets: bytes, header: tuple[int, ...]) -> bytes:
         """The octets with one bit turned, of any octet but these."""
         spoilt = bytearray(octets)
-        spoilt[self.random.choice([place for place in range(len(octets)) if place not in header])] ^= 1 << self.random.randrange(8)
+        spoilt[
+            self.random.choice([place for place in range(len(octets)) if place not in header])
+        ] ^= 1 << self.random.randrange(8)
         return bytes(spoilt)
 
 
 def kasme(draws: Draws) -> Iterator[DrawnCase]:
     while True:
-        fields = {"ck": draws.octets(16), "ik": draws.octets(16), "plmn": draws.octets(3), "sqn-xor-ak": draws.octets(6)}
+        fields = {
+            "ck": draws.octets(16),
+            "ik": draws.octets(16),
+            "plmn": draws.octets(3),
+            "sqn-xor-ak": draws.octets(6),
+        }
         yield DrawnCase("kasme", fields, f"KASME in the network with the PLMN identity {fields['plmn']}")
 
 
@@ -107,45 +124,75 @@ def star(draws: Draws) -> Iterator[DrawnCase]:
     while True:
         pci, earfcn = draws.number(503), draws.number(262143, 2**16)
         wide = ", an EARFCN-DL of three octets" if earfcn > 0xFFFF else ""
-        yield DrawnCase("star", {"key": draws.octets(32), "pci": str(pci), "earfcn": str(earfcn)}, f"KeNB* for PCI {pci} and EARFCN-DL {earfcn}{wide}")
+        yield DrawnCase(
+            "star",
+            {"key": draws.octets(32), "pci": str(pci), "earfcn": str(earfcn)},
+            f"KeNB* for PCI {pci} and EARFCN-DL {earfcn}{wide}",
+        )
 
 
 def alg(draws: Draws) -> Iterator[DrawnCase]:
     names = ["NAS-enc", "NAS-int", "RRC-enc", "RRC-int", "UP-enc", "UP-int"]
     for kind, identity in itertools.cycle((kind, identity) for kind in range(1, 7) for identity in range(4)):
-        yield DrawnCase("alg", {"key": draws.octets(32), "type": str(kind), "id": str(identity)}, f"{names[kind - 1]}-alg, algorithm {identity}")
+        yield DrawnCase(
+            "alg",
+            {"key": draws.octets(32), "type": str(kind), "id": str(identity)},
+            f"{names[kind - 1]}-alg, algorithm {identity}",
+        )
 
 
 def cipher(word: str) -> Callable[[Draws], Iterator[DrawnCase]]:
     """Texts under a cipher or a MAC."""
+
     def cases(draws: Draws) -> Iterator[DrawnCase]:
         while True:
-            fields = {"key": draws.octets(16), "count": str(draws.number(2**32 - 1)), "bearer": str(draws.number(31)), "direction": draws.direction(), "text": draws.text(80)}
+            fields = {
+                "key": draws.octets(16),
+                "count": str(draws.number(2**32 - 1)),
+                "bearer": str(draws.number(31)),
+                "direction": draws.direction(),
+                "text": draws.text(80),
+            }
             yield DrawnCase(word, fields, f"a text of {len(fields['text']) // 2} octets")
+
     return cases
 
 
 def opened(draws: Draws, case: DrawnCase, header: tuple[int, ...], whole: int, count: int, high: int) -> DrawnCase:
-    """A case of opening a message, right or spoilt: at these places stand type and sequence number; `whole` octets are header and MAC."""
+    """A case of opening a message, right or spoilt: at these places stand type and sequence number; `whole` octets are
+    header and MAC."""
     how = draws.one("right", "right", "MacBit", "WrongCount", "CountSpent", "Cut")
     if how == "right":
         return earlier(draws, case, count)
     if how == "WrongCount" and count + window(case) <= high:
-        return dataclasses.replace(case, fields=case.fields | {"count": str(count + 1)}, flag=how, comment=f"{case.comment}, opened above it")
+        return dataclasses.replace(
+            case, fields=case.fields | {"count": str(count + 1)}, flag=how, comment=f"{case.comment}, opened above it"
+        )
     if how == "CountSpent" and count % window(case) != window(case) - 1:
-        return dataclasses.replace(case, fields=case.fields | {"count": str(high)}, flag=how, comment=f"{case.comment}, opened at the last COUNT")
+        return dataclasses.replace(
+            case,
+            fields=case.fields | {"count": str(high)},
+            flag=how,
+            comment=f"{case.comment}, opened at the last COUNT",
+        )
     if how == "MacBit":
-        return dataclasses.replace(case, flag=how, spoil=lambda octets: draws.bit(octets, header), comment=f"{case.comment}, a bit turned")
+        return dataclasses.replace(
+            case, flag=how, spoil=lambda octets: draws.bit(octets, header), comment=f"{case.comment}, a bit turned"
+        )
     if how == "Cut":
         kept = draws.random.randrange(whole)
-        return dataclasses.replace(case, flag=how, spoil=lambda octets: octets[:kept], comment=f"{case.comment}, cut to {kept} octets")
+        return dataclasses.replace(
+            case, flag=how, spoil=lambda octets: octets[:kept], comment=f"{case.comment}, cut to {kept} octets"
+        )
     return case
 
 
 def earlier(draws: Draws, case: DrawnCase, count: int) -> DrawnCase:
     """The case with a least COUNT that may be below that of the message, by less than a turn of its sequence number."""
     least = count - min(count, draws.random.choice([0, 1, window(case) - 1, draws.random.randrange(window(case))]))
-    return dataclasses.replace(case, fields=case.fields | {"count": str(least)}, comment=f"{case.comment}, from COUNT {least} on")
+    return dataclasses.replace(
+        case, fields=case.fields | {"count": str(least)}, comment=f"{case.comment}, from COUNT {least} on"
+    )
 
 
 def window(case: DrawnCase) -> int:
@@ -156,16 +203,37 @@ def window(case: DrawnCase) -> int:
 def nas(draws: Draws) -> Iterator[DrawnCase]:
     while True:
         count, kind, text = draws.number(2**24 - 1, 256, 2**16), draws.one("1", "2", "3", "4"), draws.text(60)
-        begun = {"kasme": draws.octets(32), "eea": draws.algorithms(), "count": str(count), "direction": draws.direction()}
-        case = DrawnCase("nas", begun, f"NAS message of type {kind} at COUNT {count}", seal=("seal-nas", begun | {"type": kind, "text": text}))
+        begun = {
+            "kasme": draws.octets(32),
+            "eea": draws.algorithms(),
+            "count": str(count),
+            "direction": draws.direction(),
+        }
+        case = DrawnCase(
+            "nas",
+            begun,
+            f"NAS message of type {kind} at COUNT {count}",
+            seal=("seal-nas", begun | {"type": kind, "text": text}),
+        )
         yield opened(draws, case, (0, 5), 6, count, 2**24 - 1)
 
 
 def srb(draws: Draws) -> Iterator[DrawnCase]:
     while True:
         count = draws.number(2**32 - 1, 32)
-        begun = {"key": draws.octets(32), "eea": draws.algorithms(), "count": str(count), "bearer": draws.one("0", "1"), "direction": draws.direction()}
-        case = DrawnCase("srb", begun, f"PDU of SRB{int(begun['bearer']) + 1} at COUNT {count}", seal=("seal-srb", begun | {"text": draws.text(60)}))
+        begun = {
+            "key": draws.octets(32),
+            "eea": draws.algorithms(),
+            "count": str(count),
+            "bearer": draws.one("0", "1"),
+            "direction": draws.direction(),
+        }
+        case = DrawnCase(
+            "srb",
+            begun,
+            f"PDU of SRB{int(begun['bearer']) + 1} at COUNT {count}",
+            seal=("seal-srb", begun | {"text": draws.text(60)}),
+        )
         yield opened(draws, case, (0,), 5, count, 2**32 - 1)
 
 
@@ -174,13 +242,32 @@ def drb(draws: Draws) -> Iterator[DrawnCase]:
     while True:
         bits = draws.one("7", "12", "15", "18")
         count = draws.number(2**32 - 1, 2 ** int(bits))
-        begun = {"key": draws.octets(32), "eea": draws.one("0", "1", "2", "3"), "count": str(count), "bearer": str(draws.number(31)), "direction": draws.direction(), "bits": bits}
-        case = DrawnCase("drb", begun, f"PDU of a DRB with {bits} bits at COUNT {count}", seal=("seal-drb", begun | {"text": draws.text(60)}))
+        begun = {
+            "key": draws.octets(32),
+            "eea": draws.one("0", "1", "2", "3"),
+            "count": str(count),
+            "bearer": str(draws.number(31)),
+            "direction": draws.direction(),
+            "bits": bits,
+        }
+        case = DrawnCase(
+            "drb",
+            begun,
+            f"PDU of a DRB with {bits} bits at COUNT {count}",
+            seal=("seal-drb", begun | {"text": draws.text(60)}),
+        )
         how = draws.one("right", "right", "right", "CountSpent", "Cut")
         if how == "CountSpent" and count % window(case) != window(case) - 1:
-            case = dataclasses.replace(case, fields=begun | {"count": str(2**32 - 1)}, flag=how, comment=f"{case.comment}, opened at the last COUNT")
+            case = dataclasses.replace(
+                case,
+                fields=begun | {"count": str(2**32 - 1)},
+                flag=how,
+                comment=f"{case.comment}, opened at the last COUNT",
+            )
         elif how == "Cut":
-            case = dataclasses.replace(case, flag=how, spoil=lambda octets: b"", comment=f"{case.comment}, cut to nothing")
+            case = dataclasses.replace(
+                case, flag=how, spoil=lambda octets: b"", comment=f"{case.comment}, cut to nothing"
+            )
         yield case if case.flag else earlier(draws, case, count)
 
 
@@ -188,8 +275,18 @@ def reach(draws: Draws) -> Iterator[DrawnCase]:
     """A phone's chain, for each pair of NCCs."""
     for used, ncc in itertools.cycle((used, ncc) for used in range(8) for ncc in range(8)):
         steps = (ncc - used) % 8
-        fields = {"kasme": draws.octets(32), "key": draws.octets(32), "ncc-in-use": str(used), "sync": draws.octets(32), "ncc": str(ncc), "pci": str(draws.number(503)), "earfcn": str(draws.number(262143, 2**16))}
-        yield DrawnCase("reach", fields, f"from NCC {used} to NCC {ncc}: {f'{steps} steps of NH' if steps else 'horizontal'}")
+        fields = {
+            "kasme": draws.octets(32),
+            "key": draws.octets(32),
+            "ncc-in-use": str(used),
+            "sync": draws.octets(32),
+            "ncc": str(ncc),
+            "pci": str(draws.number(503)),
+            "earfcn": str(draws.number(262143, 2**16)),
+        }
+        yield DrawnCase(
+            "reach", fields, f"from NCC {used} to NCC {ncc}: {f'{steps} steps of NH' if steps else 'horizontal'}"
+        )
 
 
 @dataclasses.dataclass(frozen=True)
@@ -244,13 +341,25 @@ def value(name: str, text: str) -> int | str:
 
 
 def test(number: int, case: DrawnCase, answer: str) -> dict[str, object]:
-    """A test of the document. One that must be refused and is not, or for another reason, is a fault of this program."""
+    """A test of the document. One that must be refused and is not, or for another reason, is a fault of this
+    program."""
     if case.flag and not answer.startswith(REFUSED[case.flag]):
-        raise TraceError(f"calc answers '{answer[:40]}' to a test with the flag {case.flag}: {line_of(case.word, case.fields)[:60]}")
+        raise TraceError(
+            f"calc answers '{answer[:40]}' to a test with the flag {case.flag}: {line_of(case.word, case.fields)[:60]}"
+        )
     inputs = {name: value(name, text) for name, text in case.fields.items()}
     if case.flag:
-        return {"tcId": number, "comment": case.comment, "in": inputs, "out": {"refused": REFUSED[case.flag]}, "result": "invalid", "flags": [case.flag]}
-    outputs = {name: value(name, text) for name, text in zip(GROUPS[case.word].outputs, answer.split(" ")) if name != "opens"}
+        return {
+            "tcId": number,
+            "comment": case.comment,
+            "in": inputs,
+            "out": {"refused": REFUSED[case.flag]},
+            "result": "invalid",
+            "flags": [case.flag],
+        }
+    outputs = {
+        name: value(name, text) for name, text in zip(GROUPS[case.word].outputs, answer.split(" ")) if name != "opens"
+    }
     return {"tcId": number, "comment": case.comment, "in": inputs, "out": outputs, "result": "valid", "flags": []}
 
 
@@ -262,14 +371,23 @@ def document(seed: int, count: int) -> dict[str, object]:
     places = sorted(range(count), key=lambda place: (list(GROUPS).index(cases[place].word), place))
     for number, place in enumerate(places, 1):
         tests[cases[place].word].append(test(number, cases[place], told[place]))
-    groups = [{"type": group.what, "line": word, "clause": group.clause, "tests": tests[word]} for word, group in GROUPS.items() if tests[word]]
+    groups = [
+        {"type": group.what, "line": word, "clause": group.clause, "tests": tests[word]}
+        for word, group in GROUPS.items()
+        if tests[word]
+    ]
     return {
         "algorithm": "LTE access security",
         "schema": "lte_sec_vectors_v1",
         "generatorVersion": str(VERSION),
         "seed": seed,
         "numberOfTests": count,
-        "header": ["Inputs and outputs are the fields and answers of lines of ./lte_sec calc (docs/CALC.md); octets are in hex."],
+        "header": [
+            (
+                "Inputs and outputs are the fields and answers of lines of ./lte_sec "
+                "calc (docs/CALC.md); octets are in hex."
+            )
+        ],
         "notes": FLAGS,
         "testGroups": groups,
     }

@@ -1,7 +1,8 @@
 """The verdict on a report of `run`, and what heals a phone: `./lte_sec verdict [--json] [--scenario FILE] < REPORT`.
 
-All is read from the report: the notes of its steps, and the rows of its ladder, in which a KeNB* has its cell. Status 0 where all
-keys agree, 1 where keys differ, 3 where the report does not tell, where nothing was set up, and where the text is no report of `run`.
+All is read from the report: the notes of its steps, and the rows of its ladder, in which a KeNB* has its cell. Status 0
+where all keys agree, 1 where keys differ, 3 where the report does not tell, where nothing was set up, and where the
+text is no report of `run`.
 """
 from __future__ import annotations
 
@@ -29,13 +30,19 @@ class Healing(enum.Enum):
     AUTHENTICATION = ("auth", "smc", "deliver", "deliver", *RECONNECTION)
 
     def __str__(self) -> str:
-        more = ", with a new KASME" if self == Healing.AUTHENTICATION else ", if the core's window has the phone's next NAS COUNT"
+        more = (
+            ", with a new KASME"
+            if self == Healing.AUTHENTICATION
+            else ", if the core's window has the phone's next NAS COUNT"
+        )
         return f"{len(self.value)} steps give one key again{more}: {', '.join(self.value)}"
 
 
 def healing(report: Report, found: list[KenbChange]) -> Healing | int | None:
-    """What gives one key again behind the last of the changes whose keys differ, or the step at which a later connection did. A reconnection is
-    enough where the core last made a key from the KASME that the phone uses: the phone takes a NAS context before the core does."""
+    """What gives one key again behind the last of the changes whose keys differ, or the step at which a later
+    connection did. A reconnection is enough where the core last made a key from the KASME that the phone uses: the
+    phone takes a NAS context before the core does.
+    """
     parted = [item.last for item in found if item.outcome == Outcome.DIFFER]
     if not parted:
         return None
@@ -51,30 +58,56 @@ def healing(report: Report, found: list[KenbChange]) -> Healing | int | None:
 
 @dataclasses.dataclass(frozen=True)
 class JudgedReport:
-    """All that is told of a report: each handover and key change, what heals it where keys differ, the last line, and the status."""
+    """All that is told of a report: each handover and key change, what heals it where keys differ, the last line, and
+    the status."""
 
     items: list[KenbChange]
     last: str
     status: int
     heals: Healing | int | None = None
     frames: dict[int, str] = dataclasses.field(default_factory=dict)  # of the steps, where the scenario has them
-    remarks: list[str] = dataclasses.field(default_factory=list)  # where the scenario does what the standard has otherwise
+    remarks: list[str] = dataclasses.field(
+        default_factory=list
+    )  # where the scenario does what the standard has otherwise
 
     def lines(self) -> list[str]:
         told = [with_frames(str(item), self.frames) for item in self.items]
-        healed = f"step {self.heals}: a connection gives one key again" if isinstance(self.heals, int) else str(self.heals)
+        healed = (
+            f"step {self.heals}: a connection gives one key again" if isinstance(self.heals, int) else str(self.heals)
+        )
         remarks = [f"remark: {with_frames(remark, self.frames)}" for remark in self.remarks]
-        return [*remarks, *told, *([] if told else ["no handover and no key change"]), *([healed] if self.heals else []), self.last]
+        return [
+            *remarks,
+            *told,
+            *([] if told else ["no handover and no key change"]),
+            *([healed] if self.heals else []),
+            self.last,
+        ]
 
     def document(self) -> dict[str, object]:
         """The document that --json prints."""
         told = [
-            dataclasses.asdict(item) | {
-                "outcome": item.outcome.value, "cell": [int(part) for part in item.cell.split(",") if part],
-            } | ({"first_frame": self.frames.get(item.first), "last_frame": self.frames.get(item.last)} if self.frames else {}) for item in self.items
+            dataclasses.asdict(item)
+            | {"outcome": item.outcome.value, "cell": [int(part) for part in item.cell.split(",") if part]}
+            | (
+                {"first_frame": self.frames.get(item.first), "last_frame": self.frames.get(item.last)}
+                if self.frames
+                else {}
+            )
+            for item in self.items
         ]
-        heals, healed = (None, self.heals) if isinstance(self.heals, int) else (self.heals and list(self.heals.value), None)
-        return {"version": VERSION, "items": told, "remarks": self.remarks, "heals": heals, "healed": healed, "verdict": self.last, "status": self.status}
+        heals, healed = (
+            (None, self.heals) if isinstance(self.heals, int) else (self.heals and list(self.heals.value), None)
+        )
+        return {
+            "version": VERSION,
+            "items": told,
+            "remarks": self.remarks,
+            "heals": heals,
+            "healed": healed,
+            "verdict": self.last,
+            "status": self.status,
+        }
 
 
 def judged(text: str) -> JudgedReport:
@@ -98,11 +131,15 @@ def text_of(octets: bytes) -> str:
         return octets.decode()
     except UnicodeDecodeError as fault:
         line = octets[: fault.start].count(b"\n") + 1
-        raise NoReport(f"it is no text, since octet {octets[fault.start]:02x} in line {line} is not UTF-8; ./lte_sec run writes a report") from None
+        raise NoReport(
+            f"it is no text, since octet {octets[fault.start]:02x} in line {line} is "
+            "not UTF-8; ./lte_sec run writes a report"
+        ) from None
 
 
 def main(words: list[str]) -> int:
-    """Options: --json, and --scenario FILE, whose remarks name the frames of its steps, and which tells where the report is of what the standard has otherwise."""
+    """Options: --json, and --scenario FILE, whose remarks name the frames of its steps, and which tells where the
+    report is of what the standard has otherwise."""
     given = Words.read("verdict", words)
     file = given.last("--scenario")
     try:

@@ -1,4 +1,5 @@
-"""Security procedures of the core that cross. By TS 33.401 7.2.10 (from memory) one waits for the other; here the core begins each at once (docs/MACHINE.md, what the standard has otherwise)."""
+"""Security procedures of the core that cross. By TS 33.401 7.2.10 (from memory) one waits for the other; here the core
+begins each at once (docs/MACHINE.md, what the standard has otherwise)."""
 from __future__ import annotations
 
 from collections.abc import Iterable, Iterator
@@ -11,18 +12,33 @@ from .run_report import StepLine
 from .scenarios import Scenario
 from .variants import moved, put_behind
 
-COMMAND, SETUP, CHANGE, RELOCATION = "a NAS Security Mode Command", "Initial Context Setup", "a key change", "a handover to another core"
+COMMAND, SETUP, CHANGE, RELOCATION = (
+    "a NAS Security Mode Command",
+    "Initial Context Setup",
+    "a key change",
+    "a handover to another core",
+)
 WAITS_FOR = {COMMAND: (SETUP, CHANGE), SETUP: (COMMAND,), CHANGE: (COMMAND,), RELOCATION: (COMMAND, CHANGE)}
 BEGUN_BY = {"smc": COMMAND, "connect": SETUP, "NAS Security Mode Complete": CHANGE}
 ENDED_BY = {
-    "auth": (COMMAND,), "NAS Security Mode Complete": (COMMAND,), "NAS Security Mode Reject": (COMMAND,), "RRC Security Mode Complete": (SETUP,),
-    "RRC Reconfiguration Complete": (CHANGE,), "release": (SETUP, CHANGE), "idle": (SETUP, CHANGE), "connect": (SETUP, CHANGE),
+    "auth": (COMMAND,),
+    "NAS Security Mode Complete": (COMMAND,),
+    "NAS Security Mode Reject": (COMMAND,),
+    "RRC Security Mode Complete": (SETUP,),
+    "RRC Reconfiguration Complete": (CHANGE,),
+    "release": (SETUP, CHANGE),
+    "idle": (SETUP, CHANGE),
+    "connect": (SETUP, CHANGE),
 }
-REFUSED = {"Initial Context Setup Request": (SETUP,), "UE Context Modification Request": (CHANGE,)}  # these end where a station refuses them
+REFUSED = {
+    "Initial Context Setup Request": (SETUP,),
+    "UE Context Modification Request": (CHANGE,),
+}  # these end where a station refuses them
 
 
 class Happened(NamedTuple):
-    """A step by its name: what brought it, an act or the message that came; its line; and whether it hands the phone to another core."""
+    """A step by its name: what brought it, an act or the message that came; its line; and whether it hands the phone to
+    another core."""
 
     name: str
     cause: str
@@ -32,7 +48,8 @@ class Happened(NamedTuple):
 
 @dataclass
 class Crossing:
-    """A step that begins a procedure while another is under way: what begins, what it does not wait for, and the steps where that began and ended."""
+    """A step that begins a procedure while another is under way: what begins, what it does not wait for, and the steps
+    where that began and ended."""
 
     step: str
     begins: str
@@ -41,7 +58,10 @@ class Crossing:
     end: str | None = field(default=None, compare=False)
 
     def __str__(self) -> str:
-        return f"step {self.step} begins {self.begins}; TS 33.401 7.2.10 has it wait for the end of {self.other}, which began at step {self.since}"
+        return (
+            f"step {self.step} begins {self.begins}; TS 33.401 7.2.10 has it wait for the end of {self.other}, "
+            f"which began at step {self.since}"
+        )
 
 
 def crossings(steps: Iterable[Happened]) -> list[Crossing]:
@@ -57,7 +77,9 @@ def crossings(steps: Iterable[Happened]) -> list[Crossing]:
                 crossing.end = step.name if (crossing.other, crossing.since) == (other, since) else crossing.end
         begun = begun_by(step) if is_done else None
         if begun is not None:
-            found += [Crossing(step.name, begun, other, under_way[other]) for other in WAITS_FOR[begun] if other in under_way]
+            found += [
+                Crossing(step.name, begun, other, under_way[other]) for other in WAITS_FOR[begun] if other in under_way
+            ]
             under_way[begun] = step.name
     return found
 
@@ -93,7 +115,10 @@ def of_report(scenario: Scenario, report: str) -> Iterator[Happened]:
         if cause == "deliver" and -len(records) <= step["record"] < len(records):
             of, cause = records[step["record"]]
             pci, earfcn = scenario.steps[int(of)].get("cell", (-1, -1))
-            away = cause == "Handover Required" and cores.get(scenario.cells.get((pci, earfcn), -1)) not in (None, int(line.who[5:] or 0))
+            away = cause == "Handover Required" and cores.get(scenario.cells.get((pci, earfcn), -1)) not in (
+                None,
+                int(line.who[5:] or 0),
+            )
         sends = names.of(line, cause)
         if line.sent is not None:
             records.append((str(number), sends))
@@ -103,12 +128,18 @@ def of_report(scenario: Scenario, report: str) -> Iterator[Happened]:
 def remarks_of(scenario: Scenario, report: str) -> list[str]:
     """Where a scenario does what the standard has otherwise: the first NCC of its core, and procedures that cross."""
     first = scenario.setup.get("core", {}).get("first_ncc", 1)
-    ncc = ["without first_ncc = 2 in [core] the core sends the pair of NCC 1 first, and by TS 33.401 7.2.8.1.1 that of NCC 2 is first"] * (first != 2)
+    ncc = [
+        (
+            "without first_ncc = 2 in [core] the core sends the pair of NCC 1 first, and by TS 33.401 7.2.8.1.1 that "
+            "of NCC 2 is first"
+        )
+    ] * (first != 2)
     return ncc + [str(crossing) for crossing in crossings(of_report(scenario, report))]
 
 
 def waits(items: list[Item], crossing: Crossing) -> list[Item] | None:
-    """The items with a step, and what it makes happen, behind the end of what it crosses; without them where that has no end. None where it cannot wait."""
+    """The items with a step, and what it makes happen, behind the end of what it crosses; without them where that has
+    no end. None where it cannot wait."""
     places = {item.name: place for place, item in enumerate(items)}
     at = places.get(crossing.step)
     if at is None:

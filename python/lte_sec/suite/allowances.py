@@ -1,4 +1,5 @@
-"""The rows in which a product may answer otherwise, by what it has chosen: the groups of `examples/suite/may-differ`, or of a file of one's own (docs/SUITE.md)."""
+"""The rows in which a product may answer otherwise, by what it has chosen: the groups of `examples/suite/may-differ`,
+or of a file of one's own (docs/SUITE.md)."""
 from __future__ import annotations
 
 import pathlib
@@ -13,14 +14,17 @@ BEHIND = " behind "
 
 
 class Allowed(NamedTuple):
-    """Rows that may differ, by one name or its beginning and `*`; only behind such rows of the same actor and scenario, where `behind` names them; and the group."""
+    """Rows that may differ, by one name or its beginning and `*`; only behind such rows of the same actor and scenario,
+    where `behind` names them; and the group."""
 
     row: str
     behind: str
     group: str
 
     def has(self, result: Result) -> bool:
-        return is_named(result.visit, self.row) and (not self.behind or any(is_named(visit, self.behind) for visit in result.behind))
+        return is_named(result.visit, self.row) and (
+            not self.behind or any(is_named(visit, self.behind) for visit in result.behind)
+        )
 
 
 def is_named(visit: Visit, line: str) -> bool:
@@ -28,7 +32,8 @@ def is_named(visit: Visit, line: str) -> bool:
 
 
 def read(text: str) -> list[Allowed]:
-    """The lines of a file: a row in a line, as the report has it, below the `[group]` that it is of; what stands behind # is comment."""
+    """The lines of a file: a row in a line, as the report has it, below the `[group]` that it is of; what stands behind
+    # is comment."""
     found, group = [], ""
     for line in (" ".join(line.split("#")[0].split()) for line in text.splitlines()):
         if line.startswith("["):
@@ -49,7 +54,10 @@ def of_word(word: str) -> list[Allowed]:
         return read(pathlib.Path(word).read_text(encoding="utf-8"))
     except (OSError, UnicodeDecodeError) as why:
         reason = getattr(why, "strerror", None) or why
-        raise WrongWords(f"--allow: {word} is no group of examples/suite/may-differ ({', '.join(groups)}), and the file cannot be read: {reason}") from None
+        raise WrongWords(
+            f"--allow: {word} is no group of examples/suite/may-differ ({', '.join(groups)}), and the file cannot be "
+            f"read: {reason}"
+        ) from None
 
 
 def group_of(result: Result, allowed: list[Allowed]) -> str | None:

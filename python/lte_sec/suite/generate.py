@@ -1,4 +1,5 @@
-"""`./lte_sec drive --generate N SEED [OPTION]..`: PROGRAM [OPTION].. drives N scenarios, of the seeds from SEED on, as `gen` makes them, and makes the first difference small.
+"""`./lte_sec drive --generate N SEED [OPTION]..`: PROGRAM [OPTION].. drives N scenarios, of the seeds from SEED on, as
+`gen` makes them, and makes the first difference small.
 
 Steps are left out as long as a reply still differs at the same row of the same actor (docs/SUITE.md).
 """
@@ -58,7 +59,10 @@ def read_words(program: str, words: list[str]) -> GenerateOptions:
     if len(given.others) != 1 or not given.others[0].isdecimal() or int(given.others[0]) > MOST_SEED:
         raise WrongWords(f"drive --generate takes how many scenarios and a seed up to {MOST_SEED}, as --generate 20 7")
     count, seed = given.number("--generate", 1, MOST), int(given.others[0])
-    product = {name.removeprefix("LTE_SEC_").lower().replace("_", " "): command.split("\n") for name, command in drive_options.variables(given).items()}
+    product = {
+        name.removeprefix("LTE_SEC_").lower().replace("_", " "): command.split("\n")
+        for name, command in drive_options.variables(given).items()
+    }
     return GenerateOptions(
         product=product or {actor: [program] for actor in rows.ACTORS},
         seeds=range(seed, min(seed + count, MOST_SEED + 1)),
@@ -82,7 +86,11 @@ class Generated:
 
     def first(self, scenario: Scenario) -> Result | None:
         """What ends a scenario first, if anything does: a reply that differs, or an actor that fails."""
-        results = [each for each in play(Case("", scenario), self.commands, self.options.by_answer).results if each.outcome in ENDS]
+        results = [
+            each
+            for each in play(Case("", scenario), self.commands, self.options.by_answer).results
+            if each.outcome in ENDS
+        ]
         return min(results, key=lambda each: each.step or 0) if results else None
 
     def runs(self) -> Generator[tuple[int, Result | None], None, None]:
@@ -105,13 +113,14 @@ class Generated:
         return result is not None and (result.visit, result.outcome) == (found.visit, found.outcome)
 
     def small(self, scenario: Scenario, found: Result) -> Scenario:
-        """The scenario up to the difference, without the steps that it does not need: pieces are left out, first long ones."""
-        steps = scenario.steps[:(found.step or 0) + 1]
+        """The scenario up to the difference, without the steps that it does not need: pieces are left out, first long
+        ones."""
+        steps = scenario.steps[: (found.step or 0) + 1]
         size = max(1, len(steps) // 2)
         while size:
             place = 0
             while place < len(steps):
-                less = steps[:place] + steps[place + size:]
+                less = steps[:place] + steps[place + size :]
                 if less and self.stays(Scenario(scenario.setup, less), found):
                     steps = less
                 else:
@@ -142,7 +151,10 @@ def answered(program: str, options: GenerateOptions) -> int:
         for seed, result in runs:
             scenario = generated(STEPS, seed)
             saved(options.save, f"seed-{seed}", scenario, f"gen {STEPS} {seed}, with a core that sends NCC 2 first")
-            print(f"seed {seed}: {told(result, scenario.steps) if result else f'{STEPS} steps, no reply differs'}", flush=True)
+            print(
+                f"seed {seed}: {told(result, scenario.steps) if result else f'{STEPS} steps, no reply differs'}",
+                flush=True,
+            )
             if result:
                 break
         else:
@@ -153,7 +165,10 @@ def answered(program: str, options: GenerateOptions) -> int:
 def made_small(own: Generated, seed: int, scenario: Scenario, result: Result) -> int:
     """Makes a difference small, and prints the scenario that is left; the status."""
     less = own.small(scenario, result)
-    comment = f"Of gen {STEPS} {seed}, with a core that sends NCC 2 first: the steps that the difference needs, at {result.visit}."
+    comment = (
+        f"Of gen {STEPS} {seed}, with a core that sends NCC 2 first: the steps that the difference needs, at "
+        f"{result.visit}."
+    )
     saved(own.options.save, f"seed-{seed}-small", less, comment)
     print(f"{told(own.first(less) or result, less.steps)}\n{written(less, comment)}", end="")
     return 8

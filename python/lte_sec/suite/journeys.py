@@ -1,4 +1,5 @@
-"""The scenarios of `gen`, as texts: a phone with traffic and handovers among four stations, by the draws of a seed (docs/SCENARIOS.md)."""
+"""The scenarios of `gen`, as texts: a phone with traffic and handovers among four stations, by the draws of a seed
+(docs/SCENARIOS.md)."""
 from __future__ import annotations
 
 import dataclasses
@@ -18,7 +19,16 @@ SETUP = {
 
 def opening() -> list[Step]:
     """Authentication, the Security Mode of NAS, and a connection at station 0."""
-    return [{"do": "auth", "ksi": 0, "kasme": KASME}, {"do": "smc"}, ARRIVES, ARRIVES, {"do": "connect", "cell": [10, 100]}, ARRIVES, ARRIVES, ARRIVES]
+    return [
+        {"do": "auth", "ksi": 0, "kasme": KASME},
+        {"do": "smc"},
+        ARRIVES,
+        ARRIVES,
+        {"do": "connect", "cell": [10, 100]},
+        ARRIVES,
+        ARRIVES,
+        ARRIVES,
+    ]
 
 
 def handover(way: str, source: int, target: int, before: int, behind: int) -> list[Step]:
@@ -29,7 +39,8 @@ def handover(way: str, source: int, target: int, before: int, behind: int) -> li
 
 @dataclasses.dataclass
 class Journey:
-    """Where the draws stand, the station that serves, and whether the answer to the last change of station was left undelivered."""
+    """Where the draws stand, the station that serves, and whether the answer to the last change of station was left
+    undelivered."""
 
     state: int
     serving: int = 0
@@ -49,7 +60,11 @@ class Journey:
         is_answered = choice != 3 or self.is_unanswered
         source, self.serving = self.serving, (self.serving + 1 + self.draw(3)) % 4
         self.is_unanswered = not is_answered
-        return handover("s1", source, self.serving, 4, 3) if choice == 4 else handover("x2", source, self.serving, 2, BEHIND_X2[is_answered])
+        return (
+            handover("s1", source, self.serving, 4, 3)
+            if choice == 4
+            else handover("x2", source, self.serving, 2, BEHIND_X2[is_answered])
+        )
 
     def packet(self, is_up: bool) -> list[Step]:
         self.draw(2)
@@ -58,7 +73,8 @@ class Journey:
 
 
 def generated(steps: int, seed: int) -> Scenario:
-    """The first so many steps that a seed gives; the core sends NCC 2 first, as TS 33.401 7.2.8.1.1 has it, and not NCC 1 as that of `gen` does."""
+    """The first so many steps that a seed gives; the core sends NCC 2 first, as TS 33.401 7.2.8.1.1 has it, and not NCC
+    1 as that of `gen` does."""
     found, journey = opening(), Journey(seed)
     while len(found) < steps:
         found += journey.turn()

@@ -1,6 +1,7 @@
 """JUnit XML, as builds read it: suites of cases, each passed, failed, in error or skipped.
 
-Its elements and attributes are those of the schema junit-10.xsd, which Jenkins has. What XML 1.0 cannot have becomes a question mark.
+Its elements and attributes are those of the schema junit-10.xsd, which Jenkins has. What XML 1.0 cannot have becomes a
+question mark.
 """
 from __future__ import annotations
 
@@ -16,7 +17,8 @@ NO_XML = re.compile("[^\t\n\r\x20-\ud7ff\ue000-\ufffd\U00010000-\U0010ffff]")
 
 
 class TestCase(NamedTuple):
-    """A case: the group and the name that a build shows, `failure`, `error`, `skipped` or nothing where it passed, why, where, and what else is said of it."""
+    """A case: the group and the name that a build shows, `failure`, `error`, `skipped` or nothing where it passed, why,
+    where, and what else is said of it."""
 
     group: str
     name: str
@@ -55,10 +57,18 @@ def case_lines(case: TestCase) -> Iterable[str]:
 
 
 def suite_lines(suite: Suite) -> Iterable[str]:
-    counts = " ".join(f'{name}="{suite.count(outcome)}"' for name, outcome in (("failures", "failure"), ("errors", "error"), ("skipped", "skipped")))
-    yield f' <testsuite name={attribute(suite.name)} tests="{len(suite.cases)}" {counts} time="{suite.seconds:.3f}" timestamp={attribute(suite.began)}>'
+    counts = " ".join(
+        f'{name}="{suite.count(outcome)}"'
+        for name, outcome in (("failures", "failure"), ("errors", "error"), ("skipped", "skipped"))
+    )
+    yield (
+        f' <testsuite name={attribute(suite.name)} tests="{len(suite.cases)}" {counts} '
+        f'time="{suite.seconds:.3f}" timestamp={attribute(suite.began)}>'
+    )
     yield "  <properties>"
-    yield from (f"   <property name={attribute(name)} value={attribute(value)}/>" for name, value in suite.properties.items())
+    yield from (
+        f"   <property name={attribute(name)} value={attribute(value)}/>" for name, value in suite.properties.items()
+    )
     yield "  </properties>"
     for case in suite.cases:
         yield from case_lines(case)

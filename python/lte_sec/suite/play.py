@@ -1,4 +1,5 @@
-"""A scenario of the suite, played: each actor of the written machine beside the product's, which is told the same, and what each row came to."""
+"""A scenario of the suite, played: each actor of the written machine beside the product's, which is told the same, and
+what each row came to."""
 from __future__ import annotations
 
 import threading
@@ -24,8 +25,8 @@ class Case(NamedTuple):
 
 
 class Result(NamedTuple):
-    """What became of a row at an actor: the scenario and the first step, None for the Setup; `passed`, `differs`, `failed`, `timed out` or `not compared`, what differs, and the rows
-    of this actor that came before."""
+    """What became of a row at an actor: the scenario and the first step, None for the Setup; `passed`, `differs`,
+    `failed`, `timed out` or `not compared`, what differs, and the rows of this actor that came before."""
 
     visit: Visit
     name: str
@@ -36,7 +37,8 @@ class Result(NamedTuple):
 
 
 class Played(NamedTuple):
-    """A scenario that was played: what became of the rows, the steps that changed something or sent something, and the seconds that it took."""
+    """A scenario that was played: what became of the rows, the steps that changed something or sent something, and the
+    seconds that it took."""
 
     results: list[Result]
     busy: set[int]
@@ -48,7 +50,8 @@ class Stopped(Exception):
 
 
 class Commands:
-    """The program of the written machine, and the product's: by role, and by the name of a station. An actor that is silent too often is given up."""
+    """The program of the written machine, and the product's: by role, and by the name of a station. An actor that is
+    silent too often is given up."""
 
     def __init__(self, reference: list[str], product: dict[str, list[str]], seconds: float):
         self.reference, self.product, self.seconds = reference, product, seconds
@@ -113,7 +116,11 @@ class Pair:
                 self.product.send(self.setup)
             except PeerFault as why:
                 self.failed(Visit(self.role, "Setup", "any", "done", ""), None, why)
-        self.judge(Visit(self.role, "Setup", "any", "done", ""), None, frames.read_reply(frames.unframed(self.reference.reply())))
+        self.judge(
+            Visit(self.role, "Setup", "any", "done", ""),
+            None,
+            frames.read_reply(frames.unframed(self.reference.reply())),
+        )
 
     def tell(self, step: int, told: Told) -> frames.Reply:
         """Tells both, and judges the product's reply by the other."""
@@ -156,7 +163,9 @@ class Pair:
         if why.is_silent:
             self.commands.was_silent(self.actor)
         said = self.product.words(why.is_silent) if self.product else ""
-        self.note(visit, step, "timed out" if why.is_silent else "failed", [f"{self.actor}: {why}", *said.splitlines()[-3:]])
+        self.note(
+            visit, step, "timed out" if why.is_silent else "failed", [f"{self.actor}: {why}", *said.splitlines()[-3:]]
+        )
         self.leave()
 
     def leave(self) -> None:

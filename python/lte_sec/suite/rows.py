@@ -22,7 +22,8 @@ class Visit(NamedTuple):
 
 
 class Row(NamedTuple):
-    """A row: its clauses, the definitions that lead to its input, where it stands there, how a suite reaches it, and why not."""
+    """A row: its clauses, the definitions that lead to its input, where it stands there, how a suite reaches it, and
+    why not."""
 
     visit: Visit
     clause: str

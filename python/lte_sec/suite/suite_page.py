@@ -11,7 +11,13 @@ from ..pages.trace_page import Json
 from . import junit
 from .suite_report import TOLD, in_words, place_of, shown, why
 
-ENDS = {"differs": "failure", "failed": "error", "timed out": "error", "not compared": "skipped", "not reached": "skipped"}
+ENDS = {
+    "differs": "failure",
+    "failed": "error",
+    "timed out": "error",
+    "not compared": "skipped",
+    "not reached": "skipped",
+}
 STYLE = """
 body { display: block; padding: 10px 16px; }
 table { border-collapse: collapse; margin: 8px 0 18px; }
@@ -26,8 +32,14 @@ def about_of(document: Json) -> dict[str, str]:
     """What a report says of itself, by name."""
     made, place = document["made"], document["environment"]
     return {
-        "version": made["version"], "program": "proved" if made["proved"] else "built without proof", "command": shlex.join(document["command"]), "began": document["began"],
-        "seconds": str(document["seconds"]), "Python": place["python"], "system": place["system"], "processors": str(place["processors"]),
+        "version": made["version"],
+        "program": "proved" if made["proved"] else "built without proof",
+        "command": shlex.join(document["command"]),
+        "began": document["began"],
+        "seconds": str(document["seconds"]),
+        "Python": place["python"],
+        "system": place["system"],
+        "processors": str(place["processors"]),
     }
 
 
@@ -40,7 +52,10 @@ def clause_rows(document: Json) -> Iterator[str]:
     outcomes = shown(document["counts"])
     yield f"<tr>{cells('th', ['clause', 'rows', *outcomes])}</tr>"
     for each in document["clauses"]:
-        marked = "".join(f'<td class="number {outcome.replace(" ", "-") if each[outcome] else ""}">{each[outcome] or ""}</td>' for outcome in outcomes)
+        marked = "".join(
+            f'<td class="number {outcome.replace(" ", "-") if each[outcome] else ""}">{each[outcome] or ""}</td>'
+            for outcome in outcomes
+        )
         yield f"<tr>{cells('td', [each['clause']])}{cells('td', [each['rows']], 'number')}{marked}</tr>"
 
 
@@ -56,14 +71,43 @@ def html(document: Json) -> str:
     """The page: of what it is, the table by clause, and all rows, those first that are not passed."""
     style = (HERE / "page.css").read_text(encoding="utf-8") + STYLE
     title = f"Suite of drive: {in_words(document['counts'])}"
-    return "\n".join([
-        "<!DOCTYPE html>", '<html lang="en">', "<head>", '<meta charset="utf-8">', f'<meta http-equiv="Content-Security-Policy" content="{escape(policy("", style))}">',
-        '<meta name="viewport" content="width=device-width, initial-scale=1">', f"<title>{written(title)}</title>", f"<style>{style}</style>", "</head>", "<body>", f"<h1>{written(title)}</h1>",
-        "<table>", *(f"<tr>{cells('th', [name])}{cells('td', [value])}</tr>" for name, value in about_of(document).items()), "</table>",
-        "<h2>By clause</h2>", "<table>", *clause_rows(document), "</table>", "<h2>By row</h2>", "<table>", *row_rows(document["rows"]), "</table>",
-        "<h2>Scenarios</h2>", "<table>", f"<tr>{cells('th', ['scenario', 'seconds'])}</tr>",
-        *(f"<tr>{cells('td', [each['name']])}{cells('td', [each['seconds']], 'number')}</tr>" for each in document["scenarios"]), "</table>", "</body>", "</html>", "",
-    ])
+    return "\n".join(
+        [
+            "<!DOCTYPE html>",
+            '<html lang="en">',
+            "<head>",
+            '<meta charset="utf-8">',
+            f'<meta http-equiv="Content-Security-Policy" content="{escape(policy("", style))}">',
+            '<meta name="viewport" content="width=device-width, initial-scale=1">',
+            f"<title>{written(title)}</title>",
+            f"<style>{style}</style>",
+            "</head>",
+            "<body>",
+            f"<h1>{written(title)}</h1>",
+            "<table>",
+            *(f"<tr>{cells('th', [name])}{cells('td', [value])}</tr>" for name, value in about_of(document).items()),
+            "</table>",
+            "<h2>By clause</h2>",
+            "<table>",
+            *clause_rows(document),
+            "</table>",
+            "<h2>By row</h2>",
+            "<table>",
+            *row_rows(document["rows"]),
+            "</table>",
+            "<h2>Scenarios</h2>",
+            "<table>",
+            f"<tr>{cells('th', ['scenario', 'seconds'])}</tr>",
+            *(
+                f"<tr>{cells('td', [each['name']])}{cells('td', [each['seconds']], 'number')}</tr>"
+                for each in document["scenarios"]
+            ),
+            "</table>",
+            "</body>",
+            "</html>",
+            "",
+        ]
+    )
 
 
 def case_of(entry: Json) -> junit.TestCase:
@@ -71,12 +115,32 @@ def case_of(entry: Json) -> junit.TestCase:
     if entry["outcome"] == "allowed":
         said.append(f"allowed: {why(entry)}")
     outcome = ENDS.get(entry["outcome"], "")
-    reason = f"{entry['outcome']}: {why(entry)}" if outcome == "skipped" else "; ".join(entry["told"][:1]) if outcome else ""
-    return junit.TestCase(f"suite.{entry['actor']}.{entry['input'].replace('.', ' ')}", entry["row"], outcome, reason, "\n".join([place_of(entry), *entry["told"]]) if outcome else "", "\n".join(said))
+    reason = (
+        f"{entry['outcome']}: {why(entry)}" if outcome == "skipped" else "; ".join(entry["told"][:1]) if outcome else ""
+    )
+    return junit.TestCase(
+        f"suite.{entry['actor']}.{entry['input'].replace('.', ' ')}",
+        entry["row"],
+        outcome,
+        reason,
+        "\n".join([place_of(entry), *entry["told"]]) if outcome else "",
+        "\n".join(said),
+    )
 
 
 def suites_of(document: Json) -> list[junit.Suite]:
     """A suite for each actor."""
     actors = dict.fromkeys(entry["actor"] for entry in document["rows"])
-    properties = {name: json.dumps(value) if not isinstance(value, str) else value for name, value in about_of(document).items()}
-    return [junit.Suite(f"drive --suite, {actor}", document["began"], document["seconds"], properties, [case_of(entry) for entry in document["rows"] if entry["actor"] == actor]) for actor in actors]
+    properties = {
+        name: json.dumps(value) if not isinstance(value, str) else value for name, value in about_of(document).items()
+    }
+    return [
+        junit.Suite(
+            f"drive --suite, {actor}",
+            document["began"],
+            document["seconds"],
+            properties,
+            [case_of(entry) for entry in document["rows"] if entry["actor"] == actor],
+        )
+        for actor in actors
+    ]

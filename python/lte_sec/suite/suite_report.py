@@ -1,4 +1,5 @@
-"""The report of `drive --suite`: what became of each row, by rows, by the clauses of the standards and as one document (docs/SUITE.md)."""
+"""The report of `drive --suite`: what became of each row, by rows, by the clauses of the standards and as one document
+(docs/SUITE.md)."""
 from __future__ import annotations
 
 import collections
@@ -19,7 +20,14 @@ from .rows import Row, Table, Visit
 
 VERSION = 1  # of the document that --json prints
 OUTCOMES = ("passed", "differs", "allowed", "failed", "timed out", "not compared", "not reached")
-WORST = ("differs", "allowed", "failed", "timed out", "passed", "not compared")  # of a row that is visited more than once, what counts
+WORST = (
+    "differs",
+    "allowed",
+    "failed",
+    "timed out",
+    "passed",
+    "not compared",
+)  # of a row that is visited more than once, what counts
 TOLD = ("differs", "allowed", "failed", "timed out")  # outcomes with a place and a reason
 
 
@@ -37,7 +45,9 @@ def told_by(results: Iterable[Result], allowed: list[Allowed]) -> dict[Visit, Re
     found: dict[Visit, Result] = {}
     for result in results:
         if result.outcome == "differs" and (group := group_of(result, allowed)) is not None:
-            result = result._replace(outcome="allowed", told=[f"{group}: {line}" if group else line for line in result.told])
+            result = result._replace(
+                outcome="allowed", told=[f"{group}: {line}" if group else line for line in result.told]
+            )
         if result.visit not in found or WORST.index(result.outcome) < WORST.index(found[result.visit].outcome):
             found[result.visit] = result
     return found
@@ -46,13 +56,23 @@ def told_by(results: Iterable[Result], allowed: list[Allowed]) -> dict[Visit, Re
 def entry_of(row: Row | None, visit: Visit, result: Result | None) -> Json:
     """A row as the document has it."""
     clause = row.clause if row else ""
-    entry: Json = {**visit._asdict(), "row": str(visit), "clause": clause, "outcome": result.outcome if result else "not reached"}
-    entry |= {"scenario": result.name if result else None, "step": result.step if result else None, "told": result.told if result else []}
+    entry: Json = {
+        **visit._asdict(),
+        "row": str(visit),
+        "clause": clause,
+        "outcome": result.outcome if result else "not reached",
+    }
+    entry |= {
+        "scenario": result.name if result else None,
+        "step": result.step if result else None,
+        "told": result.told if result else [],
+    }
     return entry | {"reason": f"{row.reached}: {row.why}" if row and not result and row.why else ""}
 
 
 def entries_of(table: Table, results: list[Result], allowed: list[Allowed], actors: list[str]) -> list[Json]:
-    """An entry for each row of the actors that are driven, in the order of the table; first those that are no row, as a Setup."""
+    """An entry for each row of the actors that are driven, in the order of the table; first those that are no row, as a
+    Setup."""
     found = told_by(results, allowed)
     known = {row.visit for row in table.rows}
     others = [entry_of(None, visit, result) for visit, result in found.items() if visit not in known]
@@ -104,6 +124,7 @@ def in_words(counts: dict[str, int]) -> str:
 
 # By clause
 
+
 def clauses_of(text: str) -> Iterator[str]:
     """The clauses of a row, each with its standard: those behind a standard are of it."""
     standard = ""
@@ -124,29 +145,49 @@ def by_clause(entries: list[Json]) -> list[Json]:
     for entry in entries:
         for clause in dict.fromkeys(clauses_of(entry["clause"])):
             found.setdefault(clause, []).append(entry)
-    return [{"clause": clause, "rows": len(found[clause]), **counts_of(found[clause])} for clause in sorted(found, key=order_of)]
+    return [
+        {"clause": clause, "rows": len(found[clause]), **counts_of(found[clause])}
+        for clause in sorted(found, key=order_of)
+    ]
 
 
 def clause_lines(document: Json) -> Iterator[str]:
     """The table by clause, in lines."""
     outcomes = shown(document["counts"])
-    for each in [{"clause": "clause", "rows": "rows", **{outcome: outcome for outcome in outcomes}}, *document["clauses"]]:
+    for each in [
+        {"clause": "clause", "rows": "rows", **{outcome: outcome for outcome in outcomes}},
+        *document["clauses"],
+    ]:
         yield f"{each['clause']:<24}{each['rows']:>6}" + "".join(f"{each[outcome]:>14}" for outcome in outcomes)
 
 
 # The document
 
+
 def environment() -> Json:
-    return {"python": platform.python_version(), "system": platform.platform(), "machine": platform.machine(), "processors": os.cpu_count()}
+    return {
+        "python": platform.python_version(),
+        "system": platform.platform(),
+        "machine": platform.machine(),
+        "processors": os.cpu_count(),
+    }
 
 
 def document(entries: list[Json], runs: list[Played], names: list[str], ran: Ran) -> Json:
     """The document that --json prints, of which all others are made."""
     counts = counts_of(entries)
     return {
-        "version": VERSION, "status": status_of(counts), "made": {"by": "lte_sec", "version": about.version(), "proved": ran.proved}, "command": ran.words, "began": ran.began,
-        "seconds": round(ran.seconds, 3), "environment": environment(), "counts": counts, "clauses": by_clause(entries),
-        "scenarios": [{"name": name, "seconds": round(run.seconds, 3)} for name, run in paired(names, runs)], "rows": entries,
+        "version": VERSION,
+        "status": status_of(counts),
+        "made": {"by": "lte_sec", "version": about.version(), "proved": ran.proved},
+        "command": ran.words,
+        "began": ran.began,
+        "seconds": round(ran.seconds, 3),
+        "environment": environment(),
+        "counts": counts,
+        "clauses": by_clause(entries),
+        "scenarios": [{"name": name, "seconds": round(run.seconds, 3)} for name, run in paired(names, runs)],
+        "rows": entries,
     }
 
 

@@ -1,4 +1,5 @@
-"""`./lte_sec drive --suite [OPTION]..`: PROGRAM KIND [OPTION].. drives the scenarios of examples/suite, and tells of each row of the tables what became of it (docs/SUITE.md).
+"""`./lte_sec drive --suite [OPTION]..`: PROGRAM KIND [OPTION].. drives the scenarios of examples/suite, and tells of
+each row of the tables what became of it (docs/SUITE.md).
 
 KIND is `proved` or `unproved`, as the program is built.
 """
@@ -65,7 +66,10 @@ def read_words(program: str, words: list[str]) -> SuiteOptions:
         raise WrongWords(f"drive --suite takes no FILE, as {given.others[0]}")
     if any(word != "done" for word in given.options["--answers"]):
         raise WrongWords("--answers takes done: a refusal is then the right one whatever its cause")
-    product = {name.removeprefix("LTE_SEC_").lower().replace("_", " "): command.split("\n") for name, command in drive_options.variables(given).items()}
+    product = {
+        name.removeprefix("LTE_SEC_").lower().replace("_", " "): command.split("\n")
+        for name, command in drive_options.variables(given).items()
+    }
     if given.has("--html"):
         pages.writable(pathlib.Path(given.last("--html")))
     return SuiteOptions(
@@ -97,7 +101,9 @@ def cases_of(options: SuiteOptions) -> list[Case]:
     there = sorted({str(number) for case in cases for number in case.scenario.stations})
     for number in (name.split()[1] for name in options.product if name.startswith("station ")):
         if number not in there:
-            raise WrongWords(f"--station {number}=CMD: no scenario that is driven has station {number}, but {drive.listed(there)}")
+            raise WrongWords(
+                f"--station {number}=CMD: no scenario that is driven has station {number}, but {drive.listed(there)}"
+            )
     return cases
 
 
@@ -125,7 +131,9 @@ def cut(cases: list[Case], runs: list[Played], table: rows.Table) -> list[Case]:
     found = []
     for case, numbers in (best[row.visit] for row in table.rows if row.visit in best):
         steps = list(steps_of(case.scenario.steps))
-        found.append(Case(case.name, scenarios.Scenario(case.scenario.setup, [steps[place] for place in numbers]), numbers))
+        found.append(
+            Case(case.name, scenarios.Scenario(case.scenario.setup, [steps[place] for place in numbers]), numbers)
+        )
     return found
 
 
@@ -136,8 +144,12 @@ def told(table: rows.Table, cases: list[Case], program: str, options: SuiteOptio
         own = {actor: [program] for actor in rows.ACTORS}
         cases = cut(cases, played(cases, Commands([program], own, options.seconds), options), table)
     runs = played(cases, Commands([program], options.product, options.seconds), options)
-    entries = suite_report.entries_of(table, [result for run in runs for result in run.results], options.allowed, options.actors)
-    return suite_report.document(entries, runs, [case.name for case in cases], ran._replace(seconds=time.monotonic() - began))
+    entries = suite_report.entries_of(
+        table, [result for run in runs for result in run.results], options.allowed, options.actors
+    )
+    return suite_report.document(
+        entries, runs, [case.name for case in cases], ran._replace(seconds=time.monotonic() - began)
+    )
 
 
 def written(document: Json, options: SuiteOptions) -> None:

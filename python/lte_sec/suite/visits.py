@@ -1,6 +1,8 @@
-"""Which row of its table an actor takes: told from what it is told, its reply, and the little of its state that both show.
+"""Which row of its table an actor takes: told from what it is told, its reply, and the little of its state that both
+show.
 
-A watch goes with one actor that answers as the written machine does. It is given each input with its reply, in order, and says the row.
+A watch goes with one actor that answers as the written machine does. It is given each input with its reply, in order,
+and says the row.
 """
 from __future__ import annotations
 
@@ -13,7 +15,10 @@ REJECTED = ("WrongKsi", "AlgUnsupported", "MacFails", "CapsMismatch")
 CUT = "cut to 1,500 octets"
 KINDS = ("X2", "S1", "within")
 KEY_CHANGE = "UE Context Modification Request"
-CAME = {"Path Switch Request": "X2", "Handover Notify": "S1"}  # over what the phone came, by what its station sends then
+CAME = {
+    "Path Switch Request": "X2",
+    "Handover Notify": "S1",
+}  # over what the phone came, by what its station sends then
 
 
 def answer_of(reply: frames.Reply) -> str:
@@ -41,7 +46,8 @@ def is_cut(told: frames.Input, reply: frames.Reply) -> bool:
 
 
 class Watch:
-    """What all three have: the visit of an input by the methods of its name, `state` and way of a done or refused step."""
+    """What all three have: the visit of an input by the methods of its name, `state` and way of a done or refused
+    step."""
 
     actor = ""
 
@@ -83,7 +89,13 @@ class PhoneWatch(Watch):
             return "Nas, header 1 or 2", "any", ""
         way = ""
         if answer in REJECTED:
-            way = "no Reject" if reply.record is None else "Reject plain" if reply.record[:1] == b"\x07" else "Reject protected"
+            way = (
+                "no Reject"
+                if reply.record is None
+                else "Reject plain"
+                if reply.record[:1] == b"\x07"
+                else "Reject protected"
+            )
         elif answer == "done":
             way = "connected" if self.radio == "connected" else "not connected"
             self.radio = "connected" if self.radio == "connected" else "connecting"
@@ -97,7 +109,11 @@ class PhoneWatch(Watch):
             return "Air, DRB", "connected", CUT if is_cut(told, reply) else ""
         way = ""
         if answer == "done":
-            way = {HORIZONTAL: "horizontal", VERTICAL: "vertical", INITIAL: "key change"}[reply.note.way] if reply.note else "text"
+            way = (
+                {HORIZONTAL: "horizontal", VERTICAL: "vertical", INITIAL: "key change"}[reply.note.way]
+                if reply.note
+                else "text"
+            )
         return "Air, SRB", "connected", way
 
 
@@ -120,7 +136,9 @@ class StationWatch(Watch):
     def on_X2(self, told: frames.Input, reply: frames.Reply, answer: str, made_by: str) -> RowParts:
         return self.record("X2", records.X2, told, reply, answer)
 
-    def record(self, interface: str, forms: dict[int, tables.Form], told: frames.Input, reply: frames.Reply, answer: str) -> RowParts:
+    def record(
+        self, interface: str, forms: dict[int, tables.Form], told: frames.Input, reply: frames.Reply, answer: str
+    ) -> RowParts:
         octets = octets_of(told)
         if answer in ("BadRecord", "WrongKind"):
             return interface, "any", ""
@@ -160,7 +178,13 @@ class StationWatch(Watch):
             return "text" if told.fields["bearer"] == frames.SRBS[0] else "bearer"
         if answer != "done":
             return ""
-        way = CAME[records.S1[reply.record[0]][0]] if reply.record else "key change" if self.attempt == "key change" else "within"
+        way = (
+            CAME[records.S1[reply.record[0]][0]]
+            if reply.record
+            else "key change"
+            if self.attempt == "key change"
+            else "within"
+        )
         self.drop()
         self.air = int(str(told.fields["air"]))
         return way
@@ -211,7 +235,13 @@ class CoreWatch(Watch):
         if header == 4 and answer == "done":
             way = "key change" if reply.record else "no number left" if self.is_linked else "no connection"
         elif header in (1, 2) and answer == "done":
-            way = "text" if reply.text is not None else "Service Request" if made_by == "ServiceRequest" else "Security Mode Reject"
+            way = (
+                "text"
+                if reply.text is not None
+                else "Service Request"
+                if made_by == "ServiceRequest"
+                else "Security Mode Reject"
+            )
         return f"Nas, header {'1 or 2' if header in (1, 2) else header}", "any", way
 
     def on_S1(self, told: frames.Input, reply: frames.Reply, answer: str, made_by: str) -> RowParts:

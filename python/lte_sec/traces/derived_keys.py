@@ -19,7 +19,8 @@ NAMES = {"kenb": "KeNB", "nh": "NH", "star": "KeNB*", "alg": "KNASint"}
 
 @dataclass
 class DerivedKey:
-    """A key: its octets, its name and form, the number of the key above it, its derivation and inputs, and the messages that have it."""
+    """A key: its octets, its name and form, the number of the key above it, its derivation and inputs, and the messages
+    that have it."""
 
     value: bytes
     name: str
@@ -52,7 +53,9 @@ class Keys:
             return None
         number = self.of(key.kasme, key.term) if key.kasme >= 0 and key.known else None
         if number is None or self.rows[number].value != key.value:
-            number = self.add(key.value, DerivedKey(key.value, NAMES.get(key.term.kind, what), "" if key.term == NONE else key.form))
+            number = self.add(
+                key.value, DerivedKey(key.value, NAMES.get(key.term.kind, what), "" if key.term == NONE else key.form)
+            )
         row = self.rows[number]
         if not row.at or row.at[-1] != message:
             row.at.append(message)
@@ -66,7 +69,11 @@ class Keys:
         identity = nas.eia
         if identity is None and value.plain and value.plain[:2] == bytes([EMM, MODE_COMMAND]) and len(value.plain) > 2:
             identity = value.plain[2] & 7  # it tells its algorithms itself
-        return self.at(self.derivations.algorithm(self.root(nas.kasme), NAS_INTEGRITY, identity), message) if identity else None
+        return (
+            self.at(self.derivations.algorithm(self.root(nas.kasme), NAS_INTEGRITY, identity), message)
+            if identity
+            else None
+        )
 
     def root(self, kasme: int) -> Key:
         return Key(self.derivations.kasmes[kasme].value, Term("kasme"), kasme)
@@ -104,12 +111,26 @@ class Keys:
         above = self._terms[kasme, before]
         up, form, clause = self.rows[above], str(term), CLAUSES[term.kind]
         if term.kind == "kenb":
-            return DerivedKey(self.derivations.kenb(kasme, numbers[0]).value, "KeNB", form, above, clause, {"uplink NAS COUNT": str(numbers[0])})
+            return DerivedKey(
+                self.derivations.kenb(kasme, numbers[0]).value,
+                "KeNB",
+                form,
+                above,
+                clause,
+                {"uplink NAS COUNT": str(numbers[0])},
+            )
         if term.kind == "nh":
             given = {"key": shown(root.name), "SYNC-input": up.form or up.name}
             return DerivedKey(calls.nh(root.value, up.value), f"NH {numbers[0]}", form, above, clause, given)
         if term.kind == "star":
-            return DerivedKey(calls.kenb_star(up.value, *numbers), "KeNB*", form, above, clause, {"PCI": str(numbers[0]), "EARFCN-DL": str(numbers[1])})
+            return DerivedKey(
+                calls.kenb_star(up.value, *numbers),
+                "KeNB*",
+                form,
+                above,
+                clause,
+                {"PCI": str(numbers[0]), "EARFCN-DL": str(numbers[1])},
+            )
         name = NAMES["alg"] if numbers[0] == NAS_INTEGRITY else "key of an algorithm"
         given = {"algorithm type": str(numbers[0]), "identity": str(numbers[1])}
         return DerivedKey(calls.algorithm_key(up.value, *numbers), name, form, above, clause, given)
@@ -141,6 +162,10 @@ def numbered(seen: Account) -> tuple[list[DerivedKey], list[Numbers]]:
     for place, message in enumerate(seen.messages):
         for value in message.values:
             key = keys.at(value.key, place, value.what)
-            wanted = key if value.verdict == RIGHT and value.wanted_key is None else keys.at(value.wanted_key, place, value.what)
+            wanted = (
+                key
+                if value.verdict == RIGHT and value.wanted_key is None
+                else keys.at(value.wanted_key, place, value.what)
+            )
             found.append(Numbers(key, wanted, keys.of_mac(value, place)))
     return keys.rows, found

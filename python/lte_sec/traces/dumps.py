@@ -1,7 +1,7 @@
 """Keys in a text: 64 or 32 hex digits, lists of octets, and hexdumps, as products write them into their logs.
 
-A hexdump has 8, 16 or 32 octets in a line, in groups of one, two, four or more, with an offset before them or not. Rows of 16 octets
-without offsets may be keys of 16 octets or halves of one of 32: both are tried.
+A hexdump has 8, 16 or 32 octets in a line, in groups of one, two, four or more, with an offset before them or not. Rows
+of 16 octets without offsets may be keys of 16 octets or halves of one of 32: both are tried.
 """
 from __future__ import annotations
 
@@ -21,7 +21,8 @@ HEX = 4  # octets from which on a run is called hex
 
 @dataclass(frozen=True)
 class OctetRow:
-    """A run of octets of a line; `offset` is the number before it in a hexdump, `label` whether a name stands before it."""
+    """A run of octets of a line; `offset` is the number before it in a hexdump, `label` whether a name stands before
+    it."""
 
     line: int
     value: bytes
@@ -45,8 +46,13 @@ def runs(text: str) -> Iterator[tuple[list[str], str]]:
     run: list[str] = []
     begin = end = 0
     for found in GROUP.finditer(text):
-        gap = text[end:found.start()]
-        joins = bool(run) and len(run[-1]) == len(found[1]) and bool(BETWEEN.fullmatch(gap)) and (gap not in MIDDLE or len(run) * len(run[0]) == HALF)
+        gap = text[end : found.start()]
+        joins = (
+            bool(run)
+            and len(run[-1]) == len(found[1])
+            and bool(BETWEEN.fullmatch(gap))
+            and (gap not in MIDDLE or len(run) * len(run[0]) == HALF)
+        )
         if not joins:
             if run:
                 yield run, text[:begin]
@@ -69,14 +75,18 @@ def row_of(run: list[str], before: str, line: int) -> OctetRow | None:
         return OctetRow(line, value, place, has_label)
     size = next((size for size in ROWS if len(value) >= size and size % width == 0), 0)
     whole = len(run) == 1 and len(value) != size
-    return OctetRow(line, value[len(value) - size:], place, has_label) if size and not whole else None
+    return OctetRow(line, value[len(value) - size :], place, has_label) if size and not whole else None
 
 
 def rows_of(lines: Iterable[str]) -> Iterator[list[OctetRow]]:
     """The rows of each line."""
     for number, text in enumerate(lines, 1):
         text = ESCAPE.sub(r" \1", text)
-        cut = text.rstrip("\n").split("|")[0] if re.search(r"\|[^|]*\|?\s*$", text.rstrip("\n")) and GROUP.search(text.split("|")[0]) else text.rstrip("\n")
+        cut = (
+            text.rstrip("\n").split("|")[0]
+            if re.search(r"\|[^|]*\|?\s*$", text.rstrip("\n")) and GROUP.search(text.split("|")[0])
+            else text.rstrip("\n")
+        )
         yield [row for run, before in runs(cut) if (row := row_of(run, before, number)) is not None]
 
 
@@ -102,7 +112,11 @@ def blocks(lines: Iterable[str]) -> list[OctetBlock]:
         open_rows = []
         for row in rows:
             size = KEY if len(row.value) % KEY == 0 else HALF
-            found += [OctetBlock((OctetRow(row.line, row.value[place:place + size], None, row.label),)) for place in range(0, len(row.value), size) if len(row.value) >= HALF]
+            found += [
+                OctetBlock((OctetRow(row.line, row.value[place : place + size], None, row.label),))
+                for place in range(0, len(row.value), size)
+                if len(row.value) >= HALF
+            ]
     return found + closed(open_rows)
 
 
@@ -110,7 +124,13 @@ def follows(last: OctetRow, row: OctetRow) -> bool:
     """Whether a row goes on with the dump of the row before it."""
     if row.line != last.line + 1 or len(row.value) != len(last.value) or row.label:
         return False
-    return row.offset is None and last.offset is None or row.offset is not None and last.offset is not None and row.offset == last.offset + len(last.value)
+    return (
+        row.offset is None
+        and last.offset is None
+        or row.offset is not None
+        and last.offset is not None
+        and row.offset == last.offset + len(last.value)
+    )
 
 
 def closed(rows: list[OctetRow]) -> list[OctetBlock]:
@@ -121,10 +141,17 @@ def closed(rows: list[OctetRow]) -> list[OctetBlock]:
     if size == HALF and rows[0].offset is None and len(rows) > 1:
         return [OctetBlock(tuple(rows))]
     if rows[0].offset is None and size < HALF and len(value) % KEY and len(value) % HALF == 0:
-        halves = [OctetRow(rows[place // size].line, value[place:place + HALF], None, False) for place in range(0, len(value), HALF)]
+        halves = [
+            OctetRow(rows[place // size].line, value[place : place + HALF], None, False)
+            for place in range(0, len(value), HALF)
+        ]
         return [OctetBlock(tuple(halves))]
     found = [(place, min(KEY, len(value) - place)) for place in range(0, len(value), KEY)]
-    return [OctetBlock((OctetRow(rows[place // size].line, value[place:place + length], None, False),)) for place, length in found if length in (KEY, HALF)]
+    return [
+        OctetBlock((OctetRow(rows[place // size].line, value[place : place + length], None, False),))
+        for place, length in found
+        if length in (KEY, HALF)
+    ]
 
 
 def candidates(block: OctetBlock) -> list[bytes]:
@@ -138,8 +165,13 @@ def resolved(block: OctetBlock, known: Callable[[bytes], bool]) -> Iterator[tupl
     """The keys of a block with their lines, once it is known which values are found."""
     rows, place = block.rows, 0
     while place < len(rows):
-        pair = b"".join(row.value for row in rows[place:place + 2])
-        behind = b"".join(row.value for row in rows[place + 1:place + 3])
-        alone = block.sure or place == len(rows) - 1 or not known(pair) and (known(rows[place].value) or len(behind) == KEY and known(behind))
+        pair = b"".join(row.value for row in rows[place : place + 2])
+        behind = b"".join(row.value for row in rows[place + 1 : place + 3])
+        alone = (
+            block.sure
+            or place == len(rows) - 1
+            or not known(pair)
+            and (known(rows[place].value) or len(behind) == KEY and known(behind))
+        )
         yield rows[place].line, rows[place].value if alone else pair
         place += 1 if alone else 2

@@ -1,4 +1,5 @@
-"""The cells that a log names, for `explain` where the user names none: a PCI and an EARFCN-DL, in one line or in different ones."""
+"""The cells that a log names, for `explain` where the user names none: a PCI and an EARFCN-DL, in one line or in
+different ones."""
 from __future__ import annotations
 
 import re
@@ -8,8 +9,16 @@ from ..captures.cells import Site, is_cell
 
 MOST = 16  # cells that are taken of a log
 IS = r"\s*(?:[=:]|is)?\s*[\"'<(]?(0x[0-9a-f]+|[0-9]+)\b"
-PCI = re.compile(r"(?<![a-z0-9])(?:n[ _-]?|target[ _-]?|source[ _-]?|dl[ _-]?)?(?:pci|n_id_cell|phys(?:ical)?[ _-]?cell[ _-]?id(?:entity)?)[\"']?" + IS, re.IGNORECASE)
-EARFCN = re.compile(r"(?<![a-z0-9])(?:target[ _-]?|source[ _-]?)?(?:(?:dl[ _-]?)?earfcn(?:[ _-]?dl)?|dl[ _-]?carrier[ _-]?freq)[\"']?" + IS, re.IGNORECASE)
+PCI = re.compile(
+    r"(?<![a-z0-9])(?:n[ _-]?|target[ _-]?|source[ _-]?|dl[ _-]?)?(?:pci|n_id_cell|phys(?:ical)?[ _-]?cell[ "
+    r"_-]?id(?:entity)?)[\"']?" + IS,
+    re.IGNORECASE,
+)
+EARFCN = re.compile(
+    r"(?<![a-z0-9])(?:target[ _-]?|source[ _-]?)?(?:(?:dl[ _-]?)?earfcn(?:[ _-]?dl)?|dl[ _-]?carrier[ _-]?freq)[\"']?"
+    + IS,
+    re.IGNORECASE,
+)
 
 
 def number(text: str) -> int:

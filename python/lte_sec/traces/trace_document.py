@@ -1,4 +1,5 @@
-"""What is found of a trace for machines: one document of JSON, and a copy of the capture with a comment at each frame."""
+"""What is found of a trace for machines: one document of JSON, and a copy of the capture with a comment at each
+frame."""
 from __future__ import annotations
 
 import json
@@ -32,12 +33,40 @@ def record(number: int, seen: Seen, value: Line, keys: Numbers) -> dict[str, obj
     """The fields of a value; `is` and `wanted` are derivations, of MACs and numbers the octets themselves."""
     nas = value.nas
     return {
-        "frame": seen.frame, "time": seen.time, "message": value.message, "what": value.what, "verdict": value.verdict.value,
-        "is": value.found, "wanted": value.wanted, "ncc": value.ncc, "wanted_ncc": value.wanted_ncc, "base": value.base, "kasme": value.kasme,
-        "count": value.count, "cell": list(value.cell) if value.cell else None, "plain": value.plain.hex() if value.plain is not None else None,
-        "reason": value.reason, "text": value.text, "number": number, "hex": value.hex, "wanted_hex": value.wanted_hex, "clause": value.clause or None,
-        "nas": None if nas is None else {"direction": "up" if nas.is_up else "down", "header": nas.header, "name": nas.name, "ksi": nas.ksi, "eea": nas.eea, "eia": nas.eia},
-        "key": keys.key, "wanted_key": keys.wanted, "mac_key": keys.chain, "warning": any(one.cause.severity is WARNING for one in value.said),
+        "frame": seen.frame,
+        "time": seen.time,
+        "message": value.message,
+        "what": value.what,
+        "verdict": value.verdict.value,
+        "is": value.found,
+        "wanted": value.wanted,
+        "ncc": value.ncc,
+        "wanted_ncc": value.wanted_ncc,
+        "base": value.base,
+        "kasme": value.kasme,
+        "count": value.count,
+        "cell": list(value.cell) if value.cell else None,
+        "plain": value.plain.hex() if value.plain is not None else None,
+        "reason": value.reason,
+        "text": value.text,
+        "number": number,
+        "hex": value.hex,
+        "wanted_hex": value.wanted_hex,
+        "clause": value.clause or None,
+        "nas": None
+        if nas is None
+        else {
+            "direction": "up" if nas.is_up else "down",
+            "header": nas.header,
+            "name": nas.name,
+            "ksi": nas.ksi,
+            "eea": nas.eea,
+            "eia": nas.eia,
+        },
+        "key": keys.key,
+        "wanted_key": keys.wanted,
+        "mac_key": keys.chain,
+        "warning": any(one.cause.severity is WARNING for one in value.said),
     }
 
 
@@ -45,16 +74,35 @@ def message(seen: Seen) -> dict[str, object]:
     """The fields of a message."""
     link = seen.link
     return {
-        "frame": seen.frame, "time": seen.time, "link": link.kind, "name": seen.kind, "source": seen.source.name, "target": seen.target.name,
-        "source_address": seen.source.address, "target_address": seen.target.address, "way": link.way,
-        "connection": seen.connection, "handover": seen.handover, "phone": seen.phone, "title": seen.title, "tmsi": seen.decoded.tmsi,
+        "frame": seen.frame,
+        "time": seen.time,
+        "link": link.kind,
+        "name": seen.kind,
+        "source": seen.source.name,
+        "target": seen.target.name,
+        "source_address": seen.source.address,
+        "target_address": seen.target.address,
+        "way": link.way,
+        "connection": seen.connection,
+        "handover": seen.handover,
+        "phone": seen.phone,
+        "title": seen.title,
+        "tmsi": seen.decoded.tmsi,
         "nas": len(seen.decoded.nas),
     }
 
 
 def derived(row: DerivedKey) -> dict[str, object]:
     """The fields of a key."""
-    return {"hex": row.value.hex(), "name": row.name, "form": row.form, "from": row.above, "by": row.by, "in": row.given, "at": row.at}
+    return {
+        "hex": row.value.hex(),
+        "name": row.name,
+        "form": row.form,
+        "from": row.above,
+        "by": row.by,
+        "in": row.given,
+        "at": row.at,
+    }
 
 
 def document(seen: Account, about: Mapping[str, object] | None = None) -> dict[str, object]:
@@ -64,8 +112,14 @@ def document(seen: Account, about: Mapping[str, object] | None = None) -> dict[s
     rows, numbers = numbered(seen)
     told = [record(places[id(one)], one, value, keys) for (one, value), keys in paired(seen.values(), numbers)]
     return {
-        "version": VERSION, "head": list(seen.head), "messages": [message(one) for one in seen.messages], "lines": told, "summary": counts(values), "status": status(values),
-        "keys": [derived(row) for row in rows], **(about or {}),
+        "version": VERSION,
+        "head": list(seen.head),
+        "messages": [message(one) for one in seen.messages],
+        "lines": told,
+        "summary": counts(values),
+        "status": status(values),
+        "keys": [derived(row) for row in rows],
+        **(about or {}),
     }
 
 
@@ -94,7 +148,7 @@ def annotate(capture: Path, file: Path, seen: Account) -> None:
         source = capture
         for turn, begin in enumerate(range(0, max(1, len(told)), AT_ONCE)):
             target = Path(room) / str(turn)
-            words = [word for frame, text in told[begin:begin + AT_ONCE] for word in ("-a", f"{frame}:{text}")]
+            words = [word for frame, text in told[begin : begin + AT_ONCE] for word in ("-a", f"{frame}:{text}")]
             edit([*words, "-F", "pcapng", str(source), str(target)], capture)
             source = target
         try:

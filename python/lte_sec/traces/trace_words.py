@@ -33,15 +33,27 @@ from .trace_document import annotate, document as trace_document, lines
 from .wireshark import document as table_document, rows
 
 USAGE = {
-    "check-trace": "check-trace [--plain] [--json] [--annotate FILE] [--html FILE] [--html-keys no] [--cells FILE] [--covers LINK].. [--not-covered LINK].. [--dlt NUMBER=PROTOCOL].. CAPTURE.. KASME..   judges each KeNB, KeNB* and NH, and each NAS message, of a capture",
-    "explain": "explain [--cells FILE] [--cell PCI,EARFCN].. [--counts N] [--depth N] [--keys FILE] [--far] [--json] KASME..   says which derivation each key of a text is",
-    "wireshark": "wireshark [--json] [--cells FILE] [--dlt NUMBER=PROTOCOL].. CAPTURE.. KASME..   prints the PDCP keys of a capture as Wireshark's table",
+    "check-trace": (
+        "check-trace [--plain] [--json] [--annotate FILE] [--html FILE] [--html-keys no] [--cells FILE] "
+        "[--covers LINK].. [--not-covered LINK].. [--dlt NUMBER=PROTOCOL].. CAPTURE.. KASME..   judges each "
+        "KeNB, KeNB* and NH, and each NAS message, of a capture"
+    ),
+    "explain": (
+        "explain [--cells FILE] [--cell PCI,EARFCN].. [--counts N] [--depth N] [--keys FILE] [--far] [--json] "
+        "KASME..   says which derivation each key of a text is"
+    ),
+    "wireshark": (
+        "wireshark [--json] [--cells FILE] [--dlt NUMBER=PROTOCOL].. CAPTURE.. KASME..   prints the PDCP keys of "
+        "a capture as Wireshark's table"
+    ),
     "vectors": "vectors [--wycheproof KIND] [--seed N] [--count N]   prints test vectors",
     "repeats": "repeats [--json] [FILE]   tells the first key, bearer, direction and COUNT that come twice",
 }
 BAD_WORDS, NOT_JUDGED = 2, 3
 MOST_NOTED = 5  # frames that are named
-RARELY = 200_000  # objects between two rounds of the collector: nothing here goes in circles, and it would look at all messages again and again
+# objects between two rounds of the collector: nothing here goes in circles, and it would look at all messages again and
+# again
+RARELY = 200_000
 LINKS = ("--covers", "--not-covered")  # what the user says of the links of a trace
 
 
@@ -87,7 +99,10 @@ def trace_of(files: list[Path], kasmes: list[str], cells: Callable[[], Cells], d
     messages = read_all(files, dlts)
     known = kasmes_of(kasmes)
     if not known and not any(message.kasmes for message in messages):
-        raise TraceError("the KASMEs of its phones are wanted, 64 hex digits each: the capture has no S6a and no GTPv2-C that tells one")
+        raise TraceError(
+            "the KASMEs of its phones are wanted, 64 hex digits each: the capture "
+            "has no S6a and no GTPv2-C that tells one"
+        )
     derivations = Derivations(proved_calls(), known)
     return check(derivations, cells(), decoded(messages, dlts, derivations), said=said)
 
@@ -141,12 +156,22 @@ def explain(words: list[str]) -> int:
     given = TraceWords.read("explain", words)
     if not given.kasmes or given.files:
         raise TraceError(f"a KASME is 64 hex digits: {given.files[0] if given.files else 'there is none'}")
-    cells, counts, depth = given.cells(), given.number("--counts", 300, (1 << 24) - 1), given.number("--depth", 16, 4096)
+    cells, counts, depth = (
+        given.cells(),
+        given.number("--counts", 300, (1 << 24) - 1),
+        given.number("--depth", 16, 4096),
+    )
     files = given.options["--keys"]
     text = [line for octets in (map(of_file, files) if files else [of_input()]) for line in lines_of(octets)]
     keys = blocks(text)
     if not keys:
-        why = f"hex and no key in it: a key has {2 * KEY} hex digits, or {2 * HALF}" if has_hex(text) else "no key" if any(map(str.strip, text)) else "nothing in it"
+        why = (
+            f"hex and no key in it: a key has {2 * KEY} hex digits, or {2 * HALF}"
+            if has_hex(text)
+            else "no key"
+            if any(map(str.strip, text))
+            else "nothing in it"
+        )
         print(f"lte_sec: the text has {why}", file=sys.stderr)
         return NOT_JUDGED
     derivations = Derivations(proved_calls(), kasmes_of(given.kasmes))
@@ -162,9 +187,18 @@ def explain(words: list[str]) -> int:
             print(told(derivations, one))
     if not explanation.fits:
         whose = "this KASME" if len(derivations.kasmes) == 1 else f"any of these {len(derivations.kasmes)} KASMEs"
-        print(f"lte_sec: no key of the text fits {whose}; --far goes on, among the algorithm keys of all KeNB*s", file=sys.stderr)
+        print(
+            f"lte_sec: no key of the text fits {whose}; --far goes on, among the algorithm keys of all KeNB*s",
+            file=sys.stderr,
+        )
     if logged:
-        print(f"lte_sec: no cell is given; those of the text are tried: {' '.join(f'{site.pci},{site.earfcn}' for site in logged)}", file=sys.stderr)
+        print(
+            (
+                "lte_sec: no cell is given; those of the text are tried: "
+                f"{' '.join(f'{site.pci},{site.earfcn}' for site in logged)}"
+            ),
+            file=sys.stderr,
+        )
     elif not cells.sites and not all(one.key for one in found):
         print("lte_sec: no cell is given, and a KeNB* needs one: --cell PCI,EARFCN", file=sys.stderr)
     return 0 if all(one.is_right for one in found) else 1
@@ -188,7 +222,11 @@ def repeats(words: list[str]) -> int:
         raise TraceError("repeats takes one file of uses, or none to read standard input")
     try:
         with contextlib.ExitStack() as left:
-            text: IO[str] = left.enter_context(given.files[0].open(encoding="utf-8", errors="replace")) if given.files else sys.stdin
+            text: IO[str] = (
+                left.enter_context(given.files[0].open(encoding="utf-8", errors="replace"))
+                if given.files
+                else sys.stdin
+            )
             found = first_repeat(bounded(text))
     except OSError as fault:
         raise TraceError(f"{given.files[0]} cannot be read: {fault.strerror}") from None
@@ -211,7 +249,13 @@ def vectors(words: list[str]) -> int:
     return 0
 
 
-COMMANDS: dict[str, Callable[[list[str]], int]] = {"check-trace": check_trace, "explain": explain, "wireshark": wireshark, "repeats": repeats, "vectors": vectors}
+COMMANDS: dict[str, Callable[[list[str]], int]] = {
+    "check-trace": check_trace,
+    "explain": explain,
+    "wireshark": wireshark,
+    "repeats": repeats,
+    "vectors": vectors,
+}
 
 
 def main(words: list[str]) -> int:

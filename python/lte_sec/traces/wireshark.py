@@ -1,4 +1,5 @@
-"""The keys of a trace as Wireshark's table `pdcp_lte_ue_keys`: UE id, RRC encryption, user plane encryption, RRC integrity."""
+"""The keys of a trace as Wireshark's table `pdcp_lte_ue_keys`: UE id, RRC encryption, user plane encryption, RRC
+integrity."""
 from __future__ import annotations
 
 from collections.abc import Iterator
@@ -31,7 +32,10 @@ class TableRow:
 
     def __str__(self) -> str:
         names = f"EEA{self.eea} and EIA{self.eia}{'' if self.are_told else ', which the trace does not tell'}"
-        remark = f"# UE id {self.ueid}: connection {self.connection}, from frame {self.frame} on at {self.station}: {self.form}; {names}"
+        remark = (
+            f"# UE id {self.ueid}: connection {self.connection}, from frame {self.frame} on at {self.station}: "
+            f"{self.form}; {names}"
+        )
         return f'{remark}\n"{self.ueid}","{self.rrc_encryption}","{self.up_encryption}","{self.rrc_integrity}"'
 
 

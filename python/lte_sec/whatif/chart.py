@@ -1,4 +1,5 @@
-"""The steps of a run as a chart has them: who did what, what came from whom, which key came of it. SVG and pages are drawn of this.
+"""The steps of a run as a chart has them: who did what, what came from whom, which key came of it. SVG and pages are
+drawn of this.
 
 A report does not say what a record is, so a message has its name by what made its sender send it.
 """
@@ -18,9 +19,18 @@ from .probe import PROBE
 
 COMMENT = re.compile(r"#\s*([^.:\n]+)")
 DOES = {
-    "smc": "starts NAS security", "connect": "sets up a connection", "release": "releases the connection", "service": "asks for service",
-    "resend": "sends its Complete again", "idle": "leaves the connection", "x2": "opens a handover over X2", "s1": "opens a handover over S1",
-    "intra": "opens a handover within itself", "command": "commands it", "cancel": "cancels it", "ask": "asks again for the path switch",
+    "smc": "starts NAS security",
+    "connect": "sets up a connection",
+    "release": "releases the connection",
+    "service": "asks for service",
+    "resend": "sends its Complete again",
+    "idle": "leaves the connection",
+    "x2": "opens a handover over X2",
+    "s1": "opens a handover over S1",
+    "intra": "opens a handover within itself",
+    "command": "commands it",
+    "cancel": "cancels it",
+    "ask": "asks again for the path switch",
 }
 SENDS = {"user": "a user packet", "rrc": "an RRC text", "nas": "a NAS text"}
 LONGEST, SHOWN = 16, 8  # a text of more octets is shortened to so many
@@ -105,7 +115,9 @@ def said(event: Step, with_text: bool = True) -> str:
     if do == "nas" and nas_name(event["text"]) != NAS_TEXT:
         return f"sends {nas_name(event['text'])}"
     if do in SENDS:
-        return f"sends {octets(event['text']) if with_text else SENDS[do]}" + (f" on {event['bearer']}" if do != "nas" else " on NAS")
+        return f"sends {octets(event['text']) if with_text else SENDS[do]}" + (
+            f" on {event['bearer']}" if do != "nas" else " on NAS"
+        )
     if do == "skip":
         return f"skips {event['n']} COUNTs on {event['bearer']}"
     where = f" to PCI {event['cell'][0]}" if "cell" in event and do != "intra" else ""
@@ -115,7 +127,11 @@ def said(event: Step, with_text: bool = True) -> str:
 def lanes_of(setup: Mapping[str, Any], steps: Iterable[Charted]) -> list[str]:
     """The actors: the phone, the stations, and the cores that the steps have."""
     cores = sorted({step.line.who for step in steps if step.line.who.startswith("core")}) or ["core"]
-    return ["phone", *(f"station {station['id']}" for station in sorted(setup["station"], key=lambda one: int(one["id"]))), *cores]
+    return [
+        "phone",
+        *(f"station {station['id']}" for station in sorted(setup["station"], key=lambda one: int(one["id"]))),
+        *cores,
+    ]
 
 
 def brings(step: Charted) -> str:
@@ -133,11 +149,25 @@ def stage(step: Charted, lanes: list[str], key_name: Callable[[str], str], is_lo
     own = lanes.index(line.who) if line.who in lanes else 0
     key = f"{key_name(line.note.key)}, NCC {line.note.ncc}, {line.note.way}" if line.note else ""
     answer = line.answer if line.answer != "done" else ""
-    words = [answer, "opens" if line.text is not None else "", key, f"{step.sent.name} is not delivered" if step.sent and is_lost else ""]
+    words = [
+        answer,
+        "opens" if line.text is not None else "",
+        key,
+        f"{step.sent.name} is not delivered" if step.sent and is_lost else "",
+    ]
     fields = {
-        "a": lanes.index(step.came.sender) if step.came else own, "b": own if step.came else None, "and": len(lanes) - 1 if both else None,
-        "m": brings(step), "s": ", ".join(filter(None, words)), "answer": answer, "opens": line.text, "plain": step.event.get("text"),
-        "ncc": line.note.ncc if line.note else None, "way": line.note.way if line.note else None, "sends": step.sent.name if step.sent else None, "lost": is_lost or None,
+        "a": lanes.index(step.came.sender) if step.came else own,
+        "b": own if step.came else None,
+        "and": len(lanes) - 1 if both else None,
+        "m": brings(step),
+        "s": ", ".join(filter(None, words)),
+        "answer": answer,
+        "opens": line.text,
+        "plain": step.event.get("text"),
+        "ncc": line.note.ncc if line.note else None,
+        "way": line.note.way if line.note else None,
+        "sends": step.sent.name if step.sent else None,
+        "lost": is_lost or None,
     }
     return {name: value for name, value in fields.items() if value not in (None, "")}
 
@@ -149,6 +179,7 @@ def name_of(text: str, usual: str) -> str:
 
 
 # The run of a variant beside that of the scenario
+
 
 @dataclass
 class Chart:
@@ -193,7 +224,8 @@ class Charts:
         return Chart(name, self.lanes, self.base)
 
     def run(self, course: Course) -> tuple[list[Any], list[str]]:
-        """The run of a variant: ranges of steps that are as in the scenario, and the others; and the names of what falls away."""
+        """The run of a variant: ranges of steps that are as in the scenario, and the others; and the names of what
+        falls away."""
         found: list[Any] = []
         names = [item.name for item in course.items]
         for name, row in zip(names, self.rows(course)):
@@ -205,7 +237,9 @@ class Charts:
                     found.append([place, place])
             else:
                 before = self.base[place] if place is not None else {}
-                found.append({**row, "v": "bad" if row.get("answer") and row.get("answer") != before.get("answer") else "unk"})
+                found.append(
+                    {**row, "v": "bad" if row.get("answer") and row.get("answer") != before.get("answer") else "unk"}
+                )
         there = set(names)
         return found, [name for name in self.places if name not in there and not name.startswith(PROBE)]
 

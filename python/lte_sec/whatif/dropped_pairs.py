@@ -1,7 +1,8 @@
 """Pairs of NH and NCC that a handover within a station drops here and not in the standard: with what follows from that.
 
-A context that a handover within a station begins has no pair and no outstanding request here. By TS 33.401 7.2.8.4.1 and 7.2.8.4.2 a
-pair that comes meanwhile or behind it is stored, and the next handover from there is vertical (docs/MACHINE.md, what the standard has otherwise).
+A context that a handover within a station begins has no pair and no outstanding request here. By TS 33.401 7.2.8.4.1
+and 7.2.8.4.2 a pair that comes meanwhile or behind it is stored, and the next handover from there is vertical
+(docs/MACHINE.md, what the standard has otherwise).
 """
 from __future__ import annotations
 
@@ -15,7 +16,12 @@ from ..runs.kenb_changes import Report
 
 ANSWER, REQUEST, COMPLETE = "Path Switch Request Acknowledge", "Path Switch Request", "RRC Reconfiguration Complete"
 # What begins another context or chain at a station, or ends the one that it has.
-ANEW = ("Initial Context Setup Request", "UE Context Modification Request", "X2 UE Context Release", "UE Context Release Command")
+ANEW = (
+    "Initial Context Setup Request",
+    "UE Context Modification Request",
+    "X2 UE Context Release",
+    "UE Context Release Command",
+)
 NUMBERS = 8  # of NCCs: a phone finds an NH that is fewer steps ahead
 
 
@@ -99,12 +105,18 @@ class Dropped:
             self.contexts[line.who] = StandardContext()
 
     def brings(self, told: Told, report: Report) -> bool:
-        """Whether phone and target would have one key in the standard, where they have different ones here: the target's NH is ahead of that
-        which the phone would have, and by fewer steps than there are NCCs."""
+        """Whether phone and target would have one key in the standard, where they have different ones here: the
+        target's NH is ahead of that which the phone would have, and by fewer steps than there are NCCs."""
         stands = None
         for step in report.steps[: told.last]:
             if step.who == "phone" and step.way:
                 pair = self.instead.get(step.key)
-                stands = report.rows[pair] if pair else report.row(step) if stands is None or step.way != "horizontal" else stands
+                stands = (
+                    report.rows[pair]
+                    if pair
+                    else report.row(step)
+                    if stands is None or step.way != "horizontal"
+                    else stands
+                )
         theirs = report.row(report.steps[told.first])
         return stands is not None and theirs.first == stands.first and 0 < theirs.chain - stands.chain < NUMBERS

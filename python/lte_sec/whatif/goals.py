@@ -1,7 +1,7 @@
 """What-if by goal: the smallest sets of faults that have an outcome.
 
-`lte_variants` lists each choice of so many faults once, in its order. So where it lists none of a size with the outcome, no set of that size has it: of
-these messages and these kinds, with the faults put in by their order.
+`lte_variants` lists each choice of so many faults once, in its order. So where it lists none of a size with the
+outcome, no set of that size has it: of these messages and these kinds, with the faults put in by their order.
 """
 from __future__ import annotations
 
@@ -23,7 +23,8 @@ MOST_FAULTS, USUAL_FAULTS, MANY, LONG = 8, 3, 1_000_000, 100_000
 
 
 class Goal(NamedTuple):
-    """An outcome, of how many faults a set has at most, and whether more than a million sets of a size are tried, too."""
+    """An outcome, of how many faults a set has at most, and whether more than a million sets of a size are tried,
+    too."""
 
     outcome: str
     up_to: int
@@ -56,7 +57,8 @@ class Search(Gathering):
         return sum(self.answer.counts.get(1, Counter()).values())
 
     def is_long(self, faults: int) -> bool:
-        """Whether sets of this size are not tried: there are more than are tried unasked, or the program takes so many faults of named messages alone."""
+        """Whether sets of this size are not tried: there are more than are tried unasked, or the program takes so many
+        faults of named messages alone."""
         choices = comb(self.alone(), faults)
         is_wide = faults > FEW_FAULTS and not self.lists.is_narrow
         self.choices = choices if choices and is_wide or choices > MANY and not self.goal.goes_on else 0
@@ -68,7 +70,10 @@ class Search(Gathering):
         counts = self.answer.counts.setdefault(faults, Counter())
         choices, began = comb(self.alone(), faults), time.monotonic()
         if choices > LONG:
-            print(f"lte_sec: up to {choices:,} sets of {faults} faults, which take about {lasting(choices * self.each)}", file=sys.stderr)
+            print(
+                f"lte_sec: up to {choices:,} sets of {faults} faults, which take about {lasting(choices * self.each)}",
+                file=sys.stderr,
+            )
         rate = Rate(f"sets of {faults} faults", choices)
         for variant in self.listed(faults, None):
             counts[variant.outcomes[0]] += 1
@@ -83,16 +88,25 @@ class Search(Gathering):
     def told(self) -> dict[str, Any]:
         sets = [*self.answer.singles, *self.answer.together]
         return {
-            "is": self.goal.outcome, "up_to": self.goal.up_to, "searched": self.searched, "smallest": len(sets[0].faults) if sets else None,
-            "faults": self.alone(), "too_many": self.choices or None,
+            "is": self.goal.outcome,
+            "up_to": self.goal.up_to,
+            "searched": self.searched,
+            "smallest": len(sets[0].faults) if sets else None,
+            "faults": self.alone(),
+            "too_many": self.choices or None,
         }
 
     def warning(self) -> str:
-        """What is said where sets of a size were not tried: how many, and how long they take, or of how many messages they are taken."""
+        """What is said where sets of a size were not tried: how many, and how long they take, or of how many messages
+        they are taken."""
         if self.searched >= FEW_FAULTS and not self.lists.is_narrow:
-            return f"sets of more than {FEW_FAULTS} faults are tried of {MOST_NAMED} messages at most; name them with --messages, or --up-to {FEW_FAULTS} leaves the sets out"
+            return (
+                f"sets of more than {FEW_FAULTS} faults are tried of {MOST_NAMED} messages at most; name them "
+                f"with --messages, or --up-to {FEW_FAULTS} leaves the sets out"
+            )
         return (
-            f"sets of {self.searched + 1} faults are some {self.choices:,}, which take about {lasting(self.choices * self.each)} at the rate so far; --yes tries them, "
+            f"sets of {self.searched + 1} faults are some {self.choices:,}, which take about "
+            f"{lasting(self.choices * self.each)} at the rate so far; --yes tries them, "
             f"--messages and --kinds leave fewer, and --up-to {self.searched or 1} leaves them out"
         )
 
@@ -116,15 +130,27 @@ def table(answer: Answer) -> Iterator[str]:
         yield f"here: a limit of this profile and not of LTE, see {LINK}"
     kinds, number = ", ".join(answer.tried["kinds"]), len(answer.messages)
     counts = ", ".join(f"{sum(counts.values()):,} of {faults}" for faults, counts in sorted(answer.counts.items()))
-    yield f"searched: faults ({kinds}) of {number} message{'' if number == 1 else 's'}, put in by their order: {counts or 'nothing'}"
+    yield (
+        f"searched: faults ({kinds}) of {number} message{'' if number == 1 else 's'}, put in by their order: "
+        f"{counts or 'nothing'}"
+    )
 
 
 def found(sets: int, faults: int) -> str:
     if faults == 1:
         return f"{sets:,} fault{' has' if sets == 1 else 's have'} it alone"
-    return f"{sets:,} set{'' if sets == 1 else 's'} of {faults} faults {'has' if sets == 1 else 'have'} it, and none of fewer"
+    return (
+        f"{sets:,} set{'' if sets == 1 else 's'} of {faults} faults {'has' if sets == 1 else 'have'} it, and "
+        "none of fewer"
+    )
 
 
 def none(searched: int, whole: bool) -> str:
     so_far = "" if whole else ", and sets of more were not all tried"
-    return ("no fault was tried" if not searched else "no fault has it" if searched == 1 else f"no set of up to {searched} faults has it") + so_far
+    return (
+        "no fault was tried"
+        if not searched
+        else "no fault has it"
+        if searched == 1
+        else f"no set of up to {searched} faults has it"
+    ) + so_far

@@ -1,5 +1,6 @@
-"""What leads phone and station back to one key behind a variant, as the program `lte_variants` tells it: a reconnection of seven events, or
-an authentication and a reconnection, eleven. Where neither does, its reason is the first refusal among these eleven, by a run of its own."""
+"""What leads phone and station back to one key behind a variant, as the program `lte_variants` tells it: a reconnection
+of seven events, or an authentication and a reconnection, eleven. Where neither does, its reason is the first refusal
+among these eleven, by a run of its own."""
 from __future__ import annotations
 
 from dataclasses import dataclass

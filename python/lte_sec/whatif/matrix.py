@@ -1,5 +1,5 @@
-"""An answer of `what-if` as a picture: messages by faults, and in each cell a box for each place, with colour and letter of its worst
-outcome."""
+"""An answer of `what-if` as a picture: messages by faults, and in each cell a box for each place, with colour and
+letter of its worst outcome."""
 from __future__ import annotations
 
 from typing import NamedTuple
@@ -26,7 +26,9 @@ LOOKS = {
     "goes on": Look("~", "#dde3ea", "A line differs, and nothing worse comes of it."),
     "context left": Look("c", "#d9e8c4", "A station that does not serve the phone still has its context."),
     "packet lost": Look("p", "#f3f0b5", "A text that arrives in the scenario does not arrive here."),
-    "weaker key": Look("w", "#ffe08a", "A key is horizontal that is vertical in the scenario, or more stations can derive it."),
+    "weaker key": Look(
+        "w", "#ffe08a", "A key is horizontal that is vertical in the scenario, or more stations can derive it."
+    ),
     "not made": Look("m", "#ffc98a", "The phone does not come by a key that it has in the scenario."),
     "no handover": Look("h", "#f9b27c", "The next handover or its path switch fails."),
     "misrouted": Look("r", "#e3d9f7", "The core has the phone at another station than the one that serves it."),
@@ -48,7 +50,16 @@ def draw(answer: Answer) -> str:
     for variant in answer.singles:
         cells.setdefault((variant.faults[0].item, variant.faults[0].kind), []).append(variant)
     picture.text(LEFT, 26, "What if a message is lost, late, or comes twice?", 16, weight="bold")
-    picture.text(LEFT, 45, "A box is a variant of the scenario, with its worst outcome; the boxes of late and twice are places, the earliest first.", 11, colour="#52606d")
+    picture.text(
+        LEFT,
+        45,
+        (
+            "A box is a variant of the scenario, with its worst outcome; the boxes of late and twice are places, the "
+            "earliest first."
+        ),
+        11,
+        colour="#52606d",
+    )
     place = 32 if not answer.frames else 12 + 7 * max(len(named(step, answer.frames)) for step in answer.messages)
     column = LEFT + place + 8 + 7 * max([len("message"), *map(len, answer.messages.values())])
     for kind in kinds:
@@ -68,7 +79,14 @@ def draw(answer: Answer) -> str:
 def box(picture: Picture, x: float, y: float, word: str) -> None:
     look = LOOKS[word]
     picture.box(x, y, BOX - 1, BOX, look.colour, "#ffffff")
-    picture.text(x + 4, y + 12, look.letter, 10.5, MONO, "#ffffff" if word in ("stuck", "keys differ", "coincidence") else "#1f2933")
+    picture.text(
+        x + 4,
+        y + 12,
+        look.letter,
+        10.5,
+        MONO,
+        "#ffffff" if word in ("stuck", "keys differ", "coincidence") else "#1f2933",
+    )
 
 
 def legend(picture: Picture, answer: Answer, y: float) -> None:

@@ -16,6 +16,9 @@ def steps_of(wanted: str, messages: Mapping[str, str], packets: bool) -> tuple[s
         these = [step for step, name in there.items() if word.strip().lower() in (step, name.lower())]
         if not these:
             names = ", ".join(sorted(set(there.values()))) or "none"
-            raise WrongWords(f"--messages takes names or steps of messages, with commas between, and not '{word}'; there are: {names}")
+            raise WrongWords(
+                "--messages takes names or steps of messages, with commas between, "
+                f"and not '{word}'; there are: {names}"
+            )
         found.update(these)
     return tuple(step for step in there if step in found)

@@ -1,4 +1,5 @@
-"""What becomes of phone, stations and core in a variant: compared with the scenario itself. docs/WHATIF.md defines each word."""
+"""What becomes of phone, stations and core in a variant: compared with the scenario itself. docs/WHATIF.md defines each
+word."""
 from __future__ import annotations
 
 from collections.abc import Iterator
@@ -27,7 +28,8 @@ NOT_TOLD = "at which handover the report does not tell"
 
 @dataclass(frozen=True)
 class Part:
-    """A part of what an outcome is about: in words, the step that it is of, the refusal that brought it, and whether the standard has it otherwise."""
+    """A part of what an outcome is about: in words, the step that it is of, the refusal that brought it, and whether
+    the standard has it otherwise."""
 
     what: str = ""
     step: str = ""
@@ -37,8 +39,10 @@ class Part:
 
 @dataclass(frozen=True)
 class About:
-    """What an outcome is about: its text, the refusal that brought it, whether the standard has all of it otherwise, and whether it is not there if each
-    security procedure of the core waits for the one before. One that was read from an answer has its limit, as that tells it."""
+    """What an outcome is about: its text, the refusal that brought it, whether the standard has all of it otherwise,
+    and whether it is not there if each security procedure of the core waits for the one before. One that was read from
+    an answer has its limit, as that tells it.
+    """
 
     text: str = ""
     answer: str = field(default="", compare=False)
@@ -56,8 +60,16 @@ class About:
         steps: dict[tuple[str, bool], list[str]] = {}
         for part in parts:
             steps.setdefault((part.what, part.is_here), []).append(part.step)
-        told = [" ".join([*([what] if what else []), *([f"of step {' and '.join(found)}"] if found[0] else [])]) + " (here)" * is_here for (what, is_here), found in steps.items()]
-        return cls(", ".join(told), next((part.answer for part in parts if part.answer), ""), bool(parts) and all(part.is_here for part in parts))
+        told = [
+            " ".join([*([what] if what else []), *([f"of step {' and '.join(found)}"] if found[0] else [])])
+            + " (here)" * is_here
+            for (what, is_here), found in steps.items()
+        ]
+        return cls(
+            ", ".join(told),
+            next((part.answer for part in parts if part.answer), ""),
+            bool(parts) and all(part.is_here for part in parts),
+        )
 
     def waiting(self) -> About:
         """The same, not there where each procedure waits."""
@@ -93,7 +105,8 @@ class Standing:
         return {station: self.lines[named(f"down {station}")].answer for station in self.scenario.stations}
 
     def core_view(self) -> int | None:
-        """The station at which the core has the phone: that of the last connection, Path Switch Request or Handover Notify."""
+        """The station at which the core has the phone: that of the last connection, Path Switch Request or Handover
+        Notify."""
         view: int | None = None
         names, sent = Names(), dict[str, str]()
         for item in self.course.items:
@@ -125,8 +138,8 @@ class Standing:
         return key
 
     def reach(self, by_standard: bool = False) -> set[str]:
-        """The stations that can derive the phone's key: that held it, or a key above it from which steps of KeNB* lead to it. By the standard
-        such steps end at a handover that is vertical there."""
+        """The stations that can derive the phone's key: that held it, or a key above it from which steps of KeNB* lead
+        to it. By the standard such steps end at a handover that is vertical there."""
         found: set[str] = set()
         key = self.phone_key()
         number = self.by_key.get(key) if key else None
@@ -137,7 +150,8 @@ class Standing:
         return found
 
     def station_of(self, key: str, item: Item) -> int | None:
-        """The station for which the phone has this key, by which it came at this item: that of its cell, or that which set up security."""
+        """The station for which the phone has this key, by which it came at this item: that of its cell, or that which
+        set up security."""
         row = self.rows[self.by_key[key]]
         if row.word == "star":
             return self.scenario.cells.get((row.values[1], row.values[2]))
@@ -150,16 +164,24 @@ class Standing:
             line = self.lines[item.name]
             if line.who == "phone" and line.note and not item.name.startswith(probe.PROBE):
                 is_star = self.rows[self.by_key[line.note.key]].word == "star"
-                found[item.name] = "connection" if not is_star else "key change" if line.note.way == "initial" else "handover"
+                found[item.name] = (
+                    "connection" if not is_star else "key change" if line.note.way == "initial" else "handover"
+                )
         return found
 
 
 def different(course: Course, dropped: Dropped) -> dict[str, tuple[str, bool]]:
-    """What `verdict` says of keys that differ, by the item at which the phone takes its key: at handovers and key changes, and at a connection; and of
-    each whether they differ in the standard, too."""
+    """What `verdict` says of keys that differ, by the item at which the phone takes its key: at handovers and key
+    changes, and at a connection; and of each whether they differ in the standard, too."""
     told, names = read(course.report), list(course.lines)
-    found = {names[item.last]: (str(item), not dropped.brings(item, told)) for item in items(told) if item.outcome is Outcome.DIFFER}
-    return found | ({"": ("phone and station have different keys of a connection", True)} if connected(told) is False else {})
+    found = {
+        names[item.last]: (str(item), not dropped.brings(item, told))
+        for item in items(told)
+        if item.outcome is Outcome.DIFFER
+    }
+    return found | (
+        {"": ("phone and station have different keys of a connection", True)} if connected(told) is False else {}
+    )
 
 
 def signature(line: StepLine | None) -> tuple[str, str, str | None, str | None] | None:
@@ -187,7 +209,9 @@ class Comparison:
     def differs(self) -> bool:
         names = {*self.usual.lines, *self.here.lines}
         return any(
-            signature(self.usual.lines.get(name)) != signature(self.here.lines.get(name)) for name in names if name.rstrip("+") not in self.own
+            signature(self.usual.lines.get(name)) != signature(self.here.lines.get(name))
+            for name in names
+            if name.rstrip("+") not in self.own
         )
 
     def worse(self) -> Iterator[tuple[str, Part]]:
@@ -200,8 +224,12 @@ class Comparison:
             yield "no handover", said(here, refused[0])
         if here.passes and here.view != here.serving and usual.view == usual.serving:
             yield "misrouted", Part(f"the core has {at(here.view)}, the phone station {here.serving}")
-        if any(before and not now for before, now in paired(usual.nas, here.nas)) or (usual.again and here.again is not True):
-            for name, before, now in zip(("no NAS text up", "no NAS text down", "no service"), [*usual.nas, usual.again], [*here.nas, here.again]):
+        if any(before and not now for before, now in paired(usual.nas, here.nas)) or (
+            usual.again and here.again is not True
+        ):
+            for name, before, now in zip(
+                ("no NAS text up", "no NAS text down", "no service"), [*usual.nas, usual.again], [*here.nas, here.again]
+            ):
                 if before and not now:
                     yield "NAS apart", Part(name)
         new = [told for name, told in here.different.items() if name not in usual.different]
@@ -213,7 +241,14 @@ class Comparison:
         usual, here = self.usual, self.here
         if here.passes and not usual.passes:
             yield "better", Part()
-        lost = [name for name, line in usual.lines.items() if line.text is not None and name not in self.own and not name.startswith(probe.PROBE) and self.text(name) != line.text]
+        lost = [
+            name
+            for name, line in usual.lines.items()
+            if line.text is not None
+            and name not in self.own
+            and not name.startswith(probe.PROBE)
+            and self.text(name) != line.text
+        ]
         for name in lost:
             yield "packet lost", Part(step=name)
         if not usual.passes or here.passes:
@@ -221,7 +256,9 @@ class Comparison:
         if here.up is None or here.down is None:
             yield "COUNTs apart", Part("up" if here.up is None else "down")
         if here.up is False or here.down is False:
-            yield ("cut off" if here.again is True else "stuck"), said(here, "up", "up arrives", f"down {here.serving}", f"down {here.serving} arrives")
+            yield ("cut off" if here.again is True else "stuck"), said(
+                here, "up", "up arrives", f"down {here.serving}", f"down {here.serving} arrives"
+            )
 
     def text(self, name: str) -> str | None:
         line = self.here.lines.get(name)
@@ -237,7 +274,13 @@ class Comparison:
         usual, here = self.usual, self.here
         for name, line in usual.lines.items():
             now = here.lines.get(name)
-            if line.note and now and now.note and (line.note.way, now.note.way) == ("vertical", "horizontal") and line.who == "phone":
+            if (
+                line.note
+                and now
+                and now.note
+                and (line.note.way, now.note.way) == ("vertical", "horizontal")
+                and line.who == "phone"
+            ):
                 at = "horizontal at the next handover" if name.startswith(probe.PROBE) else f"horizontal at step {name}"
                 yield "weaker key", Part(at, is_here=now.note.key in here.dropped.instead)
         reach = here.reach()
@@ -272,10 +315,12 @@ class HasOutcomes(Protocol):
     """A variant with its outcomes."""
 
     @property
-    def faults(self) -> tuple[Fault, ...]: ...
+    def faults(self) -> tuple[Fault, ...]:
+        ...
 
     @property
-    def outcomes(self) -> dict[str, About]: ...
+    def outcomes(self) -> dict[str, About]:
+        ...
 
 
 def limit(variant: HasOutcomes, word: str, messages: dict[str, str]) -> str | None:
@@ -286,15 +331,25 @@ def limit(variant: HasOutcomes, word: str, messages: dict[str, str]) -> str | No
     if word == "cut off":
         if about.answer == "NotConnected":
             return "a phone asks again at its timer"
-        return "the station has no context, so that a phone goes idle and asks for service" if about.answer == "NoUe" else "a phone re-establishes"
+        return (
+            "the station has no context, so that a phone goes idle and asks for service"
+            if about.answer == "NoUe"
+            else "a phone re-establishes"
+        )
     if word == "misrouted":
-        late = any(fault.kind in ("late", "twice") and messages[fault.item] == "Handover Notify" for fault in variant.faults)
+        late = any(
+            fault.kind in ("late", "twice") and messages[fault.item] == "Handover Notify" for fault in variant.faults
+        )
         return "this core takes any Handover Notify of its connection" if late else None
     if word in ("weaker key", "keys differ"):
         return "a station keeps its pair at a handover within it" if about.is_here else None
-    if word == "context left" and any(fault.kind == "lost" and messages[fault.item] == "Path Switch Request" for fault in variant.faults):
+    if word == "context left" and any(
+        fault.kind == "lost" and messages[fault.item] == "Path Switch Request" for fault in variant.faults
+    ):
         return "a core does not know the new station, and answers a handover over S1 from it with Error Indication"
-    if word in ("stuck", "NAS apart") and any(fault.kind == "lost" and messages[fault.item].startswith("NAS Security Mode") for fault in variant.faults):
+    if word in ("stuck", "NAS apart") and any(
+        fault.kind == "lost" and messages[fault.item].startswith("NAS Security Mode") for fault in variant.faults
+    ):
         return "the core sends its command again at T3460"
     if word == "no handover" and about.answer == "AttemptOpen":
         return "a timer of the source ends the attempt"

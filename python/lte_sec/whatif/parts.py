@@ -1,4 +1,5 @@
-"""The parts of one answer of `what-if` as files: what they have, and what is wrong with them, by the names of the files."""
+"""The parts of one answer of `what-if` as files: what they have, and what is wrong with them, by the names of the
+files."""
 from __future__ import annotations
 
 import json
@@ -54,7 +55,8 @@ def part_of(file: Path) -> Answer | str:
 
 
 def merged_of(files: list[Path]) -> Answer:
-    """The whole of which these files have the parts. What is wrong is told of each file, and which parts are missing."""
+    """The whole of which these files have the parts. What is wrong is told of each file, and which parts are
+    missing."""
     read = [(file, part_of(file)) for file in files]
     parts = [(file, part) for file, part in read if isinstance(part, Answer)]
     wrong = [f"{file} {part}" for file, part in read if isinstance(part, str)]
@@ -65,7 +67,9 @@ def merged_of(files: list[Path]) -> Answer:
         parts = [(file, part) for file, part in parts if file not in others]
         wrong += missing(parts)
     if wrong:
-        raise NoParts("; ".join(wrong[:MOST_NAMED]) + (f"; and {len(wrong) - MOST_NAMED} more" if len(wrong) > MOST_NAMED else ""))
+        raise NoParts(
+            "; ".join(wrong[:MOST_NAMED]) + (f"; and {len(wrong) - MOST_NAMED} more" if len(wrong) > MOST_NAMED else "")
+        )
     return merged([part for _, part in parts])
 
 
@@ -82,4 +86,6 @@ def missing(parts: list[tuple[Path, Answer]]) -> list[str]:
         else:
             have[each] = file
     gone = [f"{each}/{number}" for each in range(1, number + 1) if each not in have]
-    return wrong + ([f"missing: {', '.join(gone[:MOST_NAMED])}{' and more' if len(gone) > MOST_NAMED else ''}"] if gone else [])
+    return wrong + (
+        [f"missing: {', '.join(gone[:MOST_NAMED])}{' and more' if len(gone) > MOST_NAMED else ''}"] if gone else []
+    )

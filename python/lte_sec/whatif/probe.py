@@ -1,11 +1,11 @@
 """What is tried behind each variant: to see what became of phone, stations and core.
 
-In this order: a packet up, a packet down from each station, a NAS text up and one down; the serving station cancels an open handover,
-as its timer would; a handover over X2 to another station with its path switch, or within the station where there is no other;
-the phone leaves its connection, asks for service, is given a connection, and sends a packet.
+In this order: a packet up, a packet down from each station, a NAS text up and one down; the serving station cancels an
+open handover, as its timer would; a handover over X2 to another station with its path switch, or within the station
+where there is no other; the phone leaves its connection, asks for service, is given a connection, and sends a packet.
 
-Where that packet does not arrive, `lte_variants` tries an authentication and its Security Mode behind the probe, and then the same once more. Here a run
-of its own has these where they do not heal, for the reason.
+Where that packet does not arrive, `lte_variants` tries an authentication and its Security Mode behind the probe, and
+then the same once more. Here a run of its own has these where they do not heal, for the reason.
 """
 from __future__ import annotations
 
@@ -14,10 +14,26 @@ from itertools import takewhile
 from ..runs.courses import Course, Item, Runs, act, delivery
 from ..runs.scenarios import Scenario, Step
 
-UP, DOWN, NAS_UP, NAS_DOWN, AGAIN = "7570", "646f776e", "6e6173207570", "6e617320646f776e", "616761696e"  # up, down, nas up, nas down, again
+UP, DOWN, NAS_UP, NAS_DOWN, AGAIN = (
+    "7570",
+    "646f776e",
+    "6e6173207570",
+    "6e617320646f776e",
+    "616761696e",
+)  # up, down, nas up, nas down, again
 ANEW, KASME = b"anew".hex(), b"a KASME of the probe, 32 octets.".hex()
 PROBE = "probe "
-HANDOVER = ("begin", "request", "acknowledge", "command", "reconfiguration", "complete", "switch", "switched", "release")
+HANDOVER = (
+    "begin",
+    "request",
+    "acknowledge",
+    "command",
+    "reconfiguration",
+    "complete",
+    "switch",
+    "switched",
+    "release",
+)
 
 
 def named(name: str) -> str:
@@ -55,7 +71,15 @@ def probe(scenario: Scenario, serving: int) -> list[Item]:
         chain.act("command", {"do": "command", "station": serving}, "reconfiguration", "complete")
     else:
         chain.act("begin", {"do": "x2", "station": serving, "cell": stations[other]}, "request", "acknowledge")
-        chain.act("command", {"do": "command", "station": serving}, "reconfiguration", "complete", "switch", "switched", "release")
+        chain.act(
+            "command",
+            {"do": "command", "station": serving},
+            "reconfiguration",
+            "complete",
+            "switch",
+            "switched",
+            "release",
+        )
     chain.act("idle", {"do": "idle"})
     chain.act("service", {"do": "service"}, "service arrives")
     chain.act("connect", {"do": "connect", "cell": stations[serving]}, "setup", "security", "secure")
@@ -70,7 +94,13 @@ def renewal(scenario: Scenario, serving: int) -> list[Item]:
     chain.act("security mode", {"do": "smc"}, "command arrives", "complete arrives")
     chain.act("idle anew", {"do": "idle"})
     chain.act("service anew", {"do": "service"}, "service anew arrives")
-    chain.act("connect anew", {"do": "connect", "cell": scenario.stations[serving]}, "setup anew", "security anew", "secure anew")
+    chain.act(
+        "connect anew",
+        {"do": "connect", "cell": scenario.stations[serving]},
+        "setup anew",
+        "security anew",
+        "secure anew",
+    )
     chain.act("anew", {"do": "user", "from": "phone", "bearer": "drb1", "text": ANEW}, "anew arrives")
     return chain.items
 
@@ -82,7 +112,8 @@ def serving_of(course: Course) -> int | None:
 
 
 def sends_before_serving(course: Course) -> dict[str, bool]:
-    """Of each item whether it sent, but those of the probe at the station that serves: at another one they may send otherwise."""
+    """Of each item whether it sent, but those of the probe at the station that serves: at another one they may send
+    otherwise."""
     return dict(takewhile(lambda sent: sent[0] != named("cancel"), course.sends().items()))
 
 
@@ -100,9 +131,11 @@ class Prober:
         self.probes = {station: probe(scenario, station) for station in scenario.stations}
         self.renewals = {station: renewal(scenario, station) for station in scenario.stations}
 
-    def probed(self, items: list[Item], usual: dict[str, bool], guess: dict[str, bool], serving: int, otherwise: int) -> tuple[Course, int]:
-        """The course of the items and the probe, and the station that serves the phone, by a guess of which it is; the other one where the phone's
-        packet comes to none."""
+    def probed(
+        self, items: list[Item], usual: dict[str, bool], guess: dict[str, bool], serving: int, otherwise: int
+    ) -> tuple[Course, int]:
+        """The course of the items and the probe, and the station that serves the phone, by a guess of which it is; the
+        other one where the phone's packet comes to none."""
         count = 0
         while True:
             course = self.runs.course([*items, *self.probes[serving]], usual, guess)
@@ -116,11 +149,15 @@ class Prober:
         return course, serving
 
     def refusal(self, items: list[Item], usual: dict[str, bool], guess: dict[str, bool], serving: int) -> str | None:
-        """The first refusal of an authentication and a reconnection behind the items and the probe, or that the packet behind them does not
-        arrive. None where it does."""
+        """The first refusal of an authentication and a reconnection behind the items and the probe, or that the packet
+        behind them does not arrive. None where it does."""
         behind = self.renewals[serving]
         sources = {item.of for item in behind}
-        course = self.runs.course([*items, *self.probes[serving], *behind], usual, guess | {item.name: item.name in sources for item in behind})
+        course = self.runs.course(
+            [*items, *self.probes[serving], *behind],
+            usual,
+            guess | {item.name: item.name in sources for item in behind},
+        )
         for item in behind:
             line = course.lines.get(item.name)
             if line is not None and line.answer != "done":

@@ -1,6 +1,7 @@
 """An answer of `what-if` that is kept in a file: part by part as it comes in, and a later call goes on from there.
 
-The file has a line for each part that is done, as `--json` prints it, on one line. A line that was cut is that of a part which is tried again.
+The file has a line for each part that is done, as `--json` prints it, on one line. A line that was cut is that of a
+part which is tried again.
 """
 from __future__ import annotations
 
@@ -50,7 +51,8 @@ class KeptAnswer:
 
 
 def gathered(kept: KeptAnswer, gather: Callable[[tuple[int, int]], Answer], nothing: Answer) -> Answer:
-    """The whole: the parts that the file has, and the others, which are gathered and put there. What there is where it is interrupted."""
+    """The whole: the parts that the file has, and the others, which are gathered and put there. What there is where it
+    is interrupted."""
     last, whole = time.monotonic(), True
     try:
         for number in missing(kept):
@@ -63,7 +65,10 @@ def gathered(kept: KeptAnswer, gather: Callable[[tuple[int, int]], Answer], noth
                 print(f"lte_sec: {len(kept.parts)} of {PARTS} parts", file=sys.stderr, flush=True)
     except KeyboardInterrupt:
         whole = False
-        print(f"lte_sec: {len(kept.parts)} of {PARTS} parts are in {kept.file}; the same call goes on from there", file=sys.stderr)
+        print(
+            f"lte_sec: {len(kept.parts)} of {PARTS} parts are in {kept.file}; the same call goes on from there",
+            file=sys.stderr,
+        )
     kept.out.close()
     parts = [kept.parts[number] for number in sorted(kept.parts)]
     answer = merged(parts) if parts else nothing

@@ -22,7 +22,10 @@ def lines(study: Study, variant: Variant, course: Course) -> list[str]:
     """The lines: what was changed and what came of it, the setup, and each step with the step of the scenario."""
     messages = study.original.messages
     faults = " and ".join(f"{fault} ({messages[fault.item]})" for fault in variant.faults)
-    head = [f"# {faults}: {', '.join(variant.outcomes)}.", *(f"# {word}: {about}" for word, about in variant.outcomes.items() if about.text)]
+    head = [
+        f"# {faults}: {', '.join(variant.outcomes)}.",
+        *(f"# {word}: {about}" for word, about in variant.outcomes.items() if about.text),
+    ]
     steps = [f"  {table}, # {comment(item.name, messages)}" for item, table in paired(course.items, course.steps)]
     return [*head, setup_text(study.scenario.setup).rstrip(), "step = [", *steps, "]"]
 

@@ -1,4 +1,5 @@
-"""Variants spread over processes, and shares over machines: as the program lists them, and those that are told run again."""
+"""Variants spread over processes, and shares over machines: as the program lists them, and those that are told run
+again."""
 from __future__ import annotations
 
 import ctypes
@@ -30,8 +31,8 @@ More = TypeVar("More")
 
 @dataclass
 class Share:
-    """How the variants are spread: so many processes, a part of so many, how many faults at once, where each is saved, and whether a line
-    of each is wanted in place of the answer."""
+    """How the variants are spread: so many processes, a part of so many, how many faults at once, where each is saved,
+    and whether a line of each is wanted in place of the answer."""
 
     jobs: int = 1
     part: tuple[int, int] | None = None
@@ -46,10 +47,13 @@ class Work:
     def __init__(self, study: Study, share: Share):
         self.study, self.share = study, share
         self.has_all = share.folder is not None or study.charts is not None
-        self.by_outcomes: dict[tuple[Any, ...], Tried] = {}  # the last that was tried with these outcomes, and with these places and outcomes
+        self.by_outcomes: dict[
+            tuple[Any, ...], Tried
+        ] = {}  # the last that was tried with these outcomes, and with these places and outcomes
 
     def told(self, variants: list[Variant]) -> tuple[list[Variant], int]:
-        """Variants of one message and kind, or one of several faults, with what is told of them, and how many runs that took."""
+        """Variants of one message and kind, or one of several faults, with what is told of them, and how many runs that
+        took."""
         before = self.study.runs.count
         found: list[Variant] = []
         near: Tried | None = None
@@ -69,7 +73,11 @@ class Work:
         return found, self.study.runs.count - before
 
     def is_alike(self, before: Tried, last: Fault, variant: Variant) -> bool:
-        if self.share.folder or list(before.variant.outcomes) != list(variant.outcomes) or healed_by(before.variant) != healed_by(variant):
+        if (
+            self.share.folder
+            or list(before.variant.outcomes) != list(variant.outcomes)
+            or healed_by(before.variant) != healed_by(variant)
+        ):
             return False
         return self.study.is_alike(last, variant.faults[0], before.course)
 
@@ -94,8 +102,10 @@ class Work:
 
 
 def take_listed(variant: Variant, listed: list[str]) -> None:
-    """Gives a variant the outcomes that the program lists, with what those of its run are about; where its run has others, they are kept
-    beside. `keys differ` is the program's alone: the report does not always tell which key was made for the phone (docs/WHATIF.md)."""
+    """Gives a variant the outcomes that the program lists, with what those of its run are about; where its run has
+    others, they are kept beside. `keys differ` is the program's alone: the report does not always tell which key was
+    made for the phone (docs/WHATIF.md).
+    """
     found = variant.outcomes
     if others(found) != others(listed) or KEYS_DIFFER not in (*found, *listed) and list(found) != listed:
         variant.by_run = list(found)
@@ -116,7 +126,8 @@ work: Work | None = None
 
 
 def quiet(parent: int) -> None:
-    """A process leaves ctrl-C to the one that began it, and ends where that one ends it or ends itself, whatever it did at a signal itself."""
+    """A process leaves ctrl-C to the one that began it, and ends where that one ends it or ends itself, whatever it did
+    at a signal itself."""
     signal.signal(signal.SIGINT, signal.SIG_IGN)
     signal.signal(signal.SIGTERM, signal.SIG_DFL)
     ctypes.CDLL(None).prctl(PR_SET_PDEATHSIG, signal.SIGTERM)
@@ -135,8 +146,8 @@ def judged(variant: Listed) -> tuple[Listed, int]:
 
 
 def spread(jobs: int, function: Callable[[Some], More], things: Iterable[Some]) -> Iterator[More]:
-    """What a function makes of these things, by so many processes, in their order; by this one alone where they cannot be begun, as in a root without
-    /dev/shm, which has the semaphores between them."""
+    """What a function makes of these things, by so many processes, in their order; by this one alone where they cannot
+    be begun, as in a root without /dev/shm, which has the semaphores between them."""
     try:
         pool = multiprocessing.get_context("fork").Pool(jobs, quiet, (os.getpid(),)) if jobs > 1 else None
     except (ImportError, OSError):
@@ -151,7 +162,8 @@ def spread(jobs: int, function: Callable[[Some], More], things: Iterable[Some]) 
 
 
 def chain_of(variant: Variant) -> tuple[Any, ...]:
-    """What variants that are run one after the other have in common: message and kind; of several faults each is run alone."""
+    """What variants that are run one after the other have in common: message and kind; of several faults each is run
+    alone."""
     first = variant.faults[0]
     return (first.item, first.kind) if len(variant.faults) == 1 else variant.faults
 
@@ -189,7 +201,8 @@ class Gathering:
         self.answer.sort()
 
     def take(self, faults: int) -> None:
-        """The variants of so many faults; where more are tried at once each part needs them all, and tells its share."""
+        """The variants of so many faults; where more are tried at once each part needs them all, and tells its
+        share."""
         if self.share.part and faults < self.share.faults and not self.has_fewer:
             self.outcomes |= {each.faults: each.outcomes for each in self.listed(faults, None)}
         kept = self.answer.singles if faults == 1 else self.answer.together
@@ -211,7 +224,8 @@ class Gathering:
             self.tell_of(kept, at)
 
     def listed(self, faults: int, part: tuple[int, int] | None) -> Iterator[Listed]:
-        """The variants as the program lists them; where a handover is begun by the station that serves, as their own runs have them."""
+        """The variants as the program lists them; where a handover is begun by the station that serves, as their own
+        runs have them."""
         variants = self.lists.all(faults, part, self.share.jobs)
         if not self.study.follows:
             yield from variants
@@ -225,12 +239,12 @@ class Gathering:
         chains = [list(chain) for _, chain in groupby(variants[at:], chain_of)]
         for found, runs in spread(self.share.jobs, told, chains):
             self.runs += runs
-            variants[at:at + len(found)] = found
+            variants[at : at + len(found)] = found
             at += len(found)
 
     def is_new(self, variant: Listed) -> bool:
-        """Whether the faults bring an outcome that no fewer of them bring. A phone that is cut off by one and whose NAS comes apart by
-        another is stuck, which is nothing new."""
+        """Whether the faults bring an outcome that no fewer of them bring. A phone that is cut off by one and whose NAS
+        comes apart by another is stuck, which is nothing new."""
         new = {word for word in variant.outcomes if RANK[word] > RANK[GOES_ON]}
         known = {word for fault in variant.faults for word in self.outcomes[(fault,)]}
         if {"cut off", "NAS apart"} <= known:
@@ -243,4 +257,7 @@ class Gathering:
         """What it took, in words."""
         many = sum(sum(counts.values()) for counts in self.answer.counts.values())
         jobs = f"{self.share.jobs} process{'' if self.share.jobs == 1 else 'es'}"
-        return f"{many:,} variants, and {self.runs:,} runs for what is told of them, in {time.monotonic() - self.began:.1f} s, by {jobs}"
+        return (
+            f"{many:,} variants, and {self.runs:,} runs for what is told of them, in "
+            f"{time.monotonic() - self.began:.1f} s, by {jobs}"
+        )

@@ -23,8 +23,8 @@ MOST_WAITS = 4  # so many steps of a variant wait, one after the other
 
 @dataclass
 class Variant:
-    """A variant: its faults, its outcomes with what they are about, the worst first, and the answers that lead to them. One that was not
-    run has no more than its outcomes."""
+    """A variant: its faults, its outcomes with what they are about, the worst first, and the answers that lead to them.
+    One that was not run has no more than its outcomes."""
 
     faults: tuple[Fault, ...]
     outcomes: dict[str, About]
@@ -41,7 +41,8 @@ class Variant:
 
 @dataclass
 class Tried:
-    """A variant that was run: its course, the station that serves the phone, and its refusals, once they are asked for."""
+    """A variant that was run: its course, the station that serves the phone, and its refusals, once they are asked
+    for."""
 
     variant: Variant
     course: Course
@@ -53,7 +54,8 @@ class Study:
     """A scenario with its own probe, to which its variants are compared."""
 
     def __init__(self, program: str, scenario: Scenario, follows: bool = False, charts: bool = False):
-        """Where it follows, a handover is begun by the station that serves; with charts the course of each variant is kept."""
+        """Where it follows, a handover is begun by the station that serves; with charts the course of each variant is
+        kept."""
         self.scenario, self.follows = scenario, follows
         self.runs = Runs(program, setup_text(scenario.setup))
         self.original = Original(scenario, self.runs)
@@ -68,9 +70,12 @@ class Study:
         self.charts = Charts(scenario, self.course) if charts else None
 
     def names(self, messages: Mapping[str, str], serving: int | None) -> dict[str, str]:
-        """The names of the messages that the program has, with the station that serves; that of a NAS text is its type."""
+        """The names of the messages that the program has, with the station that serves; that of a NAS text is its
+        type."""
         if serving not in (None, self.serving):
-            raise ProgramFails(f"station {serving} serves by lte_variants, and station {self.serving} by the lines of run")
+            raise ProgramFails(
+                f"station {serving} serves by lte_variants, and station {self.serving} by the lines of run"
+            )
         for step, name in messages.items():
             here = self.original.messages.get(step)
             if here != name and name != NAS_TEXT:
@@ -84,7 +89,11 @@ class Study:
             raise ProgramFails(f"lte_variants has {' and '.join(map(str, faults))}, which do not go together")
         guess = own_guess(items, self.usual)
         if near:
-            guess |= {name: sends for name, sends in near.course.sends().items() if sends != self.usual.get(name, False) and (name in guess or name.startswith(PROBE) or name[-1] == "+")}
+            guess |= {
+                name: sends
+                for name, sends in near.course.sends().items()
+                if sends != self.usual.get(name, False) and (name in guess or name.startswith(PROBE) or name[-1] == "+")
+            }
         course, serving = self.followed(items, guess, near.serving if near else self.serving)
         standing = Standing(self.scenario, course, serving)
         own = own_items(items, self.faults.of) | {fault.item for fault in faults if fault.kind == "lost"}
@@ -100,18 +109,23 @@ class Study:
         return self.with_reason(heals, self.original.items, self.course, self.serving)
 
     def with_reason(self, heals: Heals | None, items: list[Item], course: Course, serving: int) -> Heals | None:
-        """The same with the reason, by a run of its own behind these items and the probe, where nothing heals and this station serves."""
+        """The same with the reason, by a run of its own behind these items and the probe, where nothing heals and this
+        station serves."""
         if heals is None or heals.by:
             return heals
         return Heals(None, self.prober.refusal(items, self.usual, course.sends(), serving))
 
     def marked(self, outcomes: dict[str, About], items: list[Item], course: Course, own: set[str]) -> dict[str, About]:
-        """The outcomes, with a mark on those that are not there where each security procedure of the core waits for the one that it crosses."""
+        """The outcomes, with a mark on those that are not there where each security procedure of the core waits for the
+        one that it crosses."""
         if RANK[next(iter(outcomes))] <= RANK[GOES_ON] or course.ended:
             return outcomes
         waited, serving, now = items, self.serving, course
         for _ in range(MOST_WAITS):
-            put = next((put for crossing in crossings(of_course(now, PROBE)) if (put := waits(waited, crossing)) is not None), None)
+            put = next(
+                (put for crossing in crossings(of_course(now, PROBE)) if (put := waits(waited, crossing)) is not None),
+                None,
+            )
             if put is None:
                 break
             waited = put
@@ -126,16 +140,23 @@ class Study:
         return Variant(faults, outcomes, self.answers(course), run, gone)
 
     def is_alike(self, before: Fault, fault: Fault, course: Course) -> bool:
-        """Whether all ends as in the course of the fault before: it has the place before, and the item that is passed has no actor in common with
-        what passes it."""
+        """Whether all ends as in the course of the fault before: it has the place before, and the item that is passed
+        has no actor in common with what passes it."""
         if self.follows or before.after is None or fault.after in (None, fault.item):
             return False
         items = self.original.items
-        at, was, to = (next(place for place, item in enumerate(items) if item.name == name) for name in (fault.item, before.after, fault.after))
+        at, was, to = (
+            next(place for place, item in enumerate(items) if item.name == name)
+            for name in (fault.item, before.after, fault.after)
+        )
         names, passed = {fault.item + "'"} if fault.kind == "twice" else moved(items, at, to), items[to]
-        if any(item.name not in names for item in items[was + 1:to]):
+        if any(item.name not in names for item in items[was + 1 : to]):
             return False
-        return passed.name not in course.lines or passed.do != "inject" and not course.actors(names) & course.actors({passed.name})
+        return (
+            passed.name not in course.lines
+            or passed.do != "inject"
+            and not course.actors(names) & course.actors({passed.name})
+        )
 
     def alike(self, faults: tuple[Fault, ...], before: Tried) -> Variant:
         """The variant that ends as this one: the same lines, in its own order."""
@@ -150,8 +171,8 @@ class Study:
         return self.told(faults, before.variant.outcomes, replace(course, items=items))
 
     def followed(self, items: list[Item], guess: dict[str, bool], serving: int) -> tuple[Course, int]:
-        """The course of the items, in which, if so chosen, a handover that its station cannot begin is begun by the one that serves, which
-        cancels an open one first."""
+        """The course of the items, in which, if so chosen, a handover that its station cannot begin is begun by the one
+        that serves, which cancels an open one first."""
         done: set[tuple[str, int, bool]] = set()
         while True:
             course, serving = self.prober.probed(items, self.usual, guess, serving, self.serving)
@@ -166,8 +187,17 @@ class Study:
         if cancels:
             at = next(place for place, item in enumerate(items) if item.name == name)
             first, second, third = (f"{name}{letter}'" for letter in "efg")
-            return [*items[:at], act(first, {"do": "cancel", "station": station}), delivery(second, first), delivery(third, second), *items[at:]]
-        return [act(item.name, {**item.step, "station": station}, item.cause) if self.is_of(item, name) else item for item in items]
+            return [
+                *items[:at],
+                act(first, {"do": "cancel", "station": station}),
+                delivery(second, first),
+                delivery(third, second),
+                *items[at:],
+            ]
+        return [
+            act(item.name, {**item.step, "station": station}, item.cause) if self.is_of(item, name) else item
+            for item in items
+        ]
 
     def is_of(self, item: Item, name: str) -> bool:
         """Whether an item is the beginning or the command of a handover."""
@@ -177,8 +207,8 @@ class Study:
         return item.of is None and begin.name == name and item.do in (*HANDOVERS, "command")
 
     def to_follow(self, course: Course) -> tuple[str, int, bool] | None:
-        """The first handover that is refused here and not in the scenario while another station serves, and that station; or while the
-        serving one has another open."""
+        """The first handover that is refused here and not in the scenario while another station serves, and that
+        station; or while the serving one has another open."""
         standing = Standing(self.scenario, course, self.serving)
         serving: int | None = None
         for item in course.items:
@@ -189,11 +219,20 @@ class Study:
                 serving = standing.station_of(line.note.key, item)
             elif item.do == "idle" and line.answer == "done":
                 serving = None
-            elif serving is not None and item.do in HANDOVERS and line.answer != "done" and self.original.lines[item.name].answer == "done":
+            elif (
+                serving is not None
+                and item.do in HANDOVERS
+                and line.answer != "done"
+                and self.original.lines[item.name].answer == "done"
+            ):
                 target = self.scenario.cells.get((item.step["cell"][0], item.step["cell"][1]))
                 if serving not in (item.step["station"], target):
                     return item.name, serving, False
-                if serving == item.step["station"] and line.answer == "AttemptOpen" and f"{item.name}e'" not in course.lines:
+                if (
+                    serving == item.step["station"]
+                    and line.answer == "AttemptOpen"
+                    and f"{item.name}e'" not in course.lines
+                ):
                     return item.name, serving, True
         return None
 
@@ -228,4 +267,8 @@ def shown(name: str) -> str:
     step = plain.rstrip("abcdefg")
     if step == name:
         return f"step {step}"
-    return f"the cancel before step {step}" if plain[-1] in "efg" else f"the {'copy' if plain == step else 'repeat'} of step {step}"
+    return (
+        f"the cancel before step {step}"
+        if plain[-1] in "efg"
+        else f"the {'copy' if plain == step else 'repeat'} of step {step}"
+    )

@@ -1,8 +1,9 @@
 """Variants and outcomes as the proved program `lte_variants` lists them.
 
-It writes `scenario STEPS MESSAGES serving STATION heals HEALS`, a line for each thing that is wrong in the scenario itself, as `keys differ 33`, a line
-`message STEP KIND` for each message, a line for each variant, as `late 9 12, lost 14: stuck; not made, heals authentication`, and `end VARIANTS`. Variants are
-numbered in one order, of which a share takes each N-th.
+It writes `scenario STEPS MESSAGES serving STATION heals HEALS`, a line for each thing that is wrong in the scenario
+itself, as `keys differ 33`, a line `message STEP KIND` for each message, a line for each variant, as `late 9 12, lost
+14: stuck; not made, heals authentication`, and `end VARIANTS`. Variants are numbered in one order, of which a share
+takes each N-th.
 """
 from __future__ import annotations
 
@@ -68,12 +69,19 @@ def order(variant: Listed) -> tuple[tuple[int, int, int], ...]:
 
 
 class Lists:
-    """What the program lists of a scenario, with faults of these kinds, and of the messages that are named, if some are."""
+    """What the program lists of a scenario, with faults of these kinds, and of the messages that are named, if some
+    are."""
 
-    def __init__(self, program: str, scenario: bytes, kinds: tuple[str, ...], packets: bool, named: tuple[str, ...] = ()):
+    def __init__(
+        self, program: str, scenario: bytes, kinds: tuple[str, ...], packets: bool, named: tuple[str, ...] = ()
+    ):
         self.program, self.named = program, named
         self.is_narrow = 0 < len(named) <= MOST_NAMED
-        self.options = [*kinds, *(["--packets"] if packets else []), *(["of", *sorted(named, key=int)] if self.is_narrow else [])]
+        self.options = [
+            *kinds,
+            *(["--packets"] if packets else []),
+            *(["of", *sorted(named, key=int)] if self.is_narrow else []),
+        ]
         self.file = os.memfd_create("scenario")
         os.pwrite(self.file, scenario, 0)
         self.serving: int | None = None
@@ -86,7 +94,8 @@ class Lists:
         os.close(self.file)
 
     def all(self, faults: int, part: tuple[int, int] | None, jobs: int) -> Iterator[Listed]:
-        """The variants of so many faults, or a part of them, in their order, by so many processes of which each lists a share."""
+        """The variants of so many faults, or a part of them, in their order, by so many processes of which each lists a
+        share."""
         first, parts = part or (1, 1)
         shares = [self.share(faults, first + parts * job, parts * jobs) for job in range(jobs)]
         return iter(heapq.merge(*shares, key=order)) if jobs > 1 else shares[0]
@@ -94,7 +103,9 @@ class Lists:
     def share(self, faults: int, number: int, of: int) -> Iterator[Listed]:
         """The variants of a share."""
         words = [self.program, "sets", str(faults), f"{number}/{of}", *self.options]
-        with open(f"/proc/self/fd/{self.file}", "rb") as scenario, subprocess.Popen(words, stdin=scenario, stdout=subprocess.PIPE, text=True) as process:
+        with open(f"/proc/self/fd/{self.file}", "rb") as scenario, subprocess.Popen(
+            words, stdin=scenario, stdout=subprocess.PIPE, text=True
+        ) as process:
             assert process.stdout
             try:
                 yield from self.variants(process.stdout)

@@ -23,7 +23,8 @@ LINK = "docs/SCENARIOS.md#where-a-product-does-more"
 
 @dataclass
 class Answer:
-    """What was tried of a scenario: how, its messages, the variants of one fault, those of more that bring something new, and counts."""
+    """What was tried of a scenario: how, its messages, the variants of one fault, those of more that bring something
+    new, and counts."""
 
     tried: dict[str, Any]
     messages: dict[str, str]
@@ -33,8 +34,12 @@ class Answer:
     part: tuple[int, int] | None = None
     whole: bool = True
     frames: dict[int, str] = field(default_factory=dict)  # of steps, where the scenario has them
-    goal: dict[str, Any] | None = None  # of a search for an outcome: what was searched, and the size of the smallest sets
-    itself: list[str] = field(default_factory=list)  # what is wrong in the scenario without any fault, as lte_variants says it
+    goal: dict[
+        str, Any
+    ] | None = None  # of a search for an outcome: what was searched, and the size of the smallest sets
+    itself: list[str] = field(
+        default_factory=list
+    )  # what is wrong in the scenario without any fault, as lte_variants says it
     heals: Heals | None = None  # and what heals behind it
     chart: Chart | None = None  # its own course, where those of the variants are kept
 
@@ -54,10 +59,13 @@ class Answer:
 
 def order(variant: Variant) -> tuple[int, list[tuple[int, int, int]]]:
     """Variants stand by the number of their faults, and then by message, kind and place."""
-    return len(variant.faults), [(int(fault.item), KINDS.index(fault.kind), int(fault.after or 0)) for fault in variant.faults]
+    return len(variant.faults), [
+        (int(fault.item), KINDS.index(fault.kind), int(fault.after or 0)) for fault in variant.faults
+    ]
 
 
 # As JSON
+
 
 def to_json(answer: Answer) -> dict[str, Any]:
     variants, chart = [*answer.singles, *answer.together], answer.chart
@@ -70,18 +78,32 @@ def to_json(answer: Answer) -> dict[str, Any]:
         "whole": answer.whole,
         "itself": [itself_json(line) for line in answer.itself],
         "heals": answer.heals and answer.heals.to_json(),
-        "messages": [{"step": int(step), "message": message, "frame": answer.frames.get(int(step))} for step, message in answer.messages.items()],
-        "variants": [variant_json(variant, answer) | ({"run": run, "gone": variant.gone} if chart else {}) for variant, run in paired(variants, runs)],
-        "counts": {str(faults): {word: counts[word] for word in RANK if counts[word]} for faults, counts in sorted(answer.counts.items())},
+        "messages": [
+            {"step": int(step), "message": message, "frame": answer.frames.get(int(step))}
+            for step, message in answer.messages.items()
+        ],
+        "variants": [
+            variant_json(variant, answer) | ({"run": run, "gone": variant.gone} if chart else {})
+            for variant, run in paired(variants, runs)
+        ],
+        "counts": {
+            str(faults): {word: counts[word] for word in RANK if counts[word]}
+            for faults, counts in sorted(answer.counts.items())
+        },
         **({"goal": answer.goal} if answer.goal else {}),
         **charted,
     }
 
 
 def itself_json(line: str) -> dict[str, Any]:
-    """What is wrong in the scenario itself: the outcome, and its step; none of `stuck`, and of keys that differ in the probe."""
+    """What is wrong in the scenario itself: the outcome, and its step; none of `stuck`, and of keys that differ in the
+    probe."""
     words = line.split(" ")
-    return {"is": "stuck", "step": None} if words == ["stuck"] else {"is": " ".join(words[:2]), "step": int(words[2]) if words[2].isdigit() else None}
+    return (
+        {"is": "stuck", "step": None}
+        if words == ["stuck"]
+        else {"is": " ".join(words[:2]), "step": int(words[2]) if words[2].isdigit() else None}
+    )
 
 
 def itself_from(it: dict[str, Any]) -> str:
@@ -91,11 +113,20 @@ def itself_from(it: dict[str, Any]) -> str:
 def variant_json(variant: Variant, answer: Answer) -> dict[str, Any]:
     messages = answer.messages
     faults = [
-        {"kind": fault.kind, "step": int(fault.item), "message": messages[fault.item]} | ({"after": int(fault.after)} if fault.after else {})
+        {"kind": fault.kind, "step": int(fault.item), "message": messages[fault.item]}
+        | ({"after": int(fault.after)} if fault.after else {})
         for fault in variant.faults
     ]
-    outcomes = [{"is": word, "what": str(about), "limit": limit(variant, word, messages)} for word, about in variant.outcomes.items()]
-    return {"faults": faults, "outcomes": outcomes, "heals": variant.heals and variant.heals.to_json(), "answers": variant.answers} | ({"by_run": variant.by_run} if variant.by_run else {})
+    outcomes = [
+        {"is": word, "what": str(about), "limit": limit(variant, word, messages)}
+        for word, about in variant.outcomes.items()
+    ]
+    return {
+        "faults": faults,
+        "outcomes": outcomes,
+        "heals": variant.heals and variant.heals.to_json(),
+        "answers": variant.answers,
+    } | ({"by_run": variant.by_run} if variant.by_run else {})
 
 
 def from_json(it: dict[str, Any]) -> Answer:
@@ -107,8 +138,22 @@ def from_json(it: dict[str, Any]) -> Answer:
     answer.chart = Chart(it["name"], it["lanes"], it["base"]) if "base" in it else None
     answer.itself, answer.heals = [itself_from(each) for each in it.get("itself", [])], Heals.from_json(it.get("heals"))
     for each in it["variants"]:
-        faults = tuple(Fault(KINDS[KINDS.index(one["kind"])], str(one["step"]), str(one["after"]) if "after" in one else None) for one in each["faults"])
-        variant = Variant(faults, {one["is"]: About(one["what"], is_read=True, limit=one["limit"]) for one in each["outcomes"] if RANK[one["is"]] >= 0}, each["answers"], gone=each.get("gone", []), by_run=each.get("by_run", []), heals=Heals.from_json(each.get("heals")))
+        faults = tuple(
+            Fault(KINDS[KINDS.index(one["kind"])], str(one["step"]), str(one["after"]) if "after" in one else None)
+            for one in each["faults"]
+        )
+        variant = Variant(
+            faults,
+            {
+                one["is"]: About(one["what"], is_read=True, limit=one["limit"])
+                for one in each["outcomes"]
+                if RANK[one["is"]] >= 0
+            },
+            each["answers"],
+            gone=each.get("gone", []),
+            by_run=each.get("by_run", []),
+            heals=Heals.from_json(each.get("heals")),
+        )
         variant.run = [it["steps"][entry] if isinstance(entry, int) else entry for entry in each.get("run", [])]
         (answer.singles if len(faults) == 1 else answer.together).append(variant)
     answer.counts = {int(faults): Counter(counts) for faults, counts in it["counts"].items()}
@@ -118,7 +163,9 @@ def from_json(it: dict[str, Any]) -> Answer:
 def merged(parts: list[Answer]) -> Answer:
     """The whole of these parts, which are those of one."""
     first = parts[0]
-    whole = Answer(first.tried, first.messages, frames=first.frames, chart=first.chart, itself=first.itself, heals=first.heals)
+    whole = Answer(
+        first.tried, first.messages, frames=first.frames, chart=first.chart, itself=first.itself, heals=first.heals
+    )
     for part in parts:
         whole.singles += part.singles
         whole.together += part.together
@@ -130,18 +177,28 @@ def merged(parts: list[Answer]) -> Answer:
 
 # As a table
 
+
 def table(answer: Answer) -> Iterator[str]:
-    """The lines: what is wrong in the scenario itself, a table of messages and faults, each outcome worse than `goes on`, and the counts."""
+    """The lines: what is wrong in the scenario itself, a table of messages and faults, each outcome worse than `goes
+    on`, and the counts."""
     if answer.itself:
-        yield f"without any fault: {'; '.join(of_itself(line, answer.frames) for line in answer.itself)}{healed(answer.heals)}"
+        yield (
+            "without any fault: "
+            f"{'; '.join(of_itself(line, answer.frames) for line in answer.itself)}{healed(answer.heals)}"
+        )
         yield ""
     kinds: list[str] = [kind for kind in KINDS if kind in answer.tried["kinds"]]
-    cells = {place: list(variants) for place, variants in groupby(answer.singles, lambda it: (it.faults[0].item, it.faults[0].kind))}
+    cells = {
+        place: list(variants)
+        for place, variants in groupby(answer.singles, lambda it: (it.faults[0].item, it.faults[0].kind))
+    }
     width = max([len("message"), *map(len, answer.messages.values())])
     steps = max([4, *(len(named(step, answer.frames)) for step in answer.messages)])
     yield f"{'step':>{steps}} {'message':<{width}}" + "".join(f"  {kind:<20}" for kind in kinds).rstrip()
     for step, message in answer.messages.items():
-        yield f"{named(step, answer.frames):>{steps}} {message:<{width}}" + "".join(f"  {cell(cells.get((step, kind), [])):<20}" for kind in kinds).rstrip()
+        yield f"{named(step, answer.frames):>{steps}} {message:<{width}}" + "".join(
+            f"  {cell(cells.get((step, kind), [])):<20}" for kind in kinds
+        ).rstrip()
     told = [*tellings(answer.singles, answer), *tellings(answer.together, answer)]
     if told:
         yield ""
@@ -172,11 +229,13 @@ def cell(variants: list[Variant]) -> str:
 
 
 def tellings(variants: list[Variant], answer: Answer, above: int = RANK[GOES_ON]) -> Iterator[str]:
-    """A line for variants that differ only in places, if they are worse than `goes on`, or than this rank; where something is not made, with the messages
-    whose fault comes to the same, since one is the cause of the next."""
+    """A line for variants that differ only in places, if they are worse than `goes on`, or than this rank; where
+    something is not made, with the messages whose fault comes to the same, since one is the cause of the next."""
     messages, frames = answer.messages, answer.frames
     bad = [variant for variant in variants if variant.by_run or RANK[variant.worst] > above]
-    told: list[tuple[Variant, list[list[Fault]]]] = [(variant, [[fault] for fault in variant.faults]) for variant in bad]
+    told: list[tuple[Variant, list[list[Fault]]]] = [
+        (variant, [[fault] for fault in variant.faults]) for variant in bad
+    ]
     for at in reversed(range(max((len(variant.faults) for variant in bad), default=0))):
         told = together(told, at)
     lines: dict[tuple[int | None, str], list[str]] = {}  # the messages of each line, by what it says behind them
@@ -204,7 +263,15 @@ def together(told: list[tuple[Variant, list[list[Fault]]]], at: int) -> list[tup
             groups[variant.faults] = variant, faults
             continue
         others = tuple(tuple(each) for each in [*faults[:at], *faults[at + 1 :]])
-        key = (others, faults[at][0].item, faults[at][0].kind, tuple(variant.outcomes.items()), tuple(variant.answers), tuple(variant.by_run), variant.heals)
+        key = (
+            others,
+            faults[at][0].item,
+            faults[at][0].kind,
+            tuple(variant.outcomes.items()),
+            tuple(variant.answers),
+            tuple(variant.by_run),
+            variant.heals,
+        )
         if key in groups:
             groups[key][1][at].extend(faults[at])
         else:
@@ -213,7 +280,8 @@ def together(told: list[tuple[Variant, list[list[Fault]]]], at: int) -> list[tup
 
 
 def outcome(variant: Variant, word: str, answer: Answer) -> str:
-    """An outcome with its limit and what it is about. The steps of keys that differ are the variant's own, which have no frames."""
+    """An outcome with its limit and what it is about. The steps of keys that differ are the variant's own, which have
+    no frames."""
     here, what = limit(variant, word, answer.messages), str(variant.outcomes[word])
     what = what if word == USUAL_BAD else with_frames(what, answer.frames)
     return word + (f" (here; {here})" if here else "") + (f" [{what}]" if what else "")
@@ -230,7 +298,9 @@ def of_message(fault: Fault, messages: dict[str, str], frames: dict[int, str]) -
 
 def of_places(faults: list[Fault], frames: dict[int, str]) -> str:
     """Their kind, and their places."""
-    after = f" after {ranges([int(fault.after or 0) for fault in faults], frames)}" if faults[0].after is not None else ""
+    after = (
+        f" after {ranges([int(fault.after or 0) for fault in faults], frames)}" if faults[0].after is not None else ""
+    )
     return f"{faults[0].kind}{after}"
 
 
@@ -247,7 +317,9 @@ def counted(faults: int, answer: Answer) -> str:
     """How many variants of so many faults there are, and how many have which worst outcome."""
     counts = answer.counts[faults]
     number = sum(counts.values())
-    what = f"{number:,} {MANY[faults]}{'' if number == 1 else 's'}" + (f" of {len(answer.messages)} message{'' if len(answer.messages) == 1 else 's'}" if faults == 1 else "")
+    what = f"{number:,} {MANY[faults]}{'' if number == 1 else 's'}" + (
+        f" of {len(answer.messages)} message{'' if len(answer.messages) == 1 else 's'}" if faults == 1 else ""
+    )
     words = [f"{counts[word]:,} {word}" for word in reversed(RANK) if counts[word]]
     new = sum(len(variant.faults) == faults for variant in answer.together)
     more = f", {new:,} of which bring{'s' if new == 1 else ''} something new" if faults > 1 else ""

@@ -1,4 +1,5 @@
-"""The word `what-if` of the launcher: `RUN VARIANTS [OPTION].. [SCENARIO]`, or `RUN VARIANTS --merge FILE..`, by the programs of `run` and of variants. docs/WHATIF.md has its answer."""
+"""The word `what-if` of the launcher: `RUN VARIANTS [OPTION].. [SCENARIO]`, or `RUN VARIANTS --merge FILE..`, by the
+programs of `run` and of variants. docs/WHATIF.md has its answer."""
 from __future__ import annotations
 
 import hashlib
@@ -66,7 +67,9 @@ class WhatIfWords(Words):
         for other in NOT_WITH_GOAL:
             if self.has(other):
                 raise WrongWords(f"--goal takes no {other}")
-        return Goal(self.outcome("--goal"), self.number("--up-to", goals.USUAL_FAULTS, goals.MOST_FAULTS), self.has("--yes"))
+        return Goal(
+            self.outcome("--goal"), self.number("--up-to", goals.USUAL_FAULTS, goals.MOST_FAULTS), self.has("--yes")
+        )
 
     def part(self) -> tuple[int, int] | None:
         if not self.has("--part"):
@@ -79,7 +82,13 @@ class WhatIfWords(Words):
         """How the variants are spread: a part by one process, where no other number is given."""
         part = self.part()
         jobs = self.number("--jobs", 1 if part else len(os.sched_getaffinity(0)), MOST_JOBS)
-        return Share(jobs, part, self.number("--faults", 1, MOST_FAULTS), self.folder(), self.has("--lines") and not self.has("--json"))
+        return Share(
+            jobs,
+            part,
+            self.number("--faults", 1, MOST_FAULTS),
+            self.folder(),
+            self.has("--lines") and not self.has("--json"),
+        )
 
     def folder(self) -> Path | None:
         """The folder for variants, which is made where it is not there."""
@@ -107,11 +116,16 @@ def scenario_of(program: str, words: WhatIfWords) -> tuple[bytes, int]:
     if ran.returncode == REFUSED:
         out.write(ran.stdout.decode(errors="replace"))
         out.flush()
-        said = subprocess.run([sys.executable, str(REASONS), "text", program, "run"], input=octets, stderr=subprocess.PIPE).stderr
+        said = subprocess.run(
+            [sys.executable, str(REASONS), "text", program, "run"], input=octets, stderr=subprocess.PIPE
+        ).stderr
         sys.stderr.write(said.decode(errors="replace"))
     elif ran.returncode == ENDED:
         print(ran.stdout.decode().splitlines()[-1], file=out)
-        print("lte_sec: status 7: the scenario itself ends at a coincidence, so that nothing can be compared with it", file=sys.stderr)
+        print(
+            "lte_sec: status 7: the scenario itself ends at a coincidence, so that nothing can be compared with it",
+            file=sys.stderr,
+        )
     elif ran.returncode:
         print(f"lte_sec: status {ran.returncode}: the program does not run the scenario", file=sys.stderr)
     return octets, ran.returncode
@@ -124,16 +138,28 @@ def tried(programs: Programs, words: WhatIfWords, share: Share, goal: Goal | Non
     if status:
         return None, status
     scenario = read(octets)
-    study = Study(programs.run, scenario, follows, words.has("--html") or goal is None and (words.has("--json") or words.has("--out")))
+    study = Study(
+        programs.run,
+        scenario,
+        follows,
+        words.has("--html") or goal is None and (words.has("--json") or words.has("--out")),
+    )
     named = steps_of(words.last("--messages"), study.original.messages, packets) if words.has("--messages") else ()
     lists = Lists(programs.variants, octets, kinds, packets, named)
     gathering = Search(study, lists, share, goal) if goal else Gathering(study, lists, share)
     answer = gathering.answer
     if study.charts:
-        answer.chart = study.charts.chart(name_of(octets.decode(errors="replace"), words.files[0].stem if words.files else "a scenario"))
+        answer.chart = study.charts.chart(
+            name_of(octets.decode(errors="replace"), words.files[0].stem if words.files else "a scenario")
+        )
     answer.tried = {
-        "scenario": hashlib.sha256(octets).hexdigest(), "faults": share.faults, "kinds": list(kinds), "packets": packets, "follow": follows,
-        "within": any(step.get("do") == "intra" for step in scenario.steps), **({"messages": [int(step) for step in named]} if named else {}),
+        "scenario": hashlib.sha256(octets).hexdigest(),
+        "faults": share.faults,
+        "kinds": list(kinds),
+        "packets": packets,
+        "follow": follows,
+        "within": any(step.get("do") == "intra" for step in scenario.steps),
+        **({"messages": [int(step) for step in named]} if named else {}),
     }
     answer.frames = frames_of(octets.decode(errors="replace"))
     if words.has("--resume"):
@@ -173,7 +199,13 @@ def tell(answer: Answer, words: WhatIfWords) -> int:
         print("lte_sec: status 130: interrupted; this is what there is", file=sys.stderr)
         return STOPPED
     if others := answer.others():
-        print(f"lte_sec: status {FAILS}: {others:,} variant{' has' if others == 1 else 's have'} other outcomes by {'its' if others == 1 else 'their'} own run, told beside", file=sys.stderr)
+        print(
+            (
+                f"lte_sec: status {FAILS}: {others:,} variant{' has' if others == 1 else 's have'} other outcomes by "
+                f"{'its' if others == 1 else 'their'} own run, told beside"
+            ),
+            file=sys.stderr,
+        )
         return FAILS
     if answer.goal:
         return BAD if answer.goal["smallest"] else 0
