@@ -1,6 +1,7 @@
 """Variants spread over processes."""
 from __future__ import annotations
 
+import signal
 import subprocess
 import sys
 import unittest
@@ -32,6 +33,14 @@ class Spread(unittest.TestCase):
             "multiprocessing.synchronize.SemLock.__init__", side_effect=OSError(38, "Function not implemented")
         ):
             self.assertEqual(list(spread(3, isqrt, range(300))), [isqrt(number) for number in range(300)])
+
+    def test_processes_end_as_soon_as_they_are_begun_whatever_this_one_does_at_a_signal(self) -> None:
+        before = signal.signal(signal.SIGTERM, lambda *_: None)
+        try:
+            for _ in range(20):
+                self.assertEqual(list(spread(7, isqrt, [4])), [2])
+        finally:
+            signal.signal(signal.SIGTERM, before)
 
     def test_no_process_is_left_where_the_one_that_began_them_is_killed(self) -> None:
         with subprocess.Popen(

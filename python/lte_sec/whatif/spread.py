@@ -12,6 +12,7 @@ from collections.abc import Callable, Iterable, Iterator
 from dataclasses import dataclass
 from itertools import combinations, groupby, islice
 from math import comb
+from multiprocessing.pool import Pool
 from pathlib import Path
 from typing import Any, TypeVar
 
@@ -24,6 +25,7 @@ from .variant_lists import Listed, Lists
 from .what_if_document import Answer, line
 
 MANY_AT_ONCE = 32
+ENDINGS = {signal.SIGINT, signal.SIGTERM}
 PR_SET_PDEATHSIG = 1  # of prctl(2): the signal that a process gets where the one that began it ends
 Some = TypeVar("Some")
 More = TypeVar("More")
@@ -131,6 +133,7 @@ def quiet(parent: int) -> None:
     signal.signal(signal.SIGINT, signal.SIG_IGN)
     signal.signal(signal.SIGTERM, signal.SIG_DFL)
     ctypes.CDLL(None).prctl(PR_SET_PDEATHSIG, signal.SIGTERM)
+    signal.pthread_sigmask(signal.SIG_UNBLOCK, ENDINGS)
     if os.getppid() != parent:  # it has ended before
         os._exit(0)
 
@@ -145,11 +148,21 @@ def judged(variant: Listed) -> tuple[Listed, int]:
     return work.judged(variant)
 
 
+def begun(jobs: int) -> Pool:
+    """So many processes. A signal that comes while one begins waits until that does at it what it is to do, and not what
+    this process does."""
+    before = signal.pthread_sigmask(signal.SIG_BLOCK, ENDINGS)
+    try:
+        return multiprocessing.get_context("fork").Pool(jobs, quiet, (os.getpid(),))
+    finally:
+        signal.pthread_sigmask(signal.SIG_SETMASK, before)
+
+
 def spread(jobs: int, function: Callable[[Some], More], things: Iterable[Some]) -> Iterator[More]:
     """What a function makes of these things, by so many processes, in their order; by this one alone where they cannot
     be begun, as in a root without /dev/shm, which has the semaphores between them."""
     try:
-        pool = multiprocessing.get_context("fork").Pool(jobs, quiet, (os.getpid(),)) if jobs > 1 else None
+        pool = begun(jobs) if jobs > 1 else None
     except (ImportError, OSError):
         pool = None
     if pool is None:
