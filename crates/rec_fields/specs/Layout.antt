@@ -33,6 +33,20 @@ Values (Last {A} f) = A
 Values (Rest most) = List ℕ
 Values (Then {A} f l) = A × Values l
 
+-- what takes the values one by one
+abbrev pub Curried : {F : Type 0} → Layout F → Type 0 → Type 0
+Curried Empty B = B
+Curried (Last {A} f) B = A → B
+Curried (Rest most) B = List ℕ → B
+Curried (Then {A} f l) B = A → Curried l B
+
+-- what it makes of them
+abbrev pub made_of : {F B : Type 0} → (l : Layout F) → Curried l B → Values l → B
+made_of Empty make vs = make
+made_of (Last f) make x = make x
+made_of (Rest most) make x = make x
+made_of (Then f l) make vs = made_of l (make vs.0) vs.1
+
 -- the values that stand at a place, handed on; or the first fault, from left to right
 abbrev pub read_by : {F B : Type 0} → Ending F → (l : Layout F) → List ℕ → ℕ → (Values l → Result B F) → Result B F
 read_by e Empty octets place k = e.none octets place >>= k

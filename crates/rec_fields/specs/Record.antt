@@ -6,7 +6,7 @@ use Rattle.alg_choice.specs.{Caps.IsCaps, declared.algs.Algs.Algs, declared.caps
 use Rattle.annex_a_keys.specs.Cell.{Place, IsCell}
 use Rattle.rec_fields.specs.Field.{◌>>=◌, of_size, number_in, from_one_at, algs_at, caps_at, cell_at, rest_at}
 use Rattle.rec_fields.specs.Spelled.{algs_octet, cell_octets}
-use Rattle.rec_fields.specs.Layout.{Field, Ending, Layout, Rest, Values, read_by, spelled_by, width_of, Readers, read_rows}
+use Rattle.rec_fields.specs.Layout.{Field, Ending, Layout, Rest, Values, Curried, made_of, read_by, spelled_by, width_of, Readers, read_rows}
 
 -- an octet from `low` to `high`
 abbrev pub octet : ℕ → ℕ → Field RecFault ℕ
@@ -28,6 +28,10 @@ ncc = octet 0 7
 -- a number of 32 bits, at least 1
 abbrev pub number : Field RecFault ℕ
 number = record { read = from_one_at; spell = octets_of 4; width = 4; Fits = IsNumber }
+
+-- the air address of a phone
+abbrev pub air : Field RecFault ℕ
+air = number
 
 -- a cell
 abbrev pub cell : Field RecFault Place
@@ -69,6 +73,10 @@ pub record Form (A : Type 0) : Type 1 where
   pub kind : ℕ
   pub layout : Layout RecFault
   pub make : Values layout → A
+
+-- the form of a kind whose fields are taken in their order
+abbrev pub form : {A : Type 0} → ℕ → (l : Layout RecFault) → Curried l A → Form A
+form kind l make = record { kind = kind; layout = l; make = λ vs. made_of l make vs }
 
 -- the record of a layout, or the first fault
 abbrev pub read_layout : {A : Type 0} → (l : Layout RecFault) → (Values l → A) → List ℕ → Result A RecFault

@@ -1,37 +1,24 @@
 -- The fields of each RRC text (TS 36.331 6.2.2, in short form).
 use Rattle.rec_fields.specs.Layout.{Empty, Last, Rest, Then}
-use Rattle.rec_fields.specs.Record.{Form, station, ncc, number, cell, algorithms}
+use Rattle.rec_fields.specs.Record.{Form, form, station, ncc, air, cell, algorithms}
 use Rattle.rrc_rec.specs.declared.records.RrcRecord.{RrcRecord}
 use Rattle.rrc_rec.specs.declared.records.RrcRecord.TheVariants.{SecurityModeCommand, SecurityModeComplete, Reconfiguration, ReconfigurationComplete, RrcData, KeyChange}
 
--- algorithms, station, air address
 abbrev pub command : Form RrcRecord
-command = record { kind = 0x01; layout = Then algorithms (Then station (Last number)); make = λ vs. SecurityModeCommand vs.0 vs.1.0 vs.1.1 }
+command = form 0x01 (Then algorithms (Then station (Last air))) SecurityModeCommand
 
--- cell, NCC, algorithms, station, air address
 abbrev pub reconfiguration : Form RrcRecord
-reconfiguration = record {
-  kind = 0x03;
-  layout = Then cell (Then ncc (Then algorithms (Then station (Last number))));
-  make = λ vs. Reconfiguration vs.0 vs.1.0 vs.1.1.0 vs.1.1.1.0 vs.1.1.1.1;
-}
+reconfiguration = form 0x03 (Then cell (Then ncc (Then algorithms (Then station (Last air))))) Reconfiguration
 
--- cell, algorithms, station, air address
 abbrev pub key_change : Form RrcRecord
-key_change = record {
-  kind = 0x06;
-  layout = Then cell (Then algorithms (Then station (Last number)));
-  make = λ vs. KeyChange vs.0 vs.1.0 vs.1.1.0 vs.1.1.1;
-}
+key_change = form 0x06 (Then cell (Then algorithms (Then station (Last air)))) KeyChange
 
--- no field
 abbrev pub complete : Form RrcRecord
-complete = record { kind = 0x02; layout = Empty; make = λ none. SecurityModeComplete }
+complete = form 0x02 Empty SecurityModeComplete
 
--- no field
 abbrev pub reconfigured : Form RrcRecord
-reconfigured = record { kind = 0x04; layout = Empty; make = λ none. ReconfigurationComplete }
+reconfigured = form 0x04 Empty ReconfigurationComplete
 
 -- a text to the end
 abbrev pub any_text : Form RrcRecord
-any_text = record { kind = 0x05; layout = Rest 200; make = RrcData }
+any_text = form 0x05 (Rest 200) RrcData

@@ -1,125 +1,87 @@
 -- The fields of each record of S1 and X2 (TS 36.413, TS 36.423, in short form).
-use Rattle.rec_fields.specs.Layout.{Last, Then}
-use Rattle.rec_fields.specs.Record.{Form, station, ncc, number, cell, algorithms, capabilities, key}
+use Rattle.std.specs.Prelude.{ℕ, List}
+use Rattle.rec_base.specs.declared.faults.RecFault.{RecFault}
+use Rattle.rec_fields.specs.Layout.{Field, Last, Then}
+use Rattle.rec_fields.specs.Record.{Form, form, station, ncc, number, air, cell, algorithms, capabilities, key}
 use Rattle.s1x2_rec.specs.declared.records.CoreRecord.{CoreRecord}
 use Rattle.s1x2_rec.specs.declared.records.CoreRecord.TheVariants.{InitialContext, ContextRelease, PathSwitchRequest, PathSwitchAnswer, HandoverRequired, HandoverRequest, HandoverRequestAck, HandoverCommand, HandoverNotify, HandoverCancel, X2Request, X2Ack, X2Cancel, X2Release, ContextModification}
 
--- connection, cell, capabilities, KeNB
+-- the number of a phone's connection (MME UE S1AP ID)
+abbrev pub connection : Field RecFault ℕ
+connection = number
+
+-- the number that it has from now on
+abbrev pub next_connection : Field RecFault ℕ
+next_connection = number
+
+-- the number of a path switch request
+abbrev pub request : Field RecFault ℕ
+request = number
+
+-- the station of the source, and the number of its attempt
+abbrev pub source : Field RecFault ℕ
+source = station
+
+abbrev pub attempt : Field RecFault ℕ
+attempt = number
+
+-- KeNB, NH and KeNB*
+abbrev pub kenb : Field RecFault (List ℕ)
+kenb = key
+
+abbrev pub nh : Field RecFault (List ℕ)
+nh = key
+
+abbrev pub star : Field RecFault (List ℕ)
+star = key
+
+-- S1
+
 abbrev pub initial_context : Form CoreRecord
-initial_context = record {
-  kind = 0x20;
-  layout = Then number (Then cell (Then capabilities (Last key)));
-  make = λ vs. InitialContext vs.0 vs.1.0 vs.1.1.0 vs.1.1.1;
-}
+initial_context = form 0x20 (Then connection (Then cell (Then capabilities (Last kenb)))) InitialContext
 
--- connection
 abbrev pub context_release : Form CoreRecord
-context_release = record {
-  kind = 0x21;
-  layout = Last number;
-  make = λ vs. ContextRelease vs;
-}
+context_release = form 0x21 (Last connection) ContextRelease
 
--- connection, station, number, cell, capabilities
 abbrev pub path_switch_request : Form CoreRecord
-path_switch_request = record {
-  kind = 0x22;
-  layout = Then number (Then station (Then number (Then cell (Last capabilities))));
-  make = λ vs. PathSwitchRequest vs.0 vs.1.0 vs.1.1.0 vs.1.1.1.0 vs.1.1.1.1;
-}
+path_switch_request = form 0x22 (Then connection (Then station (Then request (Then cell (Last capabilities))))) PathSwitchRequest
 
--- connection, number, NCC, NH
 abbrev pub path_switch_answer : Form CoreRecord
-path_switch_answer = record {
-  kind = 0x23;
-  layout = Then number (Then number (Then ncc (Last key)));
-  make = λ vs. PathSwitchAnswer vs.0 vs.1.0 vs.1.1.0 vs.1.1.1;
-}
+path_switch_answer = form 0x23 (Then connection (Then request (Then ncc (Last nh)))) PathSwitchAnswer
 
--- connection, station, attempt, cell
 abbrev pub handover_required : Form CoreRecord
-handover_required = record {
-  kind = 0x24;
-  layout = Then number (Then station (Then number (Last cell)));
-  make = λ vs. HandoverRequired vs.0 vs.1.0 vs.1.1.0 vs.1.1.1;
-}
+handover_required = form 0x24 (Then connection (Then station (Then attempt (Last cell)))) HandoverRequired
 
--- connection, source, attempt, cell, capabilities, NCC, NH
 abbrev pub handover_request : Form CoreRecord
-handover_request = record {
-  kind = 0x25;
-  layout = Then number (Then station (Then number (Then cell (Then capabilities (Then ncc (Last key))))));
-  make = λ vs. HandoverRequest vs.0 vs.1.0 vs.1.1.0 vs.1.1.1.0 vs.1.1.1.1.0 vs.1.1.1.1.1.0 vs.1.1.1.1.1.1;
-}
+handover_request = form 0x25 (Then connection (Then source (Then attempt (Then cell (Then capabilities (Then ncc (Last nh))))))) HandoverRequest
 
--- connection, source, attempt, cell, NCC, algorithms, air address
 abbrev pub handover_request_ack : Form CoreRecord
-handover_request_ack = record {
-  kind = 0x26;
-  layout = Then number (Then station (Then number (Then cell (Then ncc (Then algorithms (Last number))))));
-  make = λ vs. HandoverRequestAck vs.0 vs.1.0 vs.1.1.0 vs.1.1.1.0 vs.1.1.1.1.0 vs.1.1.1.1.1.0 vs.1.1.1.1.1.1;
-}
+handover_request_ack = form 0x26 (Then connection (Then source (Then attempt (Then cell (Then ncc (Then algorithms (Last air))))))) HandoverRequestAck
 
--- connection, attempt, cell, NCC, algorithms, air address
 abbrev pub handover_command : Form CoreRecord
-handover_command = record {
-  kind = 0x27;
-  layout = Then number (Then number (Then cell (Then ncc (Then algorithms (Last number)))));
-  make = λ vs. HandoverCommand vs.0 vs.1.0 vs.1.1.0 vs.1.1.1.0 vs.1.1.1.1.0 vs.1.1.1.1.1;
-}
+handover_command = form 0x27 (Then connection (Then attempt (Then cell (Then ncc (Then algorithms (Last air)))))) HandoverCommand
 
--- connection, station, cell
 abbrev pub handover_notify : Form CoreRecord
-handover_notify = record {
-  kind = 0x28;
-  layout = Then number (Then station (Last cell));
-  make = λ vs. HandoverNotify vs.0 vs.1.0 vs.1.1;
-}
+handover_notify = form 0x28 (Then connection (Then station (Last cell))) HandoverNotify
 
--- connection, source, attempt, cell
 abbrev pub handover_cancel : Form CoreRecord
-handover_cancel = record {
-  kind = 0x29;
-  layout = Then number (Then station (Then number (Last cell)));
-  make = λ vs. HandoverCancel vs.0 vs.1.0 vs.1.1.0 vs.1.1.1;
-}
+handover_cancel = form 0x29 (Then connection (Then source (Then attempt (Last cell)))) HandoverCancel
 
--- connection, source, attempt, cell, capabilities, NCC, KeNB*
+-- X2
+
 abbrev pub x2_request : Form CoreRecord
-x2_request = record {
-  kind = 0x30;
-  layout = Then number (Then station (Then number (Then cell (Then capabilities (Then ncc (Last key))))));
-  make = λ vs. X2Request vs.0 vs.1.0 vs.1.1.0 vs.1.1.1.0 vs.1.1.1.1.0 vs.1.1.1.1.1.0 vs.1.1.1.1.1.1;
-}
+x2_request = form 0x30 (Then connection (Then source (Then attempt (Then cell (Then capabilities (Then ncc (Last star))))))) X2Request
 
--- connection, attempt, cell, algorithms, air address
 abbrev pub x2_ack : Form CoreRecord
-x2_ack = record {
-  kind = 0x31;
-  layout = Then number (Then number (Then cell (Then algorithms (Last number))));
-  make = λ vs. X2Ack vs.0 vs.1.0 vs.1.1.0 vs.1.1.1.0 vs.1.1.1.1;
-}
+x2_ack = form 0x31 (Then connection (Then attempt (Then cell (Then algorithms (Last air))))) X2Ack
 
--- connection, source, attempt
 abbrev pub x2_cancel : Form CoreRecord
-x2_cancel = record {
-  kind = 0x32;
-  layout = Then number (Then station (Last number));
-  make = λ vs. X2Cancel vs.0 vs.1.0 vs.1.1;
-}
+x2_cancel = form 0x32 (Then connection (Then source (Last attempt))) X2Cancel
 
--- connection, attempt
 abbrev pub x2_release : Form CoreRecord
-x2_release = record {
-  kind = 0x33;
-  layout = Then number (Last number);
-  make = λ vs. X2Release vs.0 vs.1;
-}
+x2_release = form 0x33 (Then connection (Last attempt)) X2Release
 
--- connection, next connection number, KeNB
+-- S1, a key change
+
 abbrev pub context_modification : Form CoreRecord
-context_modification = record {
-  kind = 0x34;
-  layout = Then number (Then number (Last key));
-  make = λ vs. ContextModification vs.0 vs.1.0 vs.1.1;
-}
+context_modification = form 0x34 (Then connection (Then next_connection (Last kenb))) ContextModification
