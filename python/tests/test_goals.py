@@ -11,7 +11,7 @@ import unittest
 from pathlib import Path
 
 from lte_sec.whatif import resumption as resumed
-from lte_sec.whatif.what_if_document import Answer, tellings
+from lte_sec.whatif.what_if_document import Answer, from_json, lines_of, tellings, to_json
 from lte_sec.whatif.named_messages import steps_of
 from lte_sec.whatif.goals import lasting
 from lte_sec.whatif.variant_lists import Listed, Lists
@@ -187,12 +187,21 @@ class Messages(unittest.TestCase):
             for step, outcomes in (("11", lost), ("12", lost), ("14", {"cut off": About(), **lost}))
         ]
         self.assertEqual(
-            list(tellings(variants, Answer({}, messages))),
+            [line.text for line in tellings(variants, Answer({}, messages))],
             [
                 "11 X2 Handover Request, 12 X2 Handover Request Acknowledge lost: not made [handover of step 14]",
                 "14 RRC Reconfiguration lost: cut off (here; a phone re-establishes); not made [handover of step 14]",
             ],
         )
+
+    def test_a_limit_of_the_profile_is_a_value_and_no_sentence(self) -> None:
+        """Also where only a part is one, and in an answer that was written and read again."""
+        for about, is_limited in ((About("x (here)"), False), (About("x (here), y", partly=True), True)):
+            answer = Answer({}, {"14": "Handover Command"}, [Variant((Fault("lost", "14"),), {"weaker key": about})])
+            for each in (answer, from_json(json.loads(json.dumps(to_json(answer))))):
+                told = list(tellings(each.singles, each))
+                self.assertEqual([line.is_limited for line in told], [is_limited])
+                self.assertEqual(len(list(lines_of(told))), 2 + is_limited)
 
 
 class Parts(unittest.TestCase):

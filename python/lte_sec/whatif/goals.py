@@ -17,7 +17,7 @@ from .outcomes import About
 from .spread import Gathering, Share
 from .study import Study, Variant
 from .variant_lists import FEW_FAULTS, MOST_NAMED, Lists
-from .what_if_document import LINK, Answer, tellings
+from .what_if_document import Answer, lines_of, tellings
 
 MOST_FAULTS, USUAL_FAULTS, MANY, LONG = 8, 3, 1_000_000, 100_000
 
@@ -123,11 +123,7 @@ def table(answer: Answer) -> Iterator[str]:
     """The lines: how large the smallest sets are, each of them, and what was searched."""
     goal, sets = answer.goal or {}, [*answer.singles, *answer.together]
     yield f"{goal['is']}: {found(len(sets), goal['smallest']) if sets else none(goal['searched'], answer.whole)}"
-    told = [*tellings(answer.singles, answer, -1), *tellings(answer.together, answer, -1)]
-    yield from told
-    yield ""
-    if any(" (here" in line for line in told):
-        yield f"here: a limit of this profile and not of LTE, see {LINK}"
+    yield from lines_of([*tellings(answer.singles, answer, -1), *tellings(answer.together, answer, -1)])
     kinds, number = ", ".join(answer.tried["kinds"]), len(answer.messages)
     counts = ", ".join(f"{sum(counts.values()):,} of {faults}" for faults, counts in sorted(answer.counts.items()))
     yield (

@@ -39,14 +39,15 @@ class Part:
 
 @dataclass(frozen=True)
 class About:
-    """What an outcome is about: its text, the refusal that brought it, whether the standard has all of it otherwise,
-    and whether it is not there if each security procedure of the core waits for the one before. One that was read from
-    an answer has its limit, as that tells it.
+    """What an outcome is about: its text, the refusal that brought it, whether the standard has all of it otherwise, or
+    a part, and whether it is not there if each security procedure of the core waits for the one before. One that was
+    read from an answer has its limit, as that tells it.
     """
 
     text: str = ""
     answer: str = field(default="", compare=False)
     is_here: bool = field(default=False, compare=False)
+    partly: bool = field(default=False, compare=False)
     waits: bool = field(default=False, compare=False)
     is_read: bool = field(default=False, compare=False)
     limit: str | None = field(default=None, compare=False)
@@ -69,6 +70,7 @@ class About:
             ", ".join(told),
             next((part.answer for part in parts if part.answer), ""),
             bool(parts) and all(part.is_here for part in parts),
+            any(part.is_here for part in parts),
         )
 
     def waiting(self) -> About:

@@ -5,7 +5,7 @@ from collections import Counter
 from collections.abc import Iterator
 from dataclasses import dataclass, field
 from itertools import groupby
-from typing import Any
+from typing import Any, NamedTuple
 
 from ..common.pairs import paired
 from ..runs.remarks import named, with_frames
@@ -118,7 +118,12 @@ def variant_json(variant: Variant, answer: Answer) -> dict[str, Any]:
         for fault in variant.faults
     ]
     outcomes = [
-        {"is": word, "what": str(about), "limit": limit(variant, word, messages)}
+        {
+            "is": word,
+            "what": str(about),
+            "limit": limit(variant, word, messages),
+            "is_limited": is_limited(variant, word, messages),
+        }
         for word, about in variant.outcomes.items()
     ]
     return {
@@ -145,7 +150,12 @@ def from_json(it: dict[str, Any]) -> Answer:
         variant = Variant(
             faults,
             {
-                one["is"]: About(one["what"], is_read=True, limit=one["limit"])
+                one["is"]: About(
+                    one["what"],
+                    partly=one.get("is_limited", one["limit"] is not None),
+                    is_read=True,
+                    limit=one["limit"],
+                )
                 for one in each["outcomes"]
                 if RANK[one["is"]] >= 0
             },
@@ -202,10 +212,7 @@ def table(answer: Answer) -> Iterator[str]:
     told = [*tellings(answer.singles, answer), *tellings(answer.together, answer)]
     if told:
         yield ""
-        yield from told
-    yield ""
-    if any(" (here" in line for line in told):
-        yield f"here: a limit of this profile and not of LTE, see {LINK}"
+    yield from lines_of(told)
     yield "; ".join(counted(faults, answer) for faults in sorted(answer.counts)) or "no variant"
 
 
@@ -228,7 +235,22 @@ def cell(variants: list[Variant]) -> str:
     return worst if at == len(variants) else f"{worst} {at}/{len(variants)}"
 
 
-def tellings(variants: list[Variant], answer: Answer, above: int = RANK[GOES_ON]) -> Iterator[str]:
+class Telling(NamedTuple):
+    """A line, and whether something of it is a limit of this profile."""
+
+    text: str
+    is_limited: bool
+
+
+def lines_of(told: list[Telling]) -> Iterator[str]:
+    """These lines, and what `here` means, if it stands in one."""
+    yield from (line.text for line in told)
+    yield ""
+    if any(line.is_limited for line in told):
+        yield f"here: a limit of this profile and not of LTE, see {LINK}"
+
+
+def tellings(variants: list[Variant], answer: Answer, above: int = RANK[GOES_ON]) -> Iterator[Telling]:
     """A line for variants that differ only in places, if they are worse than `goes on`, or than this rank; where
     something is not made, with the messages whose fault comes to the same, since one is the cause of the next."""
     messages, frames = answer.messages, answer.frames
@@ -238,16 +260,17 @@ def tellings(variants: list[Variant], answer: Answer, above: int = RANK[GOES_ON]
     ]
     for at in reversed(range(max((len(variant.faults) for variant in bad), default=0))):
         told = together(told, at)
-    lines: dict[tuple[int | None, str], list[str]] = {}  # the messages of each line, by what it says behind them
+    lines: dict[tuple[int | None, str, bool], list[str]] = {}  # the messages of each line, by what it says behind them
     for number, (first, faults) in enumerate(told):
         outcomes = "; ".join(outcome(first, word, answer) for word in first.outcomes)
         answers = f", from {with_frames(', '.join(first.answers), frames)}" if first.answers else ""
         others = f" (its own run: {'; '.join(first.by_run)})" if first.by_run else ""
         before = "".join(f"{of_faults(each, messages, frames)} and " for each in faults[:-1])
         own = None if len(faults) == 1 and first.worst == NOT_MADE else number
-        key = own, f"{of_places(faults[-1], frames)}: {outcomes}{answers}{healed(first.heals)}{others}"
+        said = f"{of_places(faults[-1], frames)}: {outcomes}{answers}{healed(first.heals)}{others}"
+        key = own, said, any(is_limited(first, word, messages) for word in first.outcomes)
         lines.setdefault(key, []).append(f"{before}{of_message(faults[-1][0], messages, frames)}")
-    yield from (f"{', '.join(found)} {said}" for (_, said), found in lines.items())
+    yield from (Telling(f"{', '.join(found)} {said}", is_limited) for (_, said, is_limited), found in lines.items())
 
 
 def healed(heals: Heals | None) -> str:
@@ -277,6 +300,11 @@ def together(told: list[tuple[Variant, list[list[Fault]]]], at: int) -> list[tup
         else:
             groups[key] = variant, faults
     return list(groups.values())
+
+
+def is_limited(variant: Variant, word: str, messages: dict[str, str]) -> bool:
+    """Whether an outcome, or a part of it, is a limit of this profile."""
+    return limit(variant, word, messages) is not None or variant.outcomes[word].partly
 
 
 def outcome(variant: Variant, word: str, answer: Answer) -> str:
