@@ -10,12 +10,17 @@ from unittest import mock
 
 from lte_sec.judge import lawful, questions
 from lte_sec.captures.capture_files import read
+from lte_sec.captures.cells import Cells
 from lte_sec.common.causes import Cause, has, told
 from lte_sec.common.report import DIFFERS, KEYS, UNKNOWN, Line
-from lte_sec.common.terms import NONE, Key
+from lte_sec.common.terms import NONE, Derivations, Key
 from lte_sec.judge.account import Account
+from lte_sec.judge.reading import check
 from lte_sec.judge.trace import Trace
 
+from .in_views import BUDGET, broken_cases
+from .networks import SITES
+from .simulated import CALLS
 from .test_traces import TRACES
 from .test_traces import traced as judged
 
@@ -169,6 +174,53 @@ class Blames(unittest.TestCase):
         self.assertIn(f"blames of keys confirmed by proof: {len(wrong)}", seen.head[-1])
         self.assertIn("with at most 1 unseen move between", seen.head[-1])
 
+    def test_that_some_history_has_the_message_is_seen_with_fewer_moves(self) -> None:
+        class Gives(Says):
+            def ask(self, question: str) -> questions.Found | None:
+                is_passed = any(line.startswith("any ") for line in question.splitlines())
+                return None if is_passed and "air" in question.splitlines() else super().ask(question)
+
+        trace = traced("B1-star-earfcn")
+        wrong = blamed(trace.seen)
+        self.assertIn(
+            f"blames of keys confirmed by proof: {len(wrong)}", lawful.confirmed(trace, Gives(*wrong)).head[-1]
+        )
+
+    def test_what_no_history_of_any_length_gives_needs_no_other_search(self) -> None:
+        class Gives(Says):
+            def ask(self, question: str) -> questions.Found | None:
+                is_passed = any(line.startswith("any ") for line in question.splitlines())
+                return None if is_passed else super().ask(question)
+
+        trace = traced("B1-star-earfcn")
+        wrong = blamed(trace.seen)
+        for never, said in ((True, "confirmed by proof"), (False, "not confirmed")):
+            self.assertIn(f"blames of keys {said}: 1", lawful.confirmed(trace, Gives(*wrong, never=never)).head[-1])
+
+    def test_a_search_that_comes_less_far_confirms_nothing(self) -> None:
+        class Gives(Says):
+            def ask(self, question: str) -> questions.Found | None:
+                is_passed = any(line.startswith("any ") for line in question.splitlines())
+                return questions.Found(1, True) if is_passed else super().ask(question)
+
+        trace = traced("B1-star-earfcn")
+        wrong = blamed(trace.seen)
+        self.assertIn("blames of keys not confirmed: 1", lawful.confirmed(trace, Gives(*wrong)).head[-1])
+
+    def test_x2_to_a_station_where_the_phone_came_unseen_is_not_covered(self) -> None:
+        case = next(one for one in broken_cases() if one.name == "the uplink EARFCN")
+        for view, to_the_first in (("without X2 from enb1 to enb2", False), ("without X2 from enb2 to enb3", True)):
+            messages = dict(case.views())[view]
+            trace = check(Derivations(CALLS, case.kasmes), Cells(SITES), messages, BUDGET)
+            asked = Says(*blamed(trace.seen))
+            lawful.confirmed(trace, asked)
+            lines = asked.questions[0].splitlines()  # type: ignore[attr-defined]
+            self.assertEqual(to_the_first, "covers over 0 1" in lines, view)
+            self.assertIn("covers over 1 0", lines)
+            shown = [line for line in lines if line.split()[0] in SIGHTINGS]
+            taps = [line.removeprefix("covers ") for line in lines if line.startswith("covers ")]
+            self.assertTrue(all(any(line.startswith(tap) for tap in taps) for line in shown), view)
+
     def test_where_the_program_is_not_built_the_head_says_so(self) -> None:
         with mock.patch.dict(os.environ, {questions.VARIABLE: ""}):
             self.assertEqual(lawful.NOT_BUILT, lawful.confirmed(traced("B1-star-earfcn")).head[-1])
@@ -186,6 +238,7 @@ class Blames(unittest.TestCase):
                 ("explained 2 of 4 out-of-order", 0, questions.Found(2, False, (), True)),
                 ("explained 2 of 4 out-of-place", 0, questions.Found(2, False, (), True)),
                 ("explained 2 of 4 closed out-of-order out-of-reach", 0, questions.Found(2, True, (), True)),
+                ("explained 2 of 4 out-of-chain", 0, questions.Found(2, False, (), True)),
                 ("bad line 1", 3, None),
                 ("", 12, None),
             ):

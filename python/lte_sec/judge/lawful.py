@@ -23,6 +23,15 @@ NOT_BUILT = (
 )
 
 
+@dataclass(frozen=True)
+class Waiting:
+    """A blame that no history explains, until it is seen that some history has its message with another key."""
+
+    place: int  # of the message in the question
+    bound: int  # within how many unseen moves
+    is_closed: bool  # whether no number of them on links does
+
+
 @dataclass
 class Verdicts:
     """What became of the blames of a trace, by the identity of their values."""
@@ -34,6 +43,9 @@ class Verdicts:
         default_factory=set
     )  # those that no history of any length gives, with moves over the air too
     open: int = 0
+
+    def confirms(self, one: int, blame: Waiting) -> None:
+        self.confirmed[one], self.bounds[one] = blame.is_closed, blame.bound
 
     def head(self, is_proved: bool) -> Iterator[str]:
         """What the head of a report says of its blames."""
@@ -63,34 +75,35 @@ def asked(phone: Phone, taken: Program, verdicts: Verdicts) -> None:
     what follows is asked again.
 
     Where no history has the message at all, whatever its key, the moves of the question are too few to judge by: what
-    is left is not confirmed.
+    is left is not confirmed. That one has it is seen with fewer moves, too, where the search with all is given up; and
+    what no history of any length gives needs no search.
     """
-    blamed = [one for one in phone.sightings if one.value is not None]
-    waiting: dict[
-        int, bool
-    ] = {}  # blames that no history explains, until it is seen that one has the message with another key
+    waiting: dict[int, Waiting] = {}
     for _ in range(ASKS):
         answer = phone.ask(taken)
-        at = answer.explained if answer is not None else 0
-        if answer is not None and (at >= len(phone.sightings) or not phone.sightings[at].passed):
-            verdicts.confirmed.update(waiting)
-            verdicts.bounds.update(dict.fromkeys(waiting, phone.bound))
-            waiting = {}
-        if answer is not None and at >= len(phone.sightings):
+        at = answer.explained if answer is not None else phone.some(taken) if waiting else 0
+        for one, blame in [*waiting.items()]:
+            if blame.place < at or answer is None and one in verdicts.never:
+                verdicts.confirms(one, blame)
+                del waiting[one]
+        if answer is None:
+            break
+        if at >= len(phone.sightings):
             verdicts.explained.update(
                 (id(value), why) for value, why in told(phone, taken) if id(value) not in verdicts.confirmed
             )
             return
         first = phone.sightings[at]
-        if answer is None or first.passed or not first.key:
+        if first.passed or not first.key:
             break
         if first.value is not None:
             if answer.never:
                 verdicts.never.add(id(first.value))
             near = taken.ask(phone.question(FAR_BOUND, False, at + 1))
-            waiting[id(first.value)] = near is not None and near.closed and near.explained == at
+            is_closed = near is not None and near.closed and near.explained == at
+            waiting[id(first.value)] = Waiting(at, phone.bound, is_closed)
         first.passed = True
-    verdicts.open += sum(id(one.value) not in verdicts.confirmed for one in blamed)
+    verdicts.open += sum(one.value is not None and id(one.value) not in verdicts.confirmed for one in phone.sightings)
 
 
 def told(phone: Phone, taken: Program) -> Iterator[tuple[Line, Why]]:

@@ -9,7 +9,7 @@ from pathlib import Path
 
 from ..captures.cells import is_cell
 from ..captures.coverage import DOWN, UP
-from ..common.causes import Cause, Why, has
+from ..common.causes import Cause, Why, every
 from ..common.report import DIFFERS, KEYS, Line
 from ..common.terms import Key, counted, numbered
 from .account import Seen
@@ -20,7 +20,8 @@ COUNTS = 40  # that are tried behind the last one where a station's messages to 
 MOST = 256  # stations, or KASMEs
 SECONDS = 60.0  # for one question
 VARIABLE = "LTE_SEC_TRACE"  # `proved` or `unproved`, and the path of the program: the launcher says it
-NEVER = ("out-of-order", "out-of-place", "out-of-reach")  # said of a message that no history gives, of any length
+# said of a message that no history gives, of any length
+NEVER = ("out-of-order", "out-of-place", "out-of-reach", "out-of-chain")
 MOST_STEPS = 255  # of a chain, to a key whose derivation is told
 MOST_TOLD = 8  # moves of such a history that are told
 ANSWERED = {
@@ -140,7 +141,9 @@ class Phone:
         self.numbers = Numbering()
         self.kasmes: dict[int, int] = {}
         self.bound = BOUNDS[0]
-        self.sightings = [*self.all()]
+        found = [*self.all()]
+        taps = {line.partition(" ")[2] for line in self.taps()}
+        self.sightings = [one for one in found if one.at in taps or one.value is not None]
 
     def all(self) -> Iterator[Sighting]:
         answered = self.answered()
@@ -259,13 +262,23 @@ class Phone:
                 yield from (f"covers {what} {number}" for what in ("setup", "change", "answer", "request"))
             if coverage.s1(name, UP):
                 yield from (f"covers {what} {number}" for what in ("took", "asked"))
-        if not any(has(value.said, Cause.WITHOUT_X2) for one in self.messages for value in one.values):
-            yield from (
-                f"covers over {found[one]} {found[other]}"
-                for one in found
-                for other in found
-                if one != other and coverage.x2(one, other)
-            )
+        unseen = self.came_unseen()
+        yield from (
+            f"covers over {found[one]} {found[other]}"
+            for one in found
+            for other in found
+            if one != other and other not in unseen and coverage.x2(one, other)
+        )
+
+    def came_unseen(self) -> set[object]:
+        """The stations to which the phone came by a handover of which the trace lacks X2: no X2 to them is covered."""
+        return {
+            reason.value("station")
+            for one in self.messages
+            for value in one.values
+            for reason in every(value.said)
+            if reason.cause is Cause.WITHOUT_X2
+        }
 
     def fits(self) -> bool:
         """Whether the program takes a question of so many stations and KASMEs."""
@@ -282,6 +295,11 @@ class Phone:
             if answer is not None:
                 return answer
         return None
+
+    def some(self, taken: Program) -> int:
+        """How many messages have a history, as far as searches of fewer moves tell: none over the air."""
+        answers = (taken.ask(self.question(bound, False)) for bound in BOUNDS) if self.fits() else ()
+        return max((answer.explained for answer in answers if answer is not None), default=0)
 
     def question(self, bound: int, air: bool, upto: int | None = None, told: bool = False) -> str:
         self.kasmes = {}
