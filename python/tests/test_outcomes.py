@@ -15,6 +15,7 @@ from lte_sec.whatif.probe import PROBE
 from lte_sec.whatif.saving import save
 from lte_sec.runs.scenarios import text
 from lte_sec.whatif.study import Study, Variant
+from lte_sec.whatif.variant_lists import Sending
 from lte_sec.runs.variants import Fault
 
 from .studied import TOP, listed, octets, program, programs, study
@@ -78,6 +79,14 @@ class Courses(unittest.TestCase):
         for sends in (False, True):
             wrong = whole.runs.course(items, whole.usual, {item.name: sends for item in items})
             self.assertEqual(wrong.report, right.report)
+
+    def test_a_variant_takes_one_run_where_it_is_told_what_sent(self) -> None:
+        whole = study("run/ordinary")
+        for each in listed(octets("run/ordinary")):
+            tried, sending = whole.tried(each.faults, each.sending), each.sending or Sending(0)
+            self.assertEqual((tried.course.runs, tried.serving), (1, sending.serving), f"{each.faults}")
+        wrong = Sending(0, "".join("10"[int(digit)] for digit in sending.sent))
+        self.assertEqual(whole.tried(each.faults, wrong).course.report, tried.course.report)
 
     def test_a_record_that_is_not_sent_falls_away(self) -> None:
         whole = study("run/ordinary")

@@ -17,7 +17,7 @@ from lte_sec.whatif import what_if_word as what_if
 from lte_sec.whatif.what_if_document import Answer, from_json, merged, ranges, table, to_json
 from lte_sec.runs.courses import ProgramFails
 from lte_sec.whatif.healing import Heals
-from lte_sec.whatif.variant_lists import Lists, order, variant_of
+from lte_sec.whatif.variant_lists import Lists, Sending, order, variant_of
 from lte_sec.whatif.outcomes import NOT_TOLD, RANK, WORDS, About
 from lte_sec.whatif.probe import AGAIN, opens
 from lte_sec.whatif.study import Variant
@@ -60,22 +60,32 @@ class Lines(unittest.TestCase):
             self.assertEqual(found, whole[part[0] - 1 :: part[1]], f"{part} {jobs}")
 
     def test_lines_are_read(self) -> None:
-        for line, faults, outcomes, heals in (
+        for line, faults, outcomes, heals, sending in (
             (
                 "lost 9: stuck; not made, heals authentication",
                 (Fault("lost", "9"),),
                 ("stuck", "not made"),
                 Heals("authentication"),
+                None,
             ),
             (
                 "late 9 12, again 14: same, heals nothing",
                 (Fault("late", "9", "12"), Fault("again", "14")),
                 ("same",),
                 Heals(None),
+                None,
             ),
-            ("lost 9: coincidence", (Fault("lost", "9"),), ("coincidence",), None),
+            (
+                "lost 9: cut off, heals reconnection, serving 1, sent 0110",
+                (Fault("lost", "9"),),
+                ("cut off",),
+                Heals("reconnection"),
+                Sending(1, "0110"),
+            ),
+            ("lost 9: coincidence, serving 0, sent ", (Fault("lost", "9"),), ("coincidence",), None, Sending(0)),
+            ("lost 9: coincidence", (Fault("lost", "9"),), ("coincidence",), None, None),
         ):
-            self.assertEqual(variant_of(line), (faults, outcomes, heals))
+            self.assertEqual(variant_of(line), (faults, outcomes, heals, sending))
         lists = Lists("", b"", KINDS, False)
         lines = [
             "scenario 27 2 serving 1 heals reconnection",
@@ -98,7 +108,7 @@ class Lines(unittest.TestCase):
         for name in ("run/ordinary", "run/lost-answer", "what-if/release-and-service"):
             whole, before = study(name), None
             for each in listed(octets(name), "late", "twice"):
-                tried = whole.tried(each.faults, before)
+                tried = whole.tried(each.faults, each.sending)
                 if (
                     before
                     and before.variant.faults[0].item == each.faults[0].item
@@ -113,7 +123,9 @@ class Lines(unittest.TestCase):
         """The status, the document and what is said where the program lists this in place of its line for `lost 3`."""
         with tempfile.TemporaryDirectory() as room:
             wrong = Path(room) / "wrong"
-            wrong.write_text(f"#!/bin/sh\n'{program('lte_variants')}' \"$@\" | sed 's/^lost 3: .*,/lost 3: {line},/'\n")
+            wrong.write_text(
+                f"#!/bin/sh\n'{program('lte_variants')}' \"$@\" | sed 's/^lost 3: [^,]*/lost 3: {line}/'\n"
+            )
             wrong.chmod(0o700)
             out, err = io.StringIO(), io.StringIO()
             with contextlib.redirect_stdout(out), contextlib.redirect_stderr(err):
@@ -155,7 +167,10 @@ class Lines(unittest.TestCase):
                 again = opens(tried.course, "again arrives", AGAIN)
                 anew = (
                     whole.prober.refusal(
-                        whole.faults.put_all(each.faults) or [], whole.usual, tried.course.sends(), tried.serving
+                        whole.faults.put_all(each.faults) or [],
+                        whole.usual,
+                        tried.course.sends(),
+                        Sending(tried.serving),
                     )
                     is None
                 )

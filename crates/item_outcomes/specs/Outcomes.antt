@@ -1,5 +1,6 @@
 -- The outcomes of a variant beside its scenario.
-use Rattle.std.specs.Prelude.{ℕ, ◌==◌, Bool, true, false, if◌then◌else◌, List, [], ◌∷◌, ◌++◌, length, Option, Some, None}
+use Rattle.std.specs.Prelude.{ℕ, ◌==◌, Bool, true, false, if◌then◌else◌, List, [], ◌∷◌, ◌++◌, length, map, Option, Some, None, is_some}
+use Rattle.item_lines.specs.declared.lines.Told.{Told}
 use Rattle.item_outcomes.specs.Handovers.{context_left, misrouted, no_handover}
 use Rattle.item_outcomes.specs.Keys.{keys_differ, not_made, weaker_key}
 use Rattle.item_outcomes.specs.Packets.{better, counts_apart, cut_off, fates, nas_apart, packet_lost, stuck}
@@ -52,15 +53,28 @@ outcomes own usual here =
     if here.over then outcome.Coincidence ∷ []
     else (if length (worse own usual here) == 0 then best (same own usual.told here.told) ∷ [] else worse own usual here)
 
+-- WHAT SENT: of each line, in order, whether a record was sent
+abbrev pub sends : Told → Bool
+sends t = is_some t.line.sent
+
+abbrev pub sent_of : List Told → List Bool
+sent_of told = map sends told
+
 -- WHAT IS TOLD OF A VARIANT
 pub record Verdict : Type 0 where
   -- its outcomes
   pub outcomes : List Outcome
   -- what heals it; at a coincidence nothing is told
   pub heals : Option Heals
+  -- the station that serves its phone
+  pub serving : ℕ
+  -- of each of its lines, and of those of the probe behind them, whether a record was sent
+  pub sent : List Bool
 
 abbrev pub verdict_of : List ℕ → Standing → Standing → Verdict
 verdict_of own usual here = record {
   outcomes = outcomes own usual here;
   heals = if here.over then None else Some (heals_of here.told);
+  serving = here.serving;
+  sent = sent_of here.told;
 }

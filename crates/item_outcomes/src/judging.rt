@@ -1,6 +1,6 @@
 ghost use Rattle.growth.specs.Growth.{WasRefused};
 ghost use Rattle.std.specs.Prelude.{◌≡◌, ◌∷◌, [], IfOk, OnErr};
-ghost use Rattle.item_outcomes.specs.Outcomes.{best, is_told, outcomes, told_from, verdict_of, worse};
+ghost use Rattle.item_outcomes.specs.Outcomes.{best, is_told, outcomes, sent_of, told_from, verdict_of, worse};
 
 use crate::handovers::{context_left, misrouted, no_handover};
 use crate::heals::Heals;
@@ -8,6 +8,7 @@ use crate::keys::{keys_differ, not_made, weaker_key};
 use crate::packets::{better, counts_apart, cut_off, nas_apart, packet_lost, stuck};
 use crate::same::same;
 use crate::standing::Standing;
+use item_lines::Told;
 use std::alloc::{AllocError, Global};
 use std::marker::Model;
 
@@ -62,11 +63,13 @@ static WORST_FIRST: [Outcome; 12] = [
     Outcome::Better,
 ];
 
-/// What is told of a variant: its outcomes, the worst first, and what heals it.
+/// What is told of a variant: its outcomes, the worst first, what heals it, the station that serves its phone, and which of its lines sent.
 #[derive(Drop)]
 pub struct Verdict {
     outcomes: Vec<Outcome>,
     heals: Option<Heals>,
+    serving: u8,
+    sent: Vec<bool>,
 }
 
 impl Model for Verdict {
@@ -74,7 +77,7 @@ impl Model for Verdict {
 
     ghost Value = { AVerdict };
 
-    ghost view = { λ v. record { outcomes = v.outcomes.items; heals = v.heals } };
+    ghost view = { λ v. record { outcomes = v.outcomes.items; heals = v.heals; serving = v.serving; sent = v.sent.items } };
 }
 
 impl Verdict {
@@ -91,6 +94,20 @@ impl Verdict {
     {
         self.heals
     }
+
+    /// The station that serves its phone.
+    pub fn serving(&self) -> u8
+        ensures { result ≡ self.now.serving }
+    {
+        self.serving
+    }
+
+    /// Of each of its lines, and of those of the probe behind them, whether a record was sent.
+    pub fn sent(&self) -> &[bool]
+        ensures { result.now ≡ self.now.sent }
+    {
+        self.sent.as_slice()
+    }
 }
 
 /// What is told of a variant beside its scenario; `own` has the names of the items of its faults.
@@ -104,12 +121,31 @@ pub fn verdict_of(
     ensures refused { OnErr result WasRefused }
 {
     let outcomes = outcomes(alloc, own, usual, here)?;
+    let sent = sent_of(alloc, here.told())?;
     let heals = if here.over() {
         None
     } else {
         Some(here.heals())
     };
-    Ok(Verdict { outcomes, heals })
+    Ok(Verdict {
+        outcomes,
+        heals,
+        serving: here.serving(),
+        sent,
+    })
+}
+
+// Of each of these lines whether a record was sent.
+fn sent_of(alloc: Global, told: &[Told]) -> Result<Vec<bool>, AllocError>
+    ensures sent { IfOk result (λ list. list.items ≡ sent_of told.now) }
+    ensures refused { OnErr result WasRefused }
+{
+    let mut list = Vec::new(alloc);
+    for t in told {
+        growth::reserve(&mut list, 1)?;
+        list.push_reserved(t.line.sent.is_some());
+    }
+    Ok(list)
 }
 
 /// All outcomes of a variant beside its scenario, the worst first; `own` has the names of the items of its faults. At a coincidence nothing

@@ -17,7 +17,7 @@ use Rattle.fault_sets.proofs.Once.{once}
 use Rattle.variant_runs.specs.{Judged.entries, Original.Original, Original.original_of, Original.own_lines}
 use Rattle.lte_variants.specs.{Choices.share_from, Kinds.happening, Kinds.happens, Named.is_later, Named.most_named, Named.one_more, Named.those_named, Report.asked, Report.messages_asked, declared.request.Request.Request, declared.request.Share.Share}
 use Rattle.lte_variants.specs.Once.{AsksOnce, ChoicesOnce}
-use Rattle.lte_variants.specs.Request.{are_sets, fitting, is_of, is_packets, kind_of, request_of, share_of, size_of, size_with, together_of, unlimited, with_kind_or_other, with_named, with_share, with_step_or_share, with_word, with_words, words_with}
+use Rattle.lte_variants.specs.Request.{are_sets, fitting, is_of, is_packets, is_sent, kind_of, request_of, share_of, size_of, size_with, together_of, unlimited, with_kind_or_other, with_named, with_share, with_step_or_share, with_word, with_words, words_with}
 
 -- A LIST OF WHICH SOME STAY
 
@@ -195,7 +195,8 @@ either_once false o p h g = g
 word_once : (word : List ℕ) (r : Request) → NamedOnce r.named → NamesOnce (with_word word r)
 word_once word r h =
     either_once (is_packets word) (Some (record r { packets = true })) _ h
-    (either_once (is_of word) (Some (record r { named = Some [] })) _ tt (kind_once word r (kind_of word) h))
+    (either_once (is_sent word) (Some (record r { sent = true })) _ h
+    (either_once (is_of word) (Some (record r { named = Some [] })) _ tt (kind_once word r (kind_of word) h)))
 
 words_once : (words : List (String Global)) (o : Option Request) → NamesOnce o → NamesOnce (with_words words o)
 unfolding with_words

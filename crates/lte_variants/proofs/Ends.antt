@@ -7,7 +7,7 @@ use Rattle.item_faults.specs.{declared.changes.Fault.Fault, declared.messages.Me
 use Rattle.item_outcomes.specs.{Outcomes.Verdict, declared.heals.Heals.Heals, declared.troubles.Trouble.Trouble}
 use Rattle.item_outcomes.specs.declared.troubles.Trouble.TheVariants as trouble
 use Rattle.scenario_file.specs.{Refused.fault_text, Refused.refused_text, declared.faults.ScenarioFault.ScenarioFault}
-use Rattle.variant_text.specs.{Faults.faults_text, Healing.heals_name, Healing.heals_text, Messages.message_name, Outcomes.outcomes_text}
+use Rattle.variant_text.specs.{Faults.faults_text, Healing.heals_name, Healing.heals_text, Messages.message_name, Outcomes.outcomes_text, Sent.sent_text}
 use Rattle.variant_text.specs.Lines.{end_line, keys_line, lost_line, message_line, scenario_line, trouble_line, variant_line}
 
 refused_ends : (fault : ScenarioFault) → EndsLine (refused_text fault)
@@ -57,9 +57,10 @@ message_ends number message = on (codes "message ") _ (on (decimal number) _ (on
 pub message_is : (number : ℕ) (message : Message) → are_lines (message_line number message) ≡ true
 message_is number message = is_lines _ (message_ends number message)
 
-pub variant_is : (faults : List Fault) (v : Verdict) → are_lines (variant_line faults v) ≡ true
-variant_is faults v =
-    is_lines _ (on (faults_text faults) _ (on (codes ": ") _ (on (outcomes_text v.outcomes) _ (on (heals_text v.heals) _ feed))))
+pub variant_is : (sent : Bool) (faults : List Fault) (v : Verdict) → are_lines (variant_line sent faults v) ≡ true
+variant_is sent faults v =
+    is_lines _
+    (on (faults_text faults) _ (on (codes ": ") _ (on (outcomes_text v.outcomes) _ (on (heals_text v.heals) _ (on (sent_text sent v) _ feed)))))
 
 end_ends : (variants : ℕ) → EndsLine (end_line variants)
 unfolding end_line

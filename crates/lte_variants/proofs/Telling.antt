@@ -40,9 +40,10 @@ each_more f xs i d within = record { is = ap (flat_map f) (drop_more xs i d with
 
 -- A VARIANT
 
-pub told_line : (o : Original) (faults : List Fault) (told : Option Verdict) → told ≡ judged o faults → line_told faults told ≡ line_of o faults
+pub told_line : (sent : Bool) (o : Original) (faults : List Fault) (told : Option Verdict) → told ≡ judged o faults
+    → line_told sent faults told ≡ line_of sent o faults
 unfolding line_of
-told_line o faults told is = ap (line_told faults) is
+told_line sent o faults told is = ap (line_told sent faults) is
 
 pub told_so : (o : Original) (faults : List Fault) (told : Option Verdict) → told ≡ judged o faults → is_some told ≡ is_variant o faults
 unfolding is_variant
@@ -50,27 +51,27 @@ told_so o faults told is = ap is_some is
 
 -- THE VARIANTS OF A LIST OF CHOICES
 
-pub one_more : (o : Original) (all left : List (List Fault)) (choice faults : List Fault) (rest : List (List Fault)) (told : Bool)
+pub one_more : (sent : Bool) (o : Original) (all left : List (List Fault)) (choice faults : List Fault) (rest : List (List Fault)) (told : Bool)
     {first mid now : Told}
-    → Partly (variant_lines o all) (variant_lines o left) first mid
+    → Partly (variant_lines sent o all) (variant_lines sent o left) first mid
     → left ≡ choice ∷ rest
     → faults ≡ choice
-    → WritesText (line_of o faults) (Ok told) mid now
-    → Partly (variant_lines o all) (variant_lines o rest) first now
-one_more o all left choice faults rest told {mid = mid} {now = now} so_far is same w =
-    more_written so_far (record { is = ap (variant_lines o) is })
-    (subst (λ f. WritesText (line_of o f) (Ok told) mid now) same w)
+    → WritesText (line_of sent o faults) (Ok told) mid now
+    → Partly (variant_lines sent o all) (variant_lines sent o rest) first now
+one_more sent o all left choice faults rest told {mid = mid} {now = now} so_far is same w =
+    more_written so_far (record { is = ap (variant_lines sent o) is })
+    (subst (λ f. WritesText (line_of sent o f) (Ok told) mid now) same w)
 
-pub one_cut : (o : Original) (all left : List (List Fault)) (choice faults : List Fault) (rest : List (List Fault)) {fault : Unwritten}
+pub one_cut : (sent : Bool) (o : Original) (all left : List (List Fault)) (choice faults : List Fault) (rest : List (List Fault)) {fault : Unwritten}
     {first mid now : Told}
-    → Partly (variant_lines o all) (variant_lines o left) first mid
+    → Partly (variant_lines sent o all) (variant_lines sent o left) first mid
     → left ≡ choice ∷ rest
     → faults ≡ choice
-    → WritesText {A = Bool} (line_of o faults) (Err fault) mid now
-    → WritesText {A = ℕ} (variant_lines o all) (Err fault) first now
-one_cut o all left choice faults rest {fault} {mid = mid} {now = now} so_far is same w =
-    cut_written so_far (record { is = ap (variant_lines o) is })
-    (subst (λ f. WritesText {A = Bool} (line_of o f) (Err fault) mid now) same w)
+    → WritesText {A = Bool} (line_of sent o faults) (Err fault) mid now
+    → WritesText {A = ℕ} (variant_lines sent o all) (Err fault) first now
+one_cut sent o all left choice faults rest {fault} {mid = mid} {now = now} so_far is same w =
+    cut_written so_far (record { is = ap (variant_lines sent o) is })
+    (subst (λ f. WritesText {A = Bool} (line_of sent o f) (Err fault) mid now) same w)
 
 counted : (b : Bool) (x : List Fault) (xs : List (List Fault)) → length (if b then x ∷ xs else xs) ≡ (if b then 1 else 0) + length xs
 counted true x xs = omega arith

@@ -20,13 +20,13 @@ line_with number (Some message) = message_line number message
 unfoldable pub line_at : List Step → ℕ → List ℕ
 line_at steps number = line_with number (message_at steps number)
 
--- ITS VARIANTS: a line for each choice of faults that go together
-abbrev pub line_told : List Fault → Option Verdict → List ℕ
-line_told faults None = []
-line_told faults (Some verdict) = variant_line faults verdict
+-- ITS VARIANTS: a line for each choice of faults that go together; where it is asked for, with the station that serves and which lines sent
+abbrev pub line_told : Bool → List Fault → Option Verdict → List ℕ
+line_told sent faults None = []
+line_told sent faults (Some verdict) = variant_line sent faults verdict
 
-unfoldable pub line_of : Original → List Fault → List ℕ
-line_of o faults = line_told faults (judged o faults)
+unfoldable pub line_of : Bool → Original → List Fault → List ℕ
+line_of sent o faults = line_told sent faults (judged o faults)
 
 unfoldable pub is_variant : Original → List Fault → Bool
 is_variant o faults = is_some (judged o faults)
@@ -53,14 +53,14 @@ abbrev pub messages_told : Original → List ℕ → List ℕ
 messages_told o messages = scenario_told o (length messages) ++ message_lines o messages
 
 -- the variants of these choices, and how many there are
-abbrev pub variant_lines : Original → List (List Fault) → List ℕ
-variant_lines o choices = flat_map (line_of o) choices
+abbrev pub variant_lines : Bool → Original → List (List Fault) → List ℕ
+variant_lines sent o choices = flat_map (line_of sent o) choices
 
 abbrev pub variants : Original → List (List Fault) → ℕ
 variants o choices = length (filter (is_variant o) choices)
 
-abbrev pub told_of : Original → List (List Fault) → List ℕ
-told_of o choices = variant_lines o choices ++ end_line (variants o choices)
+abbrev pub told_of : Bool → Original → List (List Fault) → List ℕ
+told_of sent o choices = variant_lines sent o choices ++ end_line (variants o choices)
 
 -- the choices of a share, of the faults of these messages that happen
 abbrev pub asked : Request → Original → List ℕ → List (List Fault)
@@ -68,7 +68,7 @@ asked r o messages = in_share r.share (sets_of r.faults (happening r.kinds (faul
 
 -- both, by the messages
 abbrev pub report_with : Request → Original → List ℕ → List ℕ
-report_with r o messages = messages_told o messages ++ told_of o (asked r o messages)
+report_with r o messages = messages_told o messages ++ told_of r.sent o (asked r o messages)
 
 unfoldable pub report_of : Request → Original → List ℕ
 report_of r o = report_with r o (messages_asked r o.steps)

@@ -1,5 +1,5 @@
 -- The words of the program: how many faults a variant has, and behind it a share of the variants, as `2/3`, kinds of faults, messages by
--- their steps, and `--packets`.
+-- their steps, `sent`, and `--packets`.
 use Rattle.std.specs.Prelude.{◌≡◌, ℕ, ◌+◌, ◌≤◌, ◌==◌, ◌&&◌, ◌||◌, nat_lt, not, Bool, true, false, String, Option, Some, None, List, [], ◌∷◌, codes, take, drop, position, if◌then◌else◌}
 use Rattle.std.specs.{declared.alloc.Global.Global, Option.option_map, Option.option_and_then, Option.is_some, Str.bytes_eq, String.string_bytes}
 use Rattle.text_lines.specs.Words.{number_of}
@@ -44,9 +44,13 @@ is_slash octet = octet == 47
 abbrev pub share_of : List ℕ → Option Share
 share_of word = option_and_then (λ at. share_by (number_of (take at word)) (number_of (drop (at + 1) word))) (position is_slash word)
 
--- OTHER WORDS: whether faults happen to user packets too, whether only to messages that are named, and the kind of faults that a word names
+-- OTHER WORDS: whether faults happen to user packets too, whether it is told which lines of a variant sent, whether faults happen only to
+-- messages that are named, and the kind of faults that a word names
 abbrev pub is_packets : List ℕ → Bool
 is_packets word = bytes_eq word (codes "--packets")
+
+abbrev pub is_sent : List ℕ → Bool
+is_sent word = bytes_eq word (codes "sent")
 
 abbrev pub is_of : List ℕ → Bool
 is_of word = bytes_eq word (codes "of")
@@ -61,7 +65,7 @@ kind_of word =
 
 -- WHAT EACH WORD SAYS behind how many faults a variant has. The steps of messages stand behind `of`
 abbrev pub unlimited : ℕ → Request
-unlimited faults = record { faults = faults; share = all; kinds = no_kinds; named = None; packets = false }
+unlimited faults = record { faults = faults; share = all; kinds = no_kinds; named = None; packets = false; sent = false }
 
 abbrev pub with_share : Request → Option Share → Option Request
 with_share r None = None
@@ -82,6 +86,7 @@ with_kind_or_other word r (Some kind) = Some (record r { kinds = with_kind kind 
 abbrev pub with_word : List ℕ → Request → Option Request
 with_word word r =
     if is_packets word then Some (record r { packets = true })
+    else if is_sent word then Some (record r { sent = true })
     else if is_of word then Some (record r { named = Some [] })
     else with_kind_or_other word r (kind_of word)
 

@@ -195,49 +195,51 @@ fn write_variants<W: Sink>(
     requires request { IsRequest request.now }
     requires few { length study.now.steps ≤ most_steps }
     requires fewer { FewEnough request.now.faults (length messages.now) }
-    ensures { WritesText (told_of study.now (asked request.now study.now messages.now)) result (W.told out.old) (W.told out.new) }
+    ensures { WritesText (told_of request.now.sent study.now (asked request.now study.now messages.now)) result (W.told out.old) (W.told out.new) }
 {
     match faults_with(alloc, request.kinds, study.entries(), messages) {
         Ok(faults) => {
             let choices = Shared::of(request.share, request.faults, faults.as_slice());
-            write_told(alloc, study, choices, out)
+            write_told(alloc, request.sent, study, choices, out)
         }
         Err(_) => Err(Unwritten::Memory),
     }
 }
 
-// Writes the lines of the variants of these choices, and how many there are.
+// Writes the lines of the variants of these choices, with what sent where it is asked for, and how many there are.
 fn write_told<W: Sink>(
     alloc: Global,
+    sent: bool,
     study: &Study,
     choices: Shared,
     out: &mut W,
 ) -> Result<(), Unwritten>
     requires out_ready { IsTrue (W.told out.old).ready }
     requires few { length choices < 2 ^ 128 }
-    ensures { WritesText (told_of study.now choices.entry) result (W.told out.old) (W.told out.new) }
+    ensures { WritesText (told_of sent study.now choices.entry) result (W.told out.old) (W.told out.new) }
 {
-    let count = write_choices(alloc, study, choices, out)?;
+    let count = write_choices(alloc, sent, study, choices, out)?;
     write_string(end_line(alloc, count), out)
 }
 
 // Writes the lines of the variants of these choices, and answers how many there are.
 fn write_choices<W: Sink>(
     alloc: Global,
+    sent: bool,
     study: &Study,
     mut choices: Shared,
     out: &mut W,
 ) -> Result<u128, Unwritten>
     requires out_ready { IsTrue (W.told out.old).ready }
     requires few { length choices < 2 ^ 128 }
-    ensures text { WritesText (variant_lines study.now choices.entry) result (W.told out.old) (W.told out.new) }
+    ensures text { WritesText (variant_lines sent study.now choices.entry) result (W.told out.old) (W.told out.new) }
     ensures count { IfOk result (λ count. count ≡ variants study.now choices.entry) }
 {
     let mut count = 0;
     'choices: loop {
         match choices.next() {
             Some(choice) => {
-                let told = write_choice(alloc, study, choice.faults(), out)?;
+                let told = write_choice(alloc, sent, study, choice.faults(), out)?;
                 count = counted(count, told);
             }
             None => return Ok(count),
@@ -255,18 +257,19 @@ fn counted(count: u128, told: bool) -> u128
 // Writes the line of a variant, and answers whether these faults go together.
 fn write_choice<W: Sink>(
     alloc: Global,
+    sent: bool,
     study: &Study,
     faults: &[Fault],
     out: &mut W,
 ) -> Result<bool, Unwritten>
     requires out_ready { IsTrue (W.told out.old).ready }
     requires few { length faults.now ≤ 8 }
-    ensures text { WritesText (line_of study.now faults.now) result (W.told out.old) (W.told out.new) }
+    ensures text { WritesText (line_of sent study.now faults.now) result (W.told out.old) (W.told out.new) }
     ensures told { IfOk result (λ told. told ≡ is_variant study.now faults.now) }
 {
     match study.verdict(alloc, faults) {
         Ok(Some(verdict)) => {
-            write_text(variant_line(alloc, faults, &verdict), out)?;
+            write_text(variant_line(alloc, sent, faults, &verdict), out)?;
             Ok(true)
         }
         Ok(None) => Ok(false),

@@ -4,7 +4,7 @@ ghost use Rattle.std.specs.Option.{option_and_then, option_map};
 ghost use Rattle.std.specs.String.{string_bytes};
 ghost use Rattle.text_lines.specs.Words.{number_of};
 ghost use Rattle.lte_variants.specs.Named.{one_more};
-ghost use Rattle.lte_variants.specs.Request.{a_size, all, are_sets, fitting, is_of, is_packets, is_slash, kind_of, most_faults, request_of, share_by, share_of, size_of, size_with, together_of, unlimited, with_named, with_share, with_step_or_share, with_word, with_words, words_with, IsRequest, IsShare};
+ghost use Rattle.lte_variants.specs.Request.{a_size, all, are_sets, fitting, is_of, is_packets, is_sent, is_slash, kind_of, most_faults, request_of, share_by, share_of, size_of, size_with, together_of, unlimited, with_named, with_share, with_step_or_share, with_word, with_words, words_with, IsRequest, IsShare};
 
 use crate::kinds::Kinds;
 use crate::named::Named;
@@ -54,6 +54,8 @@ pub struct Request {
     pub named: Option<Named>,
     /// Whether faults happen to user packets too.
     pub packets: bool,
+    /// Whether it is told of each variant which station serves, and which of its lines sent.
+    pub sent: bool,
 }
 
 /// The request that these words are, if they are one. It takes no memory.
@@ -124,6 +126,7 @@ fn unlimited(faults: usize) -> Request
         },
         named: None,
         packets: false,
+        sent: false,
     }
 }
 
@@ -154,6 +157,12 @@ fn with_word(request: Request, word: &String) -> Option<Request>
     if is_packets(word) {
         return Some(Request {
             packets: true,
+            ..request
+        });
+    }
+    if is_sent(word) {
+        return Some(Request {
+            sent: true,
             ..request
         });
     }
@@ -229,6 +238,15 @@ fn is_packets(word: &String) -> bool
 {
     match word.as_str() {
         "--packets" => true,
+        _ => false,
+    }
+}
+
+fn is_sent(word: &String) -> bool
+    ensures { result ≡ is_sent (string_bytes word.now) }
+{
+    match word.as_str() {
+        "sent" => true,
         _ => false,
     }
 }

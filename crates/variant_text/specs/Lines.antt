@@ -1,10 +1,10 @@
 -- The lines of the answer for a scenario.
-use Rattle.std.specs.Prelude.{ℕ, nat_lt, if◌then◌else◌, List, ◌++◌, codes}
+use Rattle.std.specs.Prelude.{ℕ, nat_lt, if◌then◌else◌, Bool, List, ◌++◌, codes}
 use Rattle.std.specs.Fmt.{decimal}
 use Rattle.item_faults.specs.{declared.changes.Fault.Fault, declared.messages.Message.Message}
 use Rattle.item_outcomes.specs.{Outcomes.Verdict, declared.heals.Heals.Heals, declared.troubles.Trouble.Trouble}
 use Rattle.item_outcomes.specs.declared.troubles.Trouble.TheVariants as trouble
-use Rattle.variant_text.specs.{Faults.faults_text, Healing.heals_name, Healing.heals_text, Messages.message_name, Outcomes.outcomes_text}
+use Rattle.variant_text.specs.{Faults.faults_text, Healing.heals_name, Healing.heals_text, Messages.message_name, Outcomes.outcomes_text, Sent.sent_text}
 
 -- `scenario 27 16 serving 1 heals reconnection`: how many steps and messages a scenario has, the station that serves its phone behind them,
 -- and what heals it
@@ -31,9 +31,11 @@ trouble_line steps (trouble.PacketLost step) = lost_line step
 unfoldable pub message_line : ℕ → Message → List ℕ
 message_line step message = codes "message " ++ (decimal step ++ (codes " " ++ (message_name message ++ codes "\n")))
 
--- `late 9 12: stuck; not made, heals authentication`: a variant by its faults, its outcomes, the worst first, and what heals it
-abbrev pub variant_line : List Fault → Verdict → List ℕ
-variant_line faults v = faults_text faults ++ (codes ": " ++ (outcomes_text v.outcomes ++ (heals_text v.heals ++ codes "\n")))
+-- `late 9 12: stuck; not made, heals authentication`: a variant by its faults, its outcomes, the worst first, and what heals it; and where
+-- it is asked for, the station that serves and which lines sent
+abbrev pub variant_line : Bool → List Fault → Verdict → List ℕ
+variant_line asked faults v =
+    faults_text faults ++ (codes ": " ++ (outcomes_text v.outcomes ++ (heals_text v.heals ++ (sent_text asked v ++ codes "\n"))))
 
 -- `end 151`: how many variants there are
 unfoldable pub end_line : ℕ → List ℕ

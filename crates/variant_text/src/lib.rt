@@ -7,5 +7,6 @@ mod joined;
 mod lines;
 mod messages;
 mod outcomes;
+mod sent;
 
 pub use lines::{end_line, message_line, scenario_line, trouble_line, variant_line};

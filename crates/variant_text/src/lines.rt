@@ -7,6 +7,7 @@ use crate::faults::faults_text;
 use crate::healing::{add_heals, heals_name};
 use crate::messages::message_name;
 use crate::outcomes::outcomes_text;
+use crate::sent::add_sent;
 use item_faults::{Fault, Message};
 use item_outcomes::{Heals, Trouble, Verdict};
 use std::alloc::{AllocError, Global};
@@ -75,13 +76,15 @@ pub fn message_line(alloc: Global, step: u32, message: Message) -> Result<String
     growth::format(alloc, format_args!("message {step} {name}\n"))
 }
 
-/// The line of a variant: its faults, its outcomes in this order, and what heals it.
+/// The line of a variant: its faults, its outcomes in this order, and what heals it; and where it is asked for, the station that serves and
+/// which lines sent.
 pub fn variant_line(
     alloc: Global,
+    asked: bool,
     faults: &[Fault],
     verdict: &Verdict,
 ) -> Result<Vec<u8>, AllocError>
-    ensures text { IfOk result (λ text. text.items ≡ variant_line faults.now verdict.now) }
+    ensures text { IfOk result (λ text. text.items ≡ variant_line asked faults.now verdict.now) }
     ensures refused { OnErr result WasRefused }
 {
     let mut text = faults_text(alloc, faults)?;
@@ -89,6 +92,7 @@ pub fn variant_line(
     let told = outcomes_text(alloc, verdict.outcomes())?;
     growth::extend_from_slice(&mut text, told.as_slice())?;
     add_heals(&mut text, verdict.heals())?;
+    add_sent(alloc, &mut text, asked, verdict)?;
     growth::extend_from_slice(&mut text, b"\n")?;
     Ok(text)
 }

@@ -2,8 +2,9 @@
 
 An item is an act, or the delivery of what another item sent. The program counts records, and a record that is not sent
 moves the numbers of all after it. So a list is run with a guess of which items send, until a run does what was guessed:
-that run is the list's course. A delivery of what was not sent falls away. What is sent where the scenario sends nothing
-is delivered at once.
+that run is the list's course. Where `lte_variants` told which lines of its own run sent, that is the first guess, and
+the right one. A delivery of what was not sent falls away. What is sent where the scenario sends nothing is delivered at
+once.
 """
 from __future__ import annotations
 
@@ -15,6 +16,7 @@ from dataclasses import dataclass
 from .run_report import StepLine
 from .scenarios import Step, text, value
 
+SENT = "1"  # of a line, in what is told of a run
 GUESSES = 8  # so many runs take from a run all that seems sure; after that only what comes first
 DEEPEST = 8  # so many records that nobody expects are delivered one out of the other
 
@@ -113,9 +115,10 @@ class Runs:
         ).returncode
         return status, os.pread(report, os.fstat(report).st_size, 0)
 
-    def course(self, items: list[Item], usual: Mapping[str, bool], guess: Mapping[str, bool]) -> Course:
-        """The course of these items, where the scenario's own send as `usual` says, by a first guess."""
-        return GuessSearch(items, usual, guess).course(self)
+    def course(self, items: list[Item], usual: Mapping[str, bool], guess: Mapping[str, bool], sent: str = "") -> Course:
+        """The course of these items, where the scenario's own send as `usual` says, by a first guess; of the first
+        lines by which of them sent, where that is told."""
+        return GuessSearch(items, usual, guess).course(self, sent)
 
 
 class GuessSearch:
@@ -137,8 +140,8 @@ class GuessSearch:
         """Whether what this item sends is delivered at once: neither the scenario nor the list has a delivery of it."""
         return name not in self.delivered and not self.usual.get(name, False) and name.count("+") < DEEPEST
 
-    def place(self) -> list[str]:
-        """The steps of a run, by the guess."""
+    def place(self, sent: str) -> list[str]:
+        """The steps of a run, by the guess, which takes in what is told of the first lines."""
         self.placed, self.missing = [], []
         numbers: dict[str, int] = {}
         steps: list[str] = []
@@ -151,16 +154,18 @@ class GuessSearch:
                 continue
             self.placed.append((item, number))
             steps.append(item.table if number is None else f'{{ do = "deliver", record = {number} }}')
+            if len(steps) <= len(sent):
+                self.guess[item.name] = sent[len(steps) - 1] == SENT
             if self.sends(item.name):
                 numbers[item.name] = len(numbers)
                 if self.is_extra(item.name):
                     rest.append(delivery(item.name + "+", item.name))
         return steps
 
-    def course(self, runs: Runs) -> Course:
+    def course(self, runs: Runs, sent: str) -> Course:
         count = 0
         while True:
-            steps = self.place()
+            steps = self.place("" if count else sent)
             report, count = runs.run(steps), count + 1
             lines = [
                 line for line in map(StepLine.read, report.split("\n", len(self.placed))[: len(self.placed)]) if line

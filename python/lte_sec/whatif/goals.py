@@ -13,9 +13,8 @@ from math import comb
 from typing import Any, NamedTuple
 
 from ..common.progress import Rate
-from .outcomes import About
-from .spread import Gathering, Share
-from .study import Study, Variant
+from .spread import Gathering, Share, unrun
+from .study import Study
 from .variant_lists import FEW_FAULTS, MOST_NAMED, Lists
 from .what_if_document import Answer, lines_of, tellings
 
@@ -78,7 +77,7 @@ class Search(Gathering):
         for variant in self.listed(faults, None):
             counts[variant.outcomes[0]] += 1
             if self.goal.outcome in variant.outcomes:
-                kept.append(Variant(variant.faults, dict.fromkeys(variant.outcomes, About()), heals=variant.heals))
+                kept.append(unrun(variant))
             rate.one()
         self.searched = faults
         self.each = (time.monotonic() - began) / max(1, comb(self.alone(), faults))

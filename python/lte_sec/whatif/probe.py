@@ -13,6 +13,7 @@ from itertools import takewhile
 
 from ..runs.courses import Course, Item, Runs, act, delivery
 from ..runs.scenarios import Scenario, Step
+from .variant_lists import Sending
 
 UP, DOWN, NAS_UP, NAS_DOWN, AGAIN = (
     "7570",
@@ -132,31 +133,34 @@ class Prober:
         self.renewals = {station: renewal(scenario, station) for station in scenario.stations}
 
     def probed(
-        self, items: list[Item], usual: dict[str, bool], guess: dict[str, bool], serving: int, otherwise: int
+        self, items: list[Item], usual: dict[str, bool], guess: dict[str, bool], sending: Sending, otherwise: int
     ) -> tuple[Course, int]:
-        """The course of the items and the probe, and the station that serves the phone, by a guess of which it is; the
-        other one where the phone's packet comes to none."""
+        """The course of the items and the probe, and the station that serves the phone, by a guess of which it is and
+        of what sends; the other one where the phone's packet comes to none."""
         count = 0
         while True:
-            course = self.runs.course([*items, *self.probes[serving]], usual, guess)
+            course = self.runs.course([*items, *self.probes[sending.serving]], usual, guess, sending.sent)
             count += course.runs
             found = serving_of(course)
             found = otherwise if found is None else found
-            if found == serving:
+            if found == sending.serving:
                 break
-            serving, guess = found, sends_before_serving(course)
+            sending, guess = Sending(found), sends_before_serving(course)
         course.runs = count
-        return course, serving
+        return course, found
 
-    def refusal(self, items: list[Item], usual: dict[str, bool], guess: dict[str, bool], serving: int) -> str | None:
+    def refusal(
+        self, items: list[Item], usual: dict[str, bool], guess: dict[str, bool], sending: Sending
+    ) -> str | None:
         """The first refusal of an authentication and a reconnection behind the items and the probe, or that the packet
         behind them does not arrive. None where it does."""
-        behind = self.renewals[serving]
+        behind = self.renewals[sending.serving]
         sources = {item.of for item in behind}
         course = self.runs.course(
-            [*items, *self.probes[serving], *behind],
+            [*items, *self.probes[sending.serving], *behind],
             usual,
             guess | {item.name: item.name in sources for item in behind},
+            sending.sent,
         )
         for item in behind:
             line = course.lines.get(item.name)

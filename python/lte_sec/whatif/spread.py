@@ -49,28 +49,25 @@ class Work:
     def __init__(self, study: Study, share: Share):
         self.study, self.share = study, share
         self.has_all = share.folder is not None or study.charts is not None
-        self.by_outcomes: dict[
-            tuple[Any, ...], Tried
-        ] = {}  # the last that was tried with these outcomes, and with these places and outcomes
 
     def told(self, variants: list[Variant]) -> tuple[list[Variant], int]:
         """Variants of one message and kind, or one of several faults, with what is told of them, and how many runs that
         took."""
         before = self.study.runs.count
         found: list[Variant] = []
-        near: Tried | None = None
+        run: Tried | None = None  # the last that was run
         last: Fault | None = None  # that of the variant before, which ends as that, if it is told
         for variant in variants:
             if not self.has_all and RANK[variant.worst] <= RANK[GOES_ON]:
                 found.append(variant)
                 last = None
                 continue
-            if near and last and self.is_alike(near, last, variant):
-                found.append(self.study.alike(variant.faults, near))
-                found[-1].heals = near.variant.heals
+            if run and last and self.is_alike(run, last, variant):
+                found.append(self.study.alike(variant.faults, run))
+                found[-1].heals = run.variant.heals
             else:
-                near = self.tried(variant, near)
-                found.append(near.variant)
+                run = self.tried(variant)
+                found.append(run.variant)
             last = variant.faults[0]
         return found, self.study.runs.count - before
 
@@ -83,15 +80,11 @@ class Work:
             return False
         return self.study.is_alike(last, variant.faults[0], before.course)
 
-    def tried(self, variant: Variant, near: Tried | None) -> Tried:
+    def tried(self, variant: Variant) -> Tried:
         """The variant as its run has it, with the outcomes that the program lists, saved where it is to be."""
-        outcomes = tuple(variant.outcomes)
-        placed = (*((fault.kind, fault.after or fault.item) for fault in variant.faults), outcomes)
-        if near is None or tuple(near.variant.outcomes) != outcomes:
-            near = self.by_outcomes.get(placed) or self.by_outcomes.get(outcomes, near)
-        tried = self.by_outcomes[outcomes] = self.by_outcomes[placed] = self.study.tried(variant.faults, near)
+        tried = self.study.tried(variant.faults, variant.sending)
         take_listed(tried.variant, list(variant.outcomes))
-        tried.variant.heals = self.study.healed(variant.heals, tried)
+        tried.variant.heals = self.study.healed(variant.heals, tried, variant.sending)
         if self.share.folder:
             save(self.share.folder, self.study, tried.variant, tried.course)
         return tried
@@ -99,8 +92,14 @@ class Work:
     def judged(self, variant: Listed) -> tuple[Listed, int]:
         """The variant with the outcomes of its own run, and how many runs that took."""
         before = self.study.runs.count
-        outcomes = self.study.tried(variant.faults).variant.outcomes
-        return Listed(variant.faults, tuple(outcomes)), self.study.runs.count - before
+        outcomes = self.study.tried(variant.faults, variant.sending).variant.outcomes
+        return variant._replace(outcomes=tuple(outcomes), heals=None), self.study.runs.count - before
+
+
+def unrun(variant: Listed) -> Variant:
+    """A variant that was not run."""
+    outcomes = dict.fromkeys(variant.outcomes, About())
+    return Variant(variant.faults, outcomes, heals=variant.heals, sending=variant.sending)
 
 
 def take_listed(variant: Variant, listed: list[str]) -> None:
@@ -231,7 +230,7 @@ class Gathering:
             if self.share.lines:
                 print(line(variant), flush=True)
             if faults == 1 or self.is_new(variant):
-                kept.append(Variant(variant.faults, dict.fromkeys(variant.outcomes, About()), heals=variant.heals))
+                kept.append(unrun(variant))
             rate.one()
         if work and (work.has_all or not self.share.lines):
             self.tell_of(kept, at)

@@ -15,6 +15,7 @@ from .chart import Charts
 from .healing import Heals
 from .outcomes import GOES_ON, RANK, About, Comparison, Standing
 from .probe import PROBE, Prober
+from .variant_lists import Sending
 
 HANDOVERS = ("x2", "s1", "intra")
 MOST_ANSWERS = 3
@@ -24,7 +25,7 @@ MOST_WAITS = 4  # so many steps of a variant wait, one after the other
 @dataclass
 class Variant:
     """A variant: its faults, its outcomes with what they are about, the worst first, and the answers that lead to them.
-    One that was not run has no more than its outcomes."""
+    One that was not run has no more than its outcomes, what heals it, and which lines of its run sent."""
 
     faults: tuple[Fault, ...]
     outcomes: dict[str, About]
@@ -33,6 +34,7 @@ class Variant:
     gone: list[str] = field(default_factory=list)
     by_run: list[str] = field(default_factory=list)  # the outcomes of its own run, where the program lists others
     heals: Heals | None = None  # what heals it, where that is told
+    sending: Sending | None = None
 
     @property
     def worst(self) -> str:
@@ -64,7 +66,7 @@ class Study:
         first, behind = next(iter(self.prober.probes.items()))
         sources = {item.of for item in behind}
         usual = self.original.usual() | {item.name: item.name in sources for item in behind}
-        self.course, self.serving = self.prober.probed(self.original.items, usual, {}, first, first)
+        self.course, self.serving = self.prober.probed(self.original.items, usual, {}, Sending(first), first)
         self.usual = usual | self.course.sends()
         self.standing = Standing(scenario, self.course, self.serving)
         self.charts = Charts(scenario, self.course) if charts else None
@@ -82,38 +84,32 @@ class Study:
                 raise ProgramFails(f"step {step} delivers {name} by lte_variants, and {here} by the lines of run")
         return {step: self.original.messages[step] for step in messages}
 
-    def tried(self, faults: tuple[Fault, ...], near: Tried | None = None) -> Tried:
-        """The variant with these faults, which go together, by a guess from one that is near."""
+    def tried(self, faults: tuple[Fault, ...], sending: Sending | None = None) -> Tried:
+        """The variant with these faults, which go together, by which lines of its run sent, where that is told."""
         items = self.faults.put_all(faults)
         if items is None:
             raise ProgramFails(f"lte_variants has {' and '.join(map(str, faults))}, which do not go together")
-        guess = own_guess(items, self.usual)
-        if near:
-            guess |= {
-                name: sends
-                for name, sends in near.course.sends().items()
-                if sends != self.usual.get(name, False) and (name in guess or name.startswith(PROBE) or name[-1] == "+")
-            }
-        course, serving = self.followed(items, guess, near.serving if near else self.serving)
+        course, serving = self.followed(items, own_guess(items, self.usual), sending or Sending(self.serving))
         standing = Standing(self.scenario, course, serving)
         own = own_items(items, self.faults.of) | {fault.item for fault in faults if fault.kind == "lost"}
         outcomes = Comparison(self.standing, standing, own).outcomes()
         return Tried(self.told(faults, self.marked(outcomes, items, course, own), course), course, serving)
 
-    def healed(self, heals: Heals | None, tried: Tried) -> Heals | None:
+    def healed(self, heals: Heals | None, tried: Tried, sending: Sending | None) -> Heals | None:
         """What heals a variant that was run; where nothing does, with the reason."""
-        return self.with_reason(heals, self.faults.put_all(tried.variant.faults) or [], tried.course, tried.serving)
+        items = self.faults.put_all(tried.variant.faults) or []
+        return self.with_reason(heals, items, tried.course, sending or Sending(tried.serving))
 
     def own_healed(self, heals: Heals | None) -> Heals | None:
         """What heals the scenario itself; where nothing does, with the reason."""
-        return self.with_reason(heals, self.original.items, self.course, self.serving)
+        return self.with_reason(heals, self.original.items, self.course, Sending(self.serving))
 
-    def with_reason(self, heals: Heals | None, items: list[Item], course: Course, serving: int) -> Heals | None:
+    def with_reason(self, heals: Heals | None, items: list[Item], course: Course, sending: Sending) -> Heals | None:
         """The same with the reason, by a run of its own behind these items and the probe, where nothing heals and this
         station serves."""
         if heals is None or heals.by:
             return heals
-        return Heals(None, self.prober.refusal(items, self.usual, course.sends(), serving))
+        return Heals(None, self.prober.refusal(items, self.usual, course.sends(), sending))
 
     def marked(self, outcomes: dict[str, About], items: list[Item], course: Course, own: set[str]) -> dict[str, About]:
         """The outcomes, with a mark on those that are not there where each security procedure of the core waits for the
@@ -129,7 +125,7 @@ class Study:
             if put is None:
                 break
             waited = put
-            now, serving = self.followed(waited, own_guess(waited, self.usual), serving)
+            now, serving = self.followed(waited, own_guess(waited, self.usual), Sending(serving))
         if now is course:
             return outcomes
         standard = Comparison(self.standing, Standing(self.scenario, now, serving), own).outcomes()
@@ -170,17 +166,17 @@ class Study:
         items = sorted(course.items, key=lambda item: places.get(item.name.rstrip("+"), len(places)))
         return self.told(faults, before.variant.outcomes, replace(course, items=items))
 
-    def followed(self, items: list[Item], guess: dict[str, bool], serving: int) -> tuple[Course, int]:
+    def followed(self, items: list[Item], guess: dict[str, bool], sending: Sending) -> tuple[Course, int]:
         """The course of the items, in which, if so chosen, a handover that its station cannot begin is begun by the one
         that serves, which cancels an open one first."""
         done: set[tuple[str, int, bool]] = set()
         while True:
-            course, serving = self.prober.probed(items, self.usual, guess, serving, self.serving)
+            course, serving = self.prober.probed(items, self.usual, guess, sending, self.serving)
             change = self.to_follow(course) if self.follows and not course.ended else None
             if change is None or change in done:
                 return course, serving
             done.add(change)
-            items, guess = self.led(items, *change), course.sends()
+            items, guess, sending = self.led(items, *change), course.sends(), Sending(serving)
 
     def led(self, items: list[Item], name: str, station: int, cancels: bool) -> list[Item]:
         """The items, in which this station begins and commands this handover, or cancels an open one before it."""

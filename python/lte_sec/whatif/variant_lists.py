@@ -2,8 +2,8 @@
 
 It writes `scenario STEPS MESSAGES serving STATION heals HEALS`, a line for each thing that is wrong in the scenario
 itself, as `keys differ 33`, a line `message STEP KIND` for each message, a line for each variant, as `late 9 12, lost
-14: stuck; not made, heals authentication`, and `end VARIANTS`. Variants are numbered in one order, of which a share
-takes each N-th.
+14: stuck; not made, heals authentication, serving 1, sent 1101`, and `end VARIANTS`. Variants are numbered in one
+order, of which a share takes each N-th.
 """
 from __future__ import annotations
 
@@ -27,12 +27,22 @@ class TooManySteps(Exception):
     """The scenario has more steps than the program takes."""
 
 
+class Sending(NamedTuple):
+    """What is told of the run of a variant and of the probe behind it: the station that serves, and of each line
+    whether it sent."""
+
+    serving: int
+    sent: str = ""
+
+
 class Listed(NamedTuple):
-    """A variant: its faults, its outcomes, the worst first, and what heals it, where that is told."""
+    """A variant: its faults, its outcomes, the worst first, what heals it, where that is told, and which lines of its
+    run sent."""
 
     faults: tuple[Fault, ...]
     outcomes: tuple[str, ...]
     heals: Heals | None = None
+    sending: Sending | None = None
 
 
 @lru_cache(maxsize=None)
@@ -54,8 +64,15 @@ def heals_of(text: str) -> Heals | None:
 def variant_of(line: str) -> Listed:
     """The variant of a line."""
     faults, _, told = line.partition(": ")
+    told, _, sending = told.partition(", serving ")
     outcomes, _, heals = told.partition(", heals ")
-    return Listed(tuple(map(fault_of, faults.split(", "))), outcomes_of(outcomes), heals_of(heals))
+    return Listed(tuple(map(fault_of, faults.split(", "))), outcomes_of(outcomes), heals_of(heals), sending_of(sending))
+
+
+def sending_of(text: str) -> Sending | None:
+    """What is told of a run, as `1, sent 1101`."""
+    serving, _, sent = text.partition(", sent ")
+    return Sending(int(serving), sent) if text else None
 
 
 @lru_cache(maxsize=None)
@@ -79,6 +96,7 @@ class Lists:
         self.is_narrow = 0 < len(named) <= MOST_NAMED
         self.options = [
             *kinds,
+            "sent",
             *(["--packets"] if packets else []),
             *(["of", *sorted(named, key=int)] if self.is_narrow else []),
         ]

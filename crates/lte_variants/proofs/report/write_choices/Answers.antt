@@ -11,7 +11,7 @@ choices-preserved g c =
     let is = c.in-Some.ensures.next in
     let same = c.faults.ensures.faults in
     record {
-      text = one_more o c.args.choices left c.in-Some.choice c.faults.result.now rest told c.choices.invariant.text is same
+      text = one_more c.args.sent o c.args.choices left c.in-Some.choice c.faults.result.now rest told c.choices.invariant.text is same
           c.in_ok-told-in-Some.ensures.text;
       count = count_more o left rest c.in-Some.choice c.faults.result.now c.choices.count c.counted-count.result _ told
           c.choices.invariant.count is same c.in_ok-told-in-Some.ensures.told c.counted-count.ensures;
@@ -22,5 +22,5 @@ pub returns-in_err-told-in-Some-clause-text : goal.returns-in_err-told-in-Some-c
 returns-in_err-told-in-Some-clause-text g c =
     let p = err_from_is_err_and c.from_residual.result c.from_residual.ensures.1 in
     rw (p.1, p.2)
-    (one_cut c.args.study.now c.args.choices c.choices.choices c.in-Some.choice c.faults.result.now c.next.new.self
+    (one_cut c.args.sent c.args.study.now c.args.choices c.choices.choices c.in-Some.choice c.faults.result.now c.next.new.self
     c.choices.invariant.text c.in-Some.ensures.next c.faults.ensures.faults c.in_err-told-in-Some.ensures.text)

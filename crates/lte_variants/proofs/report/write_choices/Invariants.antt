@@ -5,7 +5,7 @@ use Rattle.lte_variants.proofs.report.write_choices.Given as goal
 
 abbrev pub invariant-choices : goal.invariant-choices
 invariant-choices g l = record {
-  text : Partly (variant_lines l.study l.initial.choices) (variant_lines l.study l.choices) (g.W.Edge.told l.initial.out)
+  text : Partly (variant_lines l.sent l.study l.initial.choices) (variant_lines l.sent l.study l.choices) (g.W.Edge.told l.initial.out)
       (g.W.Edge.told l.out);
   count : l.count + variants l.study l.choices ≡ variants l.study l.initial.choices;
   few : l.count + length l.choices ≤ length l.initial.choices;

@@ -7,7 +7,7 @@ pub returns : goal.returns
 returns g c =
     let o = c.args.study.now in
     let messages = c.args.messages.now in
-    both_written c.write_variants.result (messages_told o messages) (told_of o (asked c.args.request.now o messages)) c.requires.out_ready
+    both_written c.write_variants.result (messages_told o messages) (told_of c.args.request.now.sent o (asked c.args.request.now o messages)) c.requires.out_ready
     c.in_ok-write_messages.ensures c.write_variants.ensures
 
 pub returns-in_err-write_messages : goal.returns-in_err-write_messages
@@ -16,4 +16,4 @@ returns-in_err-write_messages g c =
     let o = c.args.study.now in
     let messages = c.args.messages.now in
     rw (p.1, p.2)
-    (first_cut (messages_told o messages) (told_of o (asked c.args.request.now o messages)) c.requires.out_ready c.in_err-write_messages.ensures)
+    (first_cut (messages_told o messages) (told_of c.args.request.now.sent o (asked c.args.request.now o messages)) c.requires.out_ready c.in_err-write_messages.ensures)

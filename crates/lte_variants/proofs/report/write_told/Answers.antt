@@ -15,7 +15,7 @@ pub returns : goal.returns
 returns g c =
     let o = c.args.study.now in
     let text = subst (λ n. IfOk c.end_line.result (λ t. string_bytes t ≡ end_line n)) c.in_ok-count.ensures.count c.end_line.ensures.text in
-    both_written c.write_string.result (variant_lines o c.args.choices) (end_line (variants o c.args.choices)) c.requires.out_ready
+    both_written c.write_string.result (variant_lines c.args.sent o c.args.choices) (end_line (variants o c.args.choices)) c.requires.out_ready
     c.in_ok-count.ensures.text (c.write_string.ensures (end_line (variants o c.args.choices)) text)
 
 pub returns-in_err-count : goal.returns-in_err-count
@@ -23,4 +23,4 @@ returns-in_err-count g c =
     let p = err_from_is_err_and c.from_residual.result c.from_residual.ensures.1 in
     let o = c.args.study.now in
     rw (p.1, p.2)
-    (first_cut (variant_lines o c.args.choices) (end_line (variants o c.args.choices)) c.requires.out_ready c.in_err-count.ensures.text)
+    (first_cut (variant_lines c.args.sent o c.args.choices) (end_line (variants o c.args.choices)) c.requires.out_ready c.in_err-count.ensures.text)
