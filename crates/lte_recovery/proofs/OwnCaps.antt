@@ -39,7 +39,7 @@ use Rattle.lte_machine.proofs.{History.one_value_one_term, KnownLadder.new_in, K
 use Rattle.lte_machine.proofs.{KnownWorld.Grounds, KnownWorld.first_grounds, KnownWorld.happens_grounds, LadderRun.one_use, Mixed.by_terms, Mixed.mixed, MixedRun.happens_same}
 use Rattle.lte_machine.proofs.{PhoneNasFacts.NasHas, PhoneNasFacts.TakesContext, PhoneNasFacts.nas_has, PhoneNasFacts.phone_nas, Routing.IsTurn, Routing.PhoneGets, Routing.Turns, Routing.happens_by, StillRun.goes_on, Tests.Anything}
 use Rattle.lte_properties.specs.Separation.{AnyOf}
-use Rattle.lte_properties.proofs.ChainNumbers.Lists.{one_root_more, roots_kept}
+use Rattle.lte_properties.proofs.{ChainNumbers.Lists.one_root_more, ChainNumbers.Lists.roots_kept, Opening.Nas.IsRootOf, Opening.Nas.AnyNumber}
 use Rattle.lte_recovery.specs.Reconnection.{TheWorld}
 use Rattle.lte_recovery.proofs.Heard.{any_member, any_one, foreign_closed}
 use Rattle.lte_recovery.proofs.Replayed.{Accepted, Commands, CoreIs, Holds, Keeps, NoCommand, Reads, Said, Starting, Takes, of_context, of_partial, root_of}
@@ -57,10 +57,11 @@ module _ (c : Ciphers Term) (good : AreCiphers c) (between : Fields → Option (
 
   -- what is so of a world
   abbrev pub Replayed : TheWorld → Type 0
-  Replayed w =
-      CoreIs (next_root w) w.core
-      × (AllOf (Said c good (next_root w) (of_partial w.core.partial) (of_context w.core.context)) w.sent
-      × Accepted c good w.sent w.phone.caps (root_of w.phone.context))
+  Replayed w = record {
+    core : CoreIs (next_root w) w.core;
+    said : AllOf (Said c good (next_root w) (of_partial w.core.partial) (of_context w.core.context)) w.sent;
+    accepted : Accepted c good w.sent w.phone.caps (root_of w.phone.context);
+  }
 
   accepted_more : (o : Option (Outgoing Term ℕ)) (xs : List (Outgoing Term ℕ)) (caps : Caps) (root : Option Term) → Accepted c good xs caps root
       → Accepted c good (with_one o xs) caps root
@@ -77,67 +78,69 @@ module _ (c : Ciphers Term) (good : AreCiphers c) (between : Fields → Option (
     -- THE WORLD AFTER A STEP
 
     phone_goes : (done : keys.PhoneDone Term ℕ)
-        → Accepted c good w.sent w.phone.caps (root_of done.0.context) × (NoCommand done.1.sent × (done.0.caps ≡ w.phone.caps))
+        → Accepted c good w.sent w.phone.caps (root_of done.0.context) × NoCommand done.1.sent × (done.0.caps ≡ w.phone.caps)
         → Replayed (phone_after m w done).0
     phone_goes done k =
-        let same : next_root (phone_after m w done).0 ≡ n = roots_kept w.history done.1.derived in (
-          subst (λ i. CoreIs i w.core) (sym same) h.0,
-          (
-            subst (λ i. AllOf (Said c good i (of_partial w.core.partial) (of_context w.core.context)) (with_one done.1.sent w.sent)) (sym same)
-                (all_one ToSay done.1.sent w.sent h.1.0 (said_quiet c good n (of_partial w.core.partial) (of_context w.core.context) done.1.sent k.1.0)),
-            subst (λ o. Accepted c good (with_one done.1.sent w.sent) o (root_of done.0.context)) (sym k.1.1)
-                (accepted_more done.1.sent w.sent w.phone.caps (root_of done.0.context) k.0),
-          ),
-        )
+        let same : next_root (phone_after m w done).0 ≡ n = roots_kept w.history done.1.derived in
+        record {
+          core = subst (λ i. CoreIs i w.core) (sym same) h.core;
+          said = subst (λ i. AllOf (Said c good i (of_partial w.core.partial) (of_context w.core.context)) (with_one done.1.sent w.sent)) (sym same)
+              (all_one ToSay done.1.sent w.sent h.said (said_quiet c good n (of_partial w.core.partial) (of_context w.core.context) done.1.sent k.1));
+          accepted = subst (λ o. Accepted c good (with_one done.1.sent w.sent) o (root_of done.0.context)) (sym k.2)
+              (accepted_more done.1.sent w.sent w.phone.caps (root_of done.0.context) k.0);
+        }
 
     station_goes : (id : ℕ) (done : Station Term ℕ × Reply Term ℕ) → NoCommand done.1.sent → Replayed (station_after m w id done).0
     station_goes id done quiet =
-        let same : next_root (station_after m w id done).0 ≡ n = roots_kept w.history done.1.derived in (
-          subst (λ i. CoreIs i w.core) (sym same) h.0,
-          (
-            subst (λ i. AllOf (Said c good i (of_partial w.core.partial) (of_context w.core.context)) (with_one done.1.sent w.sent)) (sym same)
-                (all_one ToSay done.1.sent w.sent h.1.0 (said_quiet c good n (of_partial w.core.partial) (of_context w.core.context) done.1.sent quiet)),
-            accepted_more done.1.sent w.sent w.phone.caps (root_of w.phone.context) h.1.1,
-          ),
-        )
+        let same : next_root (station_after m w id done).0 ≡ n = roots_kept w.history done.1.derived in
+        record {
+          core = subst (λ i. CoreIs i w.core) (sym same) h.core;
+          said = subst (λ i. AllOf (Said c good i (of_partial w.core.partial) (of_context w.core.context)) (with_one done.1.sent w.sent)) (sym same)
+              (all_one ToSay done.1.sent w.sent h.said (said_quiet c good n (of_partial w.core.partial) (of_context w.core.context) done.1.sent quiet));
+          accepted = accepted_more done.1.sent w.sent w.phone.caps (root_of w.phone.context) h.accepted;
+        }
 
     core_goes : (done : CoreDone Term ℕ)
         → CoreIs n done.0
-        × (AllOf (Said c good n (of_partial done.0.partial) (of_context done.0.context)) w.sent
-        × OfSome (Said c good n (of_partial done.0.partial) (of_context done.0.context)) done.1.sent)
+        × AllOf (Said c good n (of_partial done.0.partial) (of_context done.0.context)) w.sent
+        × OfSome (Said c good n (of_partial done.0.partial) (of_context done.0.context)) done.1.sent
         → Replayed (core_after m w done).0
     core_goes done k =
-        let same : next_root (core_after m w done).0 ≡ n = roots_kept w.history done.1.derived in (
-          subst (λ i. CoreIs i done.0) (sym same) k.0,
-          (
-            subst (λ i. AllOf (Said c good i (of_partial done.0.partial) (of_context done.0.context)) (with_one done.1.sent w.sent)) (sym same)
-                (all_one (Said c good n (of_partial done.0.partial) (of_context done.0.context)) done.1.sent w.sent k.1.0 k.1.1),
-            accepted_more done.1.sent w.sent w.phone.caps (root_of w.phone.context) h.1.1,
-          ),
-        )
+        let same : next_root (core_after m w done).0 ≡ n = roots_kept w.history done.1.derived in
+        record {
+          core = subst (λ i. CoreIs i done.0) (sym same) k.0;
+          said = subst (λ i. AllOf (Said c good i (of_partial done.0.partial) (of_context done.0.context)) (with_one done.1.sent w.sent)) (sym same)
+              (all_one (Said c good n (of_partial done.0.partial) (of_context done.0.context)) done.1.sent w.sent k.1 k.2);
+          accepted = accepted_more done.1.sent w.sent w.phone.caps (root_of w.phone.context) h.accepted;
+        }
 
     auth_goes : (ksi : ℕ) (octets : List ℕ) (caps : Caps) → ksi ≤ 6 → Replayed (authenticated m w ksi (Root n octets) caps).0
     auth_goes ksi octets caps low =
         let u = (authenticated m w ksi (Root n octets) caps).0 in
-        let one : next_root u ≡ n + 1 = one_root_more w.history (Root n octets) in (
-          subst (λ i. CoreIs i u.core) (sym one) (
-            low,
-            (
-              record { number = n; octets = octets; is = refl; low = omega arith; so = tt },
-              context_anew c good n octets caps (of_partial w.core.partial) (of_context w.core.context) h.0.1.1,
-            ),
-          ),
-          (
-            subst (λ i. AllOf (Said c good i (Some (Root n octets, caps)) (of_context w.core.context)) w.sent) (sym one)
-                (all_anew c good n octets caps (of_partial w.core.partial) (of_context w.core.context) w.sent h.1.0),
-            h.1.1,
-          ),
-        )
+        let one : next_root u ≡ n + 1 = one_root_more w.history (Root n octets) in
+        let new : IsRootOf AnyNumber (n + 1) (Root n octets) = record { number = n; octets = octets; is = refl; low = omega arith; so = tt } in
+        record {
+          core = subst (λ i. CoreIs i u.core) (sym one) (
+              record {
+                ksi = low;
+                partial = new;
+                context = context_anew c good n octets caps (of_partial w.core.partial) (of_context w.core.context) h.core.context;
+              }
+              );
+          said = subst (λ i. AllOf (Said c good i (Some (Root n octets, caps)) (of_context w.core.context)) w.sent) (sym one)
+              (all_anew c good n octets caps (of_partial w.core.partial) (of_context w.core.context) w.sent h.said);
+          accepted = h.accepted;
+        }
 
     -- WHAT COMES was sent
     abbrev Came : Address → List ℕ → Option (Outgoing Term ℕ) → Type 0
     Came to pdu None = Unit {0}
-    Came to pdu (Some x) = (to ≡ address_of x) × (Member x w.sent × (SentKnown (IsReported w) x × (pdu ≡ octets_of c between x)))
+    Came to pdu (Some x) = record {
+      to : to ≡ address_of x;
+      sent : Member x w.sent;
+      known : SentKnown (IsReported w) x;
+      octets : pdu ≡ octets_of c between x;
+    }
 
     -- THE PHONE TAKES A COMMAND of its partial context
 
@@ -165,14 +168,14 @@ module _ (c : Ciphers Term) (good : AreCiphers c) (between : Fields → Option (
         let u = nas_use Down (Alg root 2 eia2_identity) count in
         let one : u ≡ i =
         judged_as u i None pdu text sent (then ds) (same_uses same_value u i) (same_ciphering same_value None f) own refl here
-        (still_in w.history (map Of ds) i.key is.1.1.0.0) o in
-        any_member (Commands c good root w.phone.caps) (SealedNas Down header i f sent) w.sent is.1.0
-        (sym (ap (λ (v : KeyUse Term). v.key) one), (caps, (subst (λ t. Reads t caps) is.1.1.1 reads, same)))
-    taken_from root count pdu text caps ds own here reads same (Some (SealedNas Up header i f sent)) is o = let bad = is.0 in absurd cc
+        (still_in w.history (map Of ds) i.key is.known.0) o in
+        any_member (Commands c good root w.phone.caps) (SealedNas Down header i f sent) w.sent is.sent
+        (record { key = sym (ap (λ (v : KeyUse Term). v.key) one); replayed = caps; reads = subst (λ t. Reads t caps) is.octets reads; same = same })
+    taken_from root count pdu text caps ds own here reads same (Some (SealedNas Up header i f sent)) is o = let bad = is.to in absurd cc
     taken_from root count pdu text caps ds own here reads same (Some (PlainNas octets)) is o =
         absurd (foreign_closed c between (nas_use Down (Alg root 2 eia2_identity) count) None pdu text o)
-    taken_from root count pdu text caps ds own here reads same (Some (SealedRrc Up station air srb i f sent)) is o = let bad = is.0 in absurd cc
-    taken_from root count pdu text caps ds own here reads same (Some (SealedRrc Down station air srb i f sent)) is o = let bad = is.0 in absurd cc
+    taken_from root count pdu text caps ds own here reads same (Some (SealedRrc Up station air srb i f sent)) is o = let bad = is.to in absurd cc
+    taken_from root count pdu text caps ds own here reads same (Some (SealedRrc Down station air srb i f sent)) is o = let bad = is.to in absurd cc
     taken_from root count pdu text caps ds own here reads same (Some (UserPacket dir station air drb f sent)) is o =
         absurd (foreign_closed c between (nas_use Down (Alg root 2 eia2_identity) count) None pdu text o)
     taken_from root count pdu text caps ds own here reads same (Some (Between to fields key)) is o =
@@ -190,7 +193,8 @@ module _ (c : Ciphers Term) (good : AreCiphers c) (between : Fields → Option (
       from algs count p f ds holds own here =
           let expects : keys.nas_expects r (phone_nas r w.phone pdu) w.phone ≡ OpensNas (nas_use Down (Alg p.root 2 eia2_identity) count) None =
           ap (λ x. keys.nas_expects r x w.phone) f.front ∙ ap (λ o. keys.command_expects r count algs o) holds in
-          taken_from p.root count pdu f.text f.caps ds own here (f.by.header_is, (f.by.partial.ksi, (algs, f.by.reads))) f.same came is
+          taken_from p.root count pdu f.text f.caps ds own here
+          (record { header = f.by.header_is; ksi = f.by.partial.ksi; algs = algs; is = f.by.reads }) f.same came is
           (ap (λ o. by_terms c o pdu came) (sym expects) ∙ f.opened)
 
       takes : (x : row.NasRow) → NasHas r w.phone pdu outcome x → OneValueOneTerm (then (keys.nas_does r x w.phone).1.derived)
@@ -226,17 +230,17 @@ module _ (c : Ciphers Term) (good : AreCiphers c) (between : Fields → Option (
     phone_turns (PhoneActs act) (Some x) turn is own = absurd is
     phone_turns (PhoneActs act) None turn is own =
         phone_goes (phone_step r w.phone (PhoneActs act) (opened (phone_opens r w.phone (PhoneActs act)) [] None))
-        (at_phone.act_case r Anything (Holds c good n w.sent) w.phone (act_holds c good n w.sent w.phone) _ tt h.1.1)
+        (at_phone.act_case r Anything (Holds c good n w.sent) w.phone (act_holds c good n w.sent w.phone) _ tt h.accepted)
     phone_turns (PhoneNasPdu pdu) came turn is own =
         let outcome = opened (phone_opens r w.phone (PhoneNasPdu pdu)) pdu came in
         let x = choice.nas_row w.phone.caps (plain_phone r w.phone).context (plain_phone r w.phone).radio (phone_nas r w.phone pdu) outcome in
         phone_goes (phone_step r w.phone (PhoneNasPdu pdu) outcome)
         (at_phone.nas_case r (Takes c good n w.sent) (Holds c good n w.sent) w.phone (nas_holds c good n w.sent w.phone) x
-        (takes pdu came is x (nas_has r w.phone pdu outcome) own) h.1.1)
+        (takes pdu came is x (nas_has r w.phone pdu outcome) own) h.accepted)
     phone_turns (PhoneAirPdu station air bearer pdu) came turn is own =
         let input = PhoneAirPdu station air bearer pdu in
         phone_goes (phone_step r w.phone input (opened (phone_opens r w.phone input) pdu came))
-        (at_phone.air_case r Anything (Holds c good n w.sent) w.phone (air_holds c good n w.sent w.phone) _ tt h.1.1)
+        (at_phone.air_case r Anything (Holds c good n w.sent) w.phone (air_holds c good n w.sent w.phone) _ tt h.accepted)
 
     station_turns : (id : ℕ) (input : StationInput Term ℕ) (came : Option (Outgoing Term ℕ)) (s : Station Term ℕ)
         → Replayed (turn_of m w id input came (Some s)).0
@@ -251,14 +255,14 @@ module _ (c : Ciphers Term) (good : AreCiphers c) (between : Fields → Option (
       core_acts = λ act is own.
           core_goes (core_step r w.core (CoreActs act) (opened (core_opens r w.core (CoreActs act)) [] None))
           (at_core.act_case r (Starting c good n w.sent) (Keeps c good n w.sent) w.core (act_cases c good n w.sent w.core)
-          (core_act_row (plain_core r w.core) act) (starts act (core_act_row (plain_core r w.core) act) (act_has r w.core act)) h.0 h.1.0);
+          (core_act_row (plain_core r w.core) act) (starts act (core_act_row (plain_core r w.core) act) (act_has r w.core act)) h.core h.said);
       core_nas = λ pdu came is own.
           core_goes (core_step r w.core (CoreNasPdu pdu) (opened (core_opens r w.core (CoreNasPdu pdu)) pdu came))
-          (at_core.nas_case r Anything (Keeps c good n w.sent) w.core (nas_cases c good n w.sent w.core) _ tt h.0 h.1.0);
+          (at_core.nas_case r Anything (Keeps c good n w.sent) w.core (nas_cases c good n w.sent w.core) _ tt h.core h.said);
       core_record = λ pdu came is own.
           let input : CoreInput Term ℕ = CoreRecord (content_in m came) in
           core_goes (core_step r w.core input (opened (core_opens r w.core input) (core_pdu_in input) came))
-          (at_core.record_case r Anything (Keeps c good n w.sent) w.core (record_cases c good n w.sent w.core) _ tt h.0 h.1.0);
+          (at_core.record_case r Anything (Keeps c good n w.sent) w.core (record_cases c good n w.sent w.core) _ tt h.core h.said);
       station_acts = λ id act is s f own. station_turns id (StationActs act) None s;
       station_air = λ id air bearer pdu came is s f own. station_turns id (AirPdu air bearer pdu) came s;
       station_record = λ on id pdu came is s f own. station_turns id (StationRecord on (content_in m came)) came s;
@@ -268,7 +272,7 @@ module _ (c : Ciphers Term) (good : AreCiphers c) (between : Fields → Option (
     came_of : (xs : List (Outgoing Term ℕ)) → ((x : Outgoing Term ℕ) → Member x xs → Member x w.sent) → AllOf (SentKnown (IsReported w)) xs
         → AllOf (λ x. Came (address_of x) (octets_of c between x) (Some x)) xs
     came_of [] here known = tt
-    came_of (x ∷ xs) here known = ((refl, (here x (inl refl), (known.0, refl))), came_of xs (λ y k. here y (inr k)) known.1)
+    came_of (x ∷ xs) here known = (record { to = refl; sent = here x (inl refl); known = known.0; octets = refl }, came_of xs (λ y k. here y (inr k)) known.1)
 
     pub happens_replayed : (e : Event) → IsEvent e → OneValueOneTerm (keys_of (happens m w e).0.history) → Replayed (happens m w e).0
     happens_replayed e is =
@@ -316,9 +320,9 @@ module _ (c : Ciphers Term) (good : AreCiphers c) (between : Fields → Option (
     where
       at : (x : Outgoing Term ℕ) → Said c good next a (Some y) x → Commands c good y.0 caps x → y.1 ≡ caps
       at (SealedNas Down header u e text) says k =
-          let fits = says k.1.0 k.1.1.0 in
-          let root : y.0 ≡ fits.0 = root_is y.0 fits.0 (sym k.0 ∙ fits.1.1.0) in
-          sym (same_is caps k.1.0 k.1.1.1 ∙ fits.1.1.1.1 root)
+          let fits = says k.replayed k.reads in
+          let root : y.0 ≡ fits.root = root_is y.0 fits.root (sym k.key ∙ fits.key) in
+          sym (same_is caps k.replayed k.same ∙ fits.context root)
       at other says k = absurd k
   found next a y caps (x ∷ xs) all (inr more) = found next a y caps xs all.1 more
 
@@ -326,9 +330,9 @@ module _ (c : Ciphers Term) (good : AreCiphers c) (between : Fields → Option (
       → k.nas.root ≡ p.root
       → k.caps ≡ w.phone.caps
   own_caps w h p k at_phone at_core root =
-      let accepted : Accepted c good w.sent w.phone.caps (Some p.root) = subst (λ o. Accepted c good w.sent w.phone.caps (root_of o)) at_phone h.1.1 in
+      let accepted : Accepted c good w.sent w.phone.caps (Some p.root) = subst (λ o. Accepted c good w.sent w.phone.caps (root_of o)) at_phone h.accepted in
       found (next_root w) (of_partial w.core.partial) (k.nas.root, k.caps) w.phone.caps w.sent
-      (subst (λ o. AllOf (Said c good (next_root w) (of_partial w.core.partial) (of_context o)) w.sent) at_core h.1.0)
+      (subst (λ o. AllOf (Said c good (next_root w) (of_partial w.core.partial) (of_context o)) w.sent) at_core h.said)
       (subst (λ t. AnyOf (Commands c good t w.phone.caps) w.sent) (sym root) accepted)
 
 module _ (setup : Setup) (events : List Event) (are : AllOf IsEvent events) (w : TheWorld) (is : RunsTo annex_b setup events w) where
@@ -340,4 +344,4 @@ module _ (setup : Setup) (events : List Event) (are : AllOf IsEvent events) (w :
   core_has_own =
       own_caps annex_b_terms good_ciphers written_in_values w
       (replayed_along annex_b_terms good_ciphers written_in_values (open_octets annex_b_terms) (first_world setup) events w (first_grounds setup) refl
-      ((tt, (tt, tt)), (tt, tt)) are is)
+      (record { core = record { ksi = tt; partial = tt; context = tt }; said = tt; accepted = tt }) are is)

@@ -56,11 +56,22 @@ HasCaps root d (Some x) = x.0 ≡ root → d ≡ x.1
 
 -- the octets of a message read as a command that replays these
 abbrev pub Reads : List ℕ → Caps → Type 0
-Reads pdu d = (header_for_phone pdu ≡ Ok 3) × ((ksi : ℕ) × ((algs : Algs) × (read_nas (sent_in pdu) ≡ Ok (SecurityModeCommand ksi algs d))))
+Reads pdu d = record {
+  header : header_for_phone pdu ≡ Ok 3;
+  ksi : ℕ;
+  algs : Algs;
+  is : read_nas (sent_in pdu) ≡ Ok (SecurityModeCommand ksi algs d);
+}
 
+-- a use is of the integrity key of a KASME that was authenticated, and what the core has of it is of these capabilities
 abbrev pub Fits : ℕ → Option Pair → Option Pair → KeyUse Term → Caps → Type 0
-Fits next a b u d =
-    (root : Term) × (IsRootOf AnyNumber next root × ((u.key ≡ Alg root 2 eia2_identity) × (HasCaps root d a × HasCaps root d b)))
+Fits next a b u d = record {
+  root : Term;
+  known : IsRootOf AnyNumber next root;
+  key : u.key ≡ Alg root 2 eia2_identity;
+  partial : HasCaps root d a;
+  context : HasCaps root d b;
+}
 
 -- THE CORE: its partial context and its context in use are of KASMEs of authentications, of two
 
@@ -81,7 +92,11 @@ ContextIs next a None = Unit {0}
 ContextIs next a (Some y) = IsRootOf AnyNumber next y.0 × Apart a y.0
 
 abbrev pub CoreIs : ℕ → Core Term ℕ → Type 0
-CoreIs next s = KsiLow s.partial × (RootIs next (of_partial s.partial) × ContextIs next (of_partial s.partial) (of_context s.context))
+CoreIs next s = record {
+  ksi : KsiLow s.partial;
+  partial : RootIs next (of_partial s.partial);
+  context : ContextIs next (of_partial s.partial) (of_context s.context);
+}
 
 apart_has : (next : ℕ) (x : Pair) (b : Option Pair) (d : Caps) → ContextIs next (Some x) b → HasCaps x.0 d b
 apart_has next x None d h = tt
@@ -107,8 +122,12 @@ module _ (c : Ciphers Term) (good : AreCiphers c) where
 
   -- the phone took a command that replays its own
   abbrev pub Commands : Term → Caps → Outgoing Term ℕ → Type 0
-  Commands root caps (SealedNas Down header u e text) =
-      (u.key ≡ Alg root 2 eia2_identity) × ((d : Caps) × (Reads (nas_octets c header u e text) d × (same_caps caps d ≡ true)))
+  Commands root caps (SealedNas Down header u e text) = record {
+    key : u.key ≡ Alg root 2 eia2_identity;
+    replayed : Caps;
+    reads : Reads (nas_octets c header u e text) replayed;
+    same : same_caps caps replayed ≡ true;
+  }
   Commands root caps other = ⊥
 
   abbrev pub Accepted : List (Outgoing Term ℕ) → Caps → Option Term → Type 0
@@ -117,7 +136,8 @@ module _ (c : Ciphers Term) (good : AreCiphers c) where
 
   -- what came with a context goes on with the context alone
   said_moved : (next : ℕ) (x : Pair) (b : Option Pair) (y : Outgoing Term ℕ) → Said next (Some x) b y → Said next None (Some x) y
-  said_moved next x b (SealedNas Down header u e text) k = λ d reads. let f = k d reads in (f.0, (f.1.0, (f.1.1.0, (tt, f.1.1.1.0))))
+  said_moved next x b (SealedNas Down header u e text) k = λ d reads.
+      let f = k d reads in record { root = f.root; known = f.known; key = f.key; partial = tt; context = f.partial }
   said_moved next x b other k = tt
 
   -- a new authentication
@@ -135,7 +155,13 @@ module _ (c : Ciphers Term) (good : AreCiphers c) where
       → Said (next + 1) (Some (Root next octets, caps)) b y
   said_anew next octets caps a b (SealedNas Down header u e text) k = λ d reads.
       let f = k d reads in
-      (f.0, (root_more next f.0 f.1.0, (f.1.1.0, ((λ same. absurd (new_root next octets f.0 f.1.0 same)), f.1.1.1.1))))
+      record {
+        root = f.root;
+        known = root_more next f.root f.known;
+        key = f.key;
+        partial = λ same. absurd (new_root next octets f.root f.known same);
+        context = f.context;
+      }
   said_anew next octets caps a b other k = tt
 
   pub context_anew : (next : ℕ) (octets : List ℕ) (caps : Caps) (a b : Option Pair) → ContextIs next a b → ContextIs (next + 1) (Some (Root next octets, caps)) b
@@ -160,14 +186,13 @@ module _ (c : Ciphers Term) (good : AreCiphers c) where
       let plain : sent_in (nas_octets c 3 u None text) ≡ text = (nas_parts c good 3 u None text).2 in
       let own : read_nas (sent_in (nas_octets c 3 u None text)) ≡ Ok (SecurityModeCommand ksi algs caps) =
       ap read_nas plain ∙ spelled_is_read (SecurityModeCommand ksi algs caps) low in
-      let sent = reads.1 in
-      caps_of sent.0 ksi sent.1.0 algs d caps (sym sent.1.1 ∙ own)
+      caps_of reads.ksi ksi reads.algs algs d caps (sym reads.is ∙ own)
 
   -- data are no command
   data_says : (u : KeyUse Term) (e : Option (Ciphering Term)) (text : List ℕ) (d : Caps) → Reads (nas_octets c 2 u e text) d → ⊥
   data_says u e text d reads =
       let parts = nas_parts c good 2 u e text in
-      not_both (header_for_phone (nas_octets c 2 u e text)) (header_down (nas_octets c 2 u e text) 39 parts.3 parts.0 refl) reads.0
+      not_both (header_for_phone (nas_octets c 2 u e text)) (header_down (nas_octets c 2 u e text) 39 parts.3 parts.0 refl) reads.header
     where
       not_both : (o : Result ℕ Answer) → o ≡ Ok 2 → o ≡ Ok 3 → ⊥
       not_both o f g = let two : (let x : Result ℕ Answer = Ok 2 in let y : Result ℕ Answer = Ok 3 in x ≡ y) = sym f ∙ g in cc
@@ -178,42 +203,38 @@ module _ (c : Ciphers Term) (good : AreCiphers c) where
     Keeps s done =
         CoreIs next s → AllOf (Said next (of_partial s.partial) (of_context s.context)) sent
         → CoreIs next done.0
-        × (AllOf (Said next (of_partial done.0.partial) (of_context done.0.context)) sent
-        × OfSome (Said next (of_partial done.0.partial) (of_context done.0.context)) done.1.sent)
+        × AllOf (Said next (of_partial done.0.partial) (of_context done.0.context)) sent
+        × OfSome (Said next (of_partial done.0.partial) (of_context done.0.context)) done.1.sent
 
     pub nas_cases : (s : Core Term ℕ) → at_core.NasCases r Anything Keeps s
     nas_cases s = record {
-      nothing = λ t answer i h. (i, (h, tt));
-      closed = λ k i h. (i, (h, tt));
+      nothing = λ t answer i h. (i, h, tt);
+      closed = λ k i h. (i, h, tt);
       completed = λ count p keys k i h. (
-        (tt, (tt, (i.1.0, tt))),
-        (
-          all_more (Said next (Some (p.root, p.caps)) (of_context s.context)) (Said next None (Some (p.root, p.caps)))
-              (said_moved next (p.root, p.caps) (of_context s.context)) sent h,
-          tt,
-        ),
+        record { ksi = tt; partial = tt; context = (i.partial, tt) },
+        all_more (Said next (Some (p.root, p.caps)) (of_context s.context)) (Said next None (Some (p.root, p.caps)))
+            (said_moved next (p.root, p.caps) (of_context s.context)) sent h,
+        tt,
       );
       changed = λ count conn following station p keys k i h. (
-        (tt, (tt, (i.1.0, tt))),
-        (
-          all_more (Said next (Some (p.root, p.caps)) (of_context s.context)) (Said next None (Some (p.root, p.caps)))
-              (said_moved next (p.root, p.caps) (of_context s.context)) sent h,
-          tt,
-        ),
+        record { ksi = tt; partial = tt; context = (i.partial, tt) },
+        all_more (Said next (Some (p.root, p.caps)) (of_context s.context)) (Said next None (Some (p.root, p.caps)))
+            (said_moved next (p.root, p.caps) (of_context s.context)) sent h,
+        tt,
       );
-      asked = λ count o k i h. (i, (h, tt));
-      opened = λ count text o k i h. (i, (h, tt));
-      rejected = λ count o k i h. (i, (h, tt));
+      asked = λ count o k i h. (i, h, tt);
+      opened = λ count text o k i h. (i, h, tt);
+      rejected = λ count o k i h. (i, h, tt);
     }
 
     pub record_cases : (s : Core Term ℕ) → at_core.RecordCases r Anything Keeps s
     record_cases s = record {
-      nothing = λ t answer i h. (i, (h, tt));
-      switched = λ conn station number alarm link k i h. (i, (h, tt));
-      asked = λ conn source attempt cell target caps link k i h. (i, (h, tt));
-      ordered = λ conn source attempt cell ncc algs air k i h. (i, (h, tt));
-      notified = λ station link k i h. (i, (h, tt));
-      cancelled = λ conn source attempt cell target k i h. (i, (h, tt));
+      nothing = λ t answer i h. (i, h, tt);
+      switched = λ conn station number alarm link k i h. (i, h, tt);
+      asked = λ conn source attempt cell target caps link k i h. (i, h, tt);
+      ordered = λ conn source attempt cell ncc algs air k i h. (i, h, tt);
+      notified = λ station link k i h. (i, h, tt);
+      cancelled = λ conn source attempt cell target k i h. (i, h, tt);
     }
 
     -- a command is of the partial context
@@ -223,39 +244,31 @@ module _ (c : Ciphers Term) (good : AreCiphers c) where
 
     pub act_cases : (s : Core Term ℕ) → at_core.ActCases r Starting Keeps s
     act_cases s = record {
-      nothing = λ t answer i h. (i, (h, tt));
+      nothing = λ t answer i h. (i, h, tt);
       started = λ ksi algs caps count p k i h.
           let own = k p refl in
-          let low : ksi ≤ 6 = subst (λ n. n ≤ 6) (sym own.0) i.0 in (
+          let low : ksi ≤ 6 = subst (λ n. n ≤ 6) (sym own.0) i.ksi in (
             i,
-            (
-              h,
-              λ d reads. (
-                p.root,
-                (
-                  i.1.0,
-                  (
-                    refl,
-                    (
-                      (λ e. command_says (nas_use Down (Alg p.root 2 eia2_identity) count) ksi algs caps d low reads ∙ own.1),
-                      apart_has next (p.root, p.caps) (of_context s.context) d i.1.1,
-                    ),
-                  ),
-                ),
-              ),
-            ),
+            h,
+            λ d reads. record {
+              root = p.root;
+              known = i.partial;
+              key = refl;
+              partial = λ e. command_says (nas_use Down (Alg p.root 2 eia2_identity) count) ksi algs caps d low reads ∙ own.1;
+              context = apart_has next (p.root, p.caps) (of_context s.context) d i.context;
+            },
           );
-      set_up = λ conn cell target caps count o k i h. (i, (h, tt));
-      released = λ conn station k i h. (i, (h, tt));
-      sent = λ count text o k i h. (i, (h, λ d reads. absurd (data_says _ _ _ d reads)));
-      skipped = λ n o k i h. (i, (h, tt));
+      set_up = λ conn cell target caps count o k i h. (i, h, tt);
+      released = λ conn station k i h. (i, h, tt);
+      sent = λ count text o k i h. (i, h, λ d reads. absurd (data_says _ _ _ d reads));
+      skipped = λ n o k i h. (i, h, tt);
     }
 
     -- WHAT THE PHONE DOES
     abbrev pub Holds : Phone Term ℕ → PhoneDone Term ℕ → Type 0
     Holds s done =
         Accepted sent s.caps (root_of s.context)
-        → Accepted sent s.caps (root_of done.0.context) × (NoCommand done.1.sent × (done.0.caps ≡ s.caps))
+        → Accepted sent s.caps (root_of done.0.context) × NoCommand done.1.sent × (done.0.caps ≡ s.caps)
 
     abbrev pub Takes : Phone Term ℕ → row.NasRow → Type 0
     Takes s (row.ContextTaken algs count) = (p : Partial Term) → s.partial ≡ Some p → Accepted sent s.caps (Some p.root)
@@ -264,35 +277,35 @@ module _ (c : Ciphers Term) (good : AreCiphers c) where
 
     pub nas_holds : (s : Phone Term ℕ) → at_phone.NasCases r Takes Holds s
     nas_holds s = record {
-      nothing = λ t answer h. (h, (tt, refl));
-      rejected = λ answer cause k h. (h, (tt, refl));
-      rejected_under = λ answer cause x k h. (h, (tt, refl));
-      taken = λ algs count p k h. (k p refl, (tt, refl));
-      taken_connected = λ algs count p k h. (k p refl, (tt, refl));
-      opened = λ count text x k h. (h, (tt, refl));
+      nothing = λ t answer h. (h, tt, refl);
+      rejected = λ answer cause k h. (h, tt, refl);
+      rejected_under = λ answer cause x k h. (h, tt, refl);
+      taken = λ algs count p k h. (k p refl, tt, refl);
+      taken_connected = λ algs count p k h. (k p refl, tt, refl);
+      opened = λ count text x k h. (h, tt, refl);
     }
 
     pub air_holds : (s : Phone Term ℕ) → at_phone.AirCases r Anything Holds s
     air_holds s = record {
-      nothing = λ t answer h. (h, (tt, refl));
-      secured = λ id air algs count w k h. (h, (tt, refl));
-      handed_over = λ cell steps algs id air l k h. (h, (tt, refl));
-      changed = λ cell algs id air l x f k h. (h, (tt, refl));
-      rrc = λ srb count text l k h. (h, (tt, refl));
-      packet = λ drb count text l k h. (h, (tt, refl));
+      nothing = λ t answer h. (h, tt, refl);
+      secured = λ id air algs count w k h. (h, tt, refl);
+      handed_over = λ cell steps algs id air l k h. (h, tt, refl);
+      changed = λ cell algs id air l x f k h. (h, tt, refl);
+      rrc = λ srb count text l k h. (h, tt, refl);
+      packet = λ drb count text l k h. (h, tt, refl);
     }
 
     pub act_holds : (s : Phone Term ℕ) → at_phone.ActCases r Anything Holds s
     act_holds s = record {
-      nothing = λ t answer h. (h, (tt, refl));
-      requested = λ x k h. (h, (tt, refl));
-      resent = λ l k h. (h, (tt, refl));
-      idle = λ k h. (h, (tt, refl));
-      packet = λ drb text l k h. (h, (tt, refl));
-      rrc = λ srb text l k h. (h, (tt, refl));
-      nas = λ text x k h. (h, (tt, refl));
-      nas_skipped = λ n x k h. (h, (tt, refl));
-      bearer_skipped = λ on n l k h. (h, (tt, refl));
+      nothing = λ t answer h. (h, tt, refl);
+      requested = λ x k h. (h, tt, refl);
+      resent = λ l k h. (h, tt, refl);
+      idle = λ k h. (h, tt, refl);
+      packet = λ drb text l k h. (h, tt, refl);
+      rrc = λ srb text l k h. (h, tt, refl);
+      nas = λ text x k h. (h, tt, refl);
+      nas_skipped = λ n x k h. (h, tt, refl);
+      bearer_skipped = λ on n l k h. (h, tt, refl);
     }
 
 -- WHAT A STATION DOES: it sends nothing on NAS

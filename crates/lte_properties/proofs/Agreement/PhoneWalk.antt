@@ -57,24 +57,24 @@ no_cipher (Some x) e = absurd cc
 -- A WAITING PHONE
 
 -- the command that starts the security of a connection names what was made
-start_named : (g : Ghost) (w : Waiting Term) (station air : ℕ) (pdu : List ℕ) (on : Which) (algs : Algs) (ns na : ℕ)
-    → read_rrc (unciphered_text pdu) ≡ Ok (SecurityModeCommand algs ns na) → (ns ≡ station) → (na ≡ air)
-    → (u : KeyUse Term) → u.key ≡ (keys_of w.kenb algs).rrc_int → u.dir ≡ Down
-    → (text : List ℕ) (came : Option (Outgoing Term ℕ)) → CameDown g station air on pdu came → WasSealed u None text came → CipheredAs u.dir None came
-    → StartNeeds g station air algs (Connecting w)
-start_named g w station air pdu on algs ns na reads is_s is_a u key down text (Some (SealedNas dir header i f sent)) h sealed calm = absurd h
-start_named g w station air pdu on algs ns na reads is_s is_a u key down text (Some (SealedRrc Up st a srb i f sent)) h sealed calm = absurd h
-start_named g w station air pdu on algs ns na reads is_s is_a u key down text (Some (SealedRrc Down st a srb i f sent)) h sealed calm =
-    let plain : f ≡ None = no_cipher f (subst (λ d. CipheredAs d None (Some (SealedRrc Down st a srb i f sent))) down calm) in
-    let d = h.down in
-    let m = d.made in
-    let from : m.from ≡ BySetup = (subst (CipheredSo g station air m srb i) plain d.ciphered).0 in
-    let says = d.says (SecurityModeCommand algs ns na) (ap read_rrc (sym (h.plain plain)) ∙ reads) in
-    let there : made_at g.made station air ≡ Some says.made = (λ j. made_at g.made (sym is_s j) (sym is_a j)) ∙ says.found in
-    let one : says.made ≡ m = same_found _ says.made m there d.found in
-    let kenb : w.kenb ≡ m.key = one_key w.kenb m.key _ _ _ _ (sym key ∙ ap (λ v. v.key) sealed.0 ∙ ap (λ v. v.key) d.integrity) in
-    record { made = m; found = d.found; from = from; key = kenb; algs = sym (subst (λ x. x.algs ≡ algs) one says.algs) }
-start_named g w station air pdu on algs ns na reads is_s is_a u key down text other h sealed calm = absurd sealed
+module _ (g : Ghost) (w : Waiting Term) (station air : ℕ) (pdu : List ℕ) (on : Which) (algs : Algs) (ns na : ℕ)
+    (reads : read_rrc (unciphered_text pdu) ≡ Ok (SecurityModeCommand algs ns na)) (is_s : ns ≡ station) (is_a : na ≡ air)
+    (u : KeyUse Term) (key : u.key ≡ (keys_of w.kenb algs).rrc_int) (down : u.dir ≡ Down) (text : List ℕ) where
+  start_named : (came : Option (Outgoing Term ℕ)) → CameDown g station air on pdu came → WasSealed u None text came → CipheredAs u.dir None came
+      → StartNeeds g station air algs (Connecting w)
+  start_named (Some (SealedNas dir header i f sent)) h sealed calm = absurd h
+  start_named (Some (SealedRrc Up st a srb i f sent)) h sealed calm = absurd h
+  start_named (Some (SealedRrc Down st a srb i f sent)) h sealed calm =
+      let plain : f ≡ None = no_cipher f (subst (λ d. CipheredAs d None (Some (SealedRrc Down st a srb i f sent))) down calm) in
+      let d = h.down in
+      let m = d.made in
+      let from : m.from ≡ BySetup = (subst (CipheredSo g station air m srb i) plain d.ciphered).0 in
+      let says = d.says (SecurityModeCommand algs ns na) (ap read_rrc (sym (h.plain plain)) ∙ reads) in
+      let there : made_at g.made station air ≡ Some says.made = (λ j. made_at g.made (sym is_s j) (sym is_a j)) ∙ says.found in
+      let one : says.made ≡ m = same_found _ says.made m there d.found in
+      let kenb : w.kenb ≡ m.key = one_key w.kenb m.key _ _ _ _ (sym key ∙ ap (λ v. v.key) sealed.0 ∙ ap (λ v. v.key) d.integrity) in
+      record { made = m; found = d.found; from = from; key = kenb; algs = sym (subst (λ x. x.algs ≡ algs) one says.algs) }
+  start_named other h sealed calm = absurd sealed
 
 module _ (same : Term → Term → Bool) (g : Ghost) (s : Phone Term ℕ) (station air : ℕ) (pdu : List ℕ) (on : Which)
     (came : Option (Outgoing Term ℕ)) (came_ok : CameDown g station air on pdu came) (yet : NothingYet g s.radio) where

@@ -134,76 +134,77 @@ module _ (same : Term → Term → Bool) (cells : List Site) (g : Ghost) (made_o
 
   -- A PREPARATION
 
-  -- its attempt is of another source, and was not seen before
-  taken_once : (w : Admitted) (m : Made Term ℕ) → m.from ≡ ByAttempt w.from → slice_index s.seen w.from.source < w.from.attempt
-      → (e : Tried Term ℕ) → tried_at g.tried w.from.source w.from.attempt ≡ Some e → e.target ≡ s.id → IsOther e
-      → (length (slice_set s.seen w.from.source w.from.attempt) ≡ 8)
-      × AllOf (SeenBy s.id (slice_set s.seen w.from.source w.from.attempt)) (g.made ++ m ∷ []) × AllOf (NotBoth m) g.made
-  taken_once w m is news e found target other =
-      let at = both_named e.station w.from.source e.attempt w.from.attempt (found_holds (is_tried_at w.from.source w.from.attempt) g.tried e found) in
-      let own = own_try w.from.source w.from.attempt e found in
-      let low : w.from.source ≤ 7 = subst (λ n. n ≤ 7) at.0 own.station in (
-        length-set s.seen w.from.source w.from.attempt ∙ ok.ring,
-        one_more (SeenBy s.id (slice_set s.seen w.from.source w.from.attempt)) g.made m
-            (seen_more s.id w.from.source w.from.attempt s.seen ok.ring low news g.made ok.seen) (seen_there s.id s.seen m w.from is ok.ring low),
-        apart_unseen g s.id s.seen m w.from is e found target (λ own_source. other (target ∙ sym own_source ∙ sym at.0)) news g.made made_ok ok.seen,
-      )
+  -- a preparation of an attempt that was made, of another station, for this one
+  module _ (w : Admitted) (e : Tried Term ℕ) (found : tried_at g.tried w.from.source w.from.attempt ≡ Some e) (target : e.target ≡ s.id)
+      (other : IsOther e) where
+    -- its attempt is of another source, and was not seen before
+    taken_once : (m : Made Term ℕ) → m.from ≡ ByAttempt w.from → slice_index s.seen w.from.source < w.from.attempt
+        → (length (slice_set s.seen w.from.source w.from.attempt) ≡ 8)
+        × AllOf (SeenBy s.id (slice_set s.seen w.from.source w.from.attempt)) (g.made ++ m ∷ []) × AllOf (NotBoth m) g.made
+    taken_once m is news =
+        let at = both_named e.station w.from.source e.attempt w.from.attempt (found_holds (is_tried_at w.from.source w.from.attempt) g.tried e found) in
+        let own = own_try w.from.source w.from.attempt e found in
+        let low : w.from.source ≤ 7 = subst (λ n. n ≤ 7) at.0 own.station in (
+          length-set s.seen w.from.source w.from.attempt ∙ ok.ring,
+          one_more (SeenBy s.id (slice_set s.seen w.from.source w.from.attempt)) g.made m
+              (seen_more s.id w.from.source w.from.attempt s.seen ok.ring low news g.made ok.seen) (seen_there s.id s.seen m w.from is ok.ring low),
+          apart_unseen g s.id s.seen m w.from is e found target (λ own_source. other (target ∙ sym own_source ∙ sym at.0)) news g.made made_ok ok.seen,
+        )
 
-  -- what is made is of the attempt, and what is sent may point to what was made
-  admitted_goes : (w : Admitted) (by : By) (star : NumberedKey Term ℕ) (sent : Option (Outgoing Term ℕ)) → Admits r s w
-      → (e : Tried Term ℕ) → tried_at g.tried w.from.source w.from.attempt ≡ Some e → e.conn ≡ w.conn → e.cell ≡ w.cell → s.id ≡ e.target → IsOther e
-      → TermOk g w.conn star.key star.number → Leads e star.key star.number → GivenFits e.kind star.number
-      → (let m = admitted_made s.id w star in made_at (g.made ++ m ∷ []) s.id w.air ≡ Some m → OutOk (told g (Some m) None) sent)
-      → Goes (with_admitted w (admitted_prep r w by star) s, record (only Done) { sent = sent; made = Some (admitted_made s.id w star) })
-  admitted_goes w by star sent a e found conn cell target other term leads given out =
-      let m = admitted_made s.id w star in
-      let k = told g (Some m) None in
-      let l = told_more g (Some m) None in
-      let air_is : w.air ≡ s.next = a.air_is in
-      let first = ok.next in
-      let low : 1 ≤ w.air = omega arith in
-      let here : made_at k.made s.id w.air ≡ Some m = made_new g.made m (ok.fresh w.air (omega arith)).0 in
-      let own = own_try w.from.source w.from.attempt e found in
-      let from : FromOk k m (ByAttempt w.from) = record {
-        tried = e;
-        found = found;
-        number = term_number g e.conn e.key e.number own.term;
-        target = sym target;
-        leads = leads;
-        given = given;
-        conn = conn;
-        cell = cell;
-      } in
-      let prep : PrepOk k s.id (admitted_prep r w by star) = record {
-        term = term;
-        pair = tt;
-        keys = refl;
-        made = m;
-        found = here;
-        is = (refl, refl, refl);
-        no_setup = λ e. setup_no_attempt m e w.from refl;
-      } in
-      let once = taken_once w m refl a.new e found (sym target) other in (
-        record {
-          context = ctx_later g k l s.id s.context ok.context;
-          preps = one_more _ _ _ (all_filter _ _ s.preps (preps_later g k l s.id s.preps ok.preps)) prep;
-          fresh = fresh_above m (omega arith);
-          cells = ok.cells;
-          id = ok.id;
-          next = omega arith;
-          ring = once.0;
-          seen = once.1;
-        },
-        (
-          record { low = low; high = drawn s.next w.air a.air_is a.left; station = ok.id; from = from; found = here; term = term },
-          once.2,
-        ),
-        tt,
-        out here,
-        refl,
-        refl,
-        tt,
-      )
+    -- what is made is of the attempt, and what is sent may point to what was made
+    admitted_goes : (by : By) (star : NumberedKey Term ℕ) (sent : Option (Outgoing Term ℕ)) → Admits r s w → e.conn ≡ w.conn → e.cell ≡ w.cell
+        → TermOk g w.conn star.key star.number → Leads e star.key star.number → GivenFits e.kind star.number
+        → (let m = admitted_made s.id w star in made_at (g.made ++ m ∷ []) s.id w.air ≡ Some m → OutOk (told g (Some m) None) sent)
+        → Goes (with_admitted w (admitted_prep r w by star) s, record (only Done) { sent = sent; made = Some (admitted_made s.id w star) })
+    admitted_goes by star sent a conn cell term leads given out =
+        let m = admitted_made s.id w star in
+        let k = told g (Some m) None in
+        let l = told_more g (Some m) None in
+        let air_is : w.air ≡ s.next = a.air_is in
+        let first = ok.next in
+        let low : 1 ≤ w.air = omega arith in
+        let here : made_at k.made s.id w.air ≡ Some m = made_new g.made m (ok.fresh w.air (omega arith)).0 in
+        let own = own_try w.from.source w.from.attempt e found in
+        let from : FromOk k m (ByAttempt w.from) = record {
+          tried = e;
+          found = found;
+          number = term_number g e.conn e.key e.number own.term;
+          target = target;
+          leads = leads;
+          given = given;
+          conn = conn;
+          cell = cell;
+        } in
+        let prep : PrepOk k s.id (admitted_prep r w by star) = record {
+          term = term;
+          pair = tt;
+          keys = refl;
+          made = m;
+          found = here;
+          is = (refl, refl, refl);
+          no_setup = λ e. setup_no_attempt m e w.from refl;
+        } in
+        let once = taken_once m refl a.new in (
+          record {
+            context = ctx_later g k l s.id s.context ok.context;
+            preps = one_more _ _ _ (all_filter _ _ s.preps (preps_later g k l s.id s.preps ok.preps)) prep;
+            fresh = fresh_above m (omega arith);
+            cells = ok.cells;
+            id = ok.id;
+            next = omega arith;
+            ring = once.0;
+            seen = once.1;
+          },
+          (
+            record { low = low; high = drawn s.next w.air a.air_is a.left; station = ok.id; from = from; found = here; term = term },
+            once.2,
+          ),
+          tt,
+          out here,
+          refl,
+          refl,
+          tt,
+        )
 
   by_s1_goes : (w : Admitted) (pair : NumberedKey Term ℕ) → Admits r s w
       → BetweenOk g (Address.StationS1 s.id) (HandoverRequest w.conn w.from.source w.from.attempt w.cell w.caps) (Some pair)
@@ -219,7 +220,7 @@ module _ (same : Term → Term → Bool) (cells : List Site) (g : Ghost) (made_o
       let same_star : Star pair.key w.cell.pci w.cell.earfcn ≡ Star pair.key e.cell.pci e.cell.earfcn =
       ap (λ c. Star pair.key c.pci c.earfcn) (sym asked.cell) in
       let given : GivenFits e.kind star.number = subst (λ o. GivenFits o star.number) (sym asked.kind) tt in
-      admitted_goes w By.S1 star (prepared_by_s1 r w (Some pair) s).1.sent a e asked.found asked.conn asked.cell asked.so.1 asked.so.2
+      admitted_goes w e asked.found (sym asked.so.1) asked.so.2 By.S1 star (prepared_by_s1 r w (Some pair) s).1.sent a asked.conn asked.cell
       (star_term g w.conn pair w.cell.pci w.cell.earfcn came.0) (omega arith, same_star ∙ up) given
       (λ here. record { made = admitted_made s.id w star; found = here; from = refl; algs = refl; so = refl })
 
@@ -232,7 +233,7 @@ module _ (same : Term → Term → Bool) (cells : List Site) (g : Ghost) (made_o
       let own = own_try w.from.source w.from.attempt e asked.found in
       let of_given : GivenOk g e (BySource star) = subst (GivenOk g e) asked.kind own.given in
       let given : GivenFits e.kind star.number = subst (λ o. GivenFits o star.number) (sym asked.kind) refl in
-      admitted_goes w By.X2 star (prepared_by_x2 r w (Some star) s).1.sent a e asked.found asked.conn asked.cell asked.so.0 asked.so.1
+      admitted_goes w e asked.found (sym asked.so.0) asked.so.1 By.X2 star (prepared_by_x2 r w (Some star) s).1.sent a asked.conn asked.cell
       came.0 of_given.1 given (λ here. record { made = admitted_made s.id w star; found = here; from = refl; algs = refl; so = tt })
 
   -- AN ANSWER TO AN ATTEMPT

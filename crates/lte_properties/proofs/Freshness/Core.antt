@@ -231,9 +231,10 @@ module _ (roots : ℕ) (given : Homes) where
 
   -- the KeNB of the trigger has no home yet, and gets the station of the cell
   set_up_keeps : (same : Term → Term → Bool) (conn : ℕ) (cell : Place) (target : ℕ) (caps : Caps) (count : ℕ) (s : Core Term ℕ)
-      (c : CoreContext Term) (trigger : Option ℕ) → trigger ≡ Some count → CoreStands roots given (record s { context = Some c; trigger = trigger }) →
-      let d = context_set_up (term_reading_by same) conn cell target caps count (Some c) (record s { context = Some c; trigger = trigger }) in
-      CoreKeeps roots given (record s { context = Some c; trigger = trigger }) d.0 d.1.sent
+      (c : CoreContext Term) (trigger : Option ℕ) → trigger ≡ Some count →
+      let now : Core Term ℕ = record s { context = Some c; trigger = trigger } in
+      CoreStands roots given now →
+      let d = context_set_up (term_reading_by same) conn cell target caps count (Some c) now in CoreKeeps roots given now d.0 d.1.sent
   set_up_keeps same conn cell target caps count s c None e h = absurd (cc)
   set_up_keeps same conn cell target caps count s c (Some n) e h = record {
     new = homed given kenb (home_at target conn);

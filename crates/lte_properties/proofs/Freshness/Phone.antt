@@ -30,10 +30,15 @@ module _ (roots : ℕ) (taken : Homes) where
   -- THE ACCESS STRATUM
 
   module _ (s : Phone Term ℕ) (l : Link Term ℕ) (b : Bearers) where
+    abbrev before : Phone Term ℕ
+    before = record s { radio = Connected l }
+
+    abbrev after : Phone Term ℕ
+    after = record s { radio = with_bearers l b }
+
     -- a use of the next COUNT of an SRB, and of a DRB
-    new_srb : (srb : Srb) → b ≡ srb_sent srb l.bearers → (type id : ℕ) → IsAs type → (type == 5) ≡ false
-        → PhoneStands roots taken (record s { radio = Connected l }) →
-        NewUp roots taken taken (record s { radio = Connected l }) (record s { radio = with_bearers l b })
+    new_srb : (srb : Srb) → b ≡ srb_sent srb l.bearers → (type id : ℕ) → IsAs type → (type == 5) ≡ false → PhoneStands roots taken before →
+        NewUp roots taken taken before after
         (record { key = Alg l.kenb type id; count = (srb_counts srb l.bearers).send; bearer = bearer5_of (of_srb srb); dir = Up })
     new_srb srb e type id ge f h =
         let used = subst (λ on. (srb_counts srb l.bearers).send < send_on on (bearer5_of (of_srb srb)) b) (sym f)
@@ -45,8 +50,8 @@ module _ (roots : ℕ) (taken : Homes) where
         )
 
     -- and of the next COUNT of a DRB
-    new_drb : (drb : Drb) → b ≡ drb_sent drb l.bearers → (id : ℕ) → PhoneStands roots taken (record s { radio = Connected l }) →
-        NewUp roots taken taken (record s { radio = Connected l }) (record s { radio = with_bearers l b })
+    new_drb : (drb : Drb) → b ≡ drb_sent drb l.bearers → (id : ℕ) → PhoneStands roots taken before →
+        NewUp roots taken taken before after
         (record { key = Alg l.kenb 5 id; count = (drb_counts drb l.bearers).send; bearer = bearer5_of (of_drb drb); dir = Up })
     new_drb drb e id h =
         let used = subst (λ x. (drb_counts drb l.bearers).send < send_on true (bearer5_of (of_drb drb)) x) (sym e) (drb_is_used drb l.bearers) in (
@@ -56,10 +61,10 @@ module _ (roots : ℕ) (taken : Homes) where
         )
 
     -- COUNTs that do not fall, and uses of the ones that rose
-    bearers_keep : (sent : Option (Outgoing Term ℕ)) → Rise l.bearers b → PhoneStands roots taken (record s { radio = Connected l }) →
-        AllOf (NewUp roots taken taken (record s { radio = Connected l }) (record s { radio = with_bearers l b })) (uses_in sent) →
+    bearers_keep : (sent : Option (Outgoing Term ℕ)) → Rise l.bearers b → PhoneStands roots taken before →
+        AllOf (NewUp roots taken taken before after) (uses_in sent) →
         AllApart (uses_in sent) → ((given : Homes) → IfSome sent (RecordStands taken given)) →
-        PhoneKeeps roots taken (record s { radio = Connected l }) (record s { radio = with_bearers l b }) sent None
+        PhoneKeeps roots taken before after sent None
     bearers_keep sent rise h uses apart sends = record {
       new = taken;
       grows = λ t k e. e;
@@ -76,14 +81,14 @@ module _ (roots : ℕ) (taken : Homes) where
     -- an RRC text by the keys of the connection
     abbrev OfRrc : Srb → RrcRecord → AsKeys Term → Type 0
     OfRrc srb x keys =
-        AllOf (NewUp roots taken taken (record s { radio = Connected l }) (record s { radio = with_bearers l b }))
+        AllOf (NewUp roots taken taken before after)
         (uses_of {C = ℕ} (rrc_sealed keys l.station l.air srb (srb_counts srb l.bearers).send x))
         × AllApart (uses_of {C = ℕ} (rrc_sealed keys l.station l.air srb (srb_counts srb l.bearers).send x))
         × OnKey (λ t type. taken t ≡ Some (home_at l.station l.air)) keys.rrc_int
 
     -- its uses are new
-    rrc_keeps : (srb : Srb) (x : RrcRecord) → b ≡ srb_sent srb l.bearers → PhoneStands roots taken (record s { radio = Connected l }) →
-        PhoneKeeps roots taken (record s { radio = Connected l }) (record s { radio = with_bearers l b })
+    rrc_keeps : (srb : Srb) (x : RrcRecord) → b ≡ srb_sent srb l.bearers → PhoneStands roots taken before →
+        PhoneKeeps roots taken before after
         (Some (rrc_sealed l.keys l.station l.air srb (srb_counts srb l.bearers).send x)) None
     rrc_keeps srb x e h =
         let a : OfRrc srb x (as_keys_of term_reading l.kenb l.keys.algs) = (
@@ -95,11 +100,11 @@ module _ (roots : ℕ) (taken : Homes) where
         bearers_keep _ (subst (Rise l.bearers) (sym e) (srb_sent_rises srb l.bearers)) h k.0 k.1 (λ given. k.2)
 
     -- a user packet
-    packet_keeps : (drb : Drb) (text : List ℕ) → b ≡ drb_sent drb l.bearers → PhoneStands roots taken (record s { radio = Connected l }) →
-        PhoneKeeps roots taken (record s { radio = Connected l }) (record s { radio = with_bearers l b })
+    packet_keeps : (drb : Drb) (text : List ℕ) → b ≡ drb_sent drb l.bearers → PhoneStands roots taken before →
+        PhoneKeeps roots taken before after
         (Some (UserPacket Up l.station l.air drb (drb_ciphering Up l.keys drb (drb_counts drb l.bearers).send) text)) None
     packet_keeps drb text e h =
-        let k = subst (λ keys. NewUp roots taken taken (record s { radio = Connected l }) (record s { radio = with_bearers l b })
+        let k = subst (λ keys. NewUp roots taken taken before after
         (drb_use Up keys.up_enc drb (drb_counts drb l.bearers).send))
         (sym h.radio.keys) (new_drb drb e (identity_of l.keys.algs.eea) h) in
         bearers_keep _ (subst (Rise l.bearers) (sym e) (drb_sent_rises drb l.bearers)) h (k, tt) (tt, tt) (λ given. tt)

@@ -220,20 +220,24 @@ module _ (roots : ℕ) (taken : Homes) where
     taken_older mark (Connected l) now past h o =
         (o.0, inr (let x = (past l.kenb (home_at l.station l.air) h.here).1 in let y = o.0 in omega arith))
 
+    abbrev before : Phone Term ℕ
+    before = record s { partial = Some p }
+
+    abbrev after : Radio Term ℕ → Phone Term ℕ
+    after radio = record s { partial = None; context = Some (context_of (term_reading_by same) algs count p.root); radio = radio }
+
     -- its first COUNT under a NAS key is new
-    new_first : (radio : Radio Term ℕ) (type id bearer : ℕ) → IsNas type → PhoneStands roots taken (record s { partial = Some p }) →
-        NewUp roots taken taken (record s { partial = Some p })
-        (record s { partial = None; context = Some (context_of (term_reading_by same) algs count p.root); radio = radio })
+    new_first : (radio : Radio Term ℕ) (type id bearer : ℕ) → IsNas type → PhoneStands roots taken before →
+        NewUp roots taken taken before (after radio)
         (record { key = Alg p.root type id; count = 0; bearer = bearer; dir = Up })
     new_first radio type id bearer lt h =
         (refl, (λ n. (h.kasmes.0, tt, λ e. omega arith), λ a. absurd (omega arith)), λ old. (old.0 lt).1 refl)
 
     -- the radio afterwards stands, and so does all
-    first_sent : (radio : Radio Term ℕ) (header : ℕ) (text : List ℕ) → PhoneStands roots taken (record s { partial = Some p }) →
+    first_sent : (radio : Radio Term ℕ) (header : ℕ) (text : List ℕ) → PhoneStands roots taken before →
         RadioStands roots None (Some (record { root = authentication_of p.root; count = 1 })) taken radio → RadioOlder radio (Some p.root) →
         ((k : Term) (type count bearer : ℕ) → AsUp taken s.radio k type count bearer → AsUp taken radio k type count bearer) →
-        PhoneKeeps roots taken (record s { partial = Some p })
-        (record s { partial = None; context = Some (context_of (term_reading_by same) algs count p.root); radio = radio })
+        PhoneKeeps roots taken before (after radio)
         (Some (SealedNas Up header (nas_use Up (nas_keys_of (term_reading_by same) p.root algs).int 0)
         (Some (nas_ciphering Up (nas_keys_of (term_reading_by same) p.root algs) 0)) text)) None
     first_sent radio header text h r older link = record {
@@ -257,7 +261,7 @@ module _ (roots : ℕ) (taken : Homes) where
     }
 
     -- the phone waits with the first KeNB of the new context
-    waits : PhoneStands roots taken (record s { partial = Some p }) →
+    waits : PhoneStands roots taken before →
         RadioStands roots None (Some (record { root = authentication_of p.root; count = 1 })) taken
         (Connecting (record { root = p.root; kenb = Kenb p.root 0 }))
     waits h =

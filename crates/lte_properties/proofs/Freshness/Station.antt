@@ -77,10 +77,16 @@ module _ (taken given : Homes) where
   -- SENDING
 
   module _ (s : Station Term ℕ) (c : Context Term ℕ) (b : Bearers) (attempt : Option (Attempt Term ℕ)) where
+    abbrev before : Station Term ℕ
+    before = record s { context = Some c }
+
+    abbrev after : Station Term ℕ
+    after = record s { context = Some (record c { bearers = b; attempt = attempt }) }
+
     -- the next COUNT of a bearer is new
-    new_use : (type id count bearer : ℕ) → IsAs type → StationStands taken given (record s { context = Some c }) →
+    new_use : (type id count bearer : ℕ) → IsAs type → StationStands taken given before →
         count < next_on type bearer b → (count < next_on type bearer c.bearers → ⊥) →
-        NewAt taken given (record s { context = Some c }) (record s { context = Some (record c { bearers = b; attempt = attempt }) })
+        NewAt taken given before after
         (record { key = Alg c.key.kenb type id; count = count; bearer = bearer; dir = Down })
     new_use type id count bearer ge h used next =
         let sits = h.0 in
@@ -94,13 +100,13 @@ module _ (taken given : Homes) where
     -- the uses of an RRC text, by its keys
     abbrev OfRrc : Srb → List ℕ → AsKeys Term → Type 0
     OfRrc srb text keys =
-        AllOf (NewAt taken given (record s { context = Some c }) (record s { context = Some (record c { bearers = b; attempt = attempt }) }))
+        AllOf (NewAt taken given before after)
         (uses_of {C = ℕ} (signalling_sent s.id c.air keys srb (srb_counts srb c.bearers).send text))
         × AllApart (uses_of {C = ℕ} (signalling_sent s.id c.air keys srb (srb_counts srb c.bearers).send text))
 
     -- an RRC text takes the next COUNT of its bearer
-    rrc_keeps : (srb : Srb) (text : List ℕ) → b ≡ srb_sent srb c.bearers → StationStands taken given (record s { context = Some c }) →
-        StationKeeps taken given (record s { context = Some c }) (record s { context = Some (record c { bearers = b; attempt = attempt }) })
+    rrc_keeps : (srb : Srb) (text : List ℕ) → b ≡ srb_sent srb c.bearers → StationStands taken given before →
+        StationKeeps taken given before after
         (Some (signalling_sent s.id c.air c.keys srb (srb_counts srb c.bearers).send text))
     rrc_keeps srb text e h =
         let used : (srb_counts srb c.bearers).send < send_on false (bearer5_of (of_srb srb)) b =
@@ -113,21 +119,20 @@ module _ (taken given : Homes) where
           both_apart _ _ (types_apart _ _ 3 4 refl refl (λ g. absurd (omega arith))),
         ) in
         let k = subst (OfRrc srb text) (sym h.0.keys) a in
-        changes (record s { context = Some c }) s.next _ _ (omega arith)
+        changes before s.next _ _ (omega arith)
         (refl, refl, subst (Rise c.bearers) (sym e) (srb_sent_rises srb c.bearers)) h k.0 k.1 tt
 
     -- a user packet
-    packet_keeps : (drb : Drb) (text : List ℕ) → b ≡ drb_sent drb c.bearers → StationStands taken given (record s { context = Some c }) →
-        StationKeeps taken given (record s { context = Some c }) (record s { context = Some (record c { bearers = b; attempt = attempt }) })
+    packet_keeps : (drb : Drb) (text : List ℕ) → b ≡ drb_sent drb c.bearers → StationStands taken given before →
+        StationKeeps taken given before after
         (Some (packet_sent s.id c.air c.keys drb (drb_counts drb c.bearers).send text))
     packet_keeps drb text e h =
         let used : (drb_counts drb c.bearers).send < send_on true (bearer5_of (of_drb drb)) b =
         subst (λ x. (drb_counts drb c.bearers).send < send_on true (bearer5_of (of_drb drb)) x) (sym e) (drb_is_used drb c.bearers) in
-        let k = subst (λ (keys : AsKeys Term). NewAt taken given (record s { context = Some c })
-        (record s { context = Some (record c { bearers = b; attempt = attempt }) })
+        let k = subst (λ (keys : AsKeys Term). NewAt taken given before after
         (drb_use Down keys.up_enc drb (drb_counts drb c.bearers).send))
         (sym h.0.keys) (new_use 5 (identity_of c.keys.algs.eea) _ (bearer5_of (of_drb drb)) (omega arith) h used (drb_is_next drb c.bearers)) in
-        changes (record s { context = Some c }) s.next _ _ (omega arith)
+        changes before s.next _ _ (omega arith)
         (refl, refl, subst (Rise c.bearers) (sym e) (drb_sent_rises drb c.bearers)) h (k, tt) (tt, tt) tt
 
   -- a step that a station keeps, and that draws further numbers, is of a later connection and has other preparations
@@ -287,9 +292,9 @@ module _ (taken given : Homes) where
 
   -- a key change: the order goes under the present keys, and the preparation with a KeNB* stands alone
   renewed_keeps : (same : Term → Term → Bool) (conn number air count : ℕ) (s : Station Term ℕ) (o : Option (Context Term ℕ)) (key : Option (NumberedKey Term ℕ)) →
-      RecordNeeds given (record s { context = o }) (KeyRenewed conn number air count) key → StationStands taken given (record s { context = o }) →
-      let d = key_renewed (term_reading_by same) conn number air count o key (record s { context = o }) in
-      StationKeeps taken given (record s { context = o }) d.0 d.1.sent
+      let now : Station Term ℕ = record s { context = o } in
+      RecordNeeds given now (KeyRenewed conn number air count) key → StationStands taken given now →
+      let d = key_renewed (term_reading_by same) conn number air count o key now in StationKeeps taken given now d.0 d.1.sent
   renewed_keeps same conn number air count s None key n h = still (record s { context = None }) h
   renewed_keeps same conn number air count s (Some c) None n h = still (record s { context = Some c }) h
   renewed_keeps same conn number air count s (Some c) (Some kenb) n h =

@@ -6,7 +6,7 @@ use Rattle.lte_events.specs.Site.{Site, station_of}
 use Rattle.key_model.specs.{Derivable.Derivable, Chain.nh}
 use Rattle.key_model.specs.Term.{Term, Root, Star}
 use Rattle.lte_machine.specs.{Wire.Outgoing, World.World}
-use Rattle.lte_machine.specs.Reply.{Origin, ByAttempt, ByChange, Made, Came, Secured, Commanded, Changed, Took, Handover, BySource, ByTarget}
+use Rattle.lte_machine.specs.Reply.{Origin, From, ByAttempt, ByChange, Made, Came, Secured, Commanded, Changed, Took, Handover, BySource, ByTarget}
 use Rattle.lte_properties.specs.Agreement.{is_made_at, ahead, Obeys, ObeysMade, ObeysAgreement}
 use Rattle.lte_properties.specs.Separation.{HeldBy, Those, GivenTo, GivenAt}
 use Rattle.lte_properties.specs.SharedKeys.{OutsideCannot, SharedBy, RenewedBy, SharedBetween, SharedAt, SharedApart}
@@ -34,55 +34,53 @@ module _ (sites : List Site) (w : World Term ℕ (Outgoing Term ℕ)) (h : Holde
       ((λ id k a. o (subst (Those test) (h.once (nh (Root r octets) n i) id target k g) a)), (λ id k a. o (subst (Those test) (by_some (sym k ∙ c)) a)))
       (subst (λ t. Derivable (HeldBy (Those test) w.held) t) e d)
 
-  -- where the station made what the phone took at a handover command
-  shared_by : (source : ℕ) (x : Took Term ℕ) (m : Made Term ℕ) (o : Origin) → o.source ≡ source →
-      MadeFrom (GivenTo w.sent) w.tried m (ByAttempt o) → m.station ≡ x.station →
-      (r : ℕ) (octets : List ℕ) (n i : ℕ) (cell : Place) → m.key ≡ Star (nh (Root r octets) n i) cell.pci cell.earfcn →
-      x.key ≡ Star (nh (Root r octets) n i) cell.pci cell.earfcn →
-      station_of cell sites ≡ Some x.station → SharedBy w (nh (Root r octets) n i) x.key source x.station (ByAttempt o)
-  shared_by source x m o from k s r octets n i cell e is c = (
-    from,
-    any_map (λ t. (t.station ≡ o.source) × (t.attempt ≡ o.attempt) × GivenAt w.sent (nh (Root r octets) n i) o.source m.station t.kind)
-        (λ t. (t.station ≡ o.source)
-        × (t.attempt ≡ o.attempt)
-        × GivenAt w.sent (nh (Root r octets) n i) o.source x.station t.kind
-        × OutsideCannot w x.key o.source x.station t.kind)
-        (λ t q. let g = subst (λ a. GivenAt w.sent (nh (Root r octets) n i) o.source a t.kind) s q.2 in
-        (q.0, q.1, g, outside_cannot r octets n i cell x.key o.source x.station t.kind is c g)) w.tried
-        (as_given sites w h m (ByAttempt o) k r octets n i cell.pci cell.earfcn e),
-  )
-
-  -- and at a key change
-  renewed_by : (x : Took Term ℕ) (m : Made Term ℕ) (before : Term) → MadeFrom (GivenTo w.sent) w.tried m (ByChange before) → m.station ≡ x.station →
-      (r : ℕ) (octets : List ℕ) (n i : ℕ) (cell : Place) → m.key ≡ Star (nh (Root r octets) n i) cell.pci cell.earfcn →
-      x.key ≡ Star (nh (Root r octets) n i) cell.pci cell.earfcn →
-      station_of cell sites ≡ Some x.station → RenewedBy w (nh (Root r octets) n i) x.key x.station
-  renewed_by x m before k s r octets n i cell e is c =
-      let g = subst (GivenTo w.sent (nh (Root r octets) n i)) s (as_given sites w h m (ByChange before) k r octets n i cell.pci cell.earfcn e) in
-      (g, outside_cannot r octets n i cell x.key x.station x.station ByTarget is c g)
-
   -- what the phone took is what was made, of a key of a chain, for a cell of its station
   module _ (x : Took Term ℕ) (m : Made Term ℕ) (own : MadeOk (GivenTo w.sent) sites w.tried m)
       (s : m.station ≡ x.station) (r : ℕ) (octets : List ℕ) (n i : ℕ) (cell : Place)
       (is : x.key ≡ Star (nh (Root r octets) n i) cell.pci cell.earfcn) where
-    here : m.key ≡ Star (nh (Root r octets) n i) cell.pci cell.earfcn → station_of cell sites ≡ Some x.station
+    abbrev above : Term
+    above = nh (Root r octets) n i
+
+    abbrev IsHere : Type 0
+    IsHere = station_of cell sites ≡ Some x.station
+
+    abbrev IsFrom : From Term → Type 0
+    IsFrom = MadeFrom (GivenTo w.sent) w.tried m
+
+    -- where the station made it at a handover command
+    shared_by : (source : ℕ) (o : Origin) → o.source ≡ source → IsFrom (ByAttempt o) → m.key ≡ Star above cell.pci cell.earfcn → IsHere
+        → SharedBy w above x.key source x.station (ByAttempt o)
+    shared_by source o from k e c = (
+      from,
+      any_map (λ t. (t.station ≡ o.source) × (t.attempt ≡ o.attempt) × GivenAt w.sent above o.source m.station t.kind)
+          (λ t. (t.station ≡ o.source)
+          × (t.attempt ≡ o.attempt)
+          × GivenAt w.sent above o.source x.station t.kind
+          × OutsideCannot w x.key o.source x.station t.kind)
+          (λ t q. let g = subst (λ a. GivenAt w.sent above o.source a t.kind) s q.2 in
+          (q.0, q.1, g, outside_cannot r octets n i cell x.key o.source x.station t.kind is c g)) w.tried
+          (as_given sites w h m (ByAttempt o) k r octets n i cell.pci cell.earfcn e),
+    )
+
+    -- and at a key change
+    renewed_by : (before : Term) → IsFrom (ByChange before) → m.key ≡ Star above cell.pci cell.earfcn → IsHere → RenewedBy w above x.key x.station
+    renewed_by before k e c =
+        let g = subst (GivenTo w.sent above) s (as_given sites w h m (ByChange before) k r octets n i cell.pci cell.earfcn e) in
+        (g, outside_cannot r octets n i cell x.key x.station x.station ByTarget is c g)
+
+    here : m.key ≡ Star above cell.pci cell.earfcn → IsHere
     here key = subst (λ a. station_of cell sites ≡ Some a) s (subst (OwnCell sites m.station) key own.1)
 
-    shared_between : (came : Came Term ℕ)
-        → ObeysMade x came m
-        → ahead m came < 8
-        → (station_of cell sites ≡ Some x.station) × SharedBetween w (nh (Root r octets) n i) x m came
+    shared_between : (came : Came Term ℕ) → ObeysMade x came m → ahead m came < 8 → IsHere × SharedBetween w above x m came
     shared_between Secured k lt = (here (sym k.0.0 ∙ is), tt)
     shared_between (Commanded before) k lt =
         let key = sym (k.near lt).0 ∙ is in (
           here key,
-          subst (SharedBy w (nh (Root r octets) n i) x.key before.station x.station) (sym k.tried.1)
-              (shared_by before.station x m k.tried.0 k.tried.2
-              (subst (MadeFrom (GivenTo w.sent) w.tried m) k.tried.1 own.0) s r octets n i cell key is (here key)),
+          subst (SharedBy w above x.key before.station x.station) (sym k.tried.1)
+              (shared_by before.station k.tried.0 k.tried.2 (subst IsFrom k.tried.1 own.0) key (here key)),
         )
     shared_between (Changed before root) k lt =
-        let key = sym (k.near lt).0 ∙ is in
-        (here key, renewed_by x m before.key (subst (MadeFrom (GivenTo w.sent) w.tried m) k.renewed own.0) s r octets n i cell key is (here key))
+        let key = sym (k.near lt).0 ∙ is in (here key, renewed_by before.key (subst IsFrom k.renewed own.0) key (here key))
 
   shared_at : (x : Took Term ℕ) → Obeys w.made x → SharedAt sites w x
   shared_at x (l, e, k) = λ m f lt r octets n i cell is.

@@ -1,6 +1,7 @@
 -- A packet that comes to a receiver whose keys are those that it was sealed under opens to what was sent.
 use Rattle.std.proofs.Common.{◌≡◌, ℕ, ◌+◌, ◌*◌, ◌≤◌, ◌<◌, Bool, List, length, Option, Some, None, refl, ap, sym, ◌∙◌, subst}
 use Rattle.std.specs.Prelude.{⊤}
+use Rattle.rec_base.specs.declared.uses.Dir.{Dir}
 use Rattle.rec_base.specs.declared.uses.Dir.TheVariants.{Up, Down}
 use Rattle.lte_events.specs.{declared.addresses.Address.Address, declared.answers.Answer.TheVariants.Done}
 use Rattle.key_model.specs.{HandoverTable.NumberedKey, Term.Term}
@@ -85,163 +86,146 @@ module _ (same : Term → Term → Bool) (root : ℕ → List ℕ → Term)
   abbrev m : Machine Term ℕ (Outgoing Term ℕ)
   m = machine_by same root (octets_of c between) sender opener
 
-  -- the opener under the keys of the receiver
-  rrc_back : (keys : AsKeys Term) (srb : Srb) (u : KeyUse Term) (e : Option (Ciphering Term)) (text : List ℕ) (x : Outgoing Term ℕ) (pdu : List ℕ)
-      → opener (OpensSrb u e) pdu (Some x) ≡ Opened text → RrcUnder keys srb u e
-      → opener (OpensSrb (srb_use u.dir keys.rrc_int srb u.count)
-      (Some (ciphering_by keys.algs.eea (srb_use u.dir keys.rrc_enc srb u.count))))
-      pdu (Some x)
-      ≡ Opened text
-  rrc_back keys srb u e text x pdu opens under = (λ j. opener (OpensSrb (sym under.0 j) (sym under.1 j)) pdu (Some x)) ∙ opens
+  module _ (w : W) (station air : ℕ) (sent : List ℕ) where
+    -- AN RRC TEXT
 
-  packet_back : (keys : AsKeys Term) (drb : Drb) (e : Ciphering Term) (text : List ℕ) (x : Outgoing Term ℕ) (pdu : List ℕ)
-      → opener (OpensDrb e) pdu (Some x) ≡ Opened text → PacketUnder keys drb e
-      → opener (OpensDrb (ciphering_by keys.algs.eea (drb_use e.under.dir keys.up_enc drb e.under.count))) pdu (Some x) ≡ Opened text
-  packet_back keys drb e text x pdu opens under = (λ j. opener (OpensDrb (sym under j)) pdu (Some x)) ∙ opens
+    module _ (srb : Srb) (u : KeyUse Term) (e : Option (Ciphering Term)) (text : List ℕ) (packet : text ≡ rrc_spelling (RrcData sent)) where
+      abbrev rrc : Dir → Outgoing Term ℕ
+      rrc dir = SealedRrc dir station air srb u e text
 
-  nas_back : (keys : Keys Term) (u : KeyUse Term) (e : Option (Ciphering Term)) (text : List ℕ) (x : Outgoing Term ℕ) (pdu : List ℕ)
-      → opener (OpensNas u e) pdu (Some x) ≡ Opened text → NasUnder keys u e
-      → opener (OpensNas (nas_use u.dir keys.int u.count) (Some (ciphering_by keys.algs.eea (nas_use u.dir keys.enc u.count)))) pdu (Some x) ≡ Opened text
-  nas_back keys u e text x pdu opens under = (λ j. opener (OpensNas (sym under.0 j) (sym under.1 j)) pdu (Some x)) ∙ opens
+      abbrev rrc_pdu : List ℕ
+      rrc_pdu = srb_octets c u e text
 
-  -- AT THE PHONE
+      -- it opens under the keys of its receiver
+      rrc_opens : (dir : Dir) (keys : AsKeys Term) → u.dir ≡ dir → RrcUnder keys srb u e
+          → opener (OpensSrb (srb_use dir keys.rrc_int srb u.count) (Some (ciphering_by keys.algs.eea (srb_use dir keys.rrc_enc srb u.count)))) rrc_pdu
+          (Some (rrc dir))
+          ≡ Opened text
+      rrc_opens dir keys way under =
+          (λ j. opener (OpensSrb (srb_use (sym way j) keys.rrc_int srb u.count)
+          (Some (ciphering_by keys.algs.eea (srb_use (sym way j) keys.rrc_enc srb u.count))))
+          rrc_pdu (Some (rrc dir)))
+          ∙ (λ j. opener (OpensSrb (sym under.0 j) (sym under.1 j)) rrc_pdu (Some (rrc dir)))
+          ∙ back.srb u e rrc_pdu dir station air srb text
 
-  rrc_to_phone : (w : W) (station air : ℕ) (srb : Srb) (u : KeyUse Term) (e : Option (Ciphering Term))
-      (text sent : List ℕ) (radio : Radio Term ℕ)
-      → w.phone.radio ≡ radio
-      → text ≡ rrc_spelling (RrcData sent) → Fits w (SealedRrc Down station air srb u e text) sent → ConnectedAt radio station air (InSrb srb u.count)
-      → LineOf (arrives m w (Address.Phone station air (of_srb srb)) (srb_octets c u e text) (Some (SealedRrc Down station air srb u e text))).1 sent
-  rrc_to_phone w station air srb u e text sent Idle is packet fits ready = absurd ready
-  rrc_to_phone w station air srb u e text sent (Connecting waiting) is packet fits ready = absurd ready
-  rrc_to_phone w station air srb u e text sent (Connected l) is packet fits ready =
-      let x = SealedRrc Down station air srb u e text in
-      let pdu = srb_octets c u e text in
-      let (short, low, way, at) = fits in
-      phone_rrc_opens same opener pdu (Some x) text sent w.phone l station air srb u.count is ready.0 ready.1
-      (srb_counted c good _ u e text ready.2 low)
-      ((λ j. opener (OpensSrb (srb_use (sym way j) l.keys.rrc_int srb u.count)
-      (Some (ciphering_by l.keys.algs.eea (srb_use (sym way j) l.keys.rrc_enc srb u.count))))
-      pdu (Some x))
-      ∙ rrc_back l.keys srb u e text x pdu (back.srb u e pdu Down station air srb text) (at l is ready.0 ready.1))
-      (ap read_rrc packet ∙ rrc_is_read (RrcData sent) short)
+      rrc_to_phone : (radio : Radio Term ℕ) → w.phone.radio ≡ radio → Fits w (rrc Down) sent → ConnectedAt radio station air (InSrb srb u.count)
+          → LineOf (arrives m w (Address.Phone station air (of_srb srb)) rrc_pdu (Some (rrc Down))).1 sent
+      rrc_to_phone Idle is fits ready = absurd ready
+      rrc_to_phone (Connecting waiting) is fits ready = absurd ready
+      rrc_to_phone (Connected l) is fits ready =
+          let (short, low, way, at) = fits in
+          phone_rrc_opens same opener rrc_pdu (Some (rrc Down)) text sent w.phone l station air srb u.count is ready.0 ready.1
+          (srb_counted c good _ u e text ready.2 low) (rrc_opens Down l.keys way (at l is ready.0 ready.1))
+          (ap read_rrc packet ∙ rrc_is_read (RrcData sent) short)
 
-  packet_to_phone : (w : W) (station air : ℕ) (drb : Drb) (e : Ciphering Term) (text sent : List ℕ) (radio : Radio Term ℕ) → w.phone.radio ≡ radio
-      → text ≡ sent → Fits w (UserPacket Down station air drb e text) sent → ConnectedAt radio station air (InDrb drb e.under.count)
-      → LineOf (arrives m w (Address.Phone station air (of_drb drb)) (drb_octets c e text) (Some (UserPacket Down station air drb e text))).1 sent
-  packet_to_phone w station air drb e text sent Idle is packet fits ready = absurd ready
-  packet_to_phone w station air drb e text sent (Connecting waiting) is packet fits ready = absurd ready
-  packet_to_phone w station air drb e text sent (Connected l) is packet fits ready =
-      let x = UserPacket Down station air drb e text in
-      let pdu = drb_octets c e text in
-      let (short, low, way, at) = fits in
-      phone_packet_opens same opener pdu (Some x) text sent w.phone l station air drb e.under.count is ready.0 ready.1
-      (drb_counted c _ e text ready.2 low)
-      ((λ j. opener (OpensDrb (ciphering_by l.keys.algs.eea (drb_use (sym way j) l.keys.up_enc drb e.under.count))) pdu (Some x))
-      ∙ packet_back l.keys drb e text x pdu (back.drb e Down station air drb text) (at l is ready.0 ready.1))
-      packet short
+      rrc_to_context : (s : Station Term ℕ) (o : Option (Context Term ℕ)) → station_of_id station w.stations ≡ Some s → s.context ≡ o
+          → Fits w (rrc Up) sent → HasActive o air (InSrbOf srb u.count)
+          → LineOf (turn_of m w station (AirPdu air (of_srb srb) rrc_pdu) (Some (rrc Up)) (Some s)).1 sent
+      rrc_to_context s None here is fits ready = absurd ready
+      rrc_to_context s (Some k) here is fits ready =
+          let (short, low, way, at) = fits in
+          station_rrc_opens same opener rrc_pdu (Some (rrc Up)) text sent s k air srb u.count is ready.0 ready.1
+          (srb_counted c good _ u e text ready.2 low) (rrc_opens Up k.keys way (at s k here is ready.0))
+          (ap read_rrc packet ∙ rrc_is_read (RrcData sent) short)
 
-  nas_to_phone : (w : W) (header : ℕ) (u : KeyUse Term) (e : Option (Ciphering Term)) (text sent : List ℕ) (o : Option (NasContext Term)) → w.phone.context ≡ o
-      → text ≡ nas_spelling (NasData sent) → Fits w (SealedNas Down header u e text) sent → PhoneUses o u (InNas u.count)
-      → LineOf (arrives m w Address.PhoneNas (nas_octets c header u e text) (Some (SealedNas Down header u e text))).1 sent
-  nas_to_phone w header u e text sent None is packet fits ready = absurd ready
-  nas_to_phone w header u e text sent (Some k) is packet fits ready =
-      let x = SealedNas Down header u e text in
-      let pdu = nas_octets c header u e text in
-      let (first, sn, _, long) = nas_parts c good header u e text in
-      let (short, low, way, type, at) = fits in
-      phone_nas_opens same opener pdu (Some x) text sent w.phone k u.count is
-      (header_down pdu 39 long (first ∙ ap (λ h. 16 * h + 7) type) refl)
-      (estimated k.receive _ u.count ready.1 sn low)
-      ((λ j. opener (OpensNas (nas_use (sym way j) k.keys.int u.count)
-      (Some (ciphering_by k.keys.algs.eea (nas_use (sym way j) k.keys.enc u.count))))
-      pdu (Some x))
-      ∙ nas_back k.keys u e text x pdu (back.nas u e pdu Down header text) (at k is ready.0))
-      (ap read_nas packet ∙ nas_is_read (NasData sent) short)
+      rrc_to_station : (o : Option (Station Term ℕ)) → station_of_id station w.stations ≡ o → Fits w (rrc Up) sent → ActiveAt o air (InSrbOf srb u.count)
+          → LineOf (turn_of m w station (AirPdu air (of_srb srb) rrc_pdu) (Some (rrc Up)) o).1 sent
+      rrc_to_station None is fits ready = absurd ready
+      rrc_to_station (Some s) is fits ready = rrc_to_context s s.context is refl fits ready
 
-  -- AT A STATION
+    -- A USER PACKET
 
-  rrc_to_context : (w : W) (station air : ℕ) (srb : Srb) (u : KeyUse Term) (e : Option (Ciphering Term))
-      (text sent : List ℕ) (s : Station Term ℕ) (o : Option (Context Term ℕ))
-      → station_of_id station w.stations ≡ Some s → s.context ≡ o
-      → text ≡ rrc_spelling (RrcData sent) → Fits w (SealedRrc Up station air srb u e text) sent → HasActive o air (InSrbOf srb u.count)
-      → LineOf (turn_of m w station (AirPdu air (of_srb srb) (srb_octets c u e text)) (Some (SealedRrc Up station air srb u e text)) (Some s)).1 sent
-  rrc_to_context w station air srb u e text sent s None here is packet fits ready = absurd ready
-  rrc_to_context w station air srb u e text sent s (Some k) here is packet fits ready =
-      let x = SealedRrc Up station air srb u e text in
-      let pdu = srb_octets c u e text in
-      let (short, low, way, at) = fits in
-      station_rrc_opens same opener pdu (Some x) text sent s k air srb u.count is ready.0 ready.1
-      (srb_counted c good _ u e text ready.2 low)
-      ((λ j. opener (OpensSrb (srb_use (sym way j) k.keys.rrc_int srb u.count)
-      (Some (ciphering_by k.keys.algs.eea (srb_use (sym way j) k.keys.rrc_enc srb u.count))))
-      pdu (Some x))
-      ∙ rrc_back k.keys srb u e text x pdu (back.srb u e pdu Up station air srb text) (at s k here is ready.0))
-      (ap read_rrc packet ∙ rrc_is_read (RrcData sent) short)
+    module _ (drb : Drb) (e : Ciphering Term) (text : List ℕ) (packet : text ≡ sent) where
+      abbrev user : Dir → Outgoing Term ℕ
+      user dir = UserPacket dir station air drb e text
 
-  packet_to_context : (w : W) (station air : ℕ) (drb : Drb) (e : Ciphering Term) (text sent : List ℕ) (s : Station Term ℕ) (o : Option (Context Term ℕ))
-      → station_of_id station w.stations ≡ Some s → s.context ≡ o
-      → text ≡ sent → Fits w (UserPacket Up station air drb e text) sent → HasActive o air (InDrbOf drb e.under.count)
-      → LineOf (turn_of m w station (AirPdu air (of_drb drb) (drb_octets c e text)) (Some (UserPacket Up station air drb e text)) (Some s)).1 sent
-  packet_to_context w station air drb e text sent s None here is packet fits ready = absurd ready
-  packet_to_context w station air drb e text sent s (Some k) here is packet fits ready =
-      let x = UserPacket Up station air drb e text in
-      let pdu = drb_octets c e text in
-      let (short, low, way, at) = fits in
-      station_packet_opens same opener pdu (Some x) text sent s k air drb e.under.count is ready.0 ready.1
-      (drb_counted c _ e text ready.2 low)
-      ((λ j. opener (OpensDrb (ciphering_by k.keys.algs.eea (drb_use (sym way j) k.keys.up_enc drb e.under.count))) pdu (Some x))
-      ∙ packet_back k.keys drb e text x pdu (back.drb e Up station air drb text) (at s k here is ready.0))
-      packet short
+      abbrev user_pdu : List ℕ
+      user_pdu = drb_octets c e text
 
-  rrc_to_station : (w : W) (station air : ℕ) (srb : Srb) (u : KeyUse Term) (e : Option (Ciphering Term)) (text sent : List ℕ) (o : Option (Station Term ℕ))
-      → station_of_id station w.stations ≡ o
-      → text ≡ rrc_spelling (RrcData sent) → Fits w (SealedRrc Up station air srb u e text) sent → ActiveAt o air (InSrbOf srb u.count)
-      → LineOf (turn_of m w station (AirPdu air (of_srb srb) (srb_octets c u e text)) (Some (SealedRrc Up station air srb u e text)) o).1 sent
-  rrc_to_station w station air srb u e text sent None is packet fits ready = absurd ready
-  rrc_to_station w station air srb u e text sent (Some s) is packet fits ready =
-      rrc_to_context w station air srb u e text sent s s.context is refl packet fits ready
+      user_opens : (dir : Dir) (keys : AsKeys Term) → e.under.dir ≡ dir → PacketUnder keys drb e
+          → opener (OpensDrb (ciphering_by keys.algs.eea (drb_use dir keys.up_enc drb e.under.count))) user_pdu (Some (user dir)) ≡ Opened text
+      user_opens dir keys way under =
+          (λ j. opener (OpensDrb (ciphering_by keys.algs.eea (drb_use (sym way j) keys.up_enc drb e.under.count))) user_pdu (Some (user dir)))
+          ∙ (λ j. opener (OpensDrb (sym under j)) user_pdu (Some (user dir)))
+          ∙ back.drb e dir station air drb text
 
-  packet_to_station : (w : W) (station air : ℕ) (drb : Drb) (e : Ciphering Term) (text sent : List ℕ) (o : Option (Station Term ℕ))
-      → station_of_id station w.stations ≡ o
-      → text ≡ sent → Fits w (UserPacket Up station air drb e text) sent → ActiveAt o air (InDrbOf drb e.under.count)
-      → LineOf (turn_of m w station (AirPdu air (of_drb drb) (drb_octets c e text)) (Some (UserPacket Up station air drb e text)) o).1 sent
-  packet_to_station w station air drb e text sent None is packet fits ready = absurd ready
-  packet_to_station w station air drb e text sent (Some s) is packet fits ready =
-      packet_to_context w station air drb e text sent s s.context is refl packet fits ready
+      packet_to_phone : (radio : Radio Term ℕ) → w.phone.radio ≡ radio → Fits w (user Down) sent → ConnectedAt radio station air (InDrb drb e.under.count)
+          → LineOf (arrives m w (Address.Phone station air (of_drb drb)) user_pdu (Some (user Down))).1 sent
+      packet_to_phone Idle is fits ready = absurd ready
+      packet_to_phone (Connecting waiting) is fits ready = absurd ready
+      packet_to_phone (Connected l) is fits ready =
+          let (short, low, way, at) = fits in
+          phone_packet_opens same opener user_pdu (Some (user Down)) text sent w.phone l station air drb e.under.count is ready.0 ready.1
+          (drb_counted c _ e text ready.2 low) (user_opens Down l.keys way (at l is ready.0 ready.1)) packet short
 
-  -- AT THE CORE
+      packet_to_context : (s : Station Term ℕ) (o : Option (Context Term ℕ)) → station_of_id station w.stations ≡ Some s → s.context ≡ o
+          → Fits w (user Up) sent → HasActive o air (InDrbOf drb e.under.count)
+          → LineOf (turn_of m w station (AirPdu air (of_drb drb) user_pdu) (Some (user Up)) (Some s)).1 sent
+      packet_to_context s None here is fits ready = absurd ready
+      packet_to_context s (Some k) here is fits ready =
+          let (short, low, way, at) = fits in
+          station_packet_opens same opener user_pdu (Some (user Up)) text sent s k air drb e.under.count is ready.0 ready.1
+          (drb_counted c _ e text ready.2 low) (user_opens Up k.keys way (at s k here is ready.0)) packet short
 
-  nas_to_core : (w : W) (header : ℕ) (u : KeyUse Term) (e : Option (Ciphering Term)) (text sent : List ℕ) (o : Option (CoreContext Term)) → w.core.context ≡ o
-      → text ≡ nas_spelling (NasData sent) → Fits w (SealedNas Up header u e text) sent → CoreUses o u (InNas u.count)
-      → LineOf (arrives m w Address.CoreNas (nas_octets c header u e text) (Some (SealedNas Up header u e text))).1 sent
-  nas_to_core w header u e text sent None is packet fits ready = absurd ready
-  nas_to_core w header u e text sent (Some k) is packet fits ready =
-      let x = SealedNas Up header u e text in
-      let pdu = nas_octets c header u e text in
-      let (first, sn, _, long) = nas_parts c good header u e text in
-      let (short, low, way, type, at) = fits in
-      core_nas_opens same opener pdu (Some x) text sent w.core k u.count is
-      (header_up pdu 39 long (first ∙ ap (λ h. 16 * h + 7) type) refl) long
-      (estimated k.nas.receive _ u.count ready.1 sn low)
-      ((λ j. opener (OpensNas (nas_use (sym way j) k.nas.keys.int u.count)
-      (Some (ciphering_by k.nas.keys.algs.eea (nas_use (sym way j) k.nas.keys.enc u.count))))
-      pdu (Some x))
-      ∙ nas_back k.nas.keys u e text x pdu (back.nas u e pdu Up header text) (at k is ready.0))
-      (ap read_nas packet ∙ nas_is_read (NasData sent) short)
+      packet_to_station : (o : Option (Station Term ℕ)) → station_of_id station w.stations ≡ o → Fits w (user Up) sent
+          → ActiveAt o air (InDrbOf drb e.under.count)
+          → LineOf (turn_of m w station (AirPdu air (of_drb drb) user_pdu) (Some (user Up)) o).1 sent
+      packet_to_station None is fits ready = absurd ready
+      packet_to_station (Some s) is fits ready = packet_to_context s s.context is refl fits ready
+
+  -- A NAS TEXT
+
+  module _ (w : W) (header : ℕ) (u : KeyUse Term) (e : Option (Ciphering Term)) (text sent : List ℕ) (packet : text ≡ nas_spelling (NasData sent)) where
+    abbrev nas : Dir → Outgoing Term ℕ
+    nas dir = SealedNas dir header u e text
+
+    abbrev nas_pdu : List ℕ
+    nas_pdu = nas_octets c header u e text
+
+    nas_opens : (dir : Dir) (keys : Keys Term) → u.dir ≡ dir → NasUnder keys u e
+        → opener (OpensNas (nas_use dir keys.int u.count) (Some (ciphering_by keys.algs.eea (nas_use dir keys.enc u.count)))) nas_pdu (Some (nas dir))
+        ≡ Opened text
+    nas_opens dir keys way under =
+        (λ j. opener (OpensNas (nas_use (sym way j) keys.int u.count) (Some (ciphering_by keys.algs.eea (nas_use (sym way j) keys.enc u.count)))) nas_pdu
+        (Some (nas dir)))
+        ∙ (λ j. opener (OpensNas (sym under.0 j) (sym under.1 j)) nas_pdu (Some (nas dir)))
+        ∙ back.nas u e nas_pdu dir header text
+
+    nas_to_phone : (o : Option (NasContext Term)) → w.phone.context ≡ o → Fits w (nas Down) sent → PhoneUses o u (InNas u.count)
+        → LineOf (arrives m w Address.PhoneNas nas_pdu (Some (nas Down))).1 sent
+    nas_to_phone None is fits ready = absurd ready
+    nas_to_phone (Some k) is fits ready =
+        let (first, sn, _, long) = nas_parts c good header u e text in
+        let (short, low, way, type, at) = fits in
+        phone_nas_opens same opener nas_pdu (Some (nas Down)) text sent w.phone k u.count is
+        (header_down nas_pdu 39 long (first ∙ ap (λ h. 16 * h + 7) type) refl)
+        (estimated k.receive _ u.count ready.1 sn low) (nas_opens Down k.keys way (at k is ready.0))
+        (ap read_nas packet ∙ nas_is_read (NasData sent) short)
+
+    nas_to_core : (o : Option (CoreContext Term)) → w.core.context ≡ o → Fits w (nas Up) sent → CoreUses o u (InNas u.count)
+        → LineOf (arrives m w Address.CoreNas nas_pdu (Some (nas Up))).1 sent
+    nas_to_core None is fits ready = absurd ready
+    nas_to_core (Some k) is fits ready =
+        let (first, sn, _, long) = nas_parts c good header u e text in
+        let (short, low, way, type, at) = fits in
+        core_nas_opens same opener nas_pdu (Some (nas Up)) text sent w.core k u.count is
+        (header_up nas_pdu 39 long (first ∙ ap (λ h. 16 * h + 7) type) refl) long
+        (estimated k.nas.receive _ u.count ready.1 sn low) (nas_opens Up k.nas.keys way (at k is ready.0))
+        (ap read_nas packet ∙ nas_is_read (NasData sent) short)
 
   -- ANY PACKET
 
   delivered_opens : (w : W) (x : Outgoing Term ℕ) (sent : List ℕ) → IsPacket x sent → ReadyFor w x → Fits w x sent → LineOf (delivery m w (Some x)).1 sent
   delivered_opens w (UserPacket Down station air drb e text) sent packet ready fits =
-      packet_to_phone w station air drb e text sent w.phone.radio refl packet fits ready
+      packet_to_phone w station air sent drb e text packet w.phone.radio refl fits ready
   delivered_opens w (UserPacket Up station air drb e text) sent packet ready fits =
-      packet_to_station w station air drb e text sent (station_of_id station w.stations) refl packet fits ready
+      packet_to_station w station air sent drb e text packet (station_of_id station w.stations) refl fits ready
   delivered_opens w (SealedRrc Down station air srb u e text) sent packet ready fits =
-      rrc_to_phone w station air srb u e text sent w.phone.radio refl packet fits ready
+      rrc_to_phone w station air sent srb u e text packet w.phone.radio refl fits ready
   delivered_opens w (SealedRrc Up station air srb u e text) sent packet ready fits =
-      rrc_to_station w station air srb u e text sent (station_of_id station w.stations) refl packet fits ready
-  delivered_opens w (SealedNas Down header u e text) sent packet ready fits = nas_to_phone w header u e text sent w.phone.context refl packet fits ready
-  delivered_opens w (SealedNas Up header u e text) sent packet ready fits = nas_to_core w header u e text sent w.core.context refl packet fits ready
+      rrc_to_station w station air sent srb u e text packet (station_of_id station w.stations) refl fits ready
+  delivered_opens w (SealedNas Down header u e text) sent packet ready fits = nas_to_phone w header u e text sent packet w.phone.context refl fits ready
+  delivered_opens w (SealedNas Up header u e text) sent packet ready fits = nas_to_core w header u e text sent packet w.core.context refl fits ready
   delivered_opens w (PlainNas octets) sent packet ready fits = absurd packet
   delivered_opens w (Between to fields key) sent packet ready fits = absurd packet
 
