@@ -109,28 +109,20 @@ fault_named plan result before after driven fault =
     let P : Result Ending DriveFault → Type 0 = λ res. Driven plan res before after in
     failed_next plan before after (subst P fault driven)
 
-by_result : (plan : Plan) (r : Report) (result : Result Ending DriveFault) (before after : Outside)
-    (peers peers' sink sink' : ℕ)
-    → Reports plan r
-    → Driven plan result before after
-    → (IsErrOf result PeerFault → Rose peers peers') → (IsErrOf result WriteFault → Rose sink sink')
-    → (t : PeersTold)
-    → before.peers ≡ Some t
-    → GivesAll (calls plan.acts) t
-    → (Rose peers peers' → ⊥)
-    → (Rose sink sink' → ⊥)
-    → (result ≡ Ok r.ends) ⊎ (result ≡ Err Memory)
-by_result plan r (Ok ending) before after peers peers' sink sink' is driven by_peers by_sink t there gives no_fault no_write =
-    inl (ap Ok (driven.went.1 ∙ is.ends))
-by_result plan r (Err Memory) before after peers peers' sink sink' is driven by_peers by_sink t there gives no_fault no_write = inr refl
-by_result plan r (Err PeerFault) before after peers peers' sink sink' is driven by_peers by_sink t there gives no_fault no_write =
-    absurd (no_fault (by_peers refl))
-by_result plan r (Err (Differs step wanted got)) before after peers peers' sink sink' is driven by_peers by_sink t there gives no_fault no_write =
-    let P : Option PeersTold → Type 0 = λ told. IfSome told (GivesAll (calls plan.acts)) in
-    let Q : Option PeersTold → Type 0 = λ told. IfSome told (λ u. ⊥) in
-    absurd (subst Q there (no_difference plan step wanted got before after driven (subst P (sym there) gives)))
-by_result plan r (Err WriteFault) before after peers peers' sink sink' is driven by_peers by_sink t there gives no_fault no_write =
-    absurd (no_write (by_sink refl))
+module _ (plan : Plan) (r : Report) (before after : Outside) (peers peers' sink sink' : ℕ) (is : Reports plan r) (t : PeersTold)
+    (there : before.peers ≡ Some t) (gives : GivesAll (calls plan.acts) t) (no_fault : Rose peers peers' → ⊥) (no_write : Rose sink sink' → ⊥) where
+  by_result : (result : Result Ending DriveFault)
+      → Driven plan result before after
+      → (IsErrOf result PeerFault → Rose peers peers') → (IsErrOf result WriteFault → Rose sink sink')
+      → (result ≡ Ok r.ends) ⊎ (result ≡ Err Memory)
+  by_result (Ok ending) driven by_peers by_sink = inl (ap Ok (driven.went.1 ∙ is.ends))
+  by_result (Err Memory) driven by_peers by_sink = inr refl
+  by_result (Err PeerFault) driven by_peers by_sink = absurd (no_fault (by_peers refl))
+  by_result (Err (Differs step wanted got)) driven by_peers by_sink =
+      let P : Option PeersTold → Type 0 = λ told. IfSome told (GivesAll (calls plan.acts)) in
+      let Q : Option PeersTold → Type 0 = λ told. IfSome told (λ u. ⊥) in
+      absurd (subst Q there (no_difference plan step wanted got before after driven (subst P (sym there) gives)))
+  by_result (Err WriteFault) driven by_peers by_sink = absurd (no_write (by_sink refl))
 
 -- where each peer gives what is to come, and nothing fails, all is done
 pub all_is_done : (plan : Plan) (r : Report) (result : Result Ending DriveFault) (before after : Outside)
@@ -152,4 +144,4 @@ all_is_done plan r result before after peers peers' sink sink' is driven by_peer
         → (result ≡ Ok r.ends) ⊎ (result ≡ Err Memory))
     told None there = tt
     told (Some t) there = λ gives no_fault no_write.
-        by_result plan r result before after peers peers' sink sink' is driven by_peers by_sink t there gives no_fault no_write
+        by_result plan r before after peers peers' sink sink' is t there gives no_fault no_write result driven by_peers by_sink

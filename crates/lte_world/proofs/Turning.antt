@@ -21,23 +21,19 @@ use Rattle.lte_world.proofs.Refusing.{by_world_out}
 use Rattle.lte_machine.proofs.StationIds.{station_step_id}
 use Rattle.lte_world.proofs.Stations.{same_some, put_at, ids_kept, stands_at, station_is, no_station}
 
--- what was settled, with the actor as it is then
-came_by : (w : World (List ℕ) ℕ Kept) (by : world.Holder) (r : Reply (List ℕ) ℕ) (who : Who) (stores : Stores)
-    (result : Result Line Proof) (after_it : World (List ℕ) ℕ Kept) (actors : Actors) →
-    (Fits (after w by r) stores → Are after_it actors) → (c : Option (Clash (List ℕ))) → SettledBy None c w by r who stores result →
-    CameOut (by_ladder c (after_it, line_of octets w who r)) actors result
-came_by w by r who stores result after_it actors f None h = (h.0, f h.1)
-came_by w by r who stores result after_it actors f (Some c) h = h
+-- what was settled of a reply, with the actors as they are then
+module _ (w : World (List ℕ) ℕ Kept) (by : world.Holder) (r : Reply (List ℕ) ℕ) (who : Who) (stores : Stores)
+    (result : Result Line Proof) (u : World (List ℕ) ℕ Kept) (actors : Actors) (f : Fits (after w by r) stores → Are u actors) where
+  came_by : (c : Option (Clash (List ℕ))) → SettledBy None c w by r who stores result → CameOut (by_ladder c (u, line_of octets w who r)) actors result
+  came_by None h = (h.0, f h.1)
+  came_by (Some c) h = h
 
-came_out : (w : World (List ℕ) ℕ Kept) (by : world.Holder) (r : Reply (List ℕ) ℕ) (who : Who) (stores : Stores)
-    (result : Result Line Proof) (after_it : World (List ℕ) ℕ Kept) (actors : Actors) →
-    (Fits (after w by r) stores → Are after_it actors) → after_it.history ≡ (after w by r).history → (c : Option (Coincidence (List ℕ))) →
-    SettledBy c (ladder_of bytes_eq (after w by r).history).clash w by r who stores result →
-    CameOut (by_coincidence bytes_eq c (after_it, line_of octets w who r)) actors result
-came_out w by r who stores result after_it actors f same (Some coincidence) h = h
-came_out w by r who stores result after_it actors f same None h =
-    came_by w by r who stores result after_it actors f (ladder_of bytes_eq after_it.history).clash
-    (subst (λ x. SettledBy None (ladder_of bytes_eq x).clash w by r who stores result) (sym same) h)
+  came_out : u.history ≡ (after w by r).history → (c : Option (Coincidence (List ℕ)))
+      → SettledBy c (ladder_of bytes_eq (after w by r).history).clash w by r who stores result
+      → CameOut (by_coincidence bytes_eq c (u, line_of octets w who r)) actors result
+  came_out same (Some coincidence) h = h
+  came_out same None h =
+      came_by (ladder_of bytes_eq u.history).clash (subst (λ x. SettledBy None (ladder_of bytes_eq x).clash w by r who stores result) (sym same) h)
 
 use_back : (o : Option (KeyUse (List ℕ))) → option_map use_in (option_map use_out o) ≡ o
 use_back None = refl
@@ -49,12 +45,20 @@ module _ (a : Actors) (sender : Option Use) (step : ℕ) (result : Result Line P
   same_sender : option_map use_in sender ≡ tuple_of came
   same_sender = ap (option_map use_in) from ∙ use_back (tuple_of came)
 
+  abbrev shown : Reply (List ℕ) ℕ → Option (Coincidence (List ℕ))
+  shown r = tuple_coincidence bytes_eq (tuple_of came) r.accepted
+
+  -- what was settled shows what the sender in the machine shows
+  settled_by : (by : world.Holder) (r : Reply (List ℕ) ℕ) (who : Who)
+      → SettledBy (tuple_coincidence bytes_eq (option_map use_in sender) r.accepted) (ladder_of bytes_eq (after w by r).history).clash w by r who stores result
+      → SettledBy (shown r) (ladder_of bytes_eq (after w by r).history).clash w by r who stores result
+  settled_by by r who h =
+      subst (λ t. SettledBy (tuple_coincidence bytes_eq t r.accepted) (ladder_of bytes_eq (after w by r).history).clash w by r who stores result) same_sender h
+
   -- the phone, whatever its step is
   phone_done : (d : Phone (List ℕ) ℕ × Reply (List ℕ) ℕ) (phone : Phone (List ℕ) ℕ) → phone ≡ d.0 → out ≡ actor_out d.1 → CanKeep (phone_after octets w d).0 →
       SettledAs a.stores stores out sender Holder.Phone Who.Phone step result →
-      CameOut
-      (by_coincidence bytes_eq (tuple_coincidence bytes_eq (tuple_of came) d.1.accepted) (phone_after octets w d))
-      (record a { phone = phone; stores = stores }) result
+      CameOut (by_coincidence bytes_eq (shown d.1) (phone_after octets w d)) (record a { phone = phone; stores = stores }) result
   phone_done d phone is told can settled =
       let h = settled w world.AtPhone d.1 are.stores told refl ev (record { history = can.history; held = can.held }) in
       came_out w world.AtPhone d.1 Who.Phone stores result (phone_after octets w d).0 (record a { phone = phone; stores = stores })
@@ -64,16 +68,11 @@ module _ (a : Actors) (sender : Option Use) (step : ℕ) (result : Result Line P
         stations = are.stations;
         stores = record { records = f.records; uses = f.uses; calm = f.calm; rows = f.rows };
       })
-      refl (tuple_coincidence bytes_eq (tuple_of came) d.1.accepted)
-      (subst (λ t. SettledBy (tuple_coincidence bytes_eq t d.1.accepted)
-      (ladder_of bytes_eq (after w world.AtPhone d.1).history).clash w world.AtPhone d.1 Who.Phone stores result)
-      same_sender h)
+      refl (shown d.1) (settled_by world.AtPhone d.1 Who.Phone h)
 
   core_done : (d : Core (List ℕ) ℕ × Reply (List ℕ) ℕ) (core : Core (List ℕ) ℕ) → core ≡ d.0 → out ≡ actor_out d.1 → CanKeep (core_after octets w d).0 →
       SettledAs a.stores stores out sender Holder.Core Who.Core step result →
-      CameOut
-      (by_coincidence bytes_eq (tuple_coincidence bytes_eq (tuple_of came) d.1.accepted) (core_after octets w d))
-      (record a { core = core; stores = stores }) result
+      CameOut (by_coincidence bytes_eq (shown d.1) (core_after octets w d)) (record a { core = core; stores = stores }) result
   core_done d core is told can settled =
       let h = settled w world.AtCore d.1 are.stores told refl ev (record { history = can.history; held = can.held }) in
       came_out w world.AtCore d.1 Who.Core stores result (core_after octets w d).0 (record a { core = core; stores = stores })
@@ -83,17 +82,12 @@ module _ (a : Actors) (sender : Option Use) (step : ℕ) (result : Result Line P
         stations = are.stations;
         stores = record { records = f.records; uses = f.uses; calm = f.calm; rows = f.rows };
       })
-      refl (tuple_coincidence bytes_eq (tuple_of came) d.1.accepted)
-      (subst (λ t. SettledBy (tuple_coincidence bytes_eq t d.1.accepted)
-      (ladder_of bytes_eq (after w world.AtCore d.1).history).clash w world.AtCore d.1 Who.Core stores result)
-      same_sender h)
+      refl (shown d.1) (settled_by world.AtCore d.1 Who.Core h)
 
   station_done : (id : ℕ) (d : Station (List ℕ) ℕ × Reply (List ℕ) ℕ) (stations : List (Station (List ℕ) ℕ)) →
       stations ≡ put_station id d.0 a.stations → out ≡ actor_out d.1 → CanKeep (station_after octets w id d).0 →
       SettledAs a.stores stores out sender (Holder.Station id) (Who.Station id) step result →
-      CameOut (by_coincidence bytes_eq (tuple_coincidence bytes_eq (tuple_of came) d.1.accepted)
-      (station_after octets w id d))
-      (record a { stations = stations; stores = stores }) result
+      CameOut (by_coincidence bytes_eq (shown d.1) (station_after octets w id d)) (record a { stations = stations; stores = stores }) result
   station_done id d stations is told can settled =
       let h = settled w (world.AtStation id) d.1 are.stores told refl ev (record { history = can.history; held = can.held }) in
       came_out w (world.AtStation id) d.1 (Who.Station id) stores result (station_after octets w id d).0 (record a { stations = stations; stores = stores })
@@ -103,11 +97,7 @@ module _ (a : Actors) (sender : Option Use) (step : ℕ) (result : Result Line P
         stations = is ∙ ap (put_station id d.0) are.stations;
         stores = record { records = f.records; uses = f.uses; calm = f.calm; rows = f.rows };
       })
-      refl (tuple_coincidence bytes_eq (tuple_of came) d.1.accepted)
-      (subst (λ t. SettledBy (tuple_coincidence bytes_eq t d.1.accepted)
-      (ladder_of bytes_eq (after w (world.AtStation id) d.1).history).clash w (world.AtStation id) d.1
-      (Who.Station id) stores result)
-      same_sender h)
+      refl (shown d.1) (settled_by (world.AtStation id) d.1 (Who.Station id) h)
 
 -- THE PHONE
 
