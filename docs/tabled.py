@@ -1,18 +1,29 @@
 #!/usr/bin/env python3
-"""The tables of records and of answers in FRAMES, made of what the program `lte_tables` writes, and the numbers of
-edits and of rows of the suite that pages tell: python3 docs/tabled.py writes them. docs/check compares."""
+"""The tables of records, answers and outcomes on pages, made of what the program `lte_tables` writes and of what the
+definitions say of themselves, and the numbers of edits and of rows of the suite that pages tell: python3 docs/tabled.py
+writes them. docs/check compares."""
 import pathlib
 import re
 import sys
+from collections import Counter
 from collections.abc import Iterator
 
 TOP = pathlib.Path(__file__).resolve().parent.parent
 sys.path.insert(0, str(TOP / "python"))
 from lte_sec.common import tables  # noqa: E402
+from lte_sec.suite import rows as suite_rows  # noqa: E402
 
-README, FRAMES, SUITE = TOP / "README.md", TOP / "docs/FRAMES.md", TOP / "docs/SUITE.md"
+README, COMMANDS = TOP / "README.md", TOP / "docs/COMMANDS.md"
+FRAMES, SCENARIOS, SUITE, WHATIF = (TOP / f"docs/{name}.md" for name in ("FRAMES", "SCENARIOS", "SUITE", "WHATIF"))
+ANSWERS = TOP / "crates/lte_events/src/answers.rt"
+OUTCOMES = TOP / "crates/item_outcomes/specs"
 FIRST = (0, 20, 30)  # the answers from these numbers on, a row for each
 CONNECTION = "connection"
+# Outcomes that no definition of their own tells.
+OTHERWISE = {
+    "goes on": "a line differs, and nothing below is told",
+    "coincidence": "the run ends at one; nothing else is told then",
+}
 
 
 def row(*cells: str) -> str:
@@ -37,31 +48,54 @@ def answers() -> Iterator[str]:
         )
 
 
+def meanings() -> Iterator[str]:
+    """A row for each answer but `done`: what it keeps, and what it means, as its definition says."""
+    said = {
+        name: " ".join(comment.replace("///", "").split())
+        for comment, name in re.findall(r"((?: +/// .*\n)+) +(\w+)", ANSWERS.read_text())
+    }
+    for name, values in list(tables.ANSWERS.values())[1:]:
+        means = said[name].rstrip(".")
+        yield row(f"`{name}`", ", ".join(f"`{value}`" for value, _ in values), means[0].lower() + means[1:])
+
+
+def outcomes() -> Iterator[str]:
+    """A row for each outcome: where it is told, as its definition says."""
+    said = {
+        name.lower(): told
+        for file in OUTCOMES.glob("*.antt")
+        for name, told in re.findall(r"^-- ([A-Z][A-Z ]+): (.*)$", file.read_text(), re.MULTILINE)
+    }
+    for name in tables.OUTCOMES:
+        yield row(f"`{name}`", OTHERWISE.get(name) or said[name.lower()])
+
+
 # The rows below each head.
 ROWS = {
-    row("NAS text", "fields"): list(records("nas")),
-    row("RRC text", "fields"): list(records("rrc")),
-    row("S1", "fields behind the connection"): list(records("s1", CONNECTION)),
-    row("X2", "fields behind the connection"): list(records("x2", CONNECTION)),
-    row("from", "answers"): list(answers()),
+    FRAMES: {
+        row("NAS text", "fields"): list(records("nas")),
+        row("RRC text", "fields"): list(records("rrc")),
+        row("S1", "fields behind the connection"): list(records("s1", CONNECTION)),
+        row("X2", "fields behind the connection"): list(records("x2", CONNECTION)),
+        row("from", "answers"): list(answers()),
+    },
+    SCENARIOS: {row("answer", "keeps", "means"): list(meanings())},
+    WHATIF: {row("outcome", "is told where"): list(outcomes())},
 }
 
 
-def many() -> dict[pathlib.Path, tuple[str, list[int]]]:
-    """Of pages a sentence with # for each number, and these numbers."""
-    answers_of = [
-        line.split()[0] for line in (TOP / "examples/suite/rows").read_text().splitlines() if line.startswith("    ")
-    ]
-    done, edits = answers_of.count("done"), [
-        len(list(TOP.glob(each))) for each in ("crates/*/must-fail/*.edit", "misuse/edits/*/*.edit")
-    ]
-    return {
-        README: ("tries # wrong bodies and runs every test; `misuse/edits/check` tries # more", edits),
-        SUITE: (
-            "all #, each with its clauses: # are done, # are refusals",
-            [len(answers_of), done, len(answers_of) - done],
-        ),
-    }
+def many() -> Iterator[tuple[pathlib.Path, str, list[int]]]:
+    """Sentences of pages with # for each number, and these numbers."""
+    edits = [len(list(TOP.glob(each))) for each in ("crates/*/must-fail/*.edit", "misuse/edits/*/*.edit")]
+    yield README, "tries # wrong bodies and runs every test; `misuse/edits/check` tries # more", edits
+    table = suite_rows.load(TOP / "examples/suite").rows
+    done, by = sum(row.visit.answer == "done" for row in table), Counter(row.reached for row in table)
+    short = by["steps"] + by["octets"] + by["forge"]
+    yield SUITE, "all #, each with its clauses: # are done, # are refusals", [len(table), done, len(table) - done]
+    of_tables = "# of the # rows of the tables of phone, station and core, with `--long` to #,"
+    yield SUITE, of_tables, [short, len(table), short + by["long"]]
+    yield from ((SUITE, f"| {how} | # |", [by[how]]) for how in suite_rows.REACHED)
+    yield COMMANDS, "# passed, 0 differs, # not reached", [short, len(table) - short]
 
 
 def with_numbers(text: str, sentence: str, numbers: list[int]) -> str:
@@ -74,12 +108,12 @@ def with_numbers(text: str, sentence: str, numbers: list[int]) -> str:
     return text
 
 
-def with_tables(text: str) -> str:
-    """FRAMES with its tables."""
-    for head, rows in ROWS.items():
+def with_tables(text: str, tables_of: dict[str, list[str]]) -> str:
+    """A page with its tables."""
+    for head, rows in tables_of.items():
         text = re.sub(
-            rf"(?<=^{re.escape(head)}\n\|---\|---\|\n)(?:\|.*\n)*",
-            "".join(f"{each}\n" for each in rows),
+            rf"(?<=^{re.escape(head)}\n)(\|[-|]+\|\n)(?:\|.*\n)*",
+            lambda found: found[1] + "".join(f"{each}\n" for each in rows),
             text,
             flags=re.MULTILINE,
         )
@@ -88,20 +122,21 @@ def with_tables(text: str) -> str:
 
 def made() -> dict[pathlib.Path, str]:
     """The pages as they are made."""
-    return {
-        FRAMES: with_tables(FRAMES.read_text()),
-        **{page: with_numbers(page.read_text(), *told) for page, told in many().items()},
-    }
+    pages = {page: with_tables(page.read_text(), of) for page, of in ROWS.items()}
+    for page, sentence, numbers in many():
+        pages[page] = with_numbers(pages.get(page) or page.read_text(), sentence, numbers)
+    return pages
 
 
 def faults() -> Iterator[str]:
     """Complaints about pages that are made otherwise, or that lack what is made."""
     for page, text in made().items():
-        if page.read_text() != text:
-            yield f"{page.relative_to(TOP)} is not as python3 docs/tabled.py makes it"
-    yield from (f"docs/FRAMES.md lacks the table {head}" for head in ROWS if head not in FRAMES.read_text())
-    for page, (sentence, _) in many().items():
-        if with_numbers(page.read_text(), sentence, [10**9] * sentence.count("#")) == page.read_text():
+        name, said = page.relative_to(TOP), page.read_text()
+        if said != text:
+            yield f"{name} is not as python3 docs/tabled.py makes it"
+        yield from (f"{name} lacks the table {head}" for head in ROWS.get(page, {}) if f"{head}\n|-" not in said)
+    for page, sentence, numbers in many():
+        if with_numbers(page.read_text(), sentence, [10**9] * len(numbers)) == page.read_text():
             yield f"{page.relative_to(TOP)} does not say: {sentence}"
 
 

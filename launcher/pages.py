@@ -70,6 +70,12 @@ def words() -> list[Word]:
     return found
 
 
+def programs() -> dict[str, list[str]]:
+    """The programs, and the words that each answers."""
+    lines = [line.split(" | ") for line in (HERE / "programs").read_text().splitlines() if not line.startswith("#")]
+    return {name: answered.split() for name, answered in lines}
+
+
 def takes(behind: str) -> str:
     """What is completed where this stands: a file, a folder, a command, or nothing."""
     return next((TAKES[name] for name in re.findall(r"[A-Z]+", behind) if name in TAKES), "")

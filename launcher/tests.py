@@ -308,11 +308,11 @@ class Version(unittest.TestCase):
         self.assertIn(f"liblte_sec.so.{soname[1]}", page)
 
     def test_the_programs_are_those_of_the_table(self) -> None:
-        programs = [
-            line.split(" | ") for line in (HERE / "programs").read_text().splitlines() if not line.startswith("#")
-        ]
-        for word in (word for word in pages.words() if word.name in ("--proved", "--program")):
-            self.assertEqual([(name, f"asks for the program of {answers}") for name, answers in programs], word.below)
+        words = {word.name: word for word in pages.words()}
+        for word in ("--proved", "--program"):
+            self.assertEqual(list(pages.programs()), [name for name, _ in words[word].below])
+        answered = [word for of in pages.programs().values() for word in of]
+        self.assertEqual([], [word for word in answered if word not in words])
 
 
 class Pictures(unittest.TestCase):

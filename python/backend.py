@@ -23,7 +23,7 @@ from lte_sec.runs import document
 HERE = Path(__file__).resolve().parent
 LIBRARY = Path(os.environ.get("LTE_SEC_LIBRARY") or HERE.parent / "library/built/liblte_sec.so")
 OLDEST = 315_532_800  # 1980, before which there are no times in an archive of zip
-PARTS = ("*.py", "py.typed", "page.js", "page.css", "tables.txt")
+PARTS = ("*.py", "py.typed", "page.js", "page.css")
 
 
 def _version() -> str:
@@ -68,6 +68,7 @@ def _contents(about: str, tag: str, version: str) -> dict[str, bytes]:
         for path in sorted((HERE / "lte_sec").rglob(part))
     }
     files["lte_sec/words.txt"] = (HERE.parent / "launcher/words").read_bytes()
+    files["lte_sec/tables.txt"] = (HERE.parent / "crates/lte_tables/stdout").read_bytes()
     files["lte_sec/liblte_sec.so"] = LIBRARY.read_bytes()
     files[f"{about}/METADATA"] = _metadata(project, version).encode()
     files[f"{about}/WHEEL"] = f"Wheel-Version: 1.0\nGenerator: backend\nRoot-Is-Purelib: false\nTag: {tag}\n".encode()

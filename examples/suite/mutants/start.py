@@ -7,6 +7,7 @@ from typing import NamedTuple
 
 HERE = pathlib.Path(__file__).resolve().parent
 ACTORS = HERE.parent / "actors"
+SHARED = ("texts", "radio", "station_state")
 
 
 class Mutant(NamedTuple):
@@ -38,8 +39,8 @@ def mutants(file: pathlib.Path = HERE / "edits") -> list[Mutant]:
 
 
 def edited(mutant: Mutant) -> dict[str, str]:
-    """The texts of the modules with the edits: that of the actor, and those that actors have in common."""
-    texts = {name: (ACTORS / f"{name}.py").read_text() for name in ("texts", "radio", mutant.actor)}
+    """The texts of the modules with the edits: that of the actor, and those that it stands on."""
+    texts = {name: (ACTORS / f"{name}.py").read_text() for name in (*SHARED, mutant.actor)}
     for out, put in mutant.edits:
         name = next((name for name in reversed(texts) if texts[name].count(out) == 1), None)
         if name is None:

@@ -1,8 +1,8 @@
 """What the program's definitions number and name: answers, records, inputs, messages, faults, outcomes, and keys of a
 scenario.
 
-`tables.txt` is what the program `lte_tables` writes, which proves that each of them has its line; `python/check`
-compares the two.
+They stand in what the program `lte_tables` writes, which proves that each of them has its line. A wheel, which has no
+crates, has a copy of it beside the package.
 """
 from __future__ import annotations
 
@@ -12,7 +12,9 @@ from collections.abc import Iterator
 Fields = tuple[tuple[str, int], ...]  # names, each with its width in octets
 Form = tuple[str, Fields]  # a record: the message that it stands for, and its fields
 NETWORK = 50  # from this number on answers are the network's, and come in no frame
-LINES = pathlib.Path(__file__).with_name("tables.txt").read_text(encoding="utf-8").splitlines()
+HERE = pathlib.Path(__file__).resolve().parents[1]
+COPY, WRITTEN = HERE / "tables.txt", HERE.parents[1] / "crates" / "lte_tables" / "stdout"
+LINES = (COPY if COPY.exists() else WRITTEN).read_text(encoding="utf-8").splitlines()
 
 
 def rows(of: str) -> list[str]:
