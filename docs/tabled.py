@@ -11,6 +11,7 @@ from collections.abc import Iterator
 TOP = pathlib.Path(__file__).resolve().parent.parent
 sys.path.insert(0, str(TOP / "python"))
 from lte_sec.common import tables  # noqa: E402
+from lte_sec.runs import scenario_fields  # noqa: E402
 from lte_sec.suite import rows as suite_rows  # noqa: E402
 
 README, COMMANDS = TOP / "README.md", TOP / "docs/COMMANDS.md"
@@ -70,6 +71,23 @@ def outcomes() -> Iterator[str]:
         yield row(f"`{name}`", OTHERWISE.get(name) or said[name.lower()])
 
 
+def fields(where: str, of: list[scenario_fields.Field]) -> Iterator[str]:
+    """A row for each field of a table of a scenario."""
+    for field in of:
+        value = field.means.format(may=re.sub("^a number | in quotes", "", field.kind.may))
+        *cells, left_out = [re.sub(r"(?<!`)\[.*?\](?!`)", r"`\g<0>`", cell) for cell in (value, field.left_out)]
+        yield row(where, f"`{field.name}`", *cells, left_out or "refused")
+        where = ""
+
+
+def setup() -> Iterator[str]:
+    """The fields of the setup of a scenario, and where its steps stand."""
+    yield from fields("`[phone]`", scenario_fields.SETUP["phone"])
+    yield from fields("`[core]`, which may be left out", scenario_fields.SETUP["core"])
+    yield from fields(f"`[[station]]`, 1 to {scenario_fields.MOST_STATIONS}", scenario_fields.SETUP["station"])
+    yield row(f"`[[step]]`, at most {scenario_fields.MOST_STEPS:,}", "`do`", "what happens, see below", "refused")
+
+
 # The rows below each head.
 ROWS = {
     FRAMES: {
@@ -79,7 +97,17 @@ ROWS = {
         row("X2", "fields behind the connection"): list(records("x2", CONNECTION)),
         row("from", "answers"): list(answers()),
     },
-    SCENARIOS: {row("answer", "keeps", "means"): list(meanings())},
+    SCENARIOS: {
+        row("table", "field", "value", "if left out"): list(setup()),
+        row("table of a fleet", "field", "value", "if left out"): [
+            *fields("`[fleet]`", scenario_fields.SETUP["fleet"]),
+            *fields("`[[step]]`", [scenario_fields.of_phone(1)]),
+        ],
+        row("table of two cores", "field", "value", "if left out"): list(
+            fields("`[[station]]`", [scenario_fields.OF_CORE])
+        ),
+        row("answer", "keeps", "means"): list(meanings()),
+    },
     WHATIF: {row("outcome", "is told where"): list(outcomes())},
 }
 

@@ -196,16 +196,15 @@ class Lines(unittest.TestCase):
 
 
 class Page(unittest.TestCase):
-    """The tables of docs/SCENARIOS.md say what may stand in each field, and what holds where it is left out, as
+    """The table of steps of docs/SCENARIOS.md says what may stand in each field, and what holds where it is left out, as
     messages do."""
 
     PAGE = (TOP / "docs" / "SCENARIOS.md").read_text()
     PLAIN = PAGE.replace("`", "")
 
-    def rows(self, head: str, before: str = "") -> list[list[str]]:
-        """The rows of the first table with this head behind a text, without marks of code."""
-        text = self.PLAIN[self.PLAIN.index(before) :]
-        lines = text[text.index(head) :].split("\n\n")[0].splitlines()[2:]
+    def rows(self, head: str) -> list[list[str]]:
+        """The rows of the first table with this head, without marks of code."""
+        lines = self.PLAIN[self.PLAIN.index(head) :].split("\n\n")[0].splitlines()[2:]
         return [[cell.strip() for cell in line.strip("|").split(" | ")] for line in lines]
 
     def tell(self, told: list[scenario_fields.Field], cell: str) -> None:
@@ -238,46 +237,8 @@ class Page(unittest.TestCase):
                     self.tell(scenario_fields.STEPS[word], cell)
         self.assertEqual(sorted(scenario_fields.STEPS), sorted(seen))
 
-    def test_the_setup_has_the_fields_of_the_page(self) -> None:
-        tables = {f"[{name}]": told for name, told in scenario_fields.SETUP.items()} | {
-            "of phone": [scenario_fields.of_phone(2)],
-            "of core": [scenario_fields.OF_CORE],
-        }
-        seen: dict[str, list[str]] = {name: [] for name in tables}
-        for where, extra in (
-            ("", ""),
-            ("## Scenarios of a fleet", "of phone"),
-            ("## Scenarios of two cores", "of core"),
-        ):
-            table = extra
-            for name, field, cell, left_out in self.rows("| table | field | value", where):
-                table = (
-                    next((it for it in tables if name and it in name), table)
-                    if name != "[[step]]" and extra != "of core"
-                    else extra
-                )
-                if field == "do":
-                    continue
-                of = next(it for it in tables[table] if it.name == field)
-                seen[table].append(field)
-                self.assertEqual(of.left_out or "refused", left_out, field)
-                may = of.kind.may.replace("a number ", "").replace(" in quotes", "")
-                self.assertTrue(
-                    may in cell
-                    or extra == "of phone"
-                    or cell == "as for the core"
-                    and of in scenario_fields.SETUP["core"],
-                    (field, may),
-                )
-        self.assertEqual({name: [field.name for field in told] for name, told in tables.items()}, seen)
-
-    def test_the_page_tells_how_many_there_may_be_and_the_lines_of_a_ladder(self) -> None:
-        for told in (
-            f"[[station]], 1 to {scenario_fields.MOST_STATIONS} |",
-            f"[[step]], at most {scenario_fields.MOST_STEPS:,} |",
-            f"at most {ladder.MOST_LINES:,} lines",
-        ):
-            self.assertIn(told, self.PLAIN)
+    def test_the_page_tells_the_lines_of_a_ladder(self) -> None:
+        self.assertIn(f"at most {ladder.MOST_LINES:,} lines", self.PLAIN)
         rows = self.rows("| line | needs | derives")
         self.assertEqual(
             [f"{kind} {' '.join(names)}" for kind, names in ladder.LINES.items()], [line for line, _, _ in rows]

@@ -1,5 +1,5 @@
-"""The fields of the tables of a scenario, in the order in which they are looked at. A test compares them with
-docs/SCENARIOS.md."""
+"""The fields of the tables of a scenario, in the order in which they are looked at. docs/SCENARIOS.md has its tables of
+the setup from here; a test compares that of the steps."""
 import dataclasses
 
 from .kinds import CELL, CELLS, INTEGER, NEW_STATION, PRIORITY, STATION, ValueKind, number, octets, words
@@ -8,29 +8,53 @@ from .kinds import CELL, CELLS, INTEGER, NEW_STATION, PRIORITY, STATION, ValueKi
 @dataclasses.dataclass(frozen=True)
 class Field:
     """A field: its name, its kind, what holds where it is left out, if it may be, and, where another field can rule it
-    out, that field and the words of it that call for this one."""
+    out, that field and the words of it that call for this one. Of the setup what it means, with what may stand there.
+    """
 
     name: str
     kind: ValueKind
     left_out: str = ""
     when: tuple[str, ...] = ()
+    means: str = ""
 
 
 NUMBER, MOST_STEPS, MOST_STATIONS = 2**32 - 1, 200_000, 8
 SRBS, DRBS = ("srb1", "srb2"), ("drb1", "drb2", "drb3", "drb4")
-NUMBERS = [Field("priority", PRIORITY, "[2, 0]"), Field("first", number(1, NUMBER), "1")]
+
+
+def numbers(priority: str, first: str) -> list[Field]:
+    """What core and stations choose algorithms and draw numbers by."""
+    return [
+        Field("priority", PRIORITY, "[2, 0]", means=priority),
+        Field("first", number(1, NUMBER), "1", means=f"{first}, {{may}}"),
+    ]
+
+
+UE_CAPS = (
+    "the phone's capabilities: EEA0 to EEA7 and EIA0 to EIA7 in {may} (UE security capability, TS 24.301 9.9.3.36)"
+)
+FIRST_NCC = "the NCC of the first pair of NH and NCC that the core sends for a chain, {may}"
 SETUP: dict[str, list[Field]] = {
-    "fleet": [Field("phones", number(1, 256))],
-    "phone": [Field("caps", octets(2))],
-    "core": [*NUMBERS, Field("first_ncc", number(1, 2), "1")],
-    "station": [Field("id", NEW_STATION), *NUMBERS, Field("cells", CELLS)],
+    "fleet": [Field("phones", number(1, 256), means="how many phones there are, {may}; each starts as `[phone]` says")],
+    "phone": [Field("caps", octets(2), means=UE_CAPS)],
+    "core": [
+        *numbers("{may}, the preferred one first", "the first connection number that the core draws"),
+        Field("first_ncc", number(1, 2), "1", means=FIRST_NCC),
+    ],
+    "station": [
+        Field("id", NEW_STATION, means="a number {may}"),
+        *numbers("as for the core", "the first number that it draws for air addresses, attempts and requests"),
+        Field("cells", CELLS, means="{may}"),
+    ],
 }
-OF_CORE = Field("core", number(0, 1), "0")  # of a station, where there are two cores
+# Of a station, where there are two cores.
+OF_CORE = Field("core", number(0, 1), "0", means="the core that the station belongs to, {may}")
 
 
 def of_phone(phones: int) -> Field:
     """The phone of a step, where there are so many."""
-    return Field("phone", number(0, phones - 1), "0")
+    means = "the phone that the step happens to, 0 to `phones` less 1"
+    return Field("phone", number(0, phones - 1), "0", means=means)
 
 
 def of_actor(name: str) -> list[Field]:
