@@ -12,6 +12,8 @@ TOP = pathlib.Path(__file__).resolve().parent.parent
 sys.path.insert(0, str(TOP / "python"))
 from lte_sec.common import tables  # noqa: E402
 from lte_sec.runs import scenario_fields  # noqa: E402
+from lte_sec.runs.kinds import CELL, STATION, one_of  # noqa: E402
+from lte_sec.runs.scenario_fields import Field  # noqa: E402
 from lte_sec.suite import rows as suite_rows  # noqa: E402
 
 README, COMMANDS = TOP / "README.md", TOP / "docs/COMMANDS.md"
@@ -71,13 +73,42 @@ def outcomes() -> Iterator[str]:
         yield row(f"`{name}`", OTHERWISE.get(name) or said[name.lower()])
 
 
-def fields(where: str, of: list[scenario_fields.Field]) -> Iterator[str]:
+def coded(text: str) -> str:
+    """A text with marks of code around arrays, tables and words in quotes."""
+    return re.sub(r"(?<!`)\[.*?\](?!`)", r"`\g<0>`", re.sub('"([^"]*)"', r"`\1`", text))
+
+
+def may(field: Field) -> str:
+    """What may stand in a field."""
+    return re.sub("^a number (?=[0-9])| in quotes", "", field.kind.may)
+
+
+def fields(where: str, of: list[Field]) -> Iterator[str]:
     """A row for each field of a table of a scenario."""
     for field in of:
-        value = field.means.format(may=re.sub("^a number | in quotes", "", field.kind.may))
-        *cells, left_out = [re.sub(r"(?<!`)\[.*?\](?!`)", r"`\g<0>`", cell) for cell in (value, field.left_out)]
-        yield row(where, f"`{field.name}`", *cells, left_out or "refused")
+        yield row(
+            where, f"`{field.name}`", coded(field.means.format(may=may(field))), coded(field.left_out) or "refused"
+        )
         where = ""
+
+
+def part(field: Field, is_one: bool) -> str:
+    """A field of a step: what may stand there, unless the page says it of all, what it means, and when it is there. Of
+    one that is there more than once, for each actor, the actor has it."""
+    if not is_one:
+        return f"`{field.name}`, one that `{field.when[0]}` has"
+    told = "" if field.kind in (STATION, CELL) else f", {may(field)}" if may(field)[0].isalpha() else f" {may(field)}"
+    told += f", {field.means}" * bool(field.means) + f", or {field.left_out}" * bool(field.left_out)
+    when = f" if `{field.when[0]}` is {one_of([f'`{word}`' for word in field.when[1:]])}" if field.when else ""
+    return f"`{field.name}`{coded(told)}{when}"
+
+
+def steps() -> Iterator[str]:
+    """A row for each `do` of a step."""
+    for do, of in scenario_fields.STEPS.items():
+        names = [field.name for field in of]
+        parts = dict.fromkeys(part(field, names.count(field.name) == 1) for field in of)
+        yield row(f"`{do}`", scenario_fields.HAPPENS[do], "; ".join(parts))
 
 
 def setup() -> Iterator[str]:
@@ -99,6 +130,7 @@ ROWS = {
     },
     SCENARIOS: {
         row("table", "field", "value", "if left out"): list(setup()),
+        row("`do`", "what happens", "fields in order"): list(steps()),
         row("table of a fleet", "field", "value", "if left out"): [
             *fields("`[fleet]`", scenario_fields.SETUP["fleet"]),
             *fields("`[[step]]`", [scenario_fields.of_phone(1)]),

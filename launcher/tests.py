@@ -16,7 +16,7 @@ from launches import EXAMPLES, HERE, TOP, launched  # noqa: E402
 import calc  # noqa: E402
 import ladder  # noqa: E402
 import pages  # noqa: E402
-from lte_sec.runs import document, scenario_faults, scenario_fields  # noqa: E402
+from lte_sec.runs import document, scenario_faults  # noqa: E402
 
 SETUP = 'phone = { caps = "a020" }\nstation = [{ id = 0, cells = [[10, 100]] }, { id = 1, cells = [[11, 101]] }]\n'
 
@@ -196,52 +196,13 @@ class Lines(unittest.TestCase):
 
 
 class Page(unittest.TestCase):
-    """The table of steps of docs/SCENARIOS.md says what may stand in each field, and what holds where it is left out, as
-    messages do."""
-
-    PAGE = (TOP / "docs" / "SCENARIOS.md").read_text()
-    PLAIN = PAGE.replace("`", "")
-
-    def rows(self, head: str) -> list[list[str]]:
-        """The rows of the first table with this head, without marks of code."""
-        lines = self.PLAIN[self.PLAIN.index(head) :].split("\n\n")[0].splitlines()[2:]
-        return [[cell.strip() for cell in line.strip("|").split(" | ")] for line in lines]
-
-    def tell(self, told: list[scenario_fields.Field], cell: str) -> None:
-        """A cell names these fields in order, each in a part of its own, with what may stand there and when."""
-        shared = self.PLAIN[self.PLAIN.index("A station is") : self.PLAIN.index("| do | what happens | fields")]
-        parts = {
-            names.split()[0].strip(","): names
-            for names in re.sub(r"(\w+) and (\w+) (as for \w+)", r"\1 \3; \2 \3", cell).split("; ")
-            if names
-        }
-        self.assertEqual(list(dict.fromkeys(field.name for field in told)), list(parts))
-        for field in told:
-            part, may = parts[field.name], field.kind.may.replace("a number ", "").replace(" in quotes", "").replace(
-                '"', ""
-            )
-            other = scenario_fields.STEPS[part.split(" as for ")[1]] if " as for " in part else []
-            self.assertTrue(
-                may in part + shared or field.name in [it.name for it in other if it.kind.may == field.kind.may],
-                (part, may),
-            )
-            self.assertIn(f"or {field.left_out}" if field.left_out else "", part)
-            self.assertTrue(not field.when or other or field.name == "bearer" or f" {field.when[0]} is " in part, part)
-
-    def test_each_step_has_the_fields_of_the_page(self) -> None:
-        seen = []
-        for words, _, cell in self.rows("| do | what happens | fields"):
-            for word in words.split(", "):
-                seen.append(word)
-                with self.subTest(word):
-                    self.tell(scenario_fields.STEPS[word], cell)
-        self.assertEqual(sorted(scenario_fields.STEPS), sorted(seen))
-
     def test_the_page_tells_the_lines_of_a_ladder(self) -> None:
-        self.assertIn(f"at most {ladder.MOST_LINES:,} lines", self.PLAIN)
-        rows = self.rows("| line | needs | derives")
+        text = (TOP / "docs" / "SCENARIOS.md").read_text().replace("`", "")
+        self.assertIn(f"at most {ladder.MOST_LINES:,} lines", text)
+        table = text[text.index("| line | needs | derives") :].split("\n\n")[0]
         self.assertEqual(
-            [f"{kind} {' '.join(names)}" for kind, names in ladder.LINES.items()], [line for line, _, _ in rows]
+            [f"{kind} {' '.join(names)}" for kind, names in ladder.LINES.items()],
+            [line.split(" | ")[0].strip("| ") for line in table.splitlines()[2:]],
         )
 
 

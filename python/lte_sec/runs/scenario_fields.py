@@ -1,5 +1,5 @@
-"""The fields of the tables of a scenario, in the order in which they are looked at. docs/SCENARIOS.md has its tables of
-the setup from here; a test compares that of the steps."""
+"""The fields of the tables of a scenario, in the order in which they are looked at. docs/SCENARIOS.md has its tables
+from here."""
 import dataclasses
 
 from .kinds import CELL, CELLS, INTEGER, NEW_STATION, PRIORITY, STATION, ValueKind, number, octets, words
@@ -8,8 +8,8 @@ from .kinds import CELL, CELLS, INTEGER, NEW_STATION, PRIORITY, STATION, ValueKi
 @dataclasses.dataclass(frozen=True)
 class Field:
     """A field: its name, its kind, what holds where it is left out, if it may be, and, where another field can rule it
-    out, that field and the words of it that call for this one. Of the setup what it means, with what may stand there.
-    """
+    out, that field and the words of it that call for this one. Also what it means: of the setup with what may stand
+    there, of a step where its name does not say it."""
 
     name: str
     kind: ValueKind
@@ -74,11 +74,15 @@ def sent(bearers: tuple[str, ...], most: int) -> list[Field]:
 
 ACTOR, *ITS_BEARERS = of_actor("who")
 STEPS: dict[str, list[Field]] = {
-    "auth": [Field("ksi", number(0, 6)), Field("kasme", octets(32)), Field("caps", octets(2), "those of [phone]")],
+    "auth": [
+        Field("ksi", number(0, 6)),
+        Field("kasme", octets(32)),
+        Field("caps", octets(2), "those of [phone]", means="the capabilities that the core learns"),
+    ],
     "smc": [],
     "connect": [Field("cell", CELL)],
     **dict.fromkeys(("release", "service", "resend", "idle"), []),
-    **dict.fromkeys(("x2", "s1", "intra"), [Field("station", STATION), Field("cell", CELL)]),
+    **dict.fromkeys(("x2", "s1", "intra"), [Field("station", STATION), Field("cell", CELL, means="the target")]),
     **dict.fromkeys(("command", "cancel", "ask"), [Field("station", STATION)]),
     "deliver": [Field("record", INTEGER)],
     "user": sent(DRBS, 1500),
@@ -93,4 +97,26 @@ STEPS: dict[str, list[Field]] = {
         ),
         Field("octets", octets(1536, exactly=False)),
     ],
+}
+# What happens at a step.
+HAPPENS = {
+    "auth": "phone and core authenticate",
+    "smc": "the core sends a NAS Security Mode Command",
+    "connect": "the core sets up the phone's context at the station with this cell",
+    "release": "the core releases the context",
+    "service": "the phone sends a Service Request",
+    "resend": "the phone sends the completion of its last handover again",
+    "idle": "the phone leaves its connection",
+    "x2": "a station opens a handover over X2",
+    "s1": "a station opens a handover over S1",
+    "intra": "a station opens a handover within itself",
+    "command": "a station sends the command of its handover, for the first time or again",
+    "cancel": "a station cancels its handover",
+    "ask": "a station sends a Path Switch Request again",
+    "deliver": "a record arrives",
+    "user": "a user packet is sent",
+    "rrc": "an RRC text is sent",
+    "nas": "a NAS text is sent",
+    "skip": "the sender skips this many COUNTs",
+    "inject": "octets that nobody sent arrive",
 }
