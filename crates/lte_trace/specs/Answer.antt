@@ -65,13 +65,19 @@ abbrev pub reach_word : Bool → List ℕ
 reach_word true = codes " out-of-reach"
 reach_word false = []
 
+abbrev pub chain_word : Bool → List ℕ
+chain_word true = codes " out-of-chain"
+chain_word false = []
+
 unfoldable pub explained_text : ℕ → ℕ → Bool → Never → List ℕ
 explained_text n all closed never =
     codes "explained "
     ++ (decimal n
     ++ (codes " of "
     ++ (decimal all
-    ++ (closed_word closed ++ (order_word never.unordered ++ (place_word never.misplaced ++ (reach_word never.beyond ++ codes "\n")))))))
+    ++ (closed_word closed
+    ++ (order_word never.unordered
+    ++ (place_word never.misplaced ++ (reach_word never.beyond ++ (chain_word never.foreign ++ codes "\n"))))))))
 
 -- the line of a text that is no question
 unfoldable pub bad_text : ℕ → List ℕ
@@ -86,6 +92,7 @@ pub record IsFound (question : Question) (text : List ℕ) : Type 0 where
   pub by_order : never.unordered ≡ true → IsNeverMore question count
   pub by_place : never.misplaced ≡ true → IsNeverMore question count
   pub by_reach : never.beyond ≡ true → IsNeverMore question count
+  pub by_chain : never.foreign ≡ true → IsNeverMore question count
   pub moves : List (Told Move)
   pub tells : TellsIf question.moves question count moves
   pub told : text ≡ explained_text count (length question.capture) closed never ++ moves_text moves

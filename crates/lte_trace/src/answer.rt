@@ -2,7 +2,7 @@
 ghost use Rattle.std.specs.Prelude.{◌≡◌, ◌++◌, ◌≤◌, true, length, Ok, Err, IfOk, OnErr};
 ghost use Rattle.std.specs.String.{string_bytes};
 ghost use Rattle.growth.specs.Growth.{WasRefused};
-ghost use Rattle.lte_trace.specs.Answer.{Finds, HasHistory, IsAnswer, IsFound, IsTooLarge, IsWitness, TellsIf, explained_text, bad_text, closed_word, order_word, place_word, reach_word, IsNeverMore};
+ghost use Rattle.lte_trace.specs.Answer.{Finds, HasHistory, IsAnswer, IsFound, IsTooLarge, IsWitness, TellsIf, explained_text, bad_text, closed_word, order_word, place_word, reach_word, chain_word, IsNeverMore};
 ghost use Rattle.lte_trace.specs.Moves.{moves_text};
 ghost use Rattle.trace_text.specs.Question.{nothing};
 ghost use Rattle.trace_text.specs.Text.{reading_of};
@@ -10,7 +10,7 @@ ghost use Rattle.trace_text.specs.Text.{reading_of};
 use crate::moves::add_moves;
 use std::alloc::{AllocError, Global};
 use trace_keys::Net;
-use trace_order::{is_beyond, is_misplaced, is_never};
+use trace_order::{is_beyond, is_foreign, is_misplaced, is_never};
 use trace_plain::{Found, Told, Unsearched, explained, way_to};
 use trace_text::{Question, TextFault, moves_of, read_lines};
 
@@ -89,6 +89,7 @@ fn found(alloc: Global, question: &Question) -> Result<Vec<u8>, Unsearched>
         unordered: unordered(alloc, question, found.count)?,
         misplaced: misplaced(alloc, question, found.count)?,
         beyond: beyond(alloc, question, found.count)?,
+        foreign: foreign(alloc, question, found.count)?,
     };
     let all = question.capture().len();
     let text = lines(alloc, found, never, all, told.as_slice())?;
@@ -136,6 +137,8 @@ pub struct Never {
     pub misplaced: bool,
     /// Its NH is further on than the steps since the last one.
     pub beyond: bool,
+    /// Its key is made of another KeNB than its connection began with.
+    pub foreign: bool,
 }
 
 // Whether it is known by the NHs of their connection.
@@ -196,6 +199,27 @@ fn beyond(alloc: Global, question: &Question, count: usize) -> Result<bool, Allo
     ))
 }
 
+// Whether it is known by the KeNB of its connection.
+fn foreign(alloc: Global, question: &Question, count: usize) -> Result<bool, AllocError>
+    requires { count ≤ length question.now.capture }
+    ensures never { IfOk result (λ never. never ≡ true → IsNeverMore question.now count) }
+    ensures refused { OnErr result WasRefused }
+{
+    let Some(sight) = question.capture().get(count) else {
+        return Ok(false);
+    };
+    let family = moves_of(alloc, question)?;
+    let before = &question.capture()[..count];
+    Ok(is_foreign(
+        question.kasmes(),
+        question.covered(),
+        family.as_slice(),
+        question.clues(),
+        before,
+        sight,
+    ))
+}
+
 // How far a question is explained.
 fn search(alloc: Global, question: &Question) -> Result<Found, Unsearched>
     ensures found { IfOk result (λ e. Finds question.now e.count e.closed) }
@@ -230,9 +254,10 @@ fn explained_line(
     let order = order_word(never.unordered);
     let place = place_word(never.misplaced);
     let reach = reach_word(never.beyond);
+    let chain = chain_word(never.foreign);
     growth::format(
         alloc,
-        format_args!("explained {count} of {all}{closed}{order}{place}{reach}\n"),
+        format_args!("explained {count} of {all}{closed}{order}{place}{reach}{chain}\n"),
     )
 }
 
@@ -275,6 +300,12 @@ fn reach_word(beyond: bool) -> &'static str
     ensures { result.now ≡ reach_word beyond }
 {
     if beyond { " out-of-reach" } else { "" }
+}
+
+fn chain_word(foreign: bool) -> &'static str
+    ensures { result.now ≡ chain_word foreign }
+{
+    if foreign { " out-of-chain" } else { "" }
 }
 
 // The line of a text that is no question.

@@ -106,7 +106,7 @@ seen_by covered Cancel h = tt
 seen_by covered (Refresh cell) h = tt
 seen_by covered Leave h = tt
 
-all_tapped : (covered : List Where) (family : List Move) → all_seen covered family ≡ true → AllBeginsSeen (is_covered covered) family
+pub all_tapped : (covered : List Where) (family : List Move) → all_seen covered family ≡ true → AllBeginsSeen (is_covered covered) family
 all_tapped covered [] h move i = absurd i
 all_tapped covered (first ∷ family) h move (inl e) =
     subst (BeginsSeen (is_covered covered)) e (seen_by covered first (parts (begins_seen covered first) (all_seen covered family) h).0)

@@ -6,3 +6,5 @@ pub mod Carrying
 pub mod Steps
 pub mod Reaching
 pub mod Making
+pub mod Basing
+pub mod Belonging

@@ -8,6 +8,7 @@ use Rattle.trace_keys.specs.declared.{moves.Where.Where, moves.Move.Move}
 use Rattle.trace_keys.specs.declared.moves.Where.TheVariants.{Setup, Change, Took, Answer, Asked, Request, Over}
 use Rattle.trace_keys.specs.declared.moves.Move.TheVariants.{Prepare}
 use Rattle.trace_keys.specs.Net.{Sight}
+use Rattle.trace_order.specs.Base.{IsOf}
 use Rattle.trace_order.specs.declared.{clues.Shape.Shape, clues.Made.Made, clues.Placed.Placed}
 
 -- which key of the ladder a key is
@@ -57,15 +58,17 @@ abbrev pub AllCarry : List Move → List (Sight (List ℕ)) → Type 0
 AllCarry family [] = Unit {0}
 AllCarry family (sight ∷ capture) = CarriesAt family sight.at sight.pair × AllCarry family capture
 
--- these octets are those of a key of this shape
+-- these octets are those of a key of this shape, and of this chain
 pub record IsMade (made : Made) : Type 0 where
   pub term : Term
   pub value : value_of term ≡ made.key
   pub shape : shape_of term ≡ made.shape
+  pub base : IsOf made.base term
 
 -- so are those of a message, with this NCC
 pub record IsPlaced (pair : NumberedKey (List ℕ) ℕ) (placed : Placed) : Type 0 where
   pub term : Term
   pub value : value_of term ≡ pair.key
   pub shape : shape_of term ≡ placed.shape
+  pub base : IsOf placed.base term
   pub ncc : pair.number ≡ placed.ncc

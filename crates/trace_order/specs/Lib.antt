@@ -1,4 +1,5 @@
 pub mod Order
 pub mod Known
+pub mod Base
 pub mod Kinds
 pub mod Reach

@@ -27,17 +27,19 @@ pub struct Shape {
     pub last: Option<Cell>,
 }
 
-// A key of a clue.
+// A key of a clue, and the chain that it is made of.
 #[derive(Clone, Copy, Drop)]
 pub struct Made {
     pub(crate) key: Kenb,
     pub(crate) shape: Shape,
+    pub(crate) base: Known,
 }
 
-// Which key of the ladder that of a message is, and the NCC beside it.
+// Which key of the ladder that of a message is, of which chain, and the NCC beside it.
 #[derive(Clone, Copy, Drop)]
 pub struct Placed {
     pub(crate) shape: Shape,
+    pub(crate) base: Known,
     pub(crate) ncc: u8,
 }
 
@@ -64,6 +66,7 @@ fn under(root: &Kasme, known: &Known) -> Made
             number: known.number,
             last: None,
         },
+        base: *known,
     }
 }
 
@@ -89,6 +92,7 @@ fn star_of(made: &Made, cell: &Cell) -> Made
             number: made.shape.number,
             last: Some(*cell),
         },
+        base: made.base,
     }
 }
 
@@ -128,6 +132,7 @@ fn placed_by(made: &Option<Made>, pair: &Numbered) -> Option<Placed>
         Some(made) => match ncc_beside(&made.key, pair) {
             Some(ncc) => Some(Placed {
                 shape: made.shape,
+                base: made.base,
                 ncc,
             }),
             None => None,

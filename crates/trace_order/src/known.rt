@@ -1,4 +1,4 @@
-// NHs whose terms are known: of which KASME, COUNT and number.
+// Keys of chains whose terms are known: of which KASME, COUNT and number.
 ghost use Rattle.std.specs.Prelude.{◌≡◌, ℕ, IfSome};
 ghost use Rattle.hmac_kdf.specs.Kdf.{kdf};
 ghost use Rattle.hmac_kdf.specs.declared.input.KdfInput.{KdfInput};
@@ -13,14 +13,14 @@ use trace_keys::{Move, Numbered, same_numbered};
 /// The greatest number of a key that is looked for.
 pub const MOST_NUMBER: u32 = 64;
 
-/// An NH that is known.
+/// A key of a chain that is known.
 #[derive(Clone, Copy, Drop)]
 pub struct Known {
     /// The KASME, by its place.
     pub kasme: u8,
     /// The COUNT of the KeNB.
     pub count: u32,
-    /// How many steps it is from that KeNB.
+    /// How many steps it is from that KeNB, itself of number 0.
     pub number: u32,
 }
 
@@ -32,10 +32,13 @@ pub(crate) fn next_nh(root: &Kasme, sync: &Kenb) -> Kenb
     Kenb::of_octets(nh.octets())
 }
 
-// The number of an NH in the chain of a KeNB.
+// The number of a key in the chain of a KeNB.
 fn number_in(root: &Kasme, kenb: &Kenb, pair: &Numbered) -> Option<u32>
     ensures { (r : Term) (count : ℕ) → value_of r ≡ root.now → value_of (KenbOf r count) ≡ kenb.now → IfSome result (λ n. value_of (nh r count n) ≡ pair.now.key) }
 {
+    if same_numbered(&Numbered::new(*kenb, 0), pair) {
+        return Some(0);
+    }
     let mut sync = *kenb;
     for number in 0..MOST_NUMBER {
         sync = next_nh(root, &sync);
@@ -48,7 +51,7 @@ fn number_in(root: &Kasme, kenb: &Kenb, pair: &Numbered) -> Option<u32>
     None
 }
 
-// An NH of the chain of a KASME and a COUNT.
+// A key of the chain of a KASME and a COUNT.
 fn known_at(kasmes: &[Kasme], kasme: u8, count: u32, pair: &Numbered) -> Option<Known>
     ensures { IfSome result (λ key. value_of (by.term_of kasmes.now key) ≡ pair.now.key) }
 {
@@ -62,7 +65,7 @@ fn known_at(kasmes: &[Kasme], kasme: u8, count: u32, pair: &Numbered) -> Option<
     })
 }
 
-// An NH of the chain of a key change, which names KASME and COUNT.
+// A key of the chain of a key change, which names KASME and COUNT.
 fn known_by(kasmes: &[Kasme], by_move: &Move, pair: &Numbered) -> Option<Known>
     ensures { IfSome result (λ key. value_of (by.term_of kasmes.now key) ≡ pair.now.key) }
 {
@@ -72,7 +75,7 @@ fn known_by(kasmes: &[Kasme], by_move: &Move, pair: &Numbered) -> Option<Known>
     }
 }
 
-/// An NH of one of the chains that may have been.
+/// A key of one of the chains that may have been.
 pub(crate) fn known_of(kasmes: &[Kasme], family: &[Move], pair: &Numbered) -> Option<Known>
     ensures { IfSome result (λ key. value_of (by.term_of kasmes.now key) ≡ pair.now.key) }
 {

@@ -1,10 +1,11 @@
-//! The NH keys of one phone come in order, however many moves go unseen.
+//! The keys of one phone come in order and of one chain, however many moves go unseen.
 #![tactic(auto)]
 
 mod clues;
 mod kinds;
 mod known;
 mod never;
+mod own;
 mod reach;
 
 ghost use Rattle.std.specs.Prelude.{◌≡◌, ℕ, Bool, List, [], ◌∷◌, ◌++◌, map, None, Some};
@@ -18,6 +19,7 @@ ghost use Rattle.trace_keys.specs.Net.{Net, Sight};
 ghost use Rattle.trace_keys.specs.Moved.{moved};
 ghost use Rattle.trace_keys.specs.declared.moves.Move.{Move};
 ghost use Rattle.trace_order.specs.Order.{IsExact, AllBeginsSeen, InOrder, Follows, Coincidence, last_nh, nh_of};
+ghost use Rattle.trace_order.specs.Base.{AllMadeOf};
 ghost use Rattle.trace_order.specs.Kinds.{AllCarry};
 ghost use Rattle.trace_order.specs.Reach.{AllStepsSeen, InReach};
 
@@ -25,6 +27,7 @@ pub use clues::{Clue, Shape};
 pub use kinds::is_misplaced;
 pub use known::{Known, MOST_NUMBER};
 pub use never::is_never;
+pub use own::is_foreign;
 pub use reach::is_beyond;
 
 /// What a lawful history shows of NHs is in order, of whatever of these moves and however many of them go unseen, over the air too: if
@@ -47,6 +50,14 @@ pub fn known_nhs_follow()
         value_of before ≡ last.key → value_of after ≡ next.key → ¬ Follows before after →
         History (moved octet_reading (map value_of kasmes)) fits covers bound left (record { kasme = kasme; count = count; serving = None }) moves (capture ++ sight ∷ []) →
         Coincidence }
+{}
+
+/// If these are covered, each NH and each KeNB* of a connection is made of the KeNB with which it began, until a key change is taken.
+pub fn keys_are_made_of_the_kenb()
+    ensures { (kasmes : List Term) (fits : Sight (List ℕ) → Sight (List ℕ) → Bool) (covers : Sight (List ℕ) → Bool) (family : List Move) (bound left kasme count : ℕ) (moves : List Move) (capture : List (Sight (List ℕ))) →
+        IsExact fits → AllBeginsSeen covers family → AreIn moves family →
+        History (moved octet_reading (map value_of kasmes)) fits covers bound left (record { kasme = kasme; count = count; serving = None }) moves capture →
+        AllMadeOf None capture }
 {}
 
 /// Each key that a lawful history shows is one that its message may carry, with its NCC: of the kind of its place, and for a cell of its

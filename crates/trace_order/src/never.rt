@@ -90,7 +90,7 @@ fn begins_seen(covered: &[Where], by_move: &Move) -> bool
 }
 
 // Whether by no move of these.
-fn all_seen(covered: &[Where], family: &[Move]) -> bool
+pub(crate) fn all_seen(covered: &[Where], family: &[Move]) -> bool
     ensures { result ≡ by.all_seen covered.now family.now }
 {
     for by_move in family {

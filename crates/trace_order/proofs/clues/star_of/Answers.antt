@@ -9,4 +9,4 @@ returns c =
     let made = c.args.made.now in
     let cell = c.args.cell.now in
     let key : kdf made.key (KdfInput.Star cell.pci cell.earfcn) ≡ c.install.result = search rules in
-    subst (λ k. IsMade (record { key = k; shape = record { number = made.shape.number; last = Some cell } })) key (star_made made cell c.requires)
+    subst (λ k. IsMade (record { key = k; shape = record { number = made.shape.number; last = Some cell }; base = made.base })) key (star_made made cell c.requires)
