@@ -1,0 +1,3 @@
+pub mod Nas
+pub mod Heard
+pub mod InTurn
