@@ -65,8 +65,8 @@ class Verdicts:
             yield f"blames of keys withdrawn: {len(self.explained)}; lte_trace finds a lawful history"
         if self.open:
             yield (
-                f"blames of keys not confirmed: {self.open}; their search was given up, or no history has the "
-                "message whatever its key"
+                f"blames of keys not confirmed: {self.open}; their search was given up, no history has the message "
+                "whatever its key, or only one with a refresh for a cell of another station gives it"
             )
 
 
@@ -92,7 +92,7 @@ def asked(phone: Phone, taken: Program, verdicts: Verdicts) -> None:
             verdicts.explained.update(
                 (id(value), why) for value, why in told(phone, taken) if id(value) not in verdicts.confirmed
             )
-            return
+            break
         first = phone.sightings[at]
         if first.passed or not first.key:
             break
@@ -103,16 +103,21 @@ def asked(phone: Phone, taken: Program, verdicts: Verdicts) -> None:
             is_closed = near is not None and near.closed and near.explained == at
             waiting[id(first.value)] = Waiting(at, phone.bound, is_closed)
         first.passed = True
-    verdicts.open += sum(one.value is not None and id(one.value) not in verdicts.confirmed for one in phone.sightings)
+    blamed = (id(one.value) for one in phone.sightings if one.value is not None)
+    verdicts.open += sum(one not in verdicts.confirmed and one not in verdicts.explained for one in blamed)
 
 
 def told(phone: Phone, taken: Program) -> Iterator[tuple[Line, Why]]:
-    """The blames of a phone whose messages a history gives, and what it rests on."""
+    """The blames of a phone whose messages a history gives, and what it rests on. One with a refresh for a cell of
+    another station gives nothing: there it must be one without moves over the air."""
     if not any(one.value is not None and not one.passed for one in phone.sightings):
         return
     answer = phone.ask(taken, told=True)
-    grounds = [*phone.grounds(answer.moves)] if answer is not None else []
-    for place, one in enumerate(phone.sightings):
+    moves = answer.moves if answer is not None else ()
+    strays = phone.strays(moves)
+    grounds = [*phone.grounds(moves)][:strays]
+    sure = len(phone.sightings) if strays is None else max(strays, phone.some(taken))
+    for place, one in enumerate(phone.sightings[:sure]):
         if one.value is not None:
             yield one.value, grounds[place] if place < len(grounds) else Cause.HISTORY_FOUND.because()
 

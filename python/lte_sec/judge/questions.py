@@ -240,14 +240,18 @@ class Phone:
         for kasme in dict.fromkeys([*(kasme for kasme, _ in due), *(key.kasme for key in self.found())]):
             self.kasmes[kasme] = len(self.kasmes)
             yield f"kasme {self.trace.derivations.kasmes[kasme].value.hex()}"
+        yield from self.cells()
+        yield from (f"count {self.kasmes[kasme]} {count}" for kasme, count in due)
+        yield from (f"first {number}" for number in self.firsts())
+
+    def cells(self) -> Iterator[str]:
+        """The cells of each station."""
         for name, number in self.numbers.found.items():
             yield from dict.fromkeys(
                 f"cell {number} {site.pci} {site.earfcn}"
                 for site in self.trace.cells.every()
                 if self.trace.cells.station(site.eci) == name
             )
-        yield from (f"count {self.kasmes[kasme]} {count}" for kasme, count in due)
-        yield from (f"first {number}" for number in self.firsts())
 
     def firsts(self) -> list[int]:
         """The first NCC that the cores of the trace send: 2, or 1 where they step their chain only for an answer."""
@@ -333,6 +337,24 @@ class Phone:
                 ", besides another" if choices[-1] == "besides" else ""
             )
         return " ".join([PLAIN.get(name, name), *choices])
+
+    def strays(self, moves: Iterable[str]) -> int | None:
+        """The place of the first message behind a refresh for a cell of another station than the phone's: the moves of
+        the program do not ask whose cell it is, and no lawful network has that."""
+        cells, place, station, target = {*self.cells()}, 0, "", ""
+        for line in moves:
+            seen, _, move = line.partition(" ")
+            name, *choices = move.split()
+            if name == "refresh" and f"cell {station} {choices[0]} {choices[1]}" not in cells:
+                return place
+            if name == "renew":
+                station = choices[3]
+            elif name == "arrive":
+                station = target
+            if name in ("prepare", "require"):
+                target = choices[0] if choices[-1] == "last" else target
+            place += seen == "seen"
+        return None
 
     def grounds(self, moves: Iterable[str]) -> Iterator[Why]:
         """What each message rests on, in order: the unseen moves of its connection up to it."""
