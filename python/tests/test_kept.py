@@ -2,6 +2,7 @@
 of each is kept."""
 from __future__ import annotations
 
+import copy
 import json
 import random
 import unittest
@@ -15,13 +16,18 @@ from lte_sec.captures.cells import Cells, read_cells
 from lte_sec.captures.decoding import Message
 from lte_sec.judge.grounds import FirstPlaces
 from lte_sec.captures.message_store import BLOCK, Kept
-from lte_sec.judge.line_store import KeptLines
+from lte_sec.judge import connections
+from lte_sec.judge.account import Use
+from lte_sec.judge.line_store import KeptLines, in_order
 from lte_sec.judge.reading import check
+from lte_sec.nas.sent_counts import SentCounts
 from lte_sec.common.report import DIFFERS, NOTE, RIGHT, UNKNOWN, Line, Verdict
 from lte_sec.captures.taps import APART, MANY, SecondTaps, alike, capture_of
-from lte_sec.common.terms import Derivations, Key, Term, kasmes_of
+from lte_sec.common.terms import DOWN, UP, Derivations, Kasme, Key, Term, kasmes_of
 from lte_sec.traces.trace_document import as_json, lines as lines_of
 
+from .crowds import crowd
+from .simulated import CALLS, CELLS
 from .standin import StandIn
 from .test_scanned import EVERY
 from .test_spoilt import TRACES
@@ -172,6 +178,41 @@ class Lines(unittest.TestCase):
                     )
                     self.assertEqual(bool(trace.judge.lines.batches), newest == 0)
             self.assertEqual(reports[0], reports[1])
+
+
+class Ended(unittest.TestCase):
+    def told(self, most: int) -> tuple[str, list[Use], int]:
+        """What is told of a trace with faults where so many connections that ended are kept, and how many are left."""
+        world = crowd(300, 4, 4)
+        kasmes = [Kasme(phone.name, phone.kasme) for phone in world.phones]
+        with patch.object(connections, "ENDED", most):
+            trace = check(Derivations(CALLS, kasmes), Cells(CELLS), copy.deepcopy(world.messages), budget=300)
+        return as_json(trace.seen, {}), list(trace.seen.uses), len(trace.connections)
+
+    def test_a_report_is_the_same_where_connections_that_ended_are_forgotten(self) -> None:
+        kept, forgotten = self.told(1_000_000), self.told(0)
+        self.assertEqual(kept[:2], forgotten[:2])
+        self.assertLess(forgotten[2], kept[2])
+
+    def test_what_was_sent_at_a_count_is_known_by_its_sum(self) -> None:
+        draw, sent, dealt = random.Random(7), SentCounts(), dict[tuple[int, int], tuple[bytes, int]]()
+        self.assertFalse(sent)
+        for number in range(1, 400):
+            direction, count = draw.choice((UP, DOWN)), draw.choice((draw.randrange(100), draw.randrange(1 << 24)))
+            dealt[direction, count] = draw.randbytes(9), number
+            sent.put(direction, count, *dealt[direction, count])
+        for (direction, count), (pdu, number) in dealt.items():
+            found = sent.get(direction, count)
+            assert found is not None
+            self.assertTrue(found.has(pdu) and not found.has(pdu + b"x") and found.connection == number)
+            if (direction, count + 1) not in dealt:
+                self.assertIsNone(sent.get(direction, count + 1))
+
+    def test_numbers_of_one_place_stay_in_their_order(self) -> None:
+        draw = random.Random(8)
+        places = [draw.randrange(50) for _ in range(300)]
+        self.assertEqual(list(in_order(range(300), places)), sorted(range(300), key=places.__getitem__))
+        self.assertEqual(list(in_order(range(0), [])), [])
 
 
 class Looked(unittest.TestCase):

@@ -6,13 +6,12 @@ alone is read here as it stands; which way a message went is told by its type, o
 """
 from __future__ import annotations
 
-from collections import Counter
 from collections.abc import Iterable, Iterator, Sequence
 from dataclasses import replace
 
 from ..common.terms import COMPUTED, DOWN, NAS_INTEGRITY, UP, Derivations, TraceError
 from .decoding import Message, fresh
-from .message_store import Kept, Messages
+from .message_store import Kept, Messages, links_of
 
 RAW, CUT, ALONE = (
     "raw",
@@ -72,7 +71,7 @@ def preferences(words: Sequence[str]) -> list[str]:
 def decoded(messages: Messages, words: Sequence[str], derivations: Derivations) -> Messages:
     """The messages, with those of NAS alone in the place of their frames; a fault where nothing but frames of an
     unknown link type is there."""
-    links = messages.links if isinstance(messages, Kept) else Counter(message.link for message in messages)
+    links = links_of(messages)
     if not links[RAW] and (links["S1"] or not links["RRC"]):
         return messages
     raw = {int(message.name) for message in messages if message.link == RAW}

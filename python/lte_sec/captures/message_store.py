@@ -88,7 +88,7 @@ class Kept(Sequence[Message]):
 
     def __init__(self, messages: Iterable[Message] = ()):
         self.spool = Spool()
-        self.begins, self.sizes, self.times = array("q"), array("l"), array("d")
+        self.begins, self.sizes, self.times = array("q"), array("i"), array("d")
         self.links: Counter[str] = Counter()  # how many messages each link has
         for message in messages:
             self.append(message)
@@ -136,6 +136,11 @@ class Kept(Sequence[Message]):
 
 
 Messages = Union["list[Message]", Kept]
+
+
+def links_of(messages: Messages) -> Counter[str]:
+    """How many messages each link has."""
+    return messages.links if isinstance(messages, Kept) else Counter(message.link for message in messages)
 
 
 def only(messages: Messages, places: Iterable[int]) -> Messages:

@@ -6,6 +6,7 @@ its own.
 """
 from __future__ import annotations
 
+from array import array
 from collections import Counter
 from collections.abc import Iterator, Mapping
 from dataclasses import dataclass, replace
@@ -69,21 +70,21 @@ def host(end: str) -> str:
 
 @dataclass(frozen=True)
 class Stand:
-    """Where a phone stands as X2 shows it, and the target that it is on its way to."""
+    """The cell in which a phone stands as X2 shows it, and that which it is on its way to."""
 
-    station: str = ""
-    target: str = ""
+    eci: int | None = None
+    target: int | None = None
 
 
 @dataclass(frozen=True)
 class Known:
     """A station by a cell that a message tells, where it tells one, and else by its end."""
 
-    station: str
+    eci: int | None
     end: str
 
-    def name(self, addresses: Mapping[str, str]) -> str:
-        return self.station or addresses.get(self.end) or self.end
+    def name(self, cells: Cells) -> str:
+        return cells.station(self.eci) or cells.addresses.get(self.end) or self.end
 
 
 class LinksSeen:
@@ -97,9 +98,9 @@ class LinksSeen:
         self.switched: set[tuple[str, int | None]] = set()  # identities that a path switch brought
         self.pairs: dict[tuple[str, str, int | None], tuple[Known, Known]] = {}
 
-    def of_s1(self, message: Message, station: str, end: str) -> None:
+    def of_s1(self, message: Message, eci: int | None, end: str) -> None:
         way = UP if message.name in FROM_STATION else DOWN
-        key = "S1", Known(station, end), way
+        key = "S1", Known(eci, end), way
         self.counts[key] = self.counts.get(key, 0) + 1
         if message.name == "PathSwitchRequest":
             self.switched.add((message.source, message.enb_id))
@@ -108,27 +109,38 @@ class LinksSeen:
         ):
             self.presupposed.add(key)
 
-    def of_x2(self, message: Message, cells: Cells) -> None:
+    def of_x2(self, message: Message) -> None:
         is_back = message.name in BACK
         source, target = (message.target, message.source) if is_back else (message.source, message.target)
         if message.name == "HandoverRequest":
-            self.pairs[source, target, message.old_x2] = Known(cells.station(message.source_eci), source), Known(
-                cells.station(message.eci), target
-            )
-        one, other = self.pairs.get((source, target, message.old_x2)) or (Known("", source), Known("", target))
+            self.pairs[source, target, message.old_x2] = Known(message.source_eci, source), Known(message.eci, target)
+        one, other = self.pairs.get((source, target, message.old_x2)) or (Known(None, source), Known(None, target))
         key = ("X2", other, one) if is_back else ("X2", one, other)
         self.counts[key] = self.counts.get(key, 0) + 1
 
-    def links(self, addresses: Mapping[str, str]) -> Iterator[LinkSeen]:
+    def done(self) -> None:
+        """All messages were taken."""
+        self.switched, self.pairs = set(), {}
+
+    def links(self, cells: Cells) -> Iterator[LinkSeen]:
         for key, number in self.counts.items():
             kind, one, other = key
             yield LinkSeen(
                 kind,
-                one.name(addresses),
-                other if isinstance(other, str) else other.name(addresses),
+                one.name(cells),
+                other if isinstance(other, str) else other.name(cells),
                 number,
                 key in self.presupposed,
             )
+
+
+class Passing:
+    """What of associations and phones is known for as long as messages are taken."""
+
+    def __init__(self) -> None:
+        self.legs: dict[tuple[str, int], int] = {}  # cells by station's end and eNB-UE-S1AP-ID
+        self.stands: dict[int, Stand] = {}  # by MME-UE-S1AP-ID
+        self.asked: dict[tuple[str, str, int | None], tuple[int, int | None]] = {}
 
 
 class Stations:
@@ -142,9 +154,14 @@ class Stations:
         self.gummeis: dict[tuple[int, int], str] = {}  # core's ends by MME group and code
         self.cores: dict[str, str] = {}  # names of cores by their ends
         self.told: set[str] = set()  # ends that told a name or a cell
-        self.votes: dict[str, Counter[str]] = {}
-        self.hosts: dict[str, Counter[str]] = {}  # stations of X2 by host
-        self.names: list[str] = []  # of the station of each message of S1
+        self.votes: dict[str, Counter[int]] = {}  # cells of phones by station's end, in the order of the ends
+        self.hosts: dict[str, Counter[int]] = {}  # cells of X2 by host
+        self.numbers: dict[int, int] = {}  # of the cells that are told, from 1 on
+        self.names: list[str] = []  # of their stations
+        self.told_at = array(
+            "i"
+        )  # of each message of S1 the number of the cell that it or its association told, else 0
+        self.passing = Passing()
         self.seen = LinksSeen()
 
     @classmethod
@@ -160,7 +177,20 @@ class Stations:
         """Names the stations, once all messages were taken."""
         for place, source, target in self.changed:
             self.messages[place] = replace(self.messages[place], source=source, target=target)
-        self.name()
+        for end, found in self.votes.items():
+            votes = self.hosts.get(host(end)) or found
+            if end and end not in self.told and votes:
+                self.cells.addresses.setdefault(end, self.elected(votes))
+        self.names = [self.cells.station(eci) for eci in self.numbers]
+        self.passing = Passing()
+        self.seen.done()
+
+    def elected(self, votes: Mapping[int, int]) -> str:
+        """The station that has most of these cells."""
+        stations = Counter[str]()
+        for eci, number in votes.items():
+            stations[self.cells.station(eci)] += number
+        return stations.most_common(1)[0][0]
 
     def take(self, place: int, message: Message) -> Message:
         """Gives both ends of an association one name each: a verification tag names an end with several addresses."""
@@ -176,6 +206,11 @@ class Stations:
             )
             self.changed.append((place, message.source, message.target))
         self.learn(message)
+        self.told_at.append(0)
+        if message.link == "S1":
+            self.of_s1(place, message)
+        elif message.link == "X2":
+            self.of_x2(message)
         return message
 
     def learn(self, message: Message) -> None:
@@ -195,74 +230,50 @@ class Stations:
             for one in message.gummeis:
                 self.gummeis[one] = message.source
 
-    def name(self) -> None:
-        """The station of each message of S1, by the cell that it or its association told, else by its end."""
-        self.names = [""] * len(self.messages)
-        legs: dict[tuple[str, int], str] = {}
-        stands: dict[int, Stand] = {}  # by MME-UE-S1AP-ID
-        asked: dict[tuple[str, str, int | None], tuple[int, int | None]] = {}
-        ends: dict[str, None] = {}
-        for place, message in enumerate(self.messages):
-            if message.link == "X2":
-                self.follow(message, stands, asked)
-                self.seen.of_x2(message, self.cells)
-            if message.link != "S1":
-                continue
-            end, eci = station_end(message), message.eci
-            ends.setdefault(end)
-            leg = None if message.enb_id is None else (end, message.enb_id)
-            if eci is not None and (message.name in TELLS_CELL or message.name == "HandoverRequest"):
-                self.names[place] = self.cells.station(eci)
-                if leg is not None:
-                    legs[leg] = self.names[place]
-                if end not in self.told:
-                    self.votes.setdefault(end, Counter())[self.names[place]] += 1
-            elif leg in legs:
-                self.names[place] = legs[leg]
-            if end not in self.told and message.mme_id is not None:
-                stand = stands.get(message.mme_id, Stand())
-                station = (
-                    stand.target
-                    if message.name == "PathSwitchRequestAcknowledge" and stand.target
-                    else stand.station
-                    if not stand.target
-                    else ""
-                )
-                if station:
-                    self.votes.setdefault(end, Counter())[station] += 1
-            self.seen.of_s1(message, self.names[place], end)
-        for end in ends:
-            if end and end not in self.told and end not in self.cells.addresses:
-                votes = self.hosts.get(host(end)) or self.votes.get(end)
-                if votes:
-                    self.cells.addresses[end] = votes.most_common(1)[0][0]
+    def of_s1(self, place: int, message: Message) -> None:
+        """The cell of a message of S1, which tells its station: that which it or its association told."""
+        end, eci, legs = station_end(message), message.eci, self.passing.legs
+        votes = self.votes.setdefault(end, Counter())
+        leg = None if message.enb_id is None else (end, message.enb_id)
+        if eci is not None and (message.name in TELLS_CELL or message.name == "HandoverRequest"):
+            votes[eci] += 1
+            if leg is not None:
+                legs[leg] = eci
+        else:
+            eci = None if leg is None else legs.get(leg)
+        if eci is not None:
+            self.told_at[place] = self.numbers.setdefault(eci, len(self.numbers) + 1)
+        stand = None if message.mme_id is None else self.passing.stands.get(message.mme_id)
+        if stand is not None:
+            is_answer = message.name == "PathSwitchRequestAcknowledge"
+            stands_in = stand.eci if stand.target is None else stand.target if is_answer else None
+            if stands_in is not None:
+                votes[stands_in] += 1
+        self.seen.of_s1(message, eci, end)
 
-    def follow(
-        self,
-        message: Message,
-        stands: dict[int, Stand],
-        asked: dict[tuple[str, str, int | None], tuple[int, int | None]],
-    ) -> None:
+    def of_x2(self, message: Message) -> None:
         """Where a phone is, as X2 shows it."""
+        self.seen.of_x2(message)
+        asked, stands = self.passing.asked, self.passing.stands
         if message.name == "HandoverRequest" and message.mme_id is not None:
             asked[message.source, message.target, message.old_x2] = message.mme_id, message.eci
             for end, eci in ((message.source, message.source_eci), (message.target, message.eci)):
                 if eci is not None:
-                    self.hosts.setdefault(host(end), Counter())[self.cells.station(eci)] += 1
-            stands[message.mme_id] = Stand(self.cells.station(message.source_eci))
+                    self.hosts.setdefault(host(end), Counter())[eci] += 1
+            stands[message.mme_id] = Stand(message.source_eci)
             return
         if message.name == "RetrieveUEContextResponse" and message.mme_id is not None:
             stands[message.mme_id] = Stand()
         request = asked.get((message.target, message.source, message.old_x2))
         if request is not None and message.name in ("HandoverRequestAcknowledge", "UEContextRelease"):
-            phone, target = request[0], self.cells.station(request[1])
-            stands[phone] = Stand("", target) if message.name == "HandoverRequestAcknowledge" else Stand(target)
+            phone, target = request
+            stands[phone] = Stand(None, target) if message.name == "HandoverRequestAcknowledge" else Stand(target)
 
     def at(self, place: int, message: Message) -> str:
         """The station of a message of S1 at this place."""
-        end = station_end(message)
-        return self.names[place] or self.cells.addresses.get(end) or end
+        number, end = self.told_at[place], station_end(message)
+        return self.names[number - 1] if number else self.cells.addresses.get(end) or end
 
     def links(self) -> Iterator[LinkSeen]:
         """The links of the messages, in the order in which they are seen first."""
-        return self.seen.links(self.cells.addresses)
+        return self.seen.links(self.cells)

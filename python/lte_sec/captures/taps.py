@@ -153,12 +153,13 @@ class Bounds:
         return self.above + room if self.above >= 0 else self.below - room
 
 
-@dataclass
 class ExchangeTimes:
     """The times of one handover over X2, or of one path switch: the first message and the last."""
 
-    begin: float
-    end: float | None = None
+    __slots__ = ("begin", "end")
+
+    def __init__(self, begin: float, end: float | None = None):
+        self.begin, self.end = begin, end
 
 
 PhoneAndCell = tuple[Optional[int], Optional[int]]  # the core's identity for a phone, and the cell that it goes to

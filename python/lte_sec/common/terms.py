@@ -185,7 +185,7 @@ class Key:
         return "" if base is None else str(base)
 
 
-KEPT = 65_536  # KeNBs that are kept
+KEPT = 4_096  # KeNBs that are kept
 
 
 @dataclass(frozen=True)
@@ -254,10 +254,13 @@ class Derivations:
         return self.form(key, beside) + ("" if same else self.whose(key))
 
     def form(self, key: Key, beside: Key | None = None) -> str:
+        form = key.form
         if key.known and key.term.base() == NONE:
-            return key.form + " on the key sent before"
-        other = beside is not None and beside.known and key.base not in ("", key.form, beside.base)
-        return f"{key.form} on {key.base}" if other else key.form
+            return form + " on the key sent before"
+        if beside is None or not beside.known:
+            return form
+        base = key.base
+        return form if base in ("", form, beside.base) else f"{form} on {base}"
 
     def whose(self, key: Key) -> str:
         return f" of {self.kasmes[key.kasme].name}" if key.known and key.kasme >= 0 and len(self.kasmes) > 1 else ""

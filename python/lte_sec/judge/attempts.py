@@ -1,12 +1,14 @@
 """What a trace has of handovers so far: which wait, and of which connection each message is."""
 from __future__ import annotations
 
+from array import array
 from typing import Optional
 
 from ..captures.cells import Cells
 from ..captures.message_store import Messages
 from ..common.terms import Derivations
 from ..nas.service import ServiceBook
+from .grounds import Places
 from .key_judge import KeyJudge
 from .state import Attempt, Connection
 
@@ -23,15 +25,16 @@ class Attempts:
     cells: Cells
     judge: KeyJudge
     book: ServiceBook
-    connections: list[Connection]
+    connections: dict[int, Connection]  # by their numbers, but for those that are forgotten
+    order: array[int]  # the numbers of all
     legs: dict[Leg, Connection]  # by station's end of S1 and eNB-UE-S1AP-ID
     mmes: dict[int, dict[str, Connection]]  # by MME-UE-S1AP-ID and core's end
     gummeis: dict[tuple[int, int], str]  # core's ends by MME group and code
 
     def __init__(self) -> None:
         self.at = 0  # the place of the message that is read
-        self.owners: dict[int, Connection] = {}  # by the place of a message
-        self.handovers: dict[int, Attempt] = {}
+        self.owner: Connection | None = None  # its connection
+        self.owners, self.handovers = Places(), Places()  # numbers of connections and handovers by places of messages
         self.sources: dict[bytes, list[Connection]] = {}  # that wait, by the container of a handover over S1
         self.targets: dict[Leg, PreparedAttempt] = {}  # by core's end and the target's MME-UE-S1AP-ID
         self.answers: dict[bytes, list[PreparedAttempt]] = {}  # by the container that comes back
@@ -44,14 +47,15 @@ class Attempts:
     def new(self, station: str, eci: int | None = None) -> Connection:
         connection = Connection(eci=eci)
         self.judge.moves.came(connection, station)
-        self.connections.append(connection)
+        self.connections[connection.number] = connection
+        self.order.append(connection.number)
         return connection
 
     def belongs(self, connection: Connection, attempt: Attempt | None = None) -> None:
         """The message that is read is of this connection, and of this handover."""
-        self.owners[self.at] = connection
+        self.owner, self.owners[self.at] = connection, connection.number
         if attempt is not None:
-            self.handovers[self.at] = attempt
+            self.handovers[self.at] = attempt.number
 
     def arrived(self, connection: Connection, station: str, frame: str) -> None:
         """The phone is at the target of a handover whose end the trace lacks, or where no handover that it shows leads

@@ -1,6 +1,7 @@
 """NH and NCC against TS 33.401: the core's chain, when it sends of it."""
 from __future__ import annotations
 
+from collections import Counter
 from collections.abc import Iterator
 
 from ..captures.decoding import Message
@@ -267,7 +268,7 @@ class ChainJudge(KenbJudge):
         if before == 0:
             first = self.firsts.get(connection.mme, chain.number if connection.asked < 2 else FIRST[0])
             if connection.asked < 2:
-                self.seen_firsts.setdefault(connection.mme, []).append(chain.number)
+                self.seen_firsts.setdefault(connection.mme, Counter())[chain.number] += 1
             before = min(first, chain.number) - 1
         connection.missed = {**dict.fromkeys(range(before + 1, chain.number), ""), **connection.missed}
         self.judged(message, "NH", chain.sync, chain.sync, (message.ncc or 0, chain.ncc))

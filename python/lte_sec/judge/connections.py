@@ -8,11 +8,13 @@ from ..captures.decoding import Message
 from ..captures.stations import FROM_STATION, TELLS_CELL, station_end
 from .attempts import ANY_CORE, Leg
 from .choices import Choices, Offer
+from .grounds import Grounds
 from .handovers import Handovers
 from .s1_handovers import WAITING
 from .state import Connection
 
 EMERGENCY = 0  # an RRC Establishment Cause
+ENDED = 128  # connections that ended and have their identities still, or as many as go on
 
 
 class Connections(Handovers):
@@ -20,6 +22,9 @@ class Connections(Handovers):
 
     coverage: Coverage
     choices: Choices
+    grounds: Grounds
+    forgets: bool  # whether connections that ended are forgotten
+    ended: dict[int, int]  # by the number of a connection the place of its end, the oldest first
     restarts: dict[str, int]  # by station's end, the place where its S1 last began anew
 
     def is_late(self, connection: Connection, message: Message, station: str) -> bool:
@@ -35,6 +40,9 @@ class Connections(Handovers):
     def connection(self, message: Message, station: str, leg: Leg, at_core: Leg) -> Connection | None:
         """The connection that a message belongs to."""
         if message.name == "InitialUEMessage":
+            before = self.legs.get(leg)
+            if before is not None and before.station == station:  # the trace lacks its release
+                self.ends(before)
             connection = self.legs[leg] = self.new(station, message.eci)
             connection.side.tmsi, connection.side.initial = message.tmsi, True
             connection.side.emergency = message.cause == EMERGENCY
@@ -118,8 +126,48 @@ class Connections(Handovers):
             del self.legs[leg]
         connection.legs.pop(leg, None)
         if at_core[1] is not None and at_core[1] not in connection.legs.values():
-            self.mmes.get(at_core[1], {}).pop(at_core[0], None)
+            known = self.mmes.get(at_core[1], {})
+            known.pop(at_core[0], None)
+            if not known:
+                self.mmes.pop(at_core[1], None)
             self.targets.pop(at_core, None)
+        if station == connection.station:
+            self.ends(connection)
+
+    def ends(self, connection: Connection) -> None:
+        """A connection is over. Its identities name it for a while, since messages may come late, or again."""
+        self.ended.pop(connection.number, None)
+        self.ended[connection.number] = connection.last
+        most = max(ENDED, len(self.connections) - len(self.ended))
+        if self.forgets and len(self.ended) > most + most // 4:
+            self.forget([*self.ended][:-most])
+
+    def forget(self, over: list[int]) -> None:
+        """Connections go that ended long ago, and that no message named since, but for what the report tells of
+        them."""
+        gone = set[int]()
+        for number in over:
+            is_over = self.connections[number].last == self.ended.pop(number)
+            if is_over and self.grounds.ended.take(self.connections[number]):
+                del self.connections[number]
+                gone.add(number)
+        self.legs = {leg: one for leg, one in self.legs.items() if one.number not in gone}
+        left = (
+            (mme, {core: one for core, one in known.items() if one.number not in gone})
+            for mme, known in self.mmes.items()
+        )
+        self.mmes = {mme: known for mme, known in left if known}
+        self.targets = {leg: pair for leg, pair in self.targets.items() if pair[0].number not in gone}
+        self.x2 = {ends: pair for ends, pair in self.x2.items() if pair[0].number not in gone}
+        sources = (
+            (container, [one for one in found if one.number not in gone]) for container, found in self.sources.items()
+        )
+        self.sources = {container: found for container, found in sources if found}
+        answers = (
+            (container, [pair for pair in found if pair[0].number not in gone])
+            for container, found in self.answers.items()
+        )
+        self.answers = {container: found for container, found in answers if found}
 
     def releasing(self, connection: Connection, message: Message, station: str, at_core: Leg) -> None:
         """A release whose answer the trace cannot show: the connection ends here."""

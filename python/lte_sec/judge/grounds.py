@@ -4,28 +4,27 @@ from __future__ import annotations
 
 from array import array
 from bisect import bisect_left
+from collections.abc import Iterable, Iterator
 from dataclasses import dataclass
-from typing import TypeVar
 
 from ..captures.cells import Cells
 from ..captures.coverage import Coverage
 from ..captures.decoding import Command, Message
-from ..captures.message_store import Messages
+from ..captures.message_store import Messages, links_of
 from ..captures.stations import Stations, station_end
 from ..captures.taps import Gaps
 from ..common.report import Line
 from ..common.terms import Derivations
+from .ended import EndedConnections
 from .search import DerivationSearch
 from .told_cells import Learning
-
-AtPlace = TypeVar("AtPlace")
 
 
 class FirstPlaces:
     """The place of the first message of each frame."""
 
     def __init__(self) -> None:
-        self.numbers, self.places = array("q"), array("q")  # of frames that come in their order, which most do
+        self.numbers, self.places = array("q"), array("i")  # of frames that come in their order, which most do
         self.others: dict[str, int] = {}
 
     def take(self, place: int, frame: str) -> None:
@@ -58,24 +57,31 @@ class Index:
     def __init__(self) -> None:
         self.first = FirstPlaces()
         self.gaps = Gaps()
-        self.replies: dict[int, int] = {}  # the answer to each handover over X2, by its request
+        # by place, of a message of S1 the next one of its station and eNB-UE-S1AP-ID, of a request for a handover over X2
+        # its answer; 0 is none
+        self.next = array("i")
         self.asked: dict[tuple[str, str, int | None], int] = {}
-        self.by_leg: dict[tuple[str, int | None], array[int]] = {}
+        self.legs: dict[tuple[str, int], int] = {}  # the last message of each
 
     def take(self, place: int, message: Message) -> None:
         self.first.take(place, message.frame)
         self.gaps.take(place, message)
+        self.next.append(0)
         if message.link == "S1" and message.enb_id is not None:
             leg = station_end(message), message.enb_id
-            if leg not in self.by_leg:
-                self.by_leg[leg] = array("l")
-            self.by_leg[leg].append(place)
+            if leg in self.legs:
+                self.next[self.legs[leg]] = place
+            self.legs[leg] = place
         elif message.link == "X2" and message.name == "HandoverRequest":
             self.asked[message.source, message.target, message.old_x2] = place
         elif message.link == "X2" and message.name == "HandoverRequestAcknowledge" and message.command is not None:
             request = self.asked.pop((message.target, message.source, message.old_x2), None)
             if request is not None:
-                self.replies[request] = place
+                self.next[request] = place
+
+    def done(self) -> None:
+        """All messages were taken."""
+        self.asked, self.legs = {}, {}
 
 
 class Groundwork:
@@ -93,6 +99,7 @@ class Groundwork:
         """What is to be said of it, once all messages were taken."""
         faults = self.learning.done()
         self.stations.done()
+        self.index.done()
         return faults
 
 
@@ -113,18 +120,32 @@ class Grounds:
             self.work.stations,
             self.work.index,
         )
-        self.first = self.index.first
+        self.first, self.links, self.ended = self.index.first, links_of(self.messages), EndedConnections()
         self.search = DerivationSearch(self.derivations, self.cells, budget=self.budget)
 
     def reply(self, place: int) -> Command | None:
         """The command that answers the handover over X2 that is asked for at this place."""
-        answer = self.index.replies.get(place)
-        return None if answer is None else self.messages[answer].command
+        answer = self.index.next[place]
+        return self.messages[answer].command if answer else None
 
 
-def within(by_place: dict[int, AtPlace], places: set[int]) -> dict[int, AtPlace]:
-    return {place: one for place, one in by_place.items() if place in places}
+class Places:
+    """A number for each place of a trace, or none."""
 
+    def __init__(self, size: int = 0) -> None:
+        self.numbers = array("i", [-1]) * size
 
-def without(by_place: dict[int, AtPlace], places: set[int]) -> dict[int, AtPlace]:
-    return {place: one for place, one in by_place.items() if place not in places}
+    def __setitem__(self, place: int, number: int) -> None:
+        self.numbers[place] = number
+
+    def get(self, place: int) -> int | None:
+        return self.numbers[place] if self.numbers[place] >= 0 else None
+
+    def items(self) -> Iterator[tuple[int, int]]:
+        """Places and their numbers, in the order of the places."""
+        return ((place, number) for place, number in enumerate(self.numbers) if number >= 0)
+
+    def takes(self, other: Places, places: Iterable[int]) -> None:
+        """Has the numbers of another at these places."""
+        for place in places:
+            self.numbers[place] = other.numbers[place]

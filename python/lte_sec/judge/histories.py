@@ -9,7 +9,7 @@ from __future__ import annotations
 
 from collections.abc import Iterable
 from dataclasses import dataclass, field, replace
-from itertools import islice
+from typing import TypeVar
 
 from ..captures.cells import Cell
 from ..common.terms import NONE, Derivations, Key
@@ -17,6 +17,7 @@ from ..common.terms import NONE, Derivations, Key
 CHAIN = 8  # NCC has three bits
 MOST = 24  # histories of a connection
 UNKNOWN_KEY = Key(b"", NONE)
+Thing = TypeVar("Thing")
 
 
 @dataclass(frozen=True)
@@ -116,10 +117,16 @@ class History:
         return History(self.core, Held(), self.phone and self.phone.away())
 
 
+def once(found: Iterable[Thing]) -> list[Thing]:
+    """Things without those that are equal to one before. Mostly there is one, whose hash is not asked for."""
+    found = list(found)
+    return found if len(found) < 2 else list(dict.fromkeys(found))
+
+
 def merged(found: Iterable[History]) -> list[History]:
     """Histories without those that are equal to one before, as many as are kept; one of which nothing is known if there
     are none."""
-    return list(islice(dict.fromkeys(found), MOST)) or [History()]
+    return once(found)[:MOST] or [History()]
 
 
 def renewed(derivations: Derivations, kenb: Key, cell: Cell | None = None) -> PhoneKeys:

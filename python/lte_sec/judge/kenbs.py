@@ -103,12 +103,12 @@ class KenbJudge(KeyLines):
 
     def comes_into_use(self, connection: Connection) -> None:
         """The station took the last KeNB of a connection."""
-        if connection.given is not None:
-            self.in_use.setdefault(*connection.given)
+        if connection.sent.given is not None:
+            self.in_use.setdefault(*connection.sent.given)
 
     def refused(self, connection: Connection) -> None:
         """The station did not take the last KeNB of a connection: it may come again."""
-        connection.given = None
+        connection.sent.given = None
         if connection.side.trigger is not None:
             connection.side.trigger.used = False
 
@@ -116,9 +116,9 @@ class KenbJudge(KeyLines):
         """A KeNB is sent: the one before it of the same KASME was in use, unless it was refused."""
         before = self.last_sent.get(key.kasme)
         if before is not None and before.given is not None and before.given[0] != key.value:
-            self.comes_into_use(before)
-        connection.given = (key.value, message.frame)
-        self.last_sent[key.kasme] = connection
+            self.in_use.setdefault(*before.given)
+        connection.sent.given = (key.value, message.frame)
+        self.last_sent[key.kasme] = connection.sent
 
     def kenb_of_elsewhere(self, connection: Connection, value: bytes) -> Key | None:
         """A KeNB of an uplink message that the trace does not show, since it has not that direction of the station's

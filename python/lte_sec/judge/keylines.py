@@ -2,6 +2,7 @@
 from __future__ import annotations
 
 import itertools
+from collections import Counter
 from collections.abc import Callable, Iterator
 
 from ..captures.cells import Cell, Cells
@@ -16,7 +17,7 @@ from .clauses import of_key
 from .line_store import KeptLines
 from .moves import Moves
 from .search import DerivationSearch
-from .state import Connection
+from .state import Connection, SentKenb
 
 REASONS = 200  # keys of a trace for which a reason is sought
 OTHERS = 16  # contexts of other phones whose KeNBs are at hand for the search
@@ -34,12 +35,12 @@ class KeyLines:
             [int], Command | None
         ] = lambda place: None  # what the target of a handover over X2 answers, by the place of its request
         self.in_use: dict[bytes, str] = {}  # KeNBs that stations took, with the frame of each
-        self.last_sent: dict[int, Connection] = {}  # by KASME, the connection of the last KeNB
+        self.last_sent: dict[int, SentKenb] = {}  # by KASME, the last KeNB
         self.gaps: list[tuple[int, int]] = []  # places between which the capture lost frames
         self.reasoned = 0  # keys for which a reason was sought
         self.derivations = book.derivations
         self.lines = KeptLines()
-        self.seen_firsts: dict[str, list[int]] = {}
+        self.seen_firsts: dict[str, Counter[int]] = {}  # by core, how often each number of NH was the first
 
     # -- what may have passed unseen
 
@@ -132,12 +133,11 @@ class KeyLines:
     ) -> Line:
         """The line of a key; `of` says for which cell a message prepares it."""
         differs = found.value != wanted.value
-        forms = self.show(found, wanted if differs else None), self.derivations.form(
-            wanted, found
-        ) + self.derivations.whose(wanted)
+        form = self.show(found, wanted if differs else None)
+        other = form if found is wanted else self.derivations.form(wanted, found) + self.derivations.whose(wanted)
         if differs and not found.known and wanted.value:
             why = (*why, Cause.OCTETS.of(got=found.value.hex(), wanted=wanted.value.hex()))
-        said = report.of_key(f"{kind} {of}".rstrip(), *forms, differs, ncc, of_key(message, kind, of != "", why))
+        said = report.of_key(f"{kind} {of}".rstrip(), form, other, differs, ncc, of_key(message, kind, of != "", why))
         verdict = DIFFERS if differs or ncc is not None and ncc[0] != ncc[1] else RIGHT
         line = Line(
             message.frame,
@@ -148,11 +148,14 @@ class KeyLines:
             remarks=why,
             of=of,
             found=found.form,
-            wanted=wanted.form,
             base=found.base,
+            hex=found.value.hex(),
             kasme=self.derivations.name(found.kasme),
+            key=found,
+            wanted_key=wanted,
         )
-        line.hex, line.wanted_hex, line.key, line.wanted_key = found.value.hex(), wanted.value.hex(), found, wanted
+        is_same = found is wanted  # as it mostly is
+        line.wanted, line.wanted_hex = (line.found, line.hex) if is_same else (wanted.form, wanted.value.hex())
         line.ncc, line.wanted_ncc = ncc or (None, None)
         return line
 

@@ -5,11 +5,12 @@ import pickle
 from array import array
 from collections import Counter
 from collections.abc import Callable, Iterable, Iterator, Sequence
+from itertools import accumulate
 
 from ..captures.message_store import Spool
 from ..common.report import Line, Verdict
 
-BATCH, NEWEST = 256, 4096  # lines that are written at once, and that stay in memory
+BATCH, NEWEST = 256, 512  # lines that are written at once, and that stay in memory
 
 
 class KeptLines:
@@ -21,7 +22,7 @@ class KeptLines:
         self.begin = 0
         self.spool = Spool()
         self.batches: list[tuple[int, int]] = []  # where each stands in the file, and its size
-        self.firsts, self.places = array("q"), array("q")  # of what is written, of its frame and of its message
+        self.firsts, self.places = array("i"), array("i")  # of what is written, of its frame and of its message
         self.changed: dict[int, Line] = {}  # what takes the place of what is written
         self.counts: Counter[Verdict] = Counter()  # of what is written
         self.is_held = False
@@ -92,8 +93,8 @@ class KeptLines:
         self.recent, self.begin, self.is_held = lines, 0, True
         self.batches, self.firsts, self.places, self.changed, self.counts, self.last = (
             [],
-            array("q"),
-            array("q"),
+            array("i"),
+            array("i"),
             {},
             Counter(),
             (-1, []),
@@ -106,17 +107,27 @@ class KeptLines:
             place = first(line.frame)
             firsts.append(0 if place is None else place)
             places.append(firsts[-1] if line.place is None else line.place)
-        by_frame = sorted(range(len(self)), key=firsts.__getitem__)
-        return LinesInOrder(self, by_frame, places), LinesInOrder(
-            self, sorted(by_frame, key=places.__getitem__), places
-        )
+        by_frame = in_order(range(len(self)), firsts)
+        return LinesInOrder(self, by_frame, places), LinesInOrder(self, in_order(by_frame, places), places)
+
+
+def in_order(numbers: Sequence[int], places: Sequence[int]) -> array[int]:
+    """All numbers in the order of their places; those of one place stay as they are. It takes four octets for each."""
+    ends = array("i", [0]) * (max(places, default=-1) + 1)
+    for place in places:
+        ends[place] += 1
+    ends, found = array("i", accumulate(ends)), array("i", [0]) * len(numbers)
+    for number in reversed(numbers):
+        ends[places[number]] -= 1
+        found[ends[places[number]]] = number
+    return found
 
 
 class LinesInOrder:
     """Lines of a reading in some order, each with the place of its message."""
 
-    def __init__(self, lines: KeptLines, order: Iterable[int], places: Sequence[int]):
-        self.lines, self.order, self.places = lines, array("q", order), places
+    def __init__(self, lines: KeptLines, order: Sequence[int], places: Sequence[int]):
+        self.lines, self.order, self.places = lines, order, places
 
     def __iter__(self) -> Iterator[Line]:
         return map(self.lines.__getitem__, self.order)

@@ -44,6 +44,7 @@ def check(
     premises = Premises(derivations, budget, said, handed.lines)
     moved, clock = on_one_clock(messages, found)
     work = work if moved is whole else groundwork(copy.deepcopy(before), moved)
+    del second, found  # what is seen of all messages before any is judged takes memory for each
     trace = premises.read(work, [note for note in (taps, clock) if note])
     if not clock and faults(trace) and not all(trace.coverage.s1(station, UP) for station in trace.coverage.stations):
         moved, clock = on_one_clock(messages)
@@ -86,8 +87,8 @@ class Premises:
         trace = Trace(grounds)
         trace.read(notes)
         seen = trace.judge.seen_firsts
-        if any(len(set(numbers)) > 1 for numbers in seen.values()):
-            firsts = {mme: 1 if numbers.count(1) > numbers.count(2) else 2 for mme, numbers in seen.items()}
+        if any(len(numbers) > 1 for numbers in seen.values()):
+            firsts = {mme: 1 if numbers[1] > numbers[2] else 2 for mme, numbers in seen.items()}
             trace = Trace(replace(grounds, firsts=firsts))
             trace.read(notes)
         trace.tell([*head, *read_again(trace)])

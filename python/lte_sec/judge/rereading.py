@@ -106,8 +106,9 @@ def groups(trace: Trace) -> tuple[list[set[int]], set[int]]:
 def marks_of(trace: Trace, place: int) -> Iterator[Hashable]:
     """What tells of which phone a message is."""
     message = trace.messages[place]
-    if place in trace.owners:
-        yield id(trace.owners[place])
+    owner = trace.owners.get(place)
+    if owner is not None:
+        yield "connection", owner
     if message.link == "S1":
         end = station_end(message)
         core = message.target if end == message.source else message.source
@@ -121,12 +122,11 @@ def marks_of(trace: Trace, place: int) -> Iterator[Hashable]:
 
 
 def reading(trace: Trace, places: set[int]) -> Reading:
-    numbers = {id(one): number for number, one in enumerate(trace.connections)}
     return Reading(
         trace.choices.taken,
         [one for one in trace.choices.met if one[0] in places],
         [line for line in trace.lines if line.place in places],
-        {place: numbers[id(one)] for place, one in trace.owners.items() if place in places},
+        {place: number for place, number in trace.owners.items() if place in places},
     )
 
 

@@ -2,6 +2,7 @@
 from __future__ import annotations
 
 from dataclasses import replace
+from itertools import islice
 
 from ..captures.coverage import UP as FROM_STATIONS
 from ..captures.decoding import Message, title
@@ -80,7 +81,7 @@ class S1Handovers(Attempts):
     def steps_to(self, message: Message) -> Connection | None:
         """The connection that waits for a handover over S1 and whose next NH this is, where no container tells."""
         station = self.cells.station(message.source_eci)
-        for connection in self.connections[-NEAREST:]:
+        for connection in [*islice(reversed(self.connections.values()), NEAREST)][::-1]:
             waits = connection.station == station if station else connection.asked
             if waits and self.is_due(connection, message):
                 return connection
@@ -200,7 +201,9 @@ class S1Handovers(Attempts):
         context = message.mm
         assert context is not None
         place = next((place for place, one in enumerate(self.derivations.kasmes) if one.value == context.kasme), None)
-        known = [one for one in self.connections if one.side.current is not None and one.side.current.kasme == place]
+        known = [
+            one for one in self.connections.values() if one.side.current is not None and one.side.current.kasme == place
+        ]
         if place is None or not known:
             self.judge.lines.append(
                 unknown_line(message.frame, title(message), "MM context", Cause.CONNECTION_NOT_SHOWN.because())

@@ -1,6 +1,7 @@
 """What a trace has of one connection: the histories that are lawful so far, its handovers, and what is due."""
 from __future__ import annotations
 
+import itertools
 from collections.abc import Iterable
 from dataclasses import dataclass, field, replace
 
@@ -10,7 +11,7 @@ from ..common.causes import Cause, Why
 from ..common.report import Line
 from ..common.terms import Key
 from ..nas.contexts import NasSide
-from .histories import MOST, Chain, Held, History, Numbered, PhoneKeys, merged
+from .histories import MOST, Chain, Held, History, Numbered, PhoneKeys, once
 
 MANY_ATTEMPTS, FEW_ATTEMPTS = 64, 16  # of a connection: from so many on so many are kept
 
@@ -46,6 +47,14 @@ class Attempt:
     before: list[History] = field(default_factory=list)  # the histories when the phone came to the target
     doubt: Why = ()  # why it is not known whether phone and target have one key
     capabilities: tuple[int, int] | None = None  # of the phone, as the target was told them
+    number: int = field(default_factory=itertools.count().__next__)  # among all readings
+
+
+@dataclass
+class SentKenb:
+    """The last KeNB that the station of a connection was sent, with its frame; none where it was refused."""
+
+    given: tuple[bytes, str] | None = None
 
 
 @dataclass
@@ -90,7 +99,7 @@ class Connection:
     certain: int = 0  # the place in the trace of the last KeNB or NH that was right
     last: int = -1  # that of its last message of S1
     proved: int | None = None  # that of its last line that is right
-    given: tuple[bytes, str] | None = None  # the last KeNB that its station was sent, and the frame
+    sent: SentKenb = field(default_factory=SentKenb)
     away: list[str] = field(
         default_factory=list
     )  # stations without S1 in the trace where the phone was since its keys were last certain
@@ -99,13 +108,18 @@ class Connection:
     forwarded: list[Numbered] = field(default_factory=list)  # NH and NCC that another core was given for this handover
     keys: list[tuple[str, str, Key]] = field(default_factory=list)  # frame, holder and key, for Wireshark
 
+    @property
+    def number(self) -> int:
+        """Its number among all readings, from 1 on."""
+        return self.side.number
+
     def cores(self) -> list[Chain]:
         """The core's chains, each once."""
-        return list(dict.fromkeys(one.core for one in self.histories if one.core is not None))
+        return once([one.core for one in self.histories if one.core is not None])
 
     def states(self) -> list[Held]:
         """What the serving station may have, each once."""
-        return list(dict.fromkeys(one.held for one in self.histories if one.held.known))
+        return once([one.held for one in self.histories if one.held.known])
 
     @property
     def phone(self) -> PhoneKeys | None:
@@ -114,9 +128,9 @@ class Connection:
 
     def keeps(self, found: Iterable[History]) -> None:
         """These histories are left, as many as are kept."""
-        distinct = list(dict.fromkeys(found))
+        distinct = once(found)
         self.cut = self.cut or (Cause.MANY_HISTORIES.because(most=MOST) if len(distinct) > MOST else ())
-        self.histories = merged(distinct)
+        self.histories = distinct[:MOST] or [History()]
 
     def steps(self, steps: list[tuple[Chain, Chain]]) -> None:
         """The core went on from one chain to another, by any of these steps: histories with other chains are gone."""

@@ -67,6 +67,7 @@ class Learning:
         for eci, site in self.said.items():
             if eci not in self.cells.sites:
                 self.cells.learn(site)
+        self.asked = {}
         return self.faults
 
 

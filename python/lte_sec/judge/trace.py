@@ -1,7 +1,7 @@
 """A trace message by message: which connection of which phone each belongs to, and how it is judged."""
 from __future__ import annotations
 
-from bisect import bisect_right
+from array import array
 from collections.abc import Callable, Iterable, Iterator
 
 from ..captures.decoding import Message, title
@@ -19,7 +19,8 @@ from .account import Account, Membership, Use, account
 from .attempts import Leg
 from .choices import Choices, Tape
 from .connections import Connections
-from .grounds import Grounds, within, without
+from .ended import ToldConnection, told_of
+from .grounds import Grounds, Places
 from .key_judge import KeyJudge
 from .line_store import LinesInOrder
 from .state import Connection
@@ -60,8 +61,10 @@ class Trace(Connections):
         self.by_frame: LinesInOrder | None = None  # the lines, once they are told
         self.legs = {}
         self.mmes = {}
-        self.connections = []
-        self.restarts = {}
+        self.connections, self.order = {}, array("i")
+        self.owners, self.handovers = Places(len(self.messages)), Places(len(self.messages))
+        self.forgets = not grounds.links["GTPv2"]  # a context between cores names any connection, by its KASME
+        self.restarts, self.ended = {}, {}
         self.steps = 0  # that the reading took: messages, and what was tried beside them
         self.seen = Account(())
 
@@ -77,7 +80,7 @@ class Trace(Connections):
         differing, tried = 0, self.tried
         for place in places:
             message = self.messages[place]
-            before, self.at, self.cells.now = len(self.judge.lines), place, place
+            before, self.at, self.cells.now, self.owner = len(self.judge.lines), place, place, None
             self.one(message, place)
             self.left_over(message, before)
             if len(self.judge.lines) > before:
@@ -95,8 +98,8 @@ class Trace(Connections):
         lines = self.judge.lines.since(before)
         for line in lines:
             line.place = place if line.frame == message.frame else self.grounds.first.get(line.frame)
-        if place in self.owners and any(line.verdict == RIGHT for line in lines):
-            self.owners[place].proved = place
+        if self.owner is not None and any(line.verdict == RIGHT for line in lines):
+            self.owner.proved = place
         return sum(line.verdict == DIFFERS for line in lines)
 
     @property
@@ -112,16 +115,20 @@ class Trace(Connections):
 
     def goes_on_from(self, other: Trace, places: set[int]) -> None:
         """What another reading found of these messages takes the place of what this one found."""
-        gone = {id(one) for place, one in self.owners.items() if place in places}
+        gone = {number for place, number in self.owners.items() if place in places}
         self.judge.lines.put(
             [
                 *(line for line in self.lines if line.place not in places),
                 *(line for line in other.lines if line.place in places),
             ]
         )
-        self.connections = [*(one for one in self.connections if id(one) not in gone), *other.connections]
-        self.owners = {**without(self.owners, places), **within(other.owners, places)}
-        self.handovers = {**without(self.handovers, places), **within(other.handovers, places)}
+        self.order = array("i", [*(one for one in self.order if one not in gone), *other.order])
+        self.connections = {
+            **{number: one for number, one in self.connections.items() if number not in gone},
+            **other.connections,
+        }
+        self.owners.takes(other.owners, places)
+        self.handovers.takes(other.handovers, places)
 
     def tell(self, head: list[str]) -> None:
         """Makes the list of what was seen."""
@@ -142,17 +149,20 @@ class Trace(Connections):
 
     def membership(self) -> Membership:
         """The numbers of the connection and the handover of each message."""
-        numbers = {id(connection): place for place, connection in enumerate(self.connections)}
+        numbers = {number: place for place, number in enumerate(self.order)}
         attempts: dict[int, int] = {}
-        handovers = {
-            place: attempts.setdefault(id(attempt), len(attempts)) for place, attempt in sorted(self.handovers.items())
-        }
-        tmsis = {place: one.side.tmsi for place, one in enumerate(self.connections) if one.side.tmsi is not None}
-        return Membership({place: numbers[id(one)] for place, one in self.owners.items()}, handovers, tmsis)
+        handovers = {place: attempts.setdefault(number, len(attempts)) for place, number in self.handovers.items()}
+        tmsis = {place: one.tmsi for place, one in enumerate(self.told_connections()) if one.tmsi is not None}
+        return Membership({place: numbers[number] for place, number in self.owners.items()}, handovers, tmsis)
+
+    def told_connections(self) -> Iterator[ToldConnection]:
+        """What the report tells of each connection, in their order."""
+        ended = self.grounds.ended.all()
+        return (ended[one] if one in ended else told_of(self.connections[one]) for one in self.order)
 
     def uses(self) -> Iterator[Use]:
         """The keys that stations had in use."""
-        for number, connection in enumerate(self.connections, 1):
+        for number, connection in enumerate(self.told_connections(), 1):
             eea, eia = connection.algorithms or (None, None)
             for frame, station, key in connection.keys:
                 yield Use(number, shown(frame), shown(station), shown(self.derivations.shown(key)), key.value, eea, eia)
@@ -160,7 +170,7 @@ class Trace(Connections):
     def weigh(self, place: int, before: int) -> None:
         """Decides of the lines of a message whether what no history gives is blamed: the only place that does, for
         keys, commands and agreement. Where not all was kept, a history that was not tried may give it."""
-        cut = self.owners[place].cut if place in self.owners else ()
+        cut = self.owner.cut if self.owner is not None else ()
         for line in self.judge.lines.since(before):
             if cut and line.verdict == DIFFERS and line.what in JUDGED:
                 withdrawn(line, cut)
@@ -187,8 +197,8 @@ class Trace(Connections):
 
     def nas_alone(self, message: Message, place: int) -> None:
         """A NAS message that came without S1: all are of one phone."""
-        connection = self.connections[0] if self.connections else self.new("the core", None)
-        self.owners[place] = connection
+        connection = next(iter(self.connections.values()), None) or self.new("the core", None)
+        self.belongs(connection)
         self.nas(connection, message, place)
 
     def left_over(self, message: Message, before: int) -> None:
@@ -206,9 +216,10 @@ class Trace(Connections):
 
     def later(self, message: Message, place: int) -> Iterator[tuple[int, bytes] | bytes]:
         """What comes after a message in the same connection at the same station: NAS messages and KeNBs."""
-        places = self.grounds.index.by_leg.get((station_end(message), message.enb_id), ())
-        for after in places[bisect_right(places, place) :]:
-            one = self.messages[after]
+        following = self.grounds.index.next
+        after = following[place] if message.link == "S1" else 0
+        while after:
+            one, after = self.messages[after], following[after]
             if one.name == "InitialUEMessage":
                 return
             if one.key is not None:
@@ -232,7 +243,8 @@ class Trace(Connections):
         connection = self.connection(message, station, leg, at_core)
         if connection is None:
             return
-        self.owners[place], connection.last = connection, place
+        self.belongs(connection)
+        connection.last = place
         self.binds(connection, leg, at_core)
         if message.name in SERVED and not self.is_late(connection, message, station):
             self.arrived(connection, station, message.frame)

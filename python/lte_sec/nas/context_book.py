@@ -112,22 +112,19 @@ class ContextBook:
         The same octets come again only at the newest COUNT, in their connection; a first message up also in another (TS
         24.301 4.4.3.2).
         """
-        before, least = context.seen.get((direction, count)), context.next[direction]
-        context.seen[direction, count] = pdu, side
+        before, least = context.seen.get(direction, count), context.next[direction]
+        context.seen.put(direction, count, pdu, side.number)
         if count >= least:
             context.next[direction] = count + 1
             return Cause.AFTER_LOST.because() if count >= least + WRAP else ()
         if before is None:
             return Cause.LATE.because()
-        if before[0] != pdu:
+        if not before.has(pdu):
             return Cause.COUNT_USED_TWICE.because()
-        if first or count == least - 1 and before[1] is side:
+        is_same = before.connection == side.number
+        if first or count == least - 1 and is_same:
             return Cause.SENT_AGAIN.because()
-        return (
-            Cause.REPLAY_BEHIND.because(behind=least - 1 - count)
-            if before[1] is side
-            else Cause.REPLAY_ELSEWHERE.because()
-        )
+        return Cause.REPLAY_BEHIND.because(behind=least - 1 - count) if is_same else Cause.REPLAY_ELSEWHERE.because()
 
     def under(self, context: EpsSecurityContext, direction: int, count: int, pdu: bytes) -> EpsSecurityContext | None:
         """The context with the integrity algorithm under which the MAC of a message is right: its own first, then the

@@ -1,11 +1,13 @@
 """EPS security contexts: what a connection has of them, and what is found of a NAS message (TS 24.301 4.4, 9.8)."""
 from __future__ import annotations
 
+import itertools
 from dataclasses import dataclass, field
 
 from ..common.causes import Reason, Why
 from ..common.report import DIFFERS, Verdict
 from ..common.terms import DOWN, UP
+from .sent_counts import SentCounts
 
 NAMES = {
     0x41: "Attach request",
@@ -53,7 +55,7 @@ class Life:
     what was sent at each."""
 
     next: dict[int, int] = field(default_factory=lambda: {UP: 0, DOWN: 0})
-    seen: dict[tuple[int, int], tuple[bytes, NasSide]] = field(default_factory=dict)
+    seen: SentCounts = field(default_factory=SentCounts)
 
 
 @dataclass
@@ -78,7 +80,7 @@ class EpsSecurityContext:
         return self.life.next
 
     @property
-    def seen(self) -> dict[tuple[int, int], tuple[bytes, NasSide]]:
+    def seen(self) -> SentCounts:
         return self.life.seen
 
 
@@ -122,6 +124,7 @@ class NasSide:
     emergency: bool = False
     away: bool = False  # the phone was where the trace shows nothing: it may have come by another KASME
     hidden: bool = False  # a Security Mode exchange may have passed that the trace does not show
+    number: int = field(default_factory=itertools.count(1).__next__)  # of the connection, among all readings
 
 
 @dataclass

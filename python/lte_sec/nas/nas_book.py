@@ -120,8 +120,8 @@ class NasBook(NasFindings):
         At its own COUNT a message may have been used with other octets, its text may not read, and KeNB may be of
         another COUNT; at the one that is due its MAC is wrong. The same octets again are a replay.
         """
-        due, before = estimate(context.next[direction], pdu[5]), context.seen.get((direction, count))
-        if count == due or before is not None and before[0] == pdu:
+        due, before = estimate(context.next[direction], pdu[5]), context.seen.get(direction, count)
+        if count == due or before is not None and before.has(pdu):
             return None
         first = direction == UP and side.initial and side.messages == 1
         key = next((one for one in later() if isinstance(one, bytes)), None) if first and context.given else None

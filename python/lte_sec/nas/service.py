@@ -124,7 +124,7 @@ class ServiceBook(ModeBook):
                 Owner(one, count, True)
                 for one in allowed
                 for count in near(one, UP, low, SHORT_WRAP)
-                if one.seen.get((UP, count), (b"", side))[0] == pdu
+                if self.was_sent(one, count, pdu)
             ),
             None,
         )
@@ -145,8 +145,13 @@ class ServiceBook(ModeBook):
         """How many faults a request has at a COUNT: its short MAC may be wrong, KeNB behind it of another COUNT, and
         the COUNT used with other octets."""
         wrong = self.judged(context) and self.short_mac(context, count, pdu) != pdu[2:4]
-        used = context.seen.get((UP, count), (pdu, None))[0] != pdu
+        used = context.seen.get(UP, count) is not None and not self.was_sent(context, count, pdu)
         return wrong + used + (key is not None and self.derivations.kenb(context.kasme, count).value != key)
+
+    def was_sent(self, context: EpsSecurityContext, count: int, pdu: bytes) -> bool:
+        """Whether these octets were sent up at this COUNT."""
+        sent = context.seen.get(UP, count)
+        return sent is not None and sent.has(pdu)
 
     def may_be(self, context: EpsSecurityContext, ksi: int, place: int | None) -> bool:
         """Whether S-TMSI and KSI of a request allow a context: its phone has no other S-TMSI, and this S-TMSI is of no
