@@ -6,7 +6,6 @@ code: `library.proved()` says which it is.
 from __future__ import annotations
 
 import importlib
-import subprocess
 from pathlib import Path
 from types import ModuleType
 
@@ -33,6 +32,8 @@ class Calc:
     budget = 60_000  # as a line in and out takes longer than a call
 
     def __init__(self, words: list[str]):
+        import subprocess  # only where there is no library, as it takes long to load
+
         self.program = subprocess.Popen(
             words, stdin=subprocess.PIPE, stdout=subprocess.PIPE, stderr=subprocess.DEVNULL, text=True, encoding="ascii"
         )
@@ -106,6 +107,8 @@ def proved_calls() -> Calls:
 
 def program_of(launcher: Path) -> str:
     """The program `calc`, which the launcher builds where it is not there, and says so."""
+    import subprocess
+
     ran = subprocess.run(
         [str(launcher), "--program", "lte_calc"], stdin=subprocess.DEVNULL, stdout=subprocess.PIPE, text=True
     )

@@ -2,7 +2,6 @@
 connection, so that a long capture takes little for each."""
 from __future__ import annotations
 
-import hashlib
 import struct
 from typing import NamedTuple
 
@@ -11,6 +10,8 @@ BESIDE = 32  # COUNTs that stand together
 
 
 def sum_of(pdu: bytes) -> bytes:
+    import hashlib  # late, as it takes long to load, and other words have contexts too
+
     return hashlib.blake2b(pdu, digest_size=12).digest()
 
 

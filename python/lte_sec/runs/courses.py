@@ -9,7 +9,6 @@ once.
 from __future__ import annotations
 
 import os
-import subprocess
 from collections.abc import Mapping
 from dataclasses import dataclass
 
@@ -102,6 +101,8 @@ class Runs:
     def ran(self, given: bytes) -> tuple[int, bytes]:
         """The status of a run, and what it writes. The program writes line by line, and a pipe would wake this process
         at each, so both texts are in files; each process has its own."""
+        import subprocess  # only where a program is run, as it takes long to load
+
         process = os.getpid()
         if process not in self.files:
             self.files[process] = os.memfd_create("scenario"), os.memfd_create("report")

@@ -1,4 +1,7 @@
-"""The words of the launcher on traces: check-trace, explain, wireshark, repeats; and vectors."""
+"""The words of the launcher on traces: check-trace, explain, wireshark, repeats; and vectors.
+
+What only some of them need is imported where it is used, since it takes longer to load than a short text to read.
+"""
 from __future__ import annotations
 
 import contextlib
@@ -8,29 +11,17 @@ import sys
 from collections.abc import Callable
 from dataclasses import dataclass
 from pathlib import Path
-from typing import IO
+from typing import IO, TYPE_CHECKING
 
-from ..captures.capture_files import read_all
 from ..captures.cells import Cells, Site, is_cell, read_cells
-from ..captures.layers import UNREADABLE
-from ..captures.link_types import CUT, decoded, protocols
-from ..common import about
 from ..common.derive import proved_calls
 from ..common.inputs import lines_of, of_file, of_input
 from ..common.options import Words, WrongWords
-from ..common.report import status_of
 from ..common.terms import Derivations, TraceError, is_kasme, kasme_fault, kasmes_of
-from ..judge import lawful
-from ..judge.account import judged_anything
-from ..judge.reading import Said, check
-from ..judge.trace import Trace
-from ..pages import page as pages, trace_page
-from .dumps import HALF, KEY, blocks, has_hex
-from .explanation import Explanation, document as explained, told
-from .log_cells import cells_of
-from .repeats import bounded, first_repeat
-from .trace_document import annotate, document as trace_document, lines
-from .wireshark import document as table_document, rows
+
+if TYPE_CHECKING:
+    from ..judge.reading import Said
+    from ..judge.trace import Trace
 
 USAGE = {
     "check-trace": (
@@ -87,6 +78,8 @@ class TraceWords(Words):
 
 
 def traced(words: TraceWords) -> Trace:
+    from ..judge.reading import Said
+
     if not words.files:
         raise TraceError("a capture and the KASMEs of its phones are wanted: CAPTURE KASME.., a KASME as 64 hex digits")
     said = Said(*(tuple(words.options.get(name, [])) for name in LINKS))
@@ -95,6 +88,10 @@ def traced(words: TraceWords) -> Trace:
 
 def trace_of(files: list[Path], kasmes: list[str], cells: Callable[[], Cells], dlts: list[str], said: Said) -> Trace:
     """Captures as they are read with these KASMEs; the cells are asked for behind what is wrong with a capture."""
+    from ..captures.capture_files import read_all
+    from ..captures.link_types import decoded, protocols
+    from ..judge.reading import check
+
     protocols(dlts)
     messages = read_all(files, dlts)
     known = kasmes_of(kasmes)
@@ -109,6 +106,9 @@ def trace_of(files: list[Path], kasmes: list[str], cells: Callable[[], Cells], d
 
 def notes_of(trace: Trace) -> list[str]:
     """What of a capture could not be read."""
+    from ..captures.layers import UNREADABLE
+    from ..captures.link_types import CUT
+
     unread = [message for message in trace.messages if message.link == UNREADABLE]
     said = [message.name for message in trace.messages if message.link == CUT]
     said += [f"frame {message.frame} cannot be read: {message.name}" for message in unread[:MOST_NOTED]]
@@ -125,6 +125,13 @@ def noted(trace: Trace) -> int:
 
 
 def check_trace(words: list[str]) -> int:
+    from ..common import about
+    from ..common.report import status_of
+    from ..judge import lawful
+    from ..judge.account import judged_anything
+    from ..pages import page as pages
+    from .trace_document import annotate, document, lines
+
     given = TraceWords.read("check-trace", words)
     has_keys = pages.chosen(given.last("--html-keys", "yes"))
     html = [Path(file) for file in given.options["--html"]]
@@ -133,8 +140,10 @@ def check_trace(words: list[str]) -> int:
     seen = lawful.confirmed(traced(given))
     for name in given.options["--annotate"]:
         annotate(given.files[0], Path(name), seen)
-    found = trace_document(seen, about.trace(given.files, told_options(given))) if html or given.has("--json") else {}
+    found = document(seen, about.trace(given.files, told_options(given))) if html or given.has("--json") else {}
     for file in html:
+        from ..pages import trace_page
+
         made = trace_page.page(found)
         pages.write(file, pages.html(made, trace_page.told(found, made), trace_page.of_note(found), has_keys))
     if given.has("--json"):
@@ -153,6 +162,10 @@ def told_options(given: TraceWords) -> list[str]:
 
 
 def explain(words: list[str]) -> int:
+    from .dumps import HALF, KEY, blocks, has_hex
+    from .explanation import Explanation, document, told
+    from .log_cells import cells_of
+
     given = TraceWords.read("explain", words)
     if not given.kasmes or given.files:
         raise TraceError(f"a KASME is 64 hex digits: {given.files[0] if given.files else 'there is none'}")
@@ -181,7 +194,7 @@ def explain(words: list[str]) -> int:
     explanation = Explanation(derivations, cells, counts, depth)
     found = explanation.find(keys, given.has("--far"))
     if given.has("--json"):
-        print(json.dumps(explained(derivations, found, logged, explanation.fits), indent=1))
+        print(json.dumps(document(derivations, found, logged, explanation.fits), indent=1))
     else:
         for one in found:
             print(told(derivations, one))
@@ -205,11 +218,13 @@ def explain(words: list[str]) -> int:
 
 
 def wireshark(words: list[str]) -> int:
+    from .wireshark import document, rows
+
     given = TraceWords.read("wireshark", words)
     trace = traced(given)
     table, notes = list(rows(trace.seen, trace.derivations.calls)), notes_of(trace)
     if given.has("--json"):
-        print(json.dumps(table_document(table, notes, NOT_JUDGED if notes else 0), indent=1))
+        print(json.dumps(document(table, notes, NOT_JUDGED if notes else 0), indent=1))
     else:
         for row in table:
             print(row)
@@ -217,6 +232,8 @@ def wireshark(words: list[str]) -> int:
 
 
 def repeats(words: list[str]) -> int:
+    from .repeats import bounded, first_repeat
+
     given = TraceWords.read("repeats", words)
     if len(given.files) > 1 or given.kasmes:
         raise TraceError("repeats takes one file of uses, or none to read standard input")
