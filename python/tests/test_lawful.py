@@ -233,6 +233,18 @@ class Blames(unittest.TestCase):
         for never, said in ((True, "confirmed by proof"), (False, "not confirmed")):
             self.assertIn(f"blames of keys {said}: 1", lawful.confirmed(trace, Gives(*wrong, never=never)).head[-1])
 
+    def test_where_fewer_moves_come_less_far_they_do_so_too(self) -> None:
+        class Gives(Says):
+            def ask(self, question: str) -> questions.Found | None:
+                lines = question.splitlines()
+                if "air" not in lines or not any(line.startswith("any ") for line in lines):
+                    return super().ask(question)
+                return questions.Found(1, True) if "bound 1" in lines else None
+
+        trace = traced("B1-star-earfcn")
+        wrong = blamed(trace.seen)
+        self.assertIn("blames of keys confirmed by proof: 1", lawful.confirmed(trace, Gives(*wrong)).head[-1])
+
     def test_a_search_that_comes_less_far_confirms_nothing(self) -> None:
         class Gives(Says):
             def ask(self, question: str) -> questions.Found | None:

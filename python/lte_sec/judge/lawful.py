@@ -81,9 +81,11 @@ def asked(phone: Phone, taken: Program, verdicts: Verdicts) -> None:
     waiting: dict[int, Waiting] = {}
     for _ in range(ASKS):
         answer = phone.ask(taken)
-        at = answer.explained if answer is not None else phone.some(taken) if waiting else 0
+        at = answer.explained if answer is not None else 0
+        is_cut = answer is None or any(phone.bound < blame.bound for blame in waiting.values())
+        far = max(at, phone.some(taken)) if waiting and is_cut else at
         for one, blame in [*waiting.items()]:
-            if blame.place < at or answer is None and one in verdicts.never:
+            if blame.place < far or is_cut and one in verdicts.never:
                 verdicts.confirms(one, blame)
                 del waiting[one]
         if answer is None:
