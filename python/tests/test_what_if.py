@@ -199,7 +199,8 @@ class Lines(unittest.TestCase):
     def test_keys_that_differ_are_as_the_program_says(self) -> None:
         status, document, _ = self.listed_otherwise("keys differ")
         told = [one["outcomes"] for one in document["variants"] if one["outcomes"][0]["is"] == "keys differ"]
-        self.assertEqual((status, told), (1, [[{"is": "keys differ", "what": NOT_TOLD, "limit": None}]]))
+        expected = {"is": "keys differ", "what": NOT_TOLD, "limit": None, "is_limited": False}
+        self.assertEqual((status, told), (1, [[expected]]))
 
     def test_what_is_wrong_in_the_scenario_itself_is_told_first(self) -> None:
         document = json.loads(launched("--kinds", "lost", "--json", EXAMPLES / "run/eight-ahead.toml").stdout)
