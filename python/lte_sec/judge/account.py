@@ -74,34 +74,34 @@ class Use:
     eia: int | None = None
 
 
-Thing = TypeVar("Thing")
+Entry = TypeVar("Entry")
 
 
-class Late(Sequence[Thing]):
+class Late(Sequence[Entry]):
     """A list that is made where something of it is asked for: most reports need no more than the lines."""
 
-    def __init__(self, make: Callable[[], Iterable[Thing]]):
+    def __init__(self, make: Callable[[], Iterable[Entry]]):
         self.make = make
 
     @cached_property
-    def all(self) -> tuple[Thing, ...]:
+    def all(self) -> tuple[Entry, ...]:
         return tuple(self.make())
 
     def __len__(self) -> int:
         return len(self.all)
 
-    def __iter__(self) -> Iterator[Thing]:
+    def __iter__(self) -> Iterator[Entry]:
         return iter(self.all)
 
     @overload
-    def __getitem__(self, place: int) -> Thing:
+    def __getitem__(self, place: int) -> Entry:
         ...
 
     @overload
-    def __getitem__(self, place: slice) -> Sequence[Thing]:
+    def __getitem__(self, place: slice) -> Sequence[Entry]:
         ...
 
-    def __getitem__(self, place: int | slice) -> Thing | Sequence[Thing]:
+    def __getitem__(self, place: int | slice) -> Entry | Sequence[Entry]:
         return self.all[place]
 
 

@@ -15,7 +15,7 @@ def sum_of(pdu: bytes) -> bytes:
     return hashlib.blake2b(pdu, digest_size=12).digest()
 
 
-class Sent(NamedTuple):
+class SentAtCount(NamedTuple):
     """A message that was sent."""
 
     sum: bytes
@@ -35,9 +35,9 @@ class SentCounts:
     def __bool__(self) -> bool:
         return bool(self.places)
 
-    def get(self, direction: int, count: int) -> Sent | None:
+    def get(self, direction: int, count: int) -> SentAtCount | None:
         place = self.places.get((direction, count // BESIDE))
-        found = Sent(*RECORD.unpack_from(place, count % BESIDE * RECORD.size)) if place is not None else None
+        found = SentAtCount(*RECORD.unpack_from(place, count % BESIDE * RECORD.size)) if place is not None else None
         return found if found is not None and found.connection else None
 
     def put(self, direction: int, count: int, pdu: bytes, connection: int) -> None:
