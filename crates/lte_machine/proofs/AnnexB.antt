@@ -45,11 +45,11 @@ same_dir-Decides Down Down = (λ _. refl, λ _. refl)
 pub uses_are : {K : Type 0} (same : K → K → Bool) (u v : KeyUse K) → same_uses same u v ≡ true
     → (same u.key v.key ≡ true) × (u.count ≡ v.count) × (u.bearer ≡ v.bearer) × (u.dir ≡ v.dir)
 uses_are same u v e =
-    let all = (Decides-and _ _ (Decides-and _ _
+    let (((keys, count), bearer), dir) = (Decides-and _ _ (Decides-and _ _
     (Decides-and _ _ (itself (same u.key v.key)) (Decides-eqb u.count v.count)) (Decides-eqb u.bearer v.bearer))
     (same_dir-Decides u.dir v.dir)).0
     e in
-    (all.0.0.0, all.0.0.1, all.0.1, all.1)
+    (keys, count, bearer, dir)
   where
     itself : (b : Bool) → Decides b (b ≡ true)
     itself b = (λ e. e, λ e. e)

@@ -10,11 +10,12 @@ use Rattle.lte_events.specs.declared.acts.CoreAct.TheVariants.{StartSmc, Connect
 use Rattle.lte_events.specs.{declared.addresses.Address.TheVariants.StationS1, declared.answers.Answer.Answer, declared.setups.FirstNcc.FirstNcc}
 use Rattle.lte_events.specs.declared.answers.Answer.TheVariants.{Done, NoContext, MacFails, CountSpent, SmcOpen, NoAlgorithm, BadRecord, Short, BadHeader, WrongKind, NoUe, OldConnection, UnknownCell, Repeated, NumberSpent, NoTrigger, NoSmc}
 use Rattle.nas_count.specs.Estimate.{estimate_of}
-use Rattle.nas_rec.specs.Reading.{read_nas, command_of, reject_of, bare, data_of}
+use Rattle.nas_rec.specs.Reading.{read_nas}
 use Rattle.rec_base.specs.BigEndian.{number_of, number_at, field_at}
 use Rattle.rec_base.specs.{declared.faults.RecFault.RecFault, declared.ways.Way.TheVariants.Chained}
 use Rattle.rec_base.specs.declared.faults.RecFault as faults
 use Rattle.rec_fields.specs.Field.{of_size, number_in, algs_at, caps_at, rest_at}
+use Rattle.rec_fields.specs.Form.{read_as}
 use Rattle.s1x2_rec.specs.Fields.{Fields, InitialContext, ContextRelease, PathSwitchRequest, PathSwitchAnswer, HandoverRequired, HandoverRequest, HandoverRequestAck, HandoverCommand, HandoverNotify, HandoverCancel}
 use Rattle.lte_machine.specs.{CoreChoice.core_header, CoreStep.core_step, Reply.Note, Wire.Outgoing, Wire.Between}
 use Rattle.lte_machine.specs.CoreState.{Core, CoreInput, CoreAuth, CoreActs, CoreNasPdu, CoreRecord, first_core}
@@ -106,8 +107,8 @@ secured =
 answers_secured : answers start secured ≡
     (Done ∷ Done ∷ SmcOpen ∷ WrongKind 0x02 ∷ BadRecord (faults.TheVariants.BadField 1) ∷ Done ∷ Done ∷ MacFails 0 (1 ∷ []) (2 ∷ [])
     ∷ WrongKind 0x04 ∷ BadRecord faults.TheVariants.Short ∷ Done ∷ [])
-unfolding core_header estimate_of least choice_of has_bit read_nas number_at number_of field_at command_of reject_of
-    bare data_of of_size number_in algs_at caps_at rest_at
+unfolding core_header estimate_of least choice_of has_bit read_nas number_at number_of field_at
+    read_as of_size number_in algs_at caps_at rest_at
 answers_secured = refl
 
 -- the core then: its context, whose COUNTs go on behind the two Commands and the Complete, and the trigger
@@ -127,8 +128,8 @@ context_secured : with_context ≡ record start {
   });
   trigger = Some 0;
 }
-unfolding core_header estimate_of least choice_of has_bit read_nas number_at number_of field_at command_of reject_of
-    bare data_of of_size number_in algs_at caps_at rest_at
+unfolding core_header estimate_of least choice_of has_bit read_nas number_at number_of field_at
+    read_as of_size number_in algs_at caps_at rest_at
 context_secured = refl
 
 -- NAS messages under the context, and a connection for a Service Request
@@ -141,8 +142,8 @@ connected =
 
 answers_connected : answers with_context connected ≡
     (Done ∷ NoTrigger ∷ MacFails 256 (1 ∷ []) (2 ∷ []) ∷ WrongKind 0x02 ∷ NoSmc ∷ Done ∷ Done ∷ NoSmc ∷ Done ∷ [])
-unfolding core_header estimate_of least choice_of has_bit read_nas number_at number_of field_at command_of reject_of
-    bare data_of of_size number_in algs_at caps_at rest_at
+unfolding core_header estimate_of least choice_of has_bit read_nas number_at number_of field_at
+    read_as of_size number_in algs_at caps_at rest_at
 answers_connected = refl
 
 -- connection 2, whose KeNB has the COUNT of the Service Request; a path switch, and a handover through the core
@@ -176,8 +177,8 @@ told_moved :
     ∷ None ∷ None ∷ None ∷ None ∷ None ∷ None ∷ None ∷ []))
     × (alarms with_connection moved ≡
     (false ∷ true ∷ false ∷ false ∷ false ∷ false ∷ false ∷ false ∷ false ∷ false ∷ false ∷ false ∷ []))
-unfolding core_header estimate_of least choice_of has_bit read_nas number_at number_of field_at command_of reject_of
-    bare data_of of_size number_in algs_at caps_at rest_at
+unfolding core_header estimate_of least choice_of has_bit read_nas number_at number_of field_at
+    read_as of_size number_in algs_at caps_at rest_at
 told_moved = (refl, refl, refl, refl)
 
 -- the last number of a connection, and the end of the downlink COUNTs
@@ -188,6 +189,6 @@ at_the_end =
 
 answers_at_the_end : answers (record with_context { next = 0xffffffff }) at_the_end ≡
     (Done ∷ CountSpent ∷ Done ∷ Done ∷ NumberSpent ∷ Done ∷ NoAlgorithm ∷ [])
-unfolding core_header estimate_of least choice_of has_bit read_nas number_at number_of field_at command_of reject_of
-    bare data_of of_size number_in algs_at caps_at rest_at
+unfolding core_header estimate_of least choice_of has_bit read_nas number_at number_of field_at
+    read_as of_size number_in algs_at caps_at rest_at
 answers_at_the_end = refl

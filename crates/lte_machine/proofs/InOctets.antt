@@ -6,7 +6,7 @@ use Rattle.key_model.specs.{Chain.ncc_of, Term.Term, Use.map_use, Value.value_of
 use Rattle.key_model.proofs.ReadingFacts.{values_carry}
 use Rattle.lte_machine.specs.Wire.{KeyUse, Ciphering, map_ciphering, Outgoing, SealedNas, PlainNas, SealedRrc, UserPacket, Between, map_outgoing}
 use Rattle.lte_machine.specs.Ciphers.{Ciphers, under_keys, nas_octets, srb_octets, drb_octets}
-use Rattle.lte_machine.specs.Opening.{Opening, OpensNothing, OpensNas, OpensSrb, OpensDrb, open_octets}
+use Rattle.lte_machine.specs.Opening.{Opening, OpensNas, OpensSrb, open_octets}
 use Rattle.lte_machine.specs.{Carried.run_value, Carried.report_value, World.Machine, World.World}
 use Rattle.lte_machine.specs.Machines.{Kept, machine_in_octets, opening_by_octets, written_machine, written_in_values, kept_in_values}
 use Rattle.lte_machine.specs.Run.{RunState, replay, report}
@@ -33,12 +33,9 @@ module _ {K L : Type 0} (f : K → L) (c : Ciphers L) where
 
   pub open_octets-map : (p : Opening K) (pdu : List ℕ) → open_octets c (map_opening f p) pdu ≡ open_octets (under_keys f c) p pdu
   unfolding open_octets
-  open_octets-map OpensNothing pdu = refl
   open_octets-map (OpensNas u None) pdu = refl
-  open_octets-map (OpensNas u (Some e)) pdu = refl
   open_octets-map (OpensSrb u None) pdu = refl
-  open_octets-map (OpensSrb u (Some e)) pdu = refl
-  open_octets-map (OpensDrb e) pdu = refl
+  open_octets-map other pdu = refl
 
 module _ (c : Ciphers (List ℕ)) where
   -- the machine over terms that opens by octets, and the machine in octets
@@ -60,19 +57,12 @@ module _ (c : Ciphers (List ℕ)) where
   octets-map (Between to fields key) = refl
 
   address-map : (x : Outgoing Term ℕ) → q.address (kept_in_values c x) ≡ m.address x
-  address-map (SealedNas dir header u e text) = refl
   address-map (PlainNas octets) = refl
-  address-map (SealedRrc dir station air srb u e text) = refl
-  address-map (UserPacket dir station air drb e text) = refl
-  address-map (Between to fields key) = refl
+  address-map other = refl
 
   sender-map : (o : Option (Outgoing Term ℕ)) → q.sender (option_map (kept_in_values c) o) ≡ option_map (map_use value_of) (m.sender o)
-  sender-map None = refl
-  sender-map (Some (SealedNas dir header u e text)) = refl
   sender-map (Some (PlainNas octets)) = refl
-  sender-map (Some (SealedRrc dir station air srb u e text)) = refl
-  sender-map (Some (UserPacket dir station air drb e text)) = refl
-  sender-map (Some (Between to fields key)) = refl
+  sender-map other = refl
 
   pub agree : Agree m q value_of ncc_of (kept_in_values c)
   agree = record {

@@ -50,8 +50,10 @@ module _ (same : Term → Term → Bool) (P Q : Term → Type 0) where
   record_keeps : (s : Core Term ℕ) → RecordCases (term_reading_by same) Anything Keeps s
   record_keeps s = record {
     nothing = λ t answer p q. (tt, λ o. (q, tt));
-    switched = λ conn station number alarm link k p q. (((p.3.0, p.3.1, refl), tt), λ o. ((q.0, q.1, q.2, (q.3.0, o.0)), o.0));
-    asked = λ conn source attempt cell target caps link k p q. (((p.3.0, p.3.1, refl), tt), λ o. ((q.0, q.1, q.2, (q.3.0, o.0)), o.0));
+    switched = λ conn station number alarm link k (_, _, _, (root, sync)) (partial, procedure, context, (kept, _)).
+        (((root, sync, refl), tt), λ (next, _). ((partial, procedure, context, (kept, next)), next));
+    asked = λ conn source attempt cell target caps link k (_, _, _, (root, sync)) (partial, procedure, context, (kept, _)).
+        (((root, sync, refl), tt), λ (next, _). ((partial, procedure, context, (kept, next)), next));
     ordered = λ conn source attempt cell ncc algs air k p q. (tt, λ o. (q, tt));
     notified = λ station link k p q. (tt, λ o. (q, tt));
     cancelled = λ conn source attempt cell target k p q. (tt, λ o. (q, tt));
@@ -62,14 +64,14 @@ module _ (same : Term → Term → Bool) (P Q : Term → Type 0) where
     nothing = λ t answer p q. (tt, λ o. (q, tt));
     started = λ ksi algs caps count x k p q. (
       ((p.0, tt, refl), ((inl p.0, tt, refl), tt)),
-      λ o. ((q.0, (o.0, o.1.0), q.2, q.3), (o.1.0, tt)),
+      λ (enc, (int, _)). ((q.0, (enc, int), q.2, q.3), (int, tt)),
     );
-    set_up = λ conn cell target caps count c k p q. (
-      ((p.2.0, tt, refl), kept_from same P s.first_ncc c.nas.root count p.2.0),
-      λ o. ((q.0, q.1, q.2, (q.2.0, sync_known same Q s.first_ncc c.nas.root (Kenb c.nas.root count) o.0 o.1)), o.0),
+    set_up = λ conn cell target caps count c k (_, _, (known, _), _) (partial, procedure, (root, keys), _). (
+      ((known, tt, refl), kept_from same P s.first_ncc c.nas.root count known),
+      λ (kenb, kept). ((partial, procedure, (root, keys), (root, sync_known same Q s.first_ncc c.nas.root (Kenb c.nas.root count) kenb kept)), kenb),
     );
     released = λ conn station k p q. (tt, λ o. ((q.0, q.1, q.2, tt), tt));
-    sent = λ count text c k p q. (tt, λ o. (q, (q.2.1.1, q.2.1.0)));
+    sent = λ count text c k p q. let (_, (enc, int)) = q.2 in (tt, λ o. (q, (int, enc)));
     skipped = λ n c k p q. (tt, λ o. (q, tt));
   }
 

@@ -179,7 +179,7 @@ module _ (P Q : Term → Type 0) (f : (t : Term) → P t → Q t) where
   radio_more : (radio : Radio Term ℕ) → RadioKnown P radio → RadioKnown Q radio
   radio_more Idle h = tt
   radio_more (Connecting w) h = (f w.root h.0, f w.kenb h.1)
-  radio_more (Connected l) h = ((f l.chain.root h.0.0, f l.chain.sync h.0.1), f l.kenb h.1, as_more l.keys h.2)
+  radio_more (Connected l) ((root, sync), kenb, keys) = ((f l.chain.root root, f l.chain.sync sync), f l.kenb kenb, as_more l.keys keys)
 
   pub phone_more : (s : Phone Term ℕ) → PhoneKnown P s → PhoneKnown Q s
   phone_more s h = (partial_more s.partial h.0, nas_context_more s.context h.1, radio_more s.radio h.2)
@@ -194,10 +194,10 @@ module _ (P Q : Term → Type 0) (f : (t : Term) → P t → Q t) where
 
   context_more : (o : Option (Context Term ℕ)) → ContextKnown P o → ContextKnown Q o
   context_more None h = tt
-  context_more (Some c) h = ((f c.key.kenb h.0.0, pair_more c.key.pair h.0.1), as_more c.keys h.1, attempt_more c.attempt h.2)
+  context_more (Some c) ((kenb, pair), keys, attempt) = ((f c.key.kenb kenb, pair_more c.key.pair pair), as_more c.keys keys, attempt_more c.attempt attempt)
 
   prep_more : (p : Prep Term ℕ) → PrepKnown P p → PrepKnown Q p
-  prep_more p h = ((f p.key.kenb h.0.0, pair_more p.key.pair h.0.1), as_more p.keys h.1)
+  prep_more p ((kenb, pair), keys) = ((f p.key.kenb kenb, pair_more p.key.pair pair), as_more p.keys keys)
 
   pub station_more : (s : Station Term ℕ) → StationKnown P s → StationKnown Q s
   station_more s h = (context_more s.context h.0, all_more (PrepKnown P) (PrepKnown Q) prep_more s.preps h.1)

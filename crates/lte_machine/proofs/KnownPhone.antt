@@ -41,8 +41,8 @@ module _ (same : Term → Term → Bool) where
 
   base_known : (P : Term → Type 0) (l : Link Term ℕ) (steps : ℕ) → RadioKnown P (Connected l) →
       PlusAll P (nhs_made (term_reading_by same) l.chain.root l.chain.sync steps) (base_after (term_reading_by same) (phone_of l.chain l.kenb) steps)
-  base_known P l zero h = h.1
-  base_known P l (suc steps) h = nhs_known P l.chain.root l.chain.sync (suc steps) h.0.1
+  base_known P l zero (_, kenb, _) = kenb
+  base_known P l (suc steps) ((_, sync), _, _) = nhs_known P l.chain.root l.chain.sync (suc steps) sync
 
   -- KeNB* is that of the key reached
   star_is : (l : Link Term ℕ) (steps : ℕ) (cell : Place) →
@@ -54,7 +54,8 @@ module _ (same : Term → Term → Bool) where
   handover_chain : (P : Term → Type 0) (l : Link Term ℕ) (steps : ℕ) (cell : Place) → RadioKnown P (Connected l) →
       Chain P (handover_made (term_reading_by same) (phone_of l.chain l.kenb) steps cell)
   handover_chain P l steps cell h =
-      chain_append P (nhs_made (term_reading_by same) l.chain.root l.chain.sync steps) _ (nhs_chain P l.chain.root l.chain.sync steps h.0.0 h.0.1)
+      let (root, sync) = h.0 in
+      chain_append P (nhs_made (term_reading_by same) l.chain.root l.chain.sync steps) _ (nhs_chain P l.chain.root l.chain.sync steps root sync)
       ((base_known P l steps h, tt, refl), tt)
 
   star_known : (P : Term → Type 0) (l : Link Term ℕ) (steps : ℕ) (cell : Place) →
@@ -85,14 +86,14 @@ module _ (same : Term → Term → Bool) (P Q : Term → Type 0) where
   nas_keeps s = record {
     nothing = λ t answer p q. (tt, λ o. (q, tt));
     rejected = λ answer cause k p q. (tt, λ o. (q, tt));
-    rejected_under = λ answer cause c k p q. (tt, λ o. (q, (q.1.1.1, q.1.1.0)));
+    rejected_under = λ answer cause c k p q. let (_, (enc, int)) = q.1 in (tt, λ o. (q, (int, enc)));
     taken = λ algs count x k p q. (
       ((p.0, tt, refl), ((inl p.0, tt, refl), ((inl (inl p.0), tt, refl), tt))),
-      λ o. ((tt, (q.0, (o.1.0, o.1.1.0)), (q.0, o.0)), (o.1.1.0, o.1.0)),
+      λ (kenb, (enc, (int, _))). ((tt, (q.0, (enc, int)), (q.0, kenb)), (int, enc)),
     );
     taken_connected = λ algs count x k p q. (
       ((p.0, tt, refl), ((inl p.0, tt, refl), tt)),
-      λ o. ((tt, (q.0, (o.0, o.1.0)), q.2), (o.1.0, o.0)),
+      λ (enc, (int, _)). ((tt, (q.0, (enc, int)), q.2), (int, enc)),
     );
     opened = λ count text c k p q. (tt, λ o. (q, tt));
   }
@@ -108,14 +109,15 @@ module _ (same : Term → Term → Bool) (P Q : Term → Type 0) where
             (as_chain same (PlusAll P made) star algs (star_known same P l steps cell)),
         λ o.
             let before = outs_left Q made (as_derivations r star algs) o in
-            let keys = outs_right Q made (as_derivations r star algs) o in
+            let (enc, (int, (up, _))) = outs_right Q made (as_derivations r star algs) o in
+            let ((root, sync), _, _) = q.2 in
             let nhs = outs_left Q (nhs_made r l.chain.root l.chain.sync steps) _ before in (
               (
                 q.0,
                 q.1,
-                ((q.2.0.0, nhs_out same Q l.chain.root l.chain.sync steps q.2.0.1 nhs), star_out same Q l steps cell before, (keys.0, keys.1.0, keys.1.1.0)),
+                ((root, nhs_out same Q l.chain.root l.chain.sync steps sync nhs), star_out same Q l steps cell before, (enc, int, up)),
               ),
-              (keys.1.0, keys.0),
+              (int, enc),
             ),
       )
 
@@ -128,12 +130,12 @@ module _ (same : Term → Term → Bool) (P Q : Term → Type 0) where
   air_keeps : (s : Phone Term ℕ) → AirCases (term_reading_by same) Anything Keeps s
   air_keeps s = record {
     nothing = λ t answer p q. (tt, λ o. (q, tt));
-    secured = λ station air algs count w k p q.
-        (as_chain same P w.kenb algs p.2.1, λ o. ((q.0, q.1, (q.2, q.2.1, (o.0, o.1.0, o.1.1.0))), (o.1.0, tt)));
+    secured = λ station air algs count w k (_, _, (_, known)) (partial, context, (root, kenb)).
+        (as_chain same P w.kenb algs known, λ (enc, (int, (up, _))). ((partial, context, ((root, kenb), kenb, (enc, int, up))), (int, tt)));
     handed_over = λ cell steps algs station air l k. handed_over_keeps cell steps algs station air s l;
-    changed = λ cell algs station air l c e k p q. (
-      anew_chain c.root cell algs p.1.0,
-      λ o. ((q.0, q.1, ((q.1.0, o.0), o.1.0, (o.1.1.0, o.1.1.1.0, o.1.1.1.1.0))), (o.1.1.1.0, o.1.1.0)),
+    changed = λ cell algs station air l c e k (_, (known, _), _) (partial, (root, keys), _). (
+      anew_chain c.root cell algs known,
+      λ (kenb, (star, (enc, (int, (up, _))))). ((partial, (root, keys), ((root, kenb), star, (enc, int, up))), (int, enc)),
     );
     rrc = λ srb count text l k p q. (tt, λ o. (q, tt));
     packet = λ drb count text l k p q. (tt, λ o. (q, tt));
@@ -142,12 +144,13 @@ module _ (same : Term → Term → Bool) (P Q : Term → Type 0) where
   act_keeps : (s : Phone Term ℕ) → ActCases (term_reading_by same) Anything Keeps s
   act_keeps s = record {
     nothing = λ t answer p q. (tt, λ o. (q, tt));
-    requested = λ c k p q. (((p.1.0, tt, refl), tt), λ o. ((q.0, q.1, (q.1.0, o.0)), (q.1.1.1, tt)));
-    resent = λ l k p q. (tt, λ o. (q, (q.2.2.1, q.2.2.0)));
+    requested = λ c k (_, (known, _), _) (partial, (root, (enc, int)), _).
+        (((known, tt, refl), tt), λ (kenb, _). ((partial, (root, (enc, int)), (root, kenb)), (int, tt)));
+    resent = λ l k p q. let (_, _, (enc, int, _)) = q.2 in (tt, λ o. (q, (int, enc)));
     idle = λ k p q. (tt, λ o. ((q.0, q.1, tt), tt));
-    packet = λ drb text l k p q. (tt, λ o. (q, q.2.2.2));
-    rrc = λ srb text l k p q. (tt, λ o. (q, (q.2.2.1, q.2.2.0)));
-    nas = λ text c k p q. (tt, λ o. (q, (q.1.1.1, q.1.1.0)));
+    packet = λ drb text l k p q. let (_, _, (_, _, up)) = q.2 in (tt, λ o. (q, up));
+    rrc = λ srb text l k p q. let (_, _, (enc, int, _)) = q.2 in (tt, λ o. (q, (int, enc)));
+    nas = λ text c k p q. let (_, (enc, int)) = q.1 in (tt, λ o. (q, (int, enc)));
     nas_skipped = λ n c k p q. (tt, λ o. (q, tt));
     bearer_skipped = λ bearer n l k p q. (tt, λ o. (q, tt));
   }

@@ -54,10 +54,11 @@ module _ (Q : Term → Type 0) where
 -- THE ROWS
 
 module _ (same : Term → Term → Bool) (P Q : Term → Type 0) (s : Station Term ℕ) (p : StationKnown P s) (q : StationKnown Q s) where
-  -- the context, as it was known and as it is, and a preparation
-  before : (c : Context Term ℕ) → s.context ≡ Some c → ContextKnown P (Some c)
-  before c e = subst (ContextKnown P) e p.0
+  -- the key of which the context's next KeNB* is derived, as it was known
+  base : (c : Context Term ℕ) → s.context ≡ Some c → P (base_of c.key.pair c.key.kenb c.key.number).key
+  base c e = let ((kenb, pair), _, _) = subst (ContextKnown P) e p.0 in base_known P c.key.pair c.key.kenb c.key.number kenb pair
 
+  -- the context as it is, and a preparation
   here : (c : Context Term ℕ) → s.context ≡ Some c → ContextKnown Q (Some c)
   here c e = subst (ContextKnown Q) e q.0
 
@@ -77,20 +78,20 @@ module _ (same : Term → Term → Bool) (P Q : Term → Type 0) (s : Station Te
   record_keeps =
       record {
         nothing = λ answer. (tt, λ o. (q, tt));
-        given = λ conn cell caps algs air kenb k. (as_chain same P kenb.key algs k.0, λ o. ((((k.1, tt), (o.0, o.1.0, o.1.1.0), tt), tt), (o.1.0, tt)));
+        given = λ conn cell caps algs air kenb k. (as_chain same P kenb.key algs k.0, λ (enc, (int, (up, _))). ((((k.1, tt), (enc, int, up), tt), tt), (int, tt)));
         released = λ key k. (tt, λ o. ((tt, tt), tt));
         taken = λ conn origin pair k. (
           tt,
           λ o. (
-            (mapped_known (with_pair pair) (λ c h. ((h.0.0, k.1), h.1, h.2)), q.1),
+            (mapped_known (with_pair pair) (λ c ((kenb, _), keys, attempt). ((kenb, k.1), keys, attempt)), q.1),
             release_known Q conn origin,
           ),
         );
         by_s1 = λ w pair k. (
           star_chain same P pair.key w.cell.pci w.cell.earfcn w.algs k.0,
-          λ o. ((q.0, admitted_known w.conn _ ((o.0, tt), (o.1.0, o.1.1.0, o.1.1.1.0))), tt),
+          λ (star, (enc, (int, (up, _)))). ((q.0, admitted_known w.conn _ ((star, tt), (enc, int, up))), tt),
         );
-        by_x2 = λ w star k. (as_chain same P star.key w.algs k.0, λ o. ((q.0, admitted_known w.conn _ ((k.1, tt), (o.0, o.1.0, o.1.1.0))), tt));
+        by_x2 = λ w star k. (as_chain same P star.key w.algs k.0, λ (enc, (int, (up, _))). ((q.0, admitted_known w.conn _ ((k.1, tt), (enc, int, up))), tt));
         answered = λ order key k. (
           tt,
           λ o. ((mapped_known (with_answer order) (λ c h. (h.0, h.1, changed_so (AttemptKnown Q) _ (λ a m. m) c.attempt h.2)), q.1), tt),
@@ -98,9 +99,9 @@ module _ (same : Term → Term → Bool) (P Q : Term → Type 0) (s : Station Te
         cancelled = λ from key k. (tt, λ o. ((q.0, all_filter (PrepKnown Q) (λ x. not (is_of from.source from.attempt x)) s.preps q.1), tt));
         left = λ key k. (tt, λ o. ((tt, q.1), tt));
         renewed = λ conn number air count c e kenb k.
-            let h = here c e in (
+            let (key, keys, _) = here c e in (
               star_chain same P kenb.key c.cell.pci c.cell.earfcn c.algs k.0,
-              λ o. (((h.0, h.1, tt), (((o.0, tt), (o.1.0, o.1.1.0, o.1.1.1.0)), tt)), (h.1.1, h.1.0)),
+              λ (star, (enc, (int, (up, _)))). (((key, keys, tt), (((star, tt), (enc, int, up)), tt)), (keys.1, keys.0)),
             );
       }
 
@@ -121,28 +122,25 @@ module _ (same : Term → Term → Bool) (P Q : Term → Type 0) (s : Station Te
       record {
         nothing = λ answer. (tt, λ o. (q, tt));
         by_x2 = λ number target cell k c e.
-            let h = here c e in
-            let b = before c e in (
-              ((base_known P c.key.pair c.key.kenb c.key.number b.0.0 b.0.1, tt, refl), tt),
-              λ o. ((((h.0.0, tt), h.1, (o.0, h.0.1)), q.1), o.0),
+            let ((kenb, pair), keys, _) = here c e in (
+              ((base c e, tt, refl), tt),
+              λ (star, _). ((((kenb, tt), keys, (star, pair)), q.1), star),
             );
         by_s1 = λ number target cell k c e. let h = here c e in (tt, λ o. (((h.0, h.1, tt), q.1), tt));
         within = λ number air cell k c e.
-            let h = here c e in
-            let b = before c e in (
-              star_chain same P _ cell.pci cell.earfcn c.algs
-                  (base_known P c.key.pair c.key.kenb c.key.number b.0.0 b.0.1),
-              λ o. (
+            let ((kenb, pair), keys, _) = here c e in (
+              star_chain same P _ cell.pci cell.earfcn c.algs (base c e),
+              λ (star, (enc, (int, (up, _)))). (
                 (
-                  ((h.0.0, tt), h.1, (o.0, h.0.1)),
-                  all_append (PrepKnown Q) s.preps _ q.1 (((o.0, tt), (o.1.0, o.1.1.0, o.1.1.1.0)), tt),
+                  ((kenb, tt), keys, (star, pair)),
+                  all_append (PrepKnown Q) s.preps _ q.1 (((star, tt), (enc, int, up)), tt),
                 ),
                 tt,
               ),
             );
         commanded = λ via order count k c e.
-            let h = here c e in
-            (tt, λ o. (((h.0, h.1, changed_so (AttemptKnown Q) _ (λ a m. tt) c.attempt h.2), q.1), (h.1.1, h.1.0)));
+            let (key, keys, attempt) = here c e in
+            (tt, λ o. (((key, keys, changed_so (AttemptKnown Q) _ (λ a m. tt) c.attempt attempt), q.1), (keys.1, keys.0)));
         cancelled_x2 = λ conn number target k. (tt, λ o. ((mapped_known given_up (given_up_known Q), q.1), tt));
         cancelled_s1 = λ conn number cell k. (tt, λ o. ((mapped_known given_up (given_up_known Q), q.1), tt));
         cancelled_within = λ number k. (
@@ -156,8 +154,8 @@ module _ (same : Term → Term → Bool) (P Q : Term → Type 0) (s : Station Te
           ),
         );
         asked = λ number k c e. let h = here c e in (tt, λ o. ((h, q.1), tt));
-        packet = λ drb count text k c e. let h = here c e in (tt, λ o. ((h, q.1), h.1.2));
-        text = λ srb count text k c e. let h = here c e in (tt, λ o. ((h, q.1), (h.1.1, h.1.0)));
+        packet = λ drb count text k c e. let (key, keys, attempt) = here c e in (tt, λ o. (((key, keys, attempt), q.1), keys.2));
+        text = λ srb count text k c e. let (key, keys, attempt) = here c e in (tt, λ o. (((key, keys, attempt), q.1), (keys.1, keys.0)));
         skipped = λ on n k. (tt, λ o. ((mapped_known (with_skipped on n) (λ c h. h), q.1), tt));
       }
 

@@ -2,7 +2,7 @@
 use Rattle.std.proofs.Common.{◌≡◌, ℕ, ◌+◌, Bool, true, false, List, [], ◌∷◌, map, Option, Some, None, refl, ap, sym, ◌∙◌}
 use Rattle.std.specs.Prelude.{option_map, ◌&&◌}
 use Rattle.std.proofs.lemmas.List.{map-append}
-use Rattle.key_model.specs.Derivation.{Input, FromCount, FromSync, FromCell, FromAlg, map_input}
+use Rattle.key_model.specs.Derivation.{Input, FromSync, map_input}
 use Rattle.lte_machine.specs.Carried.{map_clash}
 use Rattle.lte_machine.specs.Ladder.{RowOrigin, OfRoot, Of, map_row, row_key, same_input, same_origin, Clash, Ladder, Hit, hit_if, hit_from, hit, stands_or_not, added_at, add_row, added_unless, add_next, add_rows, no_rows, ladder_of, root_place, root_if, root_row}
 
@@ -18,22 +18,9 @@ module _ {K L : Type 0} (same : K → K → Bool) (same' : L → L → Bool) (f 
   row_key-map (Of d) = refl
 
   same_input-map : (a b : Input K) → same_input same a b ≡ same_input same' (map_input f a) (map_input f b)
-  same_input-map (FromCount m) (FromCount n) = refl
-  same_input-map (FromCount m) (FromSync b) = refl
-  same_input-map (FromCount m) (FromCell p q) = refl
-  same_input-map (FromCount m) (FromAlg p q) = refl
-  same_input-map (FromSync a) (FromCount n) = refl
   same_input-map (FromSync a) (FromSync b) = sym (e a b)
-  same_input-map (FromSync a) (FromCell p q) = refl
-  same_input-map (FromSync a) (FromAlg p q) = refl
-  same_input-map (FromCell p q) (FromCount n) = refl
-  same_input-map (FromCell p q) (FromSync b) = refl
-  same_input-map (FromCell p q) (FromCell r s) = refl
-  same_input-map (FromCell p q) (FromAlg r s) = refl
-  same_input-map (FromAlg p q) (FromCount n) = refl
-  same_input-map (FromAlg p q) (FromSync b) = refl
-  same_input-map (FromAlg p q) (FromCell r s) = refl
-  same_input-map (FromAlg p q) (FromAlg r s) = refl
+  same_input-map a (FromSync b) = refl
+  same_input-map a b = refl
 
   same_origin-map : (a b : RowOrigin K) → same_origin same a b ≡ same_origin same' (map_row f a) (map_row f b)
   same_origin-map (OfRoot a) (OfRoot b) = sym (e a b)

@@ -103,10 +103,7 @@ dir_is Down Down h = refl
 
 four : (a b c d : Bool) → (a && b && c && d) ≡ true → (a ≡ true) × (b ≡ true) × (c ≡ true) × (d ≡ true)
 four true true true true h = (refl, refl, refl, refl)
-four true true true false h = cc
-four true true false d h = cc
-four true false c d h = cc
-four false b c d h = cc
+four a b c d h = cc
 
 number_is : (m n : ℕ) → (m == n) ≡ true → m ≡ n
 number_is m n h = grind (arith, nat_tests)
@@ -131,11 +128,11 @@ module _ (P : Term → Type 0) where
 
   procedure_opens : (o : Option (Keys Term)) (count : ℕ) → ProcedureKnown P o → OpeningKnown P (opens_by_procedure o count)
   procedure_opens None count h = tt
-  procedure_opens (Some keys) count h = (h.1, h.0)
+  procedure_opens (Some keys) count (enc, int) = (int, enc)
 
   context_opens : (o : Option (CoreContext Term)) (header count : ℕ) → CoreContextKnown P o → OpeningKnown P (opens_by_context o header count)
   context_opens None header count h = tt
-  context_opens (Some context) header count h = (h.1.1, core_ciphering_known (is_ciphered header) _ h.1.0)
+  context_opens (Some context) header count (_, (enc, int)) = (int, core_ciphering_known (is_ciphered header) _ enc)
 
   pub core_opens_known : (front : CoreFront) (s : Core Term ℕ) → CoreKnown P s → OpeningKnown P (core_expects front s)
   core_opens_known (CoreSettled row) s h = tt
@@ -146,19 +143,19 @@ module _ (P : Term → Type 0) where
   -- at a station: the keys of its context and of its preparations
   starting_opens : (count : ℕ) (o : Option (Context Term ℕ)) → ContextKnown P o → OpeningKnown P (starting_expects count o)
   starting_opens count None h = tt
-  starting_opens count (Some c) h = (h.1.1, tt)
+  starting_opens count (Some c) (_, (_, int, _), _) = (int, tt)
 
   signalling_opens : (srb : Srb) (count : ℕ) (o : Option (Context Term ℕ)) → ContextKnown P o → OpeningKnown P (context_expects srb count o)
   signalling_opens srb count None h = tt
-  signalling_opens srb count (Some c) h = (h.1.1, h.1.0)
+  signalling_opens srb count (Some c) (_, (enc, int, _), _) = (int, enc)
 
   user_opens : (drb : Drb) (count : ℕ) (o : Option (Context Term ℕ)) → ContextKnown P o → OpeningKnown P (user_expects drb count o)
   user_opens drb count None h = tt
-  user_opens drb count (Some c) h = h.1.2
+  user_opens drb count (Some c) (_, (_, _, up), _) = up
 
   prepared_opens : (count : ℕ) (o : Option (Prep Term ℕ)) → OfSome (PrepKnown P) o → OpeningKnown P (prepared_expects count o)
   prepared_opens count None h = tt
-  prepared_opens count (Some p) h = (h.1.1, h.1.0)
+  prepared_opens count (Some p) (_, (enc, int, _)) = (int, enc)
 
   pub station_opens_known : (front : StationFront) (s : Station Term ℕ) → StationKnown P s → OpeningKnown P (station_expects front s)
   station_opens_known (SettledHere row) s h = tt
@@ -169,11 +166,8 @@ module _ (P : Term → Type 0) where
   station_opens_known (FromStationAir (OnPrepared air by count)) s h =
       prepared_opens count (at_air air s.preps) (all_find (PrepKnown P) (is_at air) s.preps h.1)
 
-  link_opens : (srb : Srb) (count : ℕ) (radio : Radio Term ℕ) → RadioKnown P radio → OpeningKnown P (signalling_expects srb count radio)
-  link_opens srb count Idle h = tt
-  link_opens srb count (Connecting w) h = tt
-  link_opens srb count (Connected l) h = (h.2.1, h.2.0)
-
   -- a phone on a connection expects keys that it has reported
   pub link_opens_known : (srb : Srb) (count : ℕ) (radio : Radio Term ℕ) → RadioKnown P radio → OpeningKnown P (signalling_expects srb count radio)
-  link_opens_known srb count radio h = link_opens srb count radio h
+  link_opens_known srb count Idle h = tt
+  link_opens_known srb count (Connecting w) h = tt
+  link_opens_known srb count (Connected l) (_, _, (enc, int, _)) = (int, enc)

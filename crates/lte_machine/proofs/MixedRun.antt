@@ -135,9 +135,8 @@ message_same c count header (Some x) pdu came = refl
 
 packet_same : (c : Ciphers Term) (drb : Drb) (count : ℕ) (radio : Radio Term ℕ) (pdu : List ℕ) (came : Option (Outgoing Term ℕ)) →
     open_by_uses same_value c (packet_expects drb count radio) pdu came ≡ by_terms c (packet_expects drb count radio) pdu came
-packet_same c drb count Idle pdu came = refl
-packet_same c drb count (Connecting w) pdu came = refl
 packet_same c drb count (Connected l) pdu came = refl
+packet_same c drb count other pdu came = refl
 
 -- ONE EVENT
 
@@ -194,77 +193,62 @@ module _ (c : Ciphers Term) (between : Fields → Option (NumberedKey Term ℕ) 
     start_is true count algs station air (Opened text) = refl
     start_is false count algs station air (Opened text) = refl
 
-    -- a link that is secured reports its keys, so that no row has the value of one of them and is another term
-    secured_apart : (x : Waiting Term) (count : ℕ) (algs : Algs) (station air : ℕ) (l : Term) → RadioKnown (IsReported w) (Connecting x) → IsReported w l →
-        Apart (as_keys_of r x.kenb algs).rrc_int l → Calm (phone_world (link_secured r station air algs count w.phone (Connecting x))) → ⊥
-    secured_apart x count algs station air l h k a later =
-        let ds : List (Derivation Term) = as_derivations r x.kenb algs in
-        let after : List (RowOrigin Term) = w.history ++ map Of ds in
-        let ladder = laddered_chain w.history ds g.ladder (as_chain same_value (IsReported w) x.kenb algs h.1) in
-        not_apart (keys_of after) (one_value_one_term after ladder later) (as_keys_of r x.kenb algs).rrc_int l
-        (new_in w.history (map Of ds) (as_keys_of r x.kenb algs).rrc_int (inr (inl refl))) (still_in w.history (map Of ds) l k) a
-
-    -- where the two machines take a record for different ones, both refuse it
-    apart_refused : (x : Waiting Term) (named : Bool) (count : ℕ) (algs : Algs) (station air : ℕ) (l : Term) →
-        RadioKnown (IsReported w) (Connecting x) → IsReported w l →
-        Apart (as_keys_of r x.kenb algs).rrc_int l → (o : Outcome) (wanted got : List ℕ) →
-        Calm (phone_world (start_does (Connecting x) named count algs station air o)) →
-        phone_world (start_does (Connecting x) named count algs station air o)
-        ≡ phone_world (start_does (Connecting x) named count algs station air (Differs wanted got))
-    apart_refused x named count algs station air l h k a (Differs wanted' got') wanted got later = refl
-    apart_refused x false count algs station air l h k a (Opened text) wanted got later = refl
-    apart_refused x true count algs station air l h k a (Opened text) wanted got later = absurd (secured_apart x count algs station air l h k a later)
-
     abbrev StartSame : Radio Term ℕ → Bool → ℕ → Algs → ℕ → ℕ → Outcome → Outcome → Type 0
     StartSame radio named count algs station air o p =
         Calm (phone_world (start_does radio named count algs station air o)) →
         phone_world (start_does radio named count algs station air o) ≡ phone_world (start_does radio named count algs station air p)
 
-    same_outcome : (radio : Radio Term ℕ) (named : Bool) (count : ℕ) (algs : Algs) (station air : ℕ) (o p : Outcome)
-        → o ≡ p
-        → StartSame radio named count algs station air o p
-    same_outcome radio named count algs station air o p e later = ap (λ x. phone_world (start_does radio named count algs station air x)) e
+    module _ (x : Waiting Term) (h : RadioKnown (IsReported w) (Connecting x)) (count : ℕ) (algs : Algs) (station air : ℕ) where
+      -- the key under which the record's MAC is checked
+      abbrev int : Term
+      int = (as_keys_of r x.kenb algs).rrc_int
 
-    start_by : (x : Waiting Term) (named : Bool) (count : ℕ) (algs : Algs) (station air : ℕ) (l : Term) →
-        RadioKnown (IsReported w) (Connecting x) → IsReported w l →
-        (o p : Outcome) (wanted got : List ℕ) → (Agree (as_keys_of r x.kenb algs).rrc_int l → o ≡ p) →
-        (same_term (as_keys_of r x.kenb algs).rrc_int l ≡ false → p ≡ Differs wanted got) →
-        Agree (as_keys_of r x.kenb algs).rrc_int l ⊎ Apart (as_keys_of r x.kenb algs).rrc_int l → StartSame (Connecting x) named count algs station air o p
-    start_by x named count algs station air l h k o p wanted got alike other (inl e) later =
-        same_outcome (Connecting x) named count algs station air o p (alike e) later
-    start_by x named count algs station air l h k o p wanted got alike other (inr a) later =
-        apart_refused x named count algs station air l h k a o wanted got later
-        ∙ ap (λ y. phone_world (start_does (Connecting x) named count algs station air y)) (sym (other a.1))
+      -- a link that is secured reports its keys, so that no row has the value of one of them and is another term
+      secured_apart : (l : Term) → IsReported w l → Apart int l → Calm (phone_world (link_secured r station air algs count w.phone (Connecting x))) → ⊥
+      secured_apart l k a later =
+          let ds : List (Derivation Term) = as_derivations r x.kenb algs in
+          let after : List (RowOrigin Term) = w.history ++ map Of ds in
+          let ladder = laddered_chain w.history ds g.ladder (as_chain same_value (IsReported w) x.kenb algs h.1) in
+          not_apart (keys_of after) (one_value_one_term after ladder later) int l
+          (new_in w.history (map Of ds) int (inr (inl refl))) (still_in w.history (map Of ds) l k) a
 
-    start_came : (x : Waiting Term) (named : Bool) (count : ℕ) (algs : Algs) (station air : ℕ) (pdu : List ℕ) (came : Option (Outgoing Term ℕ)) →
-        RadioKnown (IsReported w) (Connecting x) → CameKnown came →
-        StartSame (Connecting x) named count algs station air
-        (by_value (start_expects r count algs (Connecting x)) pdu came)
-        (by_terms c (start_expects r count algs (Connecting x)) pdu came)
-    start_came x named count algs station air pdu (Some (SealedNas dir header i f text)) h k later =
-        let u : KeyUse Term = srb_use Down (as_keys_of r x.kenb algs).rrc_int Signalling1 count in
-        start_by x named count algs station air i.key h k.0 _ _ (srb_wanted c u None pdu) (srb_got c None pdu)
-        (λ e. ap (open_case c (OpensSrb u None) pdu) (sender_agrees u None (Some (SealedNas dir header i f text)) e))
-        (λ n. foreign u i None pdu false text n)
-        (agree_or_apart u.key i.key) later
-    start_came x named count algs station air pdu (Some (SealedRrc dir st a srb i f text)) h k later =
-        let u : KeyUse Term = srb_use Down (as_keys_of r x.kenb algs).rrc_int Signalling1 count in
-        start_by x named count algs station air i.key h k.0 _ _ (srb_wanted c u None pdu) (srb_got c None pdu)
-        (λ e. ap (open_case c (OpensSrb u None) pdu) (sender_agrees u None (Some (SealedRrc dir st a srb i f text)) (e, none_agrees f)))
-        (λ n. foreign u i None pdu (same_ciphering same_term None f) text n)
-        (agree_or_apart u.key i.key) later
-      where
-        none_agrees : (f : Option (Ciphering Term)) → CipheringAgrees None f
-        none_agrees None = tt
-        none_agrees (Some f) = tt
-    start_came x named count algs station air pdu other h k later = refl
+      -- where the two machines take a record for different ones, both refuse it
+      start_by : (l : Term) → IsReported w l → (o : Outcome) (named : Bool) (p : Outcome) (wanted got : List ℕ) → (Agree int l → o ≡ p) →
+          (same_term int l ≡ false → p ≡ Differs wanted got) → Agree int l ⊎ Apart int l → StartSame (Connecting x) named count algs station air o p
+      start_by l k o named p wanted got alike other (inl e) later =
+          ap (λ y. phone_world (start_does (Connecting x) named count algs station air y)) (alike e)
+      start_by l k (Opened text) true p wanted got alike other (inr a) later = absurd (secured_apart l k a later)
+      start_by l k o named p wanted got alike other (inr a) later =
+          ap (λ y. phone_world (start_does (Connecting x) named count algs station air y)) (sym (other a.1))
+
+      start_came : (named : Bool) (pdu : List ℕ) (came : Option (Outgoing Term ℕ)) → CameKnown came →
+          StartSame (Connecting x) named count algs station air
+          (by_value (start_expects r count algs (Connecting x)) pdu came)
+          (by_terms c (start_expects r count algs (Connecting x)) pdu came)
+      start_came named pdu (Some (SealedNas dir header i f text)) k later =
+          let u : KeyUse Term = srb_use Down int Signalling1 count in
+          start_by i.key k.0 _ named _ (srb_wanted c u None pdu) (srb_got c None pdu)
+          (λ e. ap (open_case c (OpensSrb u None) pdu) (sender_agrees u None (Some (SealedNas dir header i f text)) e))
+          (λ n. foreign u i None pdu false text n)
+          (agree_or_apart u.key i.key) later
+      start_came named pdu (Some (SealedRrc dir st a srb i f text)) k later =
+          let u : KeyUse Term = srb_use Down int Signalling1 count in
+          start_by i.key k.0 _ named _ (srb_wanted c u None pdu) (srb_got c None pdu)
+          (λ e. ap (open_case c (OpensSrb u None) pdu) (sender_agrees u None (Some (SealedRrc dir st a srb i f text)) (e, none_agrees f)))
+          (λ n. foreign u i None pdu (same_ciphering same_term None f) text n)
+          (agree_or_apart u.key i.key) later
+        where
+          none_agrees : (f : Option (Ciphering Term)) → CipheringAgrees None f
+          none_agrees None = tt
+          none_agrees (Some f) = tt
+      start_came named pdu other k later = refl
 
     start_same : (radio : Radio Term ℕ) (named : Bool) (count : ℕ) (algs : Algs) (station air : ℕ) (pdu : List ℕ) (came : Option (Outgoing Term ℕ)) →
         RadioKnown (IsReported w) radio → CameKnown came →
         StartSame radio named count algs station air (by_value (start_expects r count algs radio) pdu came)
         (by_terms c (start_expects r count algs radio) pdu came)
     start_same Idle named count algs station air pdu came h k later = refl
-    start_same (Connecting x) named count algs station air pdu came h k later = start_came x named count algs station air pdu came h k later
+    start_same (Connecting x) named count algs station air pdu came h k later = start_came x h count algs station air named pdu came k later
     start_same (Connected l) named count algs station air pdu came h k later = refl
 
     -- A STEP OF THE PHONE

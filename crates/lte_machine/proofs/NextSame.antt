@@ -114,11 +114,7 @@ module _ (same : Term → Term → Bool) (c : Ciphers Term) (good : AreCiphers c
 
   attempted_same : (w : W) (e : Event) → attempted m w e ≡ attempted q w e
   attempted_same w (Event.Auth ksi octets caps) = refl
-  attempted_same w (Event.Phone act) = refl
-  attempted_same w (Event.Station id act) = refl
-  attempted_same w (Event.Core act) = refl
-  attempted_same w (Event.Deliver i) = refl
-  attempted_same w (Event.Inject to octets) = refl
+  attempted_same w other = refl
 
   -- an event has one outcome in both
   pub next_same : (w : W) (e : Event) → next (open_octets c) m w e ≡ next (open_octets c) q w e

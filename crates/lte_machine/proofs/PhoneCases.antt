@@ -90,9 +90,6 @@ module _ {K C : Type 0} (r : Reading K C) (Known : Phone K C → AirRow → Type
 
   changed_case : (s : Phone K C) → AirCases s → (cell : Place) (algs : Algs) (station air : ℕ) (radio : Radio K C) (o : Option (NasContext K))
       → AirCase (with_radio (with_context s o) radio) (KeyChanged cell algs station air)
-  changed_case s x cell algs station air Idle o = λ h. x.nothing _ Done
-  changed_case s x cell algs station air (Connecting w) o = λ h. x.nothing _ Done
-  changed_case s x cell algs station air (Connected l) None = λ h. x.nothing _ Done
   changed_case s x cell algs station air (Connected l) (Some c) = by_key (r.same c.root l.chain.root) refl where
     t : Phone K C
     t = with_radio (with_context s (Some c)) (Connected l)
@@ -101,6 +98,7 @@ module _ {K C : Type 0} (r : Reading K C) (Known : Phone K C → AirRow → Type
         → Known t (KeyChanged cell algs station air) → P t (changed_unless r cell algs station air t (before_of l) c.root b)
     by_key true e h = x.nothing t NoTrigger
     by_key false e h = x.changed cell algs station air l c e h
+  changed_case s x cell algs station air radio o = λ h. x.nothing _ Done
 
   pub air_case : (s : Phone K C) → AirCases s → (row : AirRow) → AirCase s row
   air_case s x (AirRefused answer) = λ h. x.nothing s answer

@@ -8,12 +8,13 @@ use Rattle.rec_base.specs.declared.bearers.Bearer.TheVariants.{Srb1, Srb2, Drb1}
 use Rattle.rec_base.specs.declared.ways.Way.{Way}
 use Rattle.rec_base.specs.declared.ways.Way.TheVariants.{Initial, Horizontal, Vertical}
 use Rattle.rec_fields.specs.Field.{of_size, number_in, algs_at, caps_at, cell_at, rest_at}
+use Rattle.rec_fields.specs.Form.{read_as}
 use Rattle.key_model.specs.Term.{Term, Root, Kenb, Nh, Star, Alg, same_term}
 use Rattle.key_model.specs.{Least.least, Reading.Reading, Reading.term_reading_by, Derivation.Derivation}
 use Rattle.nas_count.specs.Estimate.{estimate_of}
-use Rattle.nas_rec.specs.Reading as nas_reading
+use Rattle.nas_rec.specs.Reading.{read_nas}
 use Rattle.nas_rec.specs.Spelling as nas_texts
-use Rattle.rrc_rec.specs.Reading as rrc_reading
+use Rattle.rrc_rec.specs.Reading.{read_rrc}
 use Rattle.rrc_rec.specs.Spelling as rrc_texts
 use Rattle.pdcp_guard.specs.{Counts.in_32_bits, Srb.srb_count, Drb.drb_count}
 use Rattle.lte_events.specs.{declared.acts.PhoneAct.PhoneAct, declared.answers.Answer.Answer}
@@ -58,9 +59,8 @@ handover ncc algs = 0x03 ∷ 0 ∷ 11 ∷ 0 ∷ 0 ∷ 0 ∷ 101 ∷ ncc ∷ algs
 -- all that reads and counts is open where this is
 computing : Unit {0}
 unfolding least estimate_of has_bit are_supported number_of field_at number_at of_size number_in algs_at caps_at cell_at
-    rest_at nas_reading.command_of nas_reading.reject_of nas_reading.bare nas_reading.data_of nas_reading.read_nas
-    nas_texts.spelling_of rrc_reading.command_of rrc_reading.reconfiguration_of rrc_reading.bare rrc_reading.data_of
-    rrc_reading.read_rrc rrc_texts.spelling_of in_32_bits srb_count drb_count header_for_phone
+    rest_at read_as read_nas
+    nas_texts.spelling_of read_rrc rrc_texts.spelling_of in_32_bits srb_count drb_count header_for_phone
 computing = tt
 
 -- inputs, each with the outcome of its opening, and what is told of each step

@@ -5,35 +5,19 @@ use Rattle.std.proofs.lemmas.List.{map-append}
 use Rattle.alg_choice.specs.{declared.algs.Algs.Algs, Algs.identity_of, Algs.eia2_identity}
 use Rattle.annex_a_keys.specs.Cell.{Place}
 use Rattle.lte_events.specs.declared.answers.Answer.{Answer}
-use Rattle.key_model.specs.{Reading.Reading, Reading.Carries, Derivation.map_derivation, Use.map_use}
+use Rattle.key_model.specs.{Reading.Reading, Reading.Carries, Derivation.map_derivation}
 use Rattle.nh_chain.specs.Reach.{Reached, reached_after}
 use Rattle.pdcp_guard.specs.AsKeys.{as_derivations}
 use Rattle.lte_machine.specs.Bearers.{Srb, Drb, Which}
-use Rattle.lte_machine.specs.Wire.{Ciphering, map_ciphering, ciphering_if}
-use Rattle.lte_machine.specs.Opening.{Opening, OpensNothing, OpensNas, OpensSrb, OpensDrb, Outcome, Opened, Differs, accepted_of}
+use Rattle.lte_machine.specs.Opening.{Outcome, accepted_of}
 use Rattle.lte_machine.specs.Reply.{finished, unseen, Before, map_before, Came, Commanded, Changed, map_came}
-use Rattle.lte_machine.specs.PhoneState.{Partial, map_partial, NasContext, map_context, map_link, Radio, Idle, Connecting, Connected, map_radio, Phone, map_phone, PhoneInput, PhoneAuth, PhoneActs, PhoneNasPdu, PhoneAirPdu, map_phone_input}
+use Rattle.lte_machine.specs.PhoneState.{Partial, map_partial, NasContext, map_context, map_link, Radio, Idle, Connecting, Connected, map_radio, Phone, map_phone, PhoneInput, PhoneAuth, map_phone_input}
 use Rattle.lte_machine.specs.PhoneRows.{Authenticated, NasRow, NasRefused, RejectedPlain, RejectedUnder, ContextTaken, ContextTakenConnected, NasOpened, AirRow, AirRefused, LinkSecured, HandedOver, RrcOpened, PacketOpened, ActRow, ActRefused, ServiceRequested, CompleteResent, WentIdle, PacketSent, RrcSent, NasSent, NasSkipped, BearerSkipped, PhoneRow, OfAuth, OfNas, OfAir, OfAct, KeyChanged}
 use Rattle.lte_machine.specs.PhoneChoice.{NasFront, NasSettled, AtCommand, AtMessage, AirFront, AirSettled, AtStart, AtSignalling, AtPacket, PhoneFront, Settled, FromNas, FromAir, phone_front, phone_row}
 use Rattle.lte_machine.specs.PhoneKeys.{command_expects, message_expects, nas_expects, start_expects, signalling_expects, packet_expects, air_expects, phone_expects, authenticated, rejected_under, context_taken, context_taken_connected, nas_opened, nas_does, link_secured, arrived, handed_over, rrc_opened, packet_opened, air_does, service_requested, complete_resent, packet_sent, rrc_sent, nas_sent, nas_skipped, bearer_skipped, act_does, phone_does, before_of, reached_anew, changed_unless, key_changed}
 use Rattle.lte_machine.specs.PhoneStep.{phone_root, plain_phone, plain_input, front_of, phone_opens, phone_step}
 use Rattle.nh_chain.proofs.CarryFacts.{reached_after-map, map_reached}
-use Rattle.lte_machine.proofs.MapSteps.{map_opening, map_phone_step}
-
--- the use under which a record was accepted
-accepted_of-map : {K L : Type 0} (f : K → L) (o : Opening K) (outcome : Outcome)
-    → option_map (map_use f) (accepted_of o outcome) ≡ accepted_of (map_opening f o) outcome
-accepted_of-map f OpensNothing outcome = refl
-accepted_of-map f (OpensNas u e) (Opened text) = refl
-accepted_of-map f (OpensNas u e) (Differs wanted got) = refl
-accepted_of-map f (OpensSrb u e) (Opened text) = refl
-accepted_of-map f (OpensSrb u e) (Differs wanted got) = refl
-accepted_of-map f (OpensDrb e) outcome = refl
-
-ciphering_if-map : {K L : Type 0} (f : K → L) (b : Bool) (e : Ciphering K)
-    → option_map (map_ciphering f) (ciphering_if b e) ≡ ciphering_if b (map_ciphering f e)
-ciphering_if-map f true e = refl
-ciphering_if-map f false e = refl
+use Rattle.lte_machine.proofs.MapSteps.{map_opening, map_phone_step, accepted-map, ciphering_if-map}
 
 module _ {K C L D : Type 0} (r : Reading K C) (q : Reading L D) (f : K → L) (g : C → D) (c : Carries r q f g) where
   -- the plain view is the same
@@ -61,18 +45,14 @@ module _ {K C L D : Type 0} (r : Reading K C) (q : Reading L D) (f : K → L) (g
 
   plain_input-map : (i : PhoneInput K) → plain_input (map_phone_input f i) ≡ plain_input i
   plain_input-map (PhoneAuth ksi root) = refl
-  plain_input-map (PhoneActs act) = refl
-  plain_input-map (PhoneNasPdu pdu) = refl
-  plain_input-map (PhoneAirPdu station air bearer pdu) = refl
+  plain_input-map other = refl
 
   front_of-map : (s : Phone K C) (i : PhoneInput K) → front_of r s i ≡ front_of q (map_phone f g s) (map_phone_input f i)
   front_of-map s i = λ j. phone_front (sym (plain_phone-map s) j) (sym (plain_input-map i) j)
 
   phone_root-map : (i : PhoneInput K) → option_map f (phone_root i) ≡ phone_root (map_phone_input f i)
   phone_root-map (PhoneAuth ksi root) = refl
-  phone_root-map (PhoneActs act) = refl
-  phone_root-map (PhoneNasPdu pdu) = refl
-  phone_root-map (PhoneAirPdu station air bearer pdu) = refl
+  phone_root-map other = refl
 
   -- the uses that an opening needs
 
@@ -99,15 +79,13 @@ module _ {K C L D : Type 0} (r : Reading K C) (q : Reading L D) (f : K → L) (g
 
   signalling_expects-map : (srb : Srb) (count : ℕ) (radio : Radio K C)
       → map_opening f (signalling_expects srb count radio) ≡ signalling_expects srb count (map_radio f g radio)
-  signalling_expects-map srb count Idle = refl
-  signalling_expects-map srb count (Connecting w) = refl
   signalling_expects-map srb count (Connected l) = refl
+  signalling_expects-map srb count other = refl
 
   packet_expects-map : (drb : Drb) (count : ℕ) (radio : Radio K C)
       → map_opening f (packet_expects drb count radio) ≡ packet_expects drb count (map_radio f g radio)
-  packet_expects-map drb count Idle = refl
-  packet_expects-map drb count (Connecting w) = refl
   packet_expects-map drb count (Connected l) = refl
+  packet_expects-map drb count other = refl
 
   air_expects-map : (front : AirFront) (s : Phone K C) → map_opening f (air_expects r front s) ≡ air_expects q front (map_phone f g s)
   air_expects-map (AirSettled row) s = refl
@@ -217,16 +195,14 @@ module _ {K C L D : Type 0} (r : Reading K C) (q : Reading L D) (f : K → L) (g
   rrc_opened-map : (srb : Srb) (count : ℕ) (text : List ℕ) (s : Phone K C) (radio : Radio K C)
       → map_phone_step f g (rrc_opened srb count text s radio)
       ≡ rrc_opened srb count text (map_phone f g s) (map_radio f g radio)
-  rrc_opened-map srb count text s Idle = refl
-  rrc_opened-map srb count text s (Connecting w) = refl
   rrc_opened-map srb count text s (Connected l) = refl
+  rrc_opened-map srb count text s other = refl
 
   packet_opened-map : (drb : Drb) (count : ℕ) (text : List ℕ) (s : Phone K C) (radio : Radio K C)
       → map_phone_step f g (packet_opened drb count text s radio)
       ≡ packet_opened drb count text (map_phone f g s) (map_radio f g radio)
-  packet_opened-map drb count text s Idle = refl
-  packet_opened-map drb count text s (Connecting w) = refl
   packet_opened-map drb count text s (Connected l) = refl
+  packet_opened-map drb count text s other = refl
 
   air_does-map : (row : AirRow) (s : Phone K C) → map_phone_step f g (air_does r row s) ≡ air_does q row (map_phone f g s)
   air_does-map (AirRefused answer) s = refl
@@ -246,21 +222,18 @@ module _ {K C L D : Type 0} (r : Reading K C) (q : Reading L D) (f : K → L) (g
 
   complete_resent-map : (s : Phone K C) (radio : Radio K C)
       → map_phone_step f g (complete_resent s radio) ≡ complete_resent (map_phone f g s) (map_radio f g radio)
-  complete_resent-map s Idle = refl
-  complete_resent-map s (Connecting w) = refl
   complete_resent-map s (Connected l) = refl
+  complete_resent-map s other = refl
 
   packet_sent-map : (drb : Drb) (text : List ℕ) (s : Phone K C) (radio : Radio K C)
       → map_phone_step f g (packet_sent drb text s radio) ≡ packet_sent drb text (map_phone f g s) (map_radio f g radio)
-  packet_sent-map drb text s Idle = refl
-  packet_sent-map drb text s (Connecting w) = refl
   packet_sent-map drb text s (Connected l) = refl
+  packet_sent-map drb text s other = refl
 
   rrc_sent-map : (srb : Srb) (text : List ℕ) (s : Phone K C) (radio : Radio K C)
       → map_phone_step f g (rrc_sent srb text s radio) ≡ rrc_sent srb text (map_phone f g s) (map_radio f g radio)
-  rrc_sent-map srb text s Idle = refl
-  rrc_sent-map srb text s (Connecting w) = refl
   rrc_sent-map srb text s (Connected l) = refl
+  rrc_sent-map srb text s other = refl
 
   nas_sent-map : (text : List ℕ) (s : Phone K C) (o : Option (NasContext K))
       → map_phone_step f g (nas_sent text s o) ≡ nas_sent text (map_phone f g s) (option_map (map_context f) o)
@@ -275,9 +248,8 @@ module _ {K C L D : Type 0} (r : Reading K C) (q : Reading L D) (f : K → L) (g
   bearer_skipped-map : (bearer : Which) (n : ℕ) (s : Phone K C) (radio : Radio K C)
       → map_phone_step f g (bearer_skipped bearer n s radio)
       ≡ bearer_skipped bearer n (map_phone f g s) (map_radio f g radio)
-  bearer_skipped-map bearer n s Idle = refl
-  bearer_skipped-map bearer n s (Connecting w) = refl
   bearer_skipped-map bearer n s (Connected l) = refl
+  bearer_skipped-map bearer n s other = refl
 
   act_does-map : (row : ActRow) (s : Phone K C) → map_phone_step f g (act_does r row s) ≡ act_does q row (map_phone f g s)
   act_does-map (ActRefused answer) s = refl
@@ -309,6 +281,6 @@ module _ {K C L D : Type 0} (r : Reading K C) (q : Reading L D) (f : K → L) (g
   phone_step_map s i outcome =
       let done = phone_does-map (phone_row (plain_phone r s) (front_of r s i) outcome) (phone_root i) s
       ∙ (λ j. phone_does q (phone_row (sym (plain_phone-map s) j) (front_of-map s i j) outcome) (phone_root-map i j) (map_phone f g s)) in
-      let accepted = accepted_of-map f (phone_opens r s i) outcome
+      let accepted = accepted-map f (phone_opens r s i) outcome
       ∙ (λ j. accepted_of (phone_opens_map s i j) outcome) in
       λ j. ((done j).0, finished None (accepted j) (done j).1)

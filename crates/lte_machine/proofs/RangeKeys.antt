@@ -16,11 +16,8 @@ octets_append (x ∷ xs) ys p q (suc i) = octets_append xs ys (λ j. p (suc j)) 
 
 -- a word of 32 bits is four octets
 octets_word : (n : ℕ) → AreOctets (to_be_bytes w32 n)
-octets_word n zero = omega arith
-octets_word n (suc zero) = omega arith
-octets_word n (suc (suc zero)) = omega arith
-octets_word n (suc (suc (suc zero))) = omega arith
 octets_word n (suc (suc (suc (suc i)))) = omega arith
+octets_word n i = omega arith
 
 octets_digest : (h : List ℕ) (n : ℕ) → AreOctets (digest_bytes h n)
 unfolding digest_bytes

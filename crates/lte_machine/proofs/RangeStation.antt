@@ -163,7 +163,8 @@ module _ (same : Term → Term → Bool) where
               let (conn, _, _, cell, caps, _) = found at p e in ((h.0, h.1, (conn, cell, caps, tt, tt), tt), ((conn, h.0, cell), tt));
           within = λ at count origin k p e.
               let (conn, _, _, cell, caps, _) = found at p e in
-              let from = subst OriginRanged (sym k.1) (by_ranged air on pdu at (By.Intra k.0) count k.2.0) in
+              let (source, origin_is, (prepared, _)) = k in
+              let from = subst OriginRanged (sym origin_is) (by_ranged air on pdu at (By.Intra source) count prepared) in
               ((h.0, h.1, (conn, cell, caps, tt, from), tt), tt);
           by_x2 = λ at count number k p e.
               let (conn, source, attempt, cell, caps, _) = found at p e in (

@@ -5,7 +5,7 @@ use Rattle.std.specs.List.{position_from, AllByRecursion as AllOf}
 use Rattle.lte_events.specs.{declared.addresses.Address.Address, declared.events.Event.Event, Class.class_of, Ranges.IsEvent}
 use Rattle.key_model.specs.Use.{map_use}
 use Rattle.lte_machine.specs.{Wire.KeyUse, Ladder.Clash, Ladder.ladder_of, PhoneStep.phone_pdu_in, StationStep.station_pdu_in, CoreStep.core_pdu_in}
-use Rattle.lte_machine.specs.Opening.{Opening, OpensNothing, OpensNas, OpensSrb, OpensDrb, Outcome, Opened, Differs, accepted_of, same_dir, same_uses}
+use Rattle.lte_machine.specs.Opening.{Opening, Outcome, accepted_of, same_dir, same_uses}
 use Rattle.lte_machine.specs.Tuples.{Coincidence, tuples_unless, same_sender, tuple_coincidence}
 use Rattle.lte_machine.specs.PhoneState.{PhoneInput, PhoneActs, PhoneNasPdu, PhoneAirPdu, map_phone_input}
 use Rattle.lte_machine.specs.StationState.{Station, StationInput, StationActs, AirPdu, StationRecord, OnS1, OnX2, map_station, map_station_input}
@@ -14,8 +14,8 @@ use Rattle.lte_machine.specs.World.{Machine, World, Line, station_of_id, content
 use Rattle.lte_machine.specs.Step.{Attempted, attempted, phone_attempts, core_attempts, attempts_at, station_attempts, arrival_attempts, delivery_attempts, injection_attempts, opening_coincidence, StepResult, Continues, Stops, by_ladder, by_coincidence, next}
 use Rattle.lte_machine.specs.Run.{RunState, Running, Stopped, after, turn, replay, reported, event_report, report}
 use Rattle.lte_machine.specs.Carried.{map_world, map_line, map_clash, map_coincidence, map_run_state, map_report}
-use Rattle.lte_machine.proofs.{PhoneMap.phone_opens_map, CoreMap.core_opens_map, StationMap.station_opens_map, LadderMap.ladder_of-map, MapSteps.map_opening}
-use Rattle.lte_machine.proofs.WorldMap.{Agree, map_told, station_of_id-map, chosen-map, found-map, BackAt, BackIf, BackOf, happens-map}
+use Rattle.lte_machine.proofs.{PhoneMap.phone_opens_map, CoreMap.core_opens_map, StationMap.station_opens_map, LadderMap.ladder_of-map, MapSteps.map_opening, MapSteps.accepted-map}
+use Rattle.lte_machine.proofs.WorldMap.{Agree, map_told, station_of_id-map, chosen-map, found-map, BackAt, BackIf, BackOf, none_back, happens-map}
 
 abbrev map_attempted : {K S L T : Type 0} → (K → L) → (S → T) → Attempted K S → Attempted L T
 map_attempted f z a = record { opening = map_opening f a.opening; octets = a.octets; came = option_map z a.came }
@@ -27,14 +27,6 @@ map_next f g z (Stops coincidence) = Stops (map_coincidence f coincidence)
 module _ {K C S L D T : Type 0} (m : Machine K C S) (q : Machine L D T) (f : K → L) (g : C → D) (z : S → T) (a : Agree m q f g z)
     (by_octets : Opening K → List ℕ → Outcome) (by_octets' : Opening L → List ℕ → Outcome)
     (opens : (p : Opening K) (pdu : List ℕ) → by_octets' (map_opening f p) pdu ≡ by_octets p pdu) where
-  accepted-map : (p : Opening K) (o : Outcome) → option_map (map_use f) (accepted_of p o) ≡ accepted_of (map_opening f p) o
-  accepted-map OpensNothing o = refl
-  accepted-map (OpensNas u e) (Opened text) = refl
-  accepted-map (OpensNas u e) (Differs wanted got) = refl
-  accepted-map (OpensSrb u e) (Opened text) = refl
-  accepted-map (OpensSrb u e) (Differs wanted got) = refl
-  accepted-map (OpensDrb e) o = refl
-
   same_uses-map : (u v : KeyUse K) → same_uses m.reading.same u v ≡ same_uses q.reading.same (map_use f u) (map_use f v)
   same_uses-map u v = ap (λ b. b && (u.count == v.count) && (u.bearer == v.bearer) && same_dir u.dir v.dir) (sym (a.carries.same u.key v.key))
 
@@ -62,7 +54,7 @@ module _ {K C S L D T : Type 0} (m : Machine K C S) (q : Machine L D T) (f : K �
   coincidence-map x =
       tuple_coincidence-map (m.sender x.came) (accepted_of x.opening (by_octets x.opening x.octets))
       ∙ (λ j. tuple_coincidence q.reading.same (sym (a.sender x.came) j)
-      ((accepted-map x.opening (by_octets x.opening x.octets)
+      ((accepted-map f x.opening (by_octets x.opening x.octets)
       ∙ ap (accepted_of (map_opening f x.opening)) (sym (opens x.opening x.octets)))
       j))
 
@@ -129,15 +121,9 @@ module _ {K C S L D T : Type 0} (m : Machine K C S) (q : Machine L D T) (f : K �
       arrival-map w (m.address x) (m.octets x) (Some x) back
       ∙ (λ j. arrival_attempts q (map_world f g z w) (sym (a.address x) j) (sym (a.octets x) j) (Some (z x)))
 
-  none_back : (to : Address) → BackAt m q f g z a to None
-  none_back Address.CoreS1 = refl
-  none_back (Address.StationS1 station) = refl
-  none_back (Address.StationX2 station) = refl
-  none_back other = tt
-
   injection-map : (w : World K C S) (to : Address) (octets : List ℕ) (o : Option ℕ)
       → map_attempted f z (injection_attempts m w to octets o) ≡ injection_attempts q (map_world f g z w) to octets o
-  injection-map w to octets None = arrival-map w to octets None (none_back to)
+  injection-map w to octets None = arrival-map w to octets None (none_back m q f g z a to)
   injection-map w to octets (Some number) = refl
 
   attempted-map : (w : World K C S) (e : Event) → BackOf m q f g z a w e → map_attempted f z (attempted m w e) ≡ attempted q (map_world f g z w) e

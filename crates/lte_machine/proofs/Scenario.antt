@@ -7,15 +7,16 @@ use Rattle.annex_a_keys.specs.Cell.{Place}
 use Rattle.rec_base.specs.BigEndian.{number_at, number_of, field_at, octets_of}
 use Rattle.rec_base.specs.declared.ways.Way.{Way}
 use Rattle.rec_fields.specs.Field.{of_size, number_in, algs_at, caps_at, cell_at, rest_at}
+use Rattle.rec_fields.specs.Form.{read_as}
 use Rattle.lte_events.specs.{declared.acts.HoKind.HoKind, declared.acts.StationAct.StationAct, declared.acts.CoreAct.CoreAct, declared.answers.Answer.Answer, declared.classes.Class.Class, declared.events.Event.Event, declared.setups.FirstNcc.FirstNcc, declared.setups.Setup.Setup}
 use Rattle.lte_events.specs.declared.answers.Answer.TheVariants.{Done, MacFails}
 use Rattle.key_model.specs.{Least.least, HandoverTable.NumberedKey}
 use Rattle.key_model.specs.Term.{Term, Root, Kenb, Nh, Star, Alg}
 use Rattle.nas_count.specs.Estimate.{estimate_of}
-use Rattle.nas_rec.specs.Reading as nas_reading
+use Rattle.nas_rec.specs.Reading.{read_nas}
 use Rattle.nas_rec.specs.Spelling as nas_texts
 use Rattle.pdcp_guard.specs.{Counts.in_32_bits, Drb.drb_count, Srb.srb_count}
-use Rattle.rrc_rec.specs.Reading as rrc_reading
+use Rattle.rrc_rec.specs.Reading.{read_rrc}
 use Rattle.rrc_rec.specs.Spelling as rrc_texts
 use Rattle.s1x2_rec.specs.Fields.{Fields, kind_of}
 use Rattle.lte_machine.specs.{Wire.Outgoing, Opening.open_octets, Opening.open_foreign, CoreChoice.core_header, PhoneChoice.header_for_phone, Machines.machine_over, World.Machine, World.Line}
@@ -138,9 +139,8 @@ told events = briefs (report (open_octets toy) machine start events)
 -- what a run computes with
 unfoldable pub computing : Unit {0}
 unfolding least estimate_of has_bit choice_of are_supported number_of field_at number_at octets_of of_size number_in
-    algs_at caps_at cell_at rest_at nas_reading.command_of nas_reading.reject_of nas_reading.bare nas_reading.data_of
-    nas_reading.read_nas nas_texts.spelling_of rrc_reading.command_of rrc_reading.reconfiguration_of
-    rrc_reading.key_change_of rrc_reading.bare rrc_reading.data_of rrc_reading.read_rrc rrc_texts.spelling_of in_32_bits
+    algs_at caps_at cell_at rest_at read_as
+    read_nas nas_texts.spelling_of read_rrc rrc_texts.spelling_of in_32_bits
     srb_count drb_count header_for_phone core_header open_octets open_foreign nas_octets srb_octets drb_octets
 computing = tt
 

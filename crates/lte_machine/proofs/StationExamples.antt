@@ -9,13 +9,14 @@ use Rattle.rec_base.specs.declared.ways.Way.{Way}
 use Rattle.rec_base.specs.declared.ways.Way.TheVariants.{Given, Horizontal, Vertical, Completed}
 use Rattle.rec_base.specs.BigEndian.{number_at, number_of, field_at}
 use Rattle.rec_fields.specs.Field.{of_size, rest_at}
+use Rattle.rec_fields.specs.Form.{read_as}
 use Rattle.lte_events.specs.{declared.acts.HoKind.HoKind, declared.acts.StationAct.StationAct, declared.answers.Answer.Answer, Site.Site}
 use Rattle.lte_events.specs.declared.acts.StationAct.TheVariants.{Start, Command, Cancel, Ask, SendUser, SendRrc, Skip}
 use Rattle.lte_events.specs.declared.answers.Answer.TheVariants.{Done, BadHeader, MacFails, CountSpent, NoAlgorithm, WrongKind, NotAddressed, NoUe, Stale, OldConnection, NotActive, UnknownCell, NoPathSwitch, AttemptOpen, NoAttempt, CommandSent, Repeated, PrepFull, NotReady, NumberSpent}
 use Rattle.key_model.specs.{Least.least, Reading.term_reading}
 use Rattle.key_model.specs.Term.{Term, Root, Kenb, Nh, Star}
 use Rattle.pdcp_guard.specs.{Counts.in_32_bits, Drb.drb_count, Srb.srb_count}
-use Rattle.rrc_rec.specs.Reading.{read_rrc, command_of, reconfiguration_of, bare, data_of}
+use Rattle.rrc_rec.specs.Reading.{read_rrc}
 use Rattle.s1x2_rec.specs.Fields.{Fields, InitialContext, ContextRelease, PathSwitchAnswer, HandoverRequest, HandoverCommand, HandoverCancel, X2Request, X2Ack, X2Cancel, X2Release}
 use Rattle.lte_machine.specs.Opening.{Outcome, Opened, Differs}
 use Rattle.lte_machine.specs.StationState.{Station, StationInput, StationActs, AirPdu, StationRecord, Interface, OnS1, OnX2, first_station}
@@ -112,7 +113,7 @@ source_runs : run (first_of 0 1) source ≡
     ∷ says (Repeated 2 2) ∷ says NoAttempt ∷ says Done
     ∷ says Done ∷ says Done ∷ says Done ∷ says CountSpent ∷ says CommandSent ∷ says NoPathSwitch
     ∷ says Done ∷ says NoUe ∷ says NotAddressed ∷ []
-unfolding read_rrc command_of reconfiguration_of bare data_of of_size rest_at number_at number_of field_at srb_count in_32_bits least choice_of has_bit
+unfolding read_rrc read_as of_size rest_at number_at number_of field_at srb_count in_32_bits least choice_of has_bit
 source_runs = refl
 
 -- a target over X2 with the answer to its path switch request: the pair is used vertically within the station, goes back
@@ -139,7 +140,7 @@ target_runs : run (first_of 1 1) target ≡
     ∷ says NoAttempt ∷ says Done ∷ notes 2 Completed (Star nh2 11 101) ∷ says NotAddressed ∷ says Done
     ∷ notes 2 Horizontal (Star (Star nh2 11 101) 10 100) ∷ says (OldConnection 1 0)
     ∷ says (OldConnection 1 2) ∷ says Done ∷ says NoUe ∷ []
-unfolding read_rrc command_of reconfiguration_of bare data_of of_size rest_at number_at number_of field_at srb_count in_32_bits least choice_of has_bit
+unfolding read_rrc read_as of_size rest_at number_at number_of field_at srb_count in_32_bits least choice_of has_bit
 target_runs = refl
 
 -- an S1 handover at its source, where the stored pair stays, and at its target; cancels
@@ -163,7 +164,7 @@ over_s1_runs : run (first_of 0 1) over_s1 ≡
     ∷ says NoAttempt ∷ says (WrongKind 0x29)
     ∷ says Done ∷ notes 2 Vertical (Star nh2 10 100)
     ∷ notes 2 Completed (Star nh2 10 100) ∷ says NoPathSwitch ∷ says (Stale 0 1) ∷ []
-unfolding read_rrc command_of reconfiguration_of bare data_of of_size rest_at number_at number_of field_at srb_count in_32_bits least choice_of has_bit
+unfolding read_rrc read_as of_size rest_at number_at number_of field_at srb_count in_32_bits least choice_of has_bit
 over_s1_runs = refl
 
 -- the last two numbers: a handover within the station draws two or none; a preparation by X2 needs one more to complete
@@ -181,7 +182,7 @@ last_numbers_run : run (first_of 0 4294967294) last_numbers ≡
     ∷ says NumberSpent ∷ says NumberSpent ∷ says NumberSpent
     ∷ says Done ∷ says Done ∷ says Done
     ∷ says (BadHeader 0) ∷ says Done ∷ []
-unfolding read_rrc command_of reconfiguration_of bare data_of of_size rest_at number_at number_of field_at srb_count
+unfolding read_rrc read_as of_size rest_at number_at number_of field_at srb_count
     drb_count in_32_bits least choice_of has_bit
 last_numbers_run = refl
 
@@ -199,7 +200,7 @@ full_runs : run (first_of 0 1) full ≡
     notes 0 Given kenb ∷ notes 0 Given kenb ∷ notes 0 Given kenb ∷ notes 0 Given kenb
     ∷ notes 0 Given kenb ∷ notes 0 Given kenb ∷ notes 0 Given kenb ∷ notes 0 Given kenb ∷ says PrepFull
     ∷ notes 0 Given kenb ∷ says (OldConnection 2 1) ∷ says NotAddressed ∷ notes 0 Completed kenb ∷ []
-unfolding read_rrc command_of reconfiguration_of bare data_of of_size rest_at number_at number_of field_at srb_count in_32_bits least choice_of has_bit
+unfolding read_rrc read_as of_size rest_at number_at number_of field_at srb_count in_32_bits least choice_of has_bit
 full_runs = refl
 
 -- a preparation that becomes the context, over S1 and within the station, leaves no other
@@ -213,7 +214,7 @@ beside_s1 =
 beside_s1_runs : run (first_of 1 1) beside_s1 ≡
     notes 0 Given (Star kenb 11 101) ∷ notes 1 Vertical (Star nh1 11 101) ∷ notes 0 Given (Star kenb 11 101)
     ∷ notes 1 Completed (Star nh1 11 101) ∷ says NotAddressed ∷ says NotAddressed ∷ []
-unfolding read_rrc command_of reconfiguration_of bare data_of of_size rest_at number_at number_of field_at srb_count in_32_bits least choice_of has_bit
+unfolding read_rrc read_as of_size rest_at number_at number_of field_at srb_count in_32_bits least choice_of has_bit
 beside_s1_runs = refl
 
 abbrev within : List Input → List Input
@@ -224,12 +225,12 @@ within more =
 beside_within_runs : run (first_of 0 1) (within (act Command ∷ rrc 4 0 (4 ∷ []) ∷ rrc 2 0 (4 ∷ []) ∷ [])) ≡
     notes 0 Given kenb ∷ says Done ∷ notes 0 Given kenb ∷ notes 0 Horizontal (Star kenb 10 100)
     ∷ says Done ∷ notes 0 Completed (Star kenb 10 100) ∷ says NotAddressed ∷ []
-unfolding read_rrc command_of reconfiguration_of bare data_of of_size rest_at number_at number_of field_at srb_count in_32_bits least choice_of has_bit
+unfolding read_rrc read_as of_size rest_at number_at number_of field_at srb_count in_32_bits least choice_of has_bit
 beside_within_runs = refl
 
 -- a cancel within the station drops its own preparation and no other
 cancelled_within_runs : run (first_of 0 1) (within (act Cancel ∷ rrc 4 0 (4 ∷ []) ∷ rrc 2 0 (4 ∷ []) ∷ [])) ≡
     notes 0 Given kenb ∷ says Done ∷ notes 0 Given kenb ∷ notes 0 Horizontal (Star kenb 10 100)
     ∷ says Done ∷ says NotAddressed ∷ notes 0 Completed kenb ∷ []
-unfolding read_rrc command_of reconfiguration_of bare data_of of_size rest_at number_at number_of field_at srb_count in_32_bits least choice_of has_bit
+unfolding read_rrc read_as of_size rest_at number_at number_of field_at srb_count in_32_bits least choice_of has_bit
 cancelled_within_runs = refl

@@ -14,14 +14,14 @@ use Rattle.ho_prep.specs.declared.origins.By.{By}
 use Rattle.x2_handover.specs.declared.orders.Order.{Order}
 use Rattle.lte_machine.specs.Bearers.{Srb, Drb, Which}
 use Rattle.lte_machine.specs.{Wire.map_outgoing, Reply.Origin, Reply.finished}
-use Rattle.lte_machine.specs.Opening.{Opening, OpensNothing, OpensNas, OpensSrb, OpensDrb, Outcome, Opened as Came, Differs, accepted_of}
+use Rattle.lte_machine.specs.Opening.{Outcome, accepted_of}
 use Rattle.lte_machine.specs.StationState.{Station, Context, Via, Attempt, SourceKeys, StationInput, StationActs, AirPdu, StationRecord, map_source_keys, map_attempt, map_context, map_station, map_read, map_station_input}
 use Rattle.lte_machine.specs.StationRows.{Admitted, RecordRow, ContextGiven, PairTaken, PreparedByS1, PreparedByX2, AttemptAnswered, PreparationCancelled, AirRow, AirRefused, SecurityStarted, RrcOpened, PacketOpened, CompletedByS1, CompletedWithin, CompletedByX2, ActRow, ActRefused, StartedByX2, StartedByS1, StartedWithin, OrderSent, CancelledByX2, CancelledByS1, CancelledWithin, PathSwitchAsked, PacketSent, RrcSent, BearerSkipped, StationRow, OfRecord, OfAir, OfAct, KeyRenewed}
 use Rattle.lte_machine.specs.StationChoice.{AirFront, AirSettled, OnStarting, OnSignalling, OnUser, OnPrepared, StationFront, Settled, FromAir, station_front, station_row}
 use Rattle.lte_machine.specs.StationKeys as keys
 use Rattle.lte_machine.specs.StationRecords as record_keys
 use Rattle.lte_machine.specs.StationStep.{key_read, station_key, station_front_of, station_opens, station_row_of, station_step}
-use Rattle.lte_machine.proofs.{StationPlain.station_plain, StationPlain.input_plain, MapSteps.map_opening, MapSteps.map_station_done}
+use Rattle.lte_machine.proofs.{StationPlain.station_plain, StationPlain.input_plain, MapSteps.map_opening, MapSteps.map_station_done, MapSteps.accepted-map, MapSteps.received-map}
 use Rattle.nh_chain.proofs.CarryFacts.{map_opened}
 use Rattle.ho_prep.proofs.CarryFacts.{at_air-map, without-map, drop_below-map}
 use Rattle.std.proofs.lemmas.List.{map-append}
@@ -404,20 +404,6 @@ module _ {K C L D : Type 0} {r : Reading K C} {q : Reading L D} {f : K → L} {g
   station_key_map (AirPdu air bearer pdu) = refl
   station_key_map (StationRecord interface read) = key_read_map read
 
-  accepted_map : (opening : Opening K) (outcome : Outcome) →
-      option_map (map_use f) (accepted_of opening outcome) ≡ accepted_of (map_opening f opening) outcome
-  accepted_map OpensNothing outcome = refl
-  accepted_map (OpensNas u e) (Came text) = refl
-  accepted_map (OpensNas u e) (Differs wanted got) = refl
-  accepted_map (OpensSrb u e) (Came text) = refl
-  accepted_map (OpensSrb u e) (Differs wanted got) = refl
-  accepted_map (OpensDrb e) outcome = refl
-
-  received_map : (o : Option (NumberedKey K C)) →
-      option_map f (option_map (λ x. x.key) o) ≡ option_map (λ x. x.key) (option_map (map_numbered f g) o)
-  received_map None = refl
-  received_map (Some x) = refl
-
   does_step_map : (s : Station K C) (i : StationInput K C) (outcome : Outcome) →
       map_station_done f g (keys.station_does r (station_row_of r s i outcome) (station_key i) s)
       ≡ keys.station_does q (station_row_of q (map_station f g s) (map_station_input f g i) outcome)
@@ -430,11 +416,11 @@ module _ {K C L D : Type 0} {r : Reading K C} {q : Reading L D} {f : K → L} {g
       option_map (map_use f) (accepted_of (station_opens r s i) outcome)
       ≡ accepted_of (station_opens q (map_station f g s) (map_station_input f g i)) outcome
   accepted_step_map s i outcome =
-      accepted_map (station_opens r s i) outcome ∙ (λ j. accepted_of (station_opens_map s i j) outcome)
+      accepted-map f (station_opens r s i) outcome ∙ (λ j. accepted_of (station_opens_map s i j) outcome)
 
   received_step_map : (i : StationInput K C) →
       option_map f (option_map (λ x. x.key) (station_key i)) ≡ option_map (λ x. x.key) (station_key (map_station_input f g i))
-  received_step_map i = received_map (station_key i) ∙ (λ j. option_map (λ x. x.key) (station_key_map i j))
+  received_step_map i = received-map f g (station_key i) ∙ (λ j. option_map (λ x. x.key) (station_key_map i j))
 
   pub station_step_map : (s : Station K C) (i : StationInput K C) (outcome : Outcome) →
       map_station_done f g (station_step r s i outcome)

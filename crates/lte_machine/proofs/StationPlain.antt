@@ -1,13 +1,12 @@
 -- A station and its inputs look the same to the choice of a row in every reading.
-use Rattle.std.specs.Prelude.{◌≡◌, List, [], ◌∷◌, Option, Some, None, option_map, Result, Ok, Err}
+use Rattle.std.specs.Prelude.{◌≡◌, List, [], ◌∷◌, Option, Some, None, option_map}
 use Rattle.std.proofs.Common.{refl, ap}
-use Rattle.key_model.specs.{Reading.Reading, Reading.Carries, HandoverTable.NumberedKey, HandoverLines.map_numbered}
-use Rattle.rec_base.specs.declared.faults.RecFault.{RecFault}
+use Rattle.key_model.specs.{Reading.Reading, Reading.Carries, HandoverTable.NumberedKey}
 use Rattle.nh_chain.specs.Station.{StationKey, map_pair, map_station_key}
-use Rattle.s1x2_rec.specs.Content.{Content, map_content}
 use Rattle.ho_prep.specs.Prep.{Prep, map_prep}
 use Rattle.lte_machine.specs.{Reply.unseen, StationStep.plain_station}
-use Rattle.lte_machine.specs.StationState.{Context, Attempt, SourceKeys, Station, StationInput, StationActs, AirPdu, StationRecord, map_source_keys, map_attempt, map_context, map_preps, map_station, map_read, map_station_input}
+use Rattle.lte_machine.proofs.MapSteps.{read_plain}
+use Rattle.lte_machine.specs.StationState.{Context, Attempt, SourceKeys, Station, StationInput, StationActs, AirPdu, StationRecord, map_source_keys, map_attempt, map_context, map_preps, map_station, map_station_input}
 
 module _ {K C L D : Type 0} {r : Reading K C} {q : Reading L D} {f : K → L} {g : C → D} (c : Carries r q f g) where
   pair_plain : (pair : Option (NumberedKey K C)) → map_pair unseen q.ncc (map_pair f g pair) ≡ map_pair unseen r.ncc pair
@@ -47,21 +46,8 @@ module _ {K C L D : Type 0} {r : Reading K C} {q : Reading L D} {f : K → L} {g
   pub station_plain : (s : Station K C) → plain_station q (map_station f g s) ≡ plain_station r s
   station_plain s = rw (context_option_plain s.context, preps_plain s.preps) refl
 
-  content_key_plain : (o : Option (NumberedKey K C)) →
-      option_map (map_numbered unseen q.ncc) (option_map (map_numbered f g) o) ≡ option_map (map_numbered unseen r.ncc) o
-  content_key_plain None = refl
-  content_key_plain (Some x) = rw (c.ncc x.number) refl
-
-  content_plain : (x : Content K C) → map_content unseen q.ncc (map_content f g x) ≡ map_content unseen r.ncc x
-  content_plain x = λ j. record { fields = x.fields; key = content_key_plain x.key j }
-
-  read_plain : (read : Result (Content K C) RecFault) →
-      map_read unseen q.ncc (map_read f g read) ≡ map_read unseen r.ncc read
-  read_plain (Ok content) = ap Ok (content_plain content)
-  read_plain (Err fault) = refl
-
   pub input_plain : (i : StationInput K C) →
       map_station_input unseen q.ncc (map_station_input f g i) ≡ map_station_input unseen r.ncc i
   input_plain (StationActs act) = refl
   input_plain (AirPdu air bearer pdu) = refl
-  input_plain (StationRecord interface read) = ap (StationRecord interface) (read_plain read)
+  input_plain (StationRecord interface read) = ap (StationRecord interface) (read_plain c read)

@@ -1,10 +1,10 @@
 -- The run in octets is the value of the run of the written machine, for every setup and every list of events.
 use Rattle.std.proofs.Common.{◌≡◌, refl, ap, sym, ◌∙◌, ℕ, List, [], ◌∷◌, map, Option, Some, None}
 use Rattle.std.specs.List.{AllByRecursion as AllOf}
-use Rattle.rec_base.specs.declared.uses.Dir.TheVariants.{Up, Down}
+use Rattle.rec_base.specs.declared.uses.Dir.TheVariants.{Up}
 use Rattle.lte_events.specs.{declared.addresses.Address.Address, declared.events.Event.Event, declared.setups.Setup.Setup, declared.setups.StationSetup.StationSetup, Site.Site, Ranges.IsEvent, Ranges.IsSetup}
 use Rattle.key_model.specs.{Chain.ncc_of, Term.Term, Term.Root, Value.value_of, Value.same_value}
-use Rattle.lte_machine.specs.Wire.{Outgoing, SealedNas, PlainNas, SealedRrc, UserPacket, Between, address_of}
+use Rattle.lte_machine.specs.Wire.{Outgoing, SealedNas, SealedRrc, UserPacket, Between, address_of}
 use Rattle.lte_machine.specs.Ciphers.{Ciphers, under_keys, octets_of}
 use Rattle.lte_machine.specs.{Opening.open_octets, StationState.first_station}
 use Rattle.lte_machine.specs.Carried.{map_stations, run_value, report_value}
@@ -39,19 +39,12 @@ module _ (c : Ciphers (List ℕ)) where
   -- a record that comes to its address
   record_back : (x : Outgoing Term ℕ) → RecordRanged x → BackAt m q value_of ncc_of (kept_in_values c) (agree c) (address_of x) (Some x)
   record_back (SealedNas Up header u e text) h = tt
-  record_back (SealedNas Down header u e text) h = tt
-  record_back (PlainNas octets) h = tt
   record_back (SealedRrc Up station air srb u e text) h = tt
-  record_back (SealedRrc Down station air srb u e text) h = tt
   record_back (UserPacket Up station air drb e text) h = tt
-  record_back (UserPacket Down station air drb e text) h = tt
-  record_back (Between Address.PhoneNas fields key) h = tt
-  record_back (Between (Address.Phone station air bearer) fields key) h = tt
-  record_back (Between Address.CoreNas fields key) h = tt
   record_back (Between Address.CoreS1 fields key) h = reads_back fields key h.0 h.1
-  record_back (Between (Address.StationAir station air bearer) fields key) h = tt
   record_back (Between (Address.StationS1 station) fields key) h = reads_back fields key h.0 h.1
   record_back (Between (Address.StationX2 station) fields key) h = reads_back fields key h.0 h.1
+  record_back other h = tt
 
   sent_back : (o : Option (Outgoing Term ℕ)) → SentRanged o → BackIf m q value_of ncc_of (kept_in_values c) (agree c) o
   sent_back None h = tt

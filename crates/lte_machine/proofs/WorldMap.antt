@@ -291,15 +291,15 @@ module _ {K C S L D T : Type 0} (m : Machine K C S) (q : Machine L D T) (f : K �
       is_sent_same : is_sent m class octets x ≡ is_sent q class octets (z x)
       is_sent_same = λ j. same_class class (class_of (sym (a.address x) j)) && bytes_eq (told_in class octets) (told_in class (sym (a.octets x) j))
 
-  injected_back : (to : Address) → BackAt to None
-  injected_back Address.CoreS1 = refl
-  injected_back (Address.StationS1 station) = refl
-  injected_back (Address.StationX2 station) = refl
-  injected_back other = tt
+  pub none_back : (to : Address) → BackAt to None
+  none_back Address.CoreS1 = refl
+  none_back (Address.StationS1 station) = refl
+  none_back (Address.StationX2 station) = refl
+  none_back other = tt
 
   injected-map : (w : World K C S) (to : Address) (octets : List ℕ) (o : Option ℕ)
       → map_told f g z (injected m w to octets o) ≡ injected q (map_world f g z w) to octets o
-  injected-map w to octets None = arrives-map w to octets None (injected_back to)
+  injected-map w to octets None = arrives-map w to octets None (none_back to)
   injected-map w to octets (Some number) = by_world-map w (Sent number)
 
   -- of the records that an event may deliver

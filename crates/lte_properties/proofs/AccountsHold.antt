@@ -128,12 +128,7 @@ module _ {K C S : Type 0} (m : Machine K C S) (w : World K C S) where
 
   no_key : (to : Address) → key_at to (content_in m None) ≡ None
   no_key Address.PhoneNas = refl
-  no_key (Address.Phone station air bearer) = refl
-  no_key Address.CoreNas = refl
-  no_key Address.CoreS1 = refl
-  no_key (Address.StationAir station air bearer) = refl
-  no_key (Address.StationS1 station) = refl
-  no_key (Address.StationX2 station) = refl
+  no_key other = refl
 
   delivered_gains : (o : Option S) → Gains m w (key_of_record m o) (delivery m w o)
   delivered_gains None = none_gains None NoRecord

@@ -188,7 +188,7 @@ module _ (setup : Setup) (events : List Event) where
   one_key x m l n a b same = (a.0, b.0, a.2, b.2, a.3 ∙ same.0 ∙ sym b.3, a.4 ∙ ap ncc_of same.1 ∙ sym b.4)
 
   took_it : (x : Took Term ℕ) (m : Made Term ℕ) (came : Came Term ℕ) → ObeysMade x came m → ahead m came < 8 → (x.key ≡ m.key) × (x.number ≡ m.number)
-  took_it x m Secured o low = (o.0.0, o.0.1)
+  took_it x m Secured ((key, number, _), _) low = (key, number)
   took_it x m (Commanded before) o low = let same = o.near low in (same.0, same.1)
   took_it x m (Changed before root) o low = let same = o.near low in (same.0, same.1)
 

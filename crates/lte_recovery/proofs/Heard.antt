@@ -90,9 +90,9 @@ module _ (c : Ciphers Term) (between : Fields → Option (NumberedKey Term ℕ) 
         → by_terms c (OpensNas u e) pdu came ≡ Opened text
         → AnyOf (IsUnder u) w.sent
     opened_sent u e pdu text None here is h = absurd (foreign_closed u e pdu text h)
-    opened_sent u e pdu text (Some (SealedNas Up header i f sent)) here is h =
-        any_member (IsUnder u) (SealedNas Up header i f sent) w.sent is.1
-        (judged_so u i e pdu text sent (same_uses same_value u i) (same_ciphering same_value e f) refl here is.2.0 h)
+    opened_sent u e pdu text (Some (SealedNas Up header i f sent)) here (_, member, (reported, _)) h =
+        any_member (IsUnder u) (SealedNas Up header i f sent) w.sent member
+        (judged_so u i e pdu text sent (same_uses same_value u i) (same_ciphering same_value e f) refl here reported h)
     opened_sent u e pdu text (Some (SealedNas Down header i f sent)) here is h = let bad = is.0 in absurd cc
     opened_sent u e pdu text (Some (PlainNas octets)) here is h = absurd (foreign_closed u e pdu text h)
     opened_sent u e pdu text (Some (SealedRrc Up station air srb i f sent)) here is h = let bad = is.0 in absurd cc
@@ -142,10 +142,10 @@ module _ (c : Ciphers Term) (between : Fields → Option (NumberedKey Term ℕ) 
       opens count x k =
           let expects : core_opens r w.core (CoreNasPdu pdu) ≡ opens_by_context (Some k.by.context) k.header count =
           ap (λ f. core_nas_expects f w.core) k.front ∙ ap (λ o. opens_by_context o k.header count) k.by.in_use in
-          let known = subst (λ o. CoreContextKnown (IsReported w) o) k.by.in_use g.keys.core.2 in
+          let (_, (_, int)) = subst (λ o. CoreContextKnown (IsReported w) o) k.by.in_use g.keys.core.2 in
           subst (λ o. IfSome o (λ b. AnyOf (IsUnder (nas_use Up b.nas.keys.int count)) w.sent)) (sym k.by.in_use)
           (opened_sent (nas_use Up k.by.context.nas.keys.int count)
-          (ciphering_if (is_ciphered k.header) (nas_ciphering Up k.by.context.nas.keys count)) pdu k.text came known.1.1 is
+          (ciphering_if (is_ciphered k.header) (nas_ciphering Up k.by.context.nas.keys count)) pdu k.text came int is
           (ap (λ o. by_terms c o pdu came) (sym expects) ∙ k.opened))
 
       row_sent : (row : CoreNasRow) → NasHas r w.core pdu outcome row → Sent w.core row
@@ -237,7 +237,7 @@ sent_use Q u (x ∷ xs) all (inl h) = at x h (all_parts Q (uses_of x) (flat_map 
   where
     at : (x : Outgoing Term ℕ) → IsUnder u x → AllOf Q (uses_of x) → Q u
     at (SealedNas Up header i None text) h all = subst Q (sym h) all.0
-    at (SealedNas Up header i (Some e) text) h all = subst Q (sym h) all.1.0
+    at (SealedNas Up header i (Some e) text) h (_, (integrity, _)) = subst Q (sym h) integrity
     at (SealedNas Down header i e text) h all = absurd h
     at (PlainNas octets) h all = absurd h
     at (SealedRrc dir station air srb i e text) h all = absurd h

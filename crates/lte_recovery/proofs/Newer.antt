@@ -38,8 +38,8 @@ module _ (same : Term → Term → Bool) (g : Ghost) (s : Station Term ℕ) (low
     given = λ conn cell caps algs air kenb k. (subst (λ x. BetweenOk g to x (Some kenb)) k.0.fields_is k.1).0;
     released = λ key k. low;
     taken = λ conn origin pair k. low;
-    by_s1 = λ w pair k. (subst (λ x. BetweenOk g to x (Some pair)) k.0.fields_is k.1).0.0;
-    by_x2 = λ w star k. (subst (λ x. BetweenOk g to x (Some star)) k.0.fields_is k.1).0.0;
+    by_s1 = λ w pair k. let (is_drawn, _) = subst (λ x. BetweenOk g to x (Some pair)) k.0.fields_is k.1 in is_drawn.0;
+    by_x2 = λ w star k. let (is_drawn, _) = subst (λ x. BetweenOk g to x (Some star)) k.0.fields_is k.1 in is_drawn.0;
     answered = λ order key k. low;
     cancelled = λ from key k. low;
     left = λ key k. low;

@@ -41,9 +41,9 @@ module _ (setup : Setup) (events : List Event) (set : IsSetup setup) (are : AllO
   by_values = ((λ u e pdu came. refl), (same_value, λ u e pdu came. refl))
 
   -- both invariants hold in the world
-  pub stands : Stands same_value sender_of (by_terms annex_b_terms) annex_b_terms good written_in_values setup.cells w
+  pub stands : Stands setup.cells w
   stands =
-      subst (Stands same_value sender_of (by_terms annex_b_terms) annex_b_terms good written_in_values setup.cells)
+      subst (Stands setup.cells)
       (sym (run_by_terms annex_b_terms written_in_values (open_octets annex_b_terms) setup events w is))
       (run_stands same_value sender_of (by_terms annex_b_terms) annex_b_terms good written_in_values setup.cells (cells_of setup set) (λ conn. 0) (first_world setup)
       events (first_holds setup) (first_stands setup set) are
@@ -54,7 +54,7 @@ module _ (setup : Setup) (events : List Event) (set : IsSetup setup) (are : AllO
 
   -- CELLS
   pub core_cells : w.core.cells ≡ setup.cells
-  core_cells = stands.1.core.2
+  core_cells = stands.agrees.core.2
 
   -- ONE CHOICE of NAS keys for a KASME
   phone_context : (o : Option (NasContext Term)) (g : Choices) (n : ℕ) (c : NasContext Term) → PhoneContextOk g n o → o ≡ Some c → ContextOk g n c
@@ -67,8 +67,8 @@ module _ (setup : Setup) (events : List Event) (set : IsSetup setup) (are : AllO
 
   pub same_keys : (p : NasContext Term) (k : CoreContext Term) → w.phone.context ≡ Some p → w.core.context ≡ Some k → k.nas.root ≡ p.root → k.nas.keys ≡ p.keys
   same_keys p k at_phone at_core root =
-      let g = stands.2.0 in
-      let ok = stands.2.1 in
+      let g = stands.choices in
+      let ok = stands.packets in
       let a = phone_context w.phone.context g (next_root w) p ok.phone.1 at_phone in
       let b = core_context w.core.context g (next_root w) k ok.core.2 at_core in
       let algs : k.nas.keys.algs ≡ p.keys.algs =
@@ -78,13 +78,13 @@ module _ (setup : Setup) (events : List Event) (set : IsSetup setup) (are : AllO
   -- the COUNT that the core expects is not above the phone's next one
   pub in_order : (p : NasContext Term) (k : CoreContext Term) → w.phone.context ≡ Some p → w.core.context ≡ Some k → k.nas.root ≡ p.root → k.nas.receive ≤ p.send
   in_order p k at_phone at_core root =
-      let b = core_context w.core.context stands.2.0 (next_root w) k stands.2.1.core.2 at_core in
+      let b = core_context w.core.context stands.choices (next_root w) k stands.packets.core.2 at_core in
       least setup events w is p k at_phone at_core root (ap (λ (x : Keys Term). x.int) b.1 ∙ ap (λ t. Alg t 2 eia2_identity) root)
 
   -- the station of a cell knows it as its own, and has its numbers in range
   pub station_ok : (id : ℕ) (s : Station Term ℕ) → station_of_id id w.stations ≡ Some s → (s.cells ≡ setup.cells) × (s.id ≤ 7) × (1 ≤ s.next)
   station_ok id s there =
-      let ok = found_is (StationOk setup.cells (ghost stands.0 w)) id w.stations s stands.1.stations there in (ok.cells, ok.id, ok.next)
+      let ok = found_is (StationOk setup.cells (ghost stands.conns w)) id w.stations s stands.agrees.stations there in (ok.cells, ok.id, ok.next)
 
   -- THE CORE'S NEXT NUMBER is above all that a station saw
   pub all_below : AllOf (λ s. s.last < w.core.next) w.stations

@@ -1,8 +1,8 @@
 -- Each form of body as a layout.
-use Rattle.std.proofs.Common.{◌≡◌, ℕ, Option, Some, None, refl}
+use Rattle.std.proofs.Common.{◌≡◌, ℕ, Option, Some, refl}
 use Rattle.rec_base.specs.Bearer.{IsSrb, IsDrb, octet_of}
 use Rattle.rec_base.specs.declared.bearers.Bearer.{Bearer}
-use Rattle.rec_base.specs.declared.bearers.Bearer.TheVariants.{Srb1, Srb2, Drb1, Drb2, Drb3, Drb4}
+use Rattle.rec_base.specs.declared.bearers.Bearer.TheVariants.{Srb1, Srb2}
 use Rattle.alg_choice.specs.{declared.algs.Eea.Eea, Algs.identity_of}
 use Rattle.alg_choice.specs.declared.algs.Eea.TheVariants.{Eea0, Eea2}
 use Rattle.lte_events.specs.declared.acts.HoKind.{HoKind}
@@ -17,10 +17,7 @@ use Rattle.role_wire.proofs.Layouts.{IsLaidOut, of_layout}
 drb_again : (b : Bearer) → IsDrb b → coded drbs (octet_of b) ≡ Some b
 drb_again Srb1 h = absurd h
 drb_again Srb2 h = absurd h
-drb_again Drb1 h = refl
-drb_again Drb2 h = refl
-drb_again Drb3 h = refl
-drb_again Drb4 h = refl
+drb_again other h = refl
 
 pub drb_coding : IsCoding octet_of IsDrb drbs
 drb_coding = record { are = (refl, tt, (refl, tt, (refl, tt, (refl, tt, tt)))); again = drb_again }
@@ -28,33 +25,21 @@ drb_coding = record { are = (refl, tt, (refl, tt, (refl, tt, (refl, tt, tt)))); 
 srb_again : (b : Bearer) → IsSrb b → coded srbs (octet_of b) ≡ Some b
 srb_again Srb1 h = refl
 srb_again Srb2 h = refl
-srb_again Drb1 h = absurd h
-srb_again Drb2 h = absurd h
-srb_again Drb3 h = absurd h
-srb_again Drb4 h = absurd h
+srb_again other h = absurd h
 
 pub srb_coding : IsCoding octet_of IsSrb srbs
 srb_coding = record { are = (refl, tt, (refl, tt, tt)); again = srb_again }
 
 bearer_again : (b : Bearer) → Unit {0} → coded bearers (octet_of b) ≡ Some b
 bearer_again Srb1 h = refl
-bearer_again Srb2 h = refl
-bearer_again Drb1 h = refl
-bearer_again Drb2 h = refl
-bearer_again Drb3 h = refl
-bearer_again Drb4 h = refl
+bearer_again other h = refl
 
 pub bearer_coding : IsCoding octet_of (λ b. Unit {0}) bearers
 bearer_coding = record { are = (refl, tt, (refl, tt, (refl, tt, (refl, tt, (refl, tt, (refl, tt, tt)))))); again = bearer_again }
 
 skip_again : (b : Option Bearer) → Unit {0} → coded nas_or_bearer (skip_octet b) ≡ Some b
-skip_again None h = refl
 skip_again (Some Srb1) h = refl
-skip_again (Some Srb2) h = refl
-skip_again (Some Drb1) h = refl
-skip_again (Some Drb2) h = refl
-skip_again (Some Drb3) h = refl
-skip_again (Some Drb4) h = refl
+skip_again other h = refl
 
 pub skip_coding : IsCoding skip_octet (λ b. Unit {0}) nas_or_bearer
 skip_coding = record { are = (refl, tt, (refl, tt, (refl, tt, (refl, tt, (refl, tt, (refl, tt, (refl, tt, tt))))))); again = skip_again }
@@ -93,7 +78,7 @@ auth_form = of_layout auth_body (small_is_field 6, key_is_field) (λ vs. (vs.0, 
 pub auth_caps_form : IsLaidOut auth_caps_of auth_caps_body (λ x. (x.0, (x.1, x.2)))
 unfolding auth_caps_of
 auth_caps_form =
-    of_layout auth_caps_body (small_is_field 6, (key_is_field, caps_is_field)) (λ vs. (vs.0, vs.1.0, vs.1.1))
+    of_layout auth_caps_body (small_is_field 6, (key_is_field, caps_is_field)) (λ (ksi, (kasme, caps)). (ksi, kasme, caps))
     (λ x. (x.0, (x.1, x.2))) (λ vs. refl) (λ x. refl)
 
 pub pdu_form : IsLaidOut pdu_of pdu_body (λ x. x)
@@ -109,12 +94,12 @@ air_fields = (word_is_field 0, (code_is_field octet_of (λ b. Unit {0}) bearers 
 
 pub air_form : IsLaidOut air_of air_body (λ x. (x.0, (x.1, x.2)))
 unfolding air_of
-air_form = of_layout air_body air_fields (λ vs. (vs.0, vs.1.0, vs.1.1)) (λ x. (x.0, (x.1, x.2))) (λ vs. refl) (λ x. refl)
+air_form = of_layout air_body air_fields (λ (air, (bearer, pdu)). (air, bearer, pdu)) (λ x. (x.0, (x.1, x.2))) (λ vs. refl) (λ x. refl)
 
 pub station_air_form : IsLaidOut station_air_of station_air_body (λ x. (x.0, (x.1, (x.2, x.3))))
 unfolding station_air_of
 station_air_form =
-    of_layout station_air_body (small_is_field 7, air_fields) (λ vs. (vs.0, vs.1.0, vs.1.1.0, vs.1.1.1))
+    of_layout station_air_body (small_is_field 7, air_fields) (λ (station, (air, (bearer, pdu))). (station, air, bearer, pdu))
     (λ x. (x.0, (x.1, (x.2, x.3)))) (λ vs. refl) (λ x. refl)
 
 pub user_form : IsLaidOut user_of user_body (λ x. (x.0, x.1))

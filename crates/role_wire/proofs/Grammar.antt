@@ -45,7 +45,7 @@ phone_are = (
   (
     row phone_octets PhoneFits 0x02 PhoneIn.Nas pdu_form (λ pdu. refl) (λ pdu h. (tt, h)),
     (
-      row phone_octets PhoneFits 0x03 (λ a. PhoneIn.Air a.0 a.1 a.2 a.3) station_air_form (λ a. refl) (λ a h. (h.0, (h.1.0.1, h.1.1.1))),
+      row phone_octets PhoneFits 0x03 (λ a. PhoneIn.Air a.0 a.1 a.2 a.3) station_air_form (λ a. refl) (λ a (low, ((_, bearer), (_, pdu))). (low, (bearer, pdu))),
       (
         row phone_octets PhoneFits 0x10 (λ none. PhoneIn.Act PhoneAct.ServiceRequest) nothing_form (λ none. refl) (λ none h. (tt, tt)),
         (
@@ -58,7 +58,7 @@ phone_are = (
                 row phone_octets PhoneFits 0x14 (λ r. PhoneIn.Act (PhoneAct.SendRrc r.0 r.1)) rrc_form (λ r. refl) (λ r h. h),
                 (
                   row phone_octets PhoneFits 0x15 (λ text. PhoneIn.Act (PhoneAct.SendNas text)) nas_form (λ text. refl) (λ text h. (tt, h)),
-                  (row phone_octets PhoneFits 0x16 (λ s. PhoneIn.Act (PhoneAct.Skip s.0 s.1)) skip_any_form (λ s. refl) (λ s h. (tt, h.1.1)), tt),
+                  (row phone_octets PhoneFits 0x16 (λ s. PhoneIn.Act (PhoneAct.Skip s.0 s.1)) skip_any_form (λ s. refl) (λ s (_, (_, n)). (tt, n)), tt),
                 ),
               ),
             ),
@@ -73,7 +73,7 @@ station_are : AreRows station_octets (λ x. StationTakes x × StationInSized x) 
 unfolding octets_of
 station_are =
     let P : StationIn → Type 0 = λ x. StationTakes x × StationInSized x in (
-      row station_octets P 0x03 (λ a. StationIn.Air a.0 a.1 a.2) air_form (λ a. refl) (λ a h. (tt, (h.0.1, h.1.1))),
+      row station_octets P 0x03 (λ a. StationIn.Air a.0 a.1 a.2) air_form (λ a. refl) (λ a ((_, bearer), (_, pdu)). (tt, (bearer, pdu))),
       (
         row station_octets P 0x04 StationIn.S1 pdu_form (λ pdu. refl) (λ pdu h. (tt, h)),
         (
@@ -83,7 +83,7 @@ station_are =
             (
               row station_octets P 0x14 (λ r. StationIn.Act (StationAct.SendRrc r.0 r.1)) rrc_form (λ r. refl) (λ r h. h),
               (
-                row station_octets P 0x16 (λ s. StationIn.Act (StationAct.Skip s.0 s.1)) skip_bearer_form (λ s. refl) (λ s h. (tt, h.1.1)),
+                row station_octets P 0x16 (λ s. StationIn.Act (StationAct.Skip s.0 s.1)) skip_bearer_form (λ s. refl) (λ s (_, (_, n)). (tt, n)),
                 (
                   row station_octets P 0x30 (λ s. StationIn.Act (StationAct.Start s.0 s.1)) start_form (λ s. refl) (λ s h. (tt, h.1)),
                   (
@@ -105,7 +105,7 @@ core_are : AreRows core_octets (λ x. CoreTakes x × CoreInSized x) core_rows
 unfolding octets_of
 core_are =
     let P : CoreIn → Type 0 = λ x. CoreTakes x × CoreInSized x in (
-      row core_octets P 0x01 (λ a. CoreIn.Auth a.0 a.1 a.2) auth_caps_form (λ a. refl) (λ a h. (h.0, (h.1.0, h.1.1))),
+      row core_octets P 0x01 (λ a. CoreIn.Auth a.0 a.1 a.2) auth_caps_form (λ a. refl) (λ a h. h),
       (
         row core_octets P 0x02 CoreIn.Nas pdu_form (λ pdu. refl) (λ pdu h. (tt, h)),
         (
@@ -113,7 +113,7 @@ core_are =
           (
             row core_octets P 0x15 (λ text. CoreIn.Act (CoreAct.SendNas text)) nas_form (λ text. refl) (λ text h. (tt, h)),
             (
-              row core_octets P 0x16 (λ s. CoreIn.Act (CoreAct.Skip s.1)) skip_nas_form (λ s. refl) (λ s h. (tt, h.1.1)),
+              row core_octets P 0x16 (λ s. CoreIn.Act (CoreAct.Skip s.1)) skip_nas_form (λ s. refl) (λ s (_, (_, n)). (tt, n)),
               (
                 row core_octets P 0x20 (λ none. CoreIn.Act CoreAct.StartSmc) nothing_form (λ none. refl) (λ none h. (tt, tt)),
                 (
@@ -153,27 +153,27 @@ pub body_found : (role : Role) (first : Bool) (octets : List ℕ) (frame : Frame
 unfolding body_of body_spelling
 body_found role true octets frame is fit e =
     let a = bind_ok (body_by (setup_rows role) octets) (λ setup. Ok (Setup setup)) frame e in
-    let t = read_takes setup_octets (SetupOf role) (setup_rows role) octets a.0 (setup_are role) fit a.1 in
-    subst (FrameFound role true octets) (ok_is (Setup a.0) frame a.2) (t.0, record { of = t.1.1; input = t.1.0.0; sized = t.1.0.1 })
+    let (spelled, ((input, sized), of)) = read_takes setup_octets (SetupOf role) (setup_rows role) octets a.0 (setup_are role) fit a.1 in
+    subst (FrameFound role true octets) (ok_is (Setup a.0) frame a.2) (spelled, record { of = of; input = input; sized = sized })
 body_found Role.Phone false octets frame is fit e =
     let a = bind_ok (input_of Role.Phone octets) (λ input. Ok (Input input)) frame e in
     let b = bind_ok (body_by phone_rows octets) (λ input. Ok (ActorIn.Phone input)) a.0 a.1 in
-    let t = read_takes phone_octets PhoneFits phone_rows octets b.0 phone_are fit b.1 in
+    let (spelled, (input, sized)) = read_takes phone_octets PhoneFits phone_rows octets b.0 phone_are fit b.1 in
     let input_is = ok_is (ActorIn.Phone b.0) a.0 b.2 in
-    subst (FrameFound Role.Phone false octets) (ap Input input_is ∙ ok_is (Input a.0) frame a.2) (t.0, record { of = tt; input = t.1.0; sized = t.1.1 })
+    subst (FrameFound Role.Phone false octets) (ap Input input_is ∙ ok_is (Input a.0) frame a.2) (spelled, record { of = tt; input = input; sized = sized })
 body_found (Role.Station id) false octets frame is fit e =
     let a = bind_ok (input_of (Role.Station id) octets) (λ input. Ok (Input input)) frame e in
     let b = bind_ok (body_by station_rows octets) (λ input. Ok (ActorIn.Station id input)) a.0 a.1 in
-    let t = read_takes station_octets (λ x. StationTakes x × StationInSized x) station_rows octets b.0 station_are fit b.1 in
+    let (spelled, (input, sized)) = read_takes station_octets (λ x. StationTakes x × StationInSized x) station_rows octets b.0 station_are fit b.1 in
     let input_is = ok_is (ActorIn.Station id b.0) a.0 b.2 in
     subst (FrameFound (Role.Station id) false octets) (ap Input input_is ∙ ok_is (Input a.0) frame a.2)
-    (t.0, record { of = refl; input = (is, t.1.0); sized = t.1.1 })
+    (spelled, record { of = refl; input = (is, input); sized = sized })
 body_found Role.Core false octets frame is fit e =
     let a = bind_ok (input_of Role.Core octets) (λ input. Ok (Input input)) frame e in
     let b = bind_ok (body_by core_rows octets) (λ input. Ok (ActorIn.Core input)) a.0 a.1 in
-    let t = read_takes core_octets (λ x. CoreTakes x × CoreInSized x) core_rows octets b.0 core_are fit b.1 in
+    let (spelled, (input, sized)) = read_takes core_octets (λ x. CoreTakes x × CoreInSized x) core_rows octets b.0 core_are fit b.1 in
     let input_is = ok_is (ActorIn.Core b.0) a.0 b.2 in
-    subst (FrameFound Role.Core false octets) (ap Input input_is ∙ ok_is (Input a.0) frame a.2) (t.0, record { of = tt; input = t.1.0; sized = t.1.1 })
+    subst (FrameFound Role.Core false octets) (ap Input input_is ∙ ok_is (Input a.0) frame a.2) (spelled, record { of = tt; input = input; sized = sized })
 
 -- what is spelled so is read
 phone_again : (x : PhoneIn) → PhoneFits x → body_by phone_rows (phone_octets x) ≡ Ok x
@@ -181,10 +181,10 @@ unfolding octets_of
 phone_again (PhoneIn.Auth ksi kasme) h =
     read_on phone_rows 0x01 (ksi ∷ kasme) ∙ ap (λ r. r >>= λ a. Ok (PhoneIn.Auth a.0 a.1)) (auth_form.again 0x01 (ksi, kasme) h)
 phone_again (PhoneIn.Nas pdu) h = read_on phone_rows 0x02 pdu ∙ ap (λ r. r >>= λ pdu. Ok (PhoneIn.Nas pdu)) (pdu_form.again 0x02 pdu h.1)
-phone_again (PhoneIn.Air station air bearer pdu) h =
+phone_again (PhoneIn.Air station air bearer pdu) (low, (known, sized)) =
     read_on phone_rows 0x03 _
     ∙ ap (λ r. r >>= λ a. Ok (PhoneIn.Air a.0 a.1 a.2 a.3))
-    (station_air_form.again 0x03 (station, air, bearer, pdu) (h.0, ((omega arith, h.1.0), (tt, h.1.1))))
+    (station_air_form.again 0x03 (station, air, bearer, pdu) (low, ((omega arith, known), (tt, sized))))
 phone_again (PhoneIn.Act PhoneAct.ServiceRequest) h =
     read_on phone_rows 0x10 []
     ∙ ap (λ r. r >>= λ none. Ok (PhoneIn.Act PhoneAct.ServiceRequest)) (nothing_form.again 0x10 tt tt)
@@ -205,10 +205,10 @@ phone_again (PhoneIn.Act (PhoneAct.Skip bearer n)) h =
 
 station_again : (x : StationIn) → StationTakes x × StationInSized x → body_by station_rows (station_octets x) ≡ Ok x
 unfolding octets_of
-station_again (StationIn.Air air bearer pdu) h =
+station_again (StationIn.Air air bearer pdu) (_, (known, sized)) =
     read_on station_rows 0x03 _
     ∙ ap (λ r. r >>= λ a. Ok (StationIn.Air a.0 a.1 a.2))
-    (air_form.again 0x03 (air, bearer, pdu) ((omega arith, h.1.0), (tt, h.1.1)))
+    (air_form.again 0x03 (air, bearer, pdu) ((omega arith, known), (tt, sized)))
 station_again (StationIn.S1 pdu) h = read_on station_rows 0x04 pdu ∙ ap (λ r. r >>= λ pdu. Ok (StationIn.S1 pdu)) (pdu_form.again 0x04 pdu h.1)
 station_again (StationIn.X2 pdu) h = read_on station_rows 0x05 pdu ∙ ap (λ r. r >>= λ pdu. Ok (StationIn.X2 pdu)) (pdu_form.again 0x05 pdu h.1)
 station_again (StationIn.Act (StationAct.SendUser bearer text)) h =
@@ -234,7 +234,7 @@ station_again (StationIn.Act StationAct.Ask) h =
 core_again : (x : CoreIn) → CoreTakes x × CoreInSized x → body_by core_rows (core_octets x) ≡ Ok x
 unfolding octets_of
 core_again (CoreIn.Auth ksi kasme caps) h =
-    read_on core_rows 0x01 _ ∙ ap (λ r. r >>= λ a. Ok (CoreIn.Auth a.0 a.1 a.2)) (auth_caps_form.again 0x01 (ksi, kasme, caps) (h.0, (h.1.0, h.1.1)))
+    read_on core_rows 0x01 _ ∙ ap (λ r. r >>= λ a. Ok (CoreIn.Auth a.0 a.1 a.2)) (auth_caps_form.again 0x01 (ksi, kasme, caps) h)
 core_again (CoreIn.Nas pdu) h = read_on core_rows 0x02 pdu ∙ ap (λ r. r >>= λ pdu. Ok (CoreIn.Nas pdu)) (pdu_form.again 0x02 pdu h.1)
 core_again (CoreIn.S1 pdu) h = read_on core_rows 0x04 pdu ∙ ap (λ r. r >>= λ pdu. Ok (CoreIn.S1 pdu)) (pdu_form.again 0x04 pdu h.1)
 core_again (CoreIn.Act (CoreAct.SendNas text)) h =
@@ -250,26 +250,19 @@ core_again (CoreIn.Act CoreAct.Release) h = read_on core_rows 0x22 [] ∙ ap (λ
 setup_again : (role : Role) (x : RoleSetup) → IsOf role true (Setup x) → SetupFits x → body_by (setup_rows role) (setup_octets x) ≡ Ok x
 setup_again Role.Phone (RoleSetup.Phone caps) of h =
     read_on (setup_rows Role.Phone) 0x00 _ ∙ ap (λ r. r >>= λ caps. Ok (RoleSetup.Phone caps)) (caps_form.again 0x00 caps h.1)
-setup_again (Role.Station id) (RoleSetup.Station order first cells) of h =
+setup_again (Role.Station id) (RoleSetup.Station order first cells) of ((low, sized), fits) =
     read_on (setup_rows (Role.Station id)) 0x00 _
     ∙ ap (λ r. r >>= λ f. Ok (RoleSetup.Station f.0 f.1 f.2))
-    (first_form.again 0x00 (order, first, cells) (h.0.0, h.0.1, h.1))
-setup_again Role.Core (RoleSetup.Core order first cells) of h =
+    (first_form.again 0x00 (order, first, cells) (low, sized, fits))
+setup_again Role.Core (RoleSetup.Core order first cells) of ((low, sized), fits) =
     read_on (setup_rows Role.Core) 0x00 _
     ∙ ap (λ r. r >>= λ f. Ok (RoleSetup.Core f.0 f.1 f.2))
-    (first_form.again 0x00 (order, first, cells) (h.0.0, h.0.1, h.1))
-setup_again Role.Core (RoleSetup.StandardCore order first cells) of h =
+    (first_form.again 0x00 (order, first, cells) (low, sized, fits))
+setup_again Role.Core (RoleSetup.StandardCore order first cells) of ((low, sized), fits) =
     read_on (setup_rows Role.Core) 0x06 _
     ∙ ap (λ r. r >>= λ f. Ok (RoleSetup.StandardCore f.0 f.1 f.2))
-    (first_form.again 0x06 (order, first, cells) (h.0.0, h.0.1, h.1))
-setup_again Role.Phone (RoleSetup.Station order first cells) of h = absurd of
-setup_again Role.Phone (RoleSetup.Core order first cells) of h = absurd of
-setup_again Role.Phone (RoleSetup.StandardCore order first cells) of h = absurd of
-setup_again (Role.Station id) (RoleSetup.Phone caps) of h = absurd of
-setup_again (Role.Station id) (RoleSetup.Core order first cells) of h = absurd of
-setup_again (Role.Station id) (RoleSetup.StandardCore order first cells) of h = absurd of
-setup_again Role.Core (RoleSetup.Phone caps) of h = absurd of
-setup_again Role.Core (RoleSetup.Station order first cells) of h = absurd of
+    (first_form.again 0x06 (order, first, cells) (low, sized, fits))
+setup_again role setup of h = absurd of
 
 frame_again : (role : Role) (first : Bool) (frame : FrameIn)
     → IsOf role first frame
@@ -286,17 +279,7 @@ frame_again (Role.Station id) false (Input (ActorIn.Station named x)) of is size
 frame_again Role.Core false (Input (ActorIn.Core x)) of is sized =
     ap (λ r. (r >>= λ input. Ok (ActorIn.Core input)) >>= λ input. Ok (Input input)) (core_again x (is, sized))
 frame_again Role.Phone true (Input x) of is sized = absurd of
-frame_again (Role.Station id) true (Input x) of is sized = absurd of
-frame_again Role.Core true (Input x) of is sized = absurd of
-frame_again Role.Phone false (Setup x) of is sized = absurd of
-frame_again (Role.Station id) false (Setup x) of is sized = absurd of
-frame_again Role.Core false (Setup x) of is sized = absurd of
-frame_again Role.Phone false (Input (ActorIn.Station named x)) of is sized = absurd of
-frame_again Role.Phone false (Input (ActorIn.Core x)) of is sized = absurd of
-frame_again (Role.Station id) false (Input (ActorIn.Phone x)) of is sized = absurd of
-frame_again (Role.Station id) false (Input (ActorIn.Core x)) of is sized = absurd of
-frame_again Role.Core false (Input (ActorIn.Phone x)) of is sized = absurd of
-frame_again Role.Core false (Input (ActorIn.Station named x)) of is sized = absurd of
+frame_again role first frame of is sized = absurd of
 
 -- what is spelled so is read
 pub body_again : (role : Role) (first : Bool) (frame : FrameIn) → IsFrame role first frame → body_of role first (body_spelling frame) ≡ Ok frame

@@ -287,6 +287,8 @@ first_takes octets x fit e =
     let o = order_takes octets 1 order fit a.1 in
     let w = word_takes 1 octets (2 + length order) first fit b.1 in
     let s = cells_take octets (6 + length order) cells fit c.1 in
+    let (low, is_number) = w.2 in
+    let (is_table, are_cells) = s.2 in
     let end = end_takes octets (7 + length order + 7 * length cells) d.0 d.1 in
     let six : 2 + length order + 4 ≡ 6 + length order = omega arith in
     let last : 6 + length order + 1 + 7 * length cells ≡ 7 + length order + 7 * length cells = omega arith in
@@ -297,7 +299,7 @@ first_takes octets x fit e =
     o.0 ∙ ap (λ t. order_octets order ++ t) (w.0 ∙ ap (λ n. octets_of 4 first ++ drop n octets) six ∙ ap (λ t. octets_of 4 first ++ t) tail)
     ∙ sym (append_assoc (order_octets order) (octets_of 4 first) (length cells ∷ flat_map site_octets cells)) in
     subst (λ x. (drop 1 octets ≡ first_octets x.0 x.1 x.2) × FirstFits x) (ok_is (order, first, cells) x d.2)
-    (whole, (w.2.0, s.1, record { is_order = o.1; is_number = w.2.1; is_table = s.2.0; are_cells = s.2.1 }))
+    (whole, (low, s.1, record { is_order = o.1; is_number = is_number; is_table = is_table; are_cells = are_cells }))
 
 first_again : (kind : ℕ) (x : List Eea × ℕ × List Site) → FirstFits x → first_of (kind ∷ first_octets x.0 x.1 x.2) ≡ Ok x
 unfolding first_of

@@ -20,40 +20,21 @@ IsSize octets = (1 ≤ length octets) × (length octets ≤ body_limit)
 
 phone_size : (x : PhoneIn) → PhoneInSized x → IsSize (phone_octets x)
 unfolding octets_of
-phone_size (PhoneIn.Auth ksi kasme) h = (omega arith, omega arith)
-phone_size (PhoneIn.Nas pdu) h = (omega arith, omega arith)
 phone_size (PhoneIn.Air station air bearer pdu) h = (omega arith, omega (arith, h.1))
-phone_size (PhoneIn.Act PhoneAct.ServiceRequest) h = (omega arith, omega arith)
-phone_size (PhoneIn.Act PhoneAct.ResendComplete) h = (omega arith, omega arith)
 phone_size (PhoneIn.Act PhoneAct.GoIdle) h = (omega arith, omega arith)
-phone_size (PhoneIn.Act (PhoneAct.SendUser bearer text)) h = (omega arith, omega arith)
-phone_size (PhoneIn.Act (PhoneAct.SendRrc bearer text)) h = (omega arith, omega arith)
-phone_size (PhoneIn.Act (PhoneAct.SendNas text)) h = (omega arith, omega arith)
-phone_size (PhoneIn.Act (PhoneAct.Skip bearer n)) h = (omega arith, omega arith)
+phone_size other h = (omega arith, omega arith)
 
 station_size : (x : StationIn) → StationInSized x → IsSize (station_octets x)
 unfolding octets_of
 station_size (StationIn.Air air bearer pdu) h = (omega arith, omega (arith, h.1))
-station_size (StationIn.S1 pdu) h = (omega arith, omega arith)
-station_size (StationIn.X2 pdu) h = (omega arith, omega arith)
-station_size (StationIn.Act (StationAct.SendUser bearer text)) h = (omega arith, omega arith)
-station_size (StationIn.Act (StationAct.SendRrc bearer text)) h = (omega arith, omega arith)
-station_size (StationIn.Act (StationAct.Skip bearer n)) h = (omega arith, omega arith)
-station_size (StationIn.Act (StationAct.Start kind cell)) h = (omega arith, omega arith)
-station_size (StationIn.Act StationAct.Command) h = (omega arith, omega arith)
-station_size (StationIn.Act StationAct.Cancel) h = (omega arith, omega arith)
 station_size (StationIn.Act StationAct.Ask) h = (omega arith, omega arith)
+station_size other h = (omega arith, omega arith)
 
 core_size : (x : CoreIn) → CoreInSized x → IsSize (core_octets x)
 unfolding octets_of
 core_size (CoreIn.Auth ksi kasme caps) h = (omega arith, omega (arith, h.0, length-append kasme (caps.eea ∷ caps.eia ∷ [])))
-core_size (CoreIn.Nas pdu) h = (omega arith, omega arith)
-core_size (CoreIn.S1 pdu) h = (omega arith, omega arith)
-core_size (CoreIn.Act (CoreAct.SendNas text)) h = (omega arith, omega arith)
-core_size (CoreIn.Act (CoreAct.Skip n)) h = (omega arith, omega arith)
-core_size (CoreIn.Act CoreAct.StartSmc) h = (omega arith, omega arith)
-core_size (CoreIn.Act (CoreAct.Connect cell)) h = (omega arith, omega arith)
 core_size (CoreIn.Act CoreAct.Release) h = (omega arith, omega arith)
+core_size other h = (omega arith, omega arith)
 
 sites_size : (sites : List Site) → length (flat_map site_octets sites) ≡ 7 * length sites
 unfolding octets_of
@@ -61,10 +42,8 @@ sites_size [] = refl
 sites_size (site ∷ sites) = omega (arith, sites_size sites)
 
 order_size : (order : List Eea) → IsOrder order → length order ≤ 2
-order_size [] h = omega arith
-order_size (a ∷ []) h = omega arith
-order_size (a ∷ b ∷ []) h = omega arith
 order_size (a ∷ b ∷ c ∷ rest) h = absurd h
+order_size other h = omega arith
 
 first_size : (kind : ℕ) (order : List Eea) (first : ℕ) (cells : List Site) → IsFirst order first cells → IsSize (kind ∷ first_octets order first cells)
 first_size kind order first cells is =

@@ -113,9 +113,7 @@ RowIs ts (Of d) = From (λ t. Member t ts) d
 -- no derivation makes a KASME
 no_root_made : (k : Term) (i : Input Term) → IsRoot (made_of k i) → ⊥
 no_root_made k (FromCount n) h = h
-no_root_made k (FromSync sync) h = h
-no_root_made k (FromCell pci earfcn) h = h
-no_root_made k (FromAlg type id) h = h
+no_root_made k other h = h
 
 root_origin : (os : List (RowOrigin Term))
     → Well os
@@ -180,9 +178,7 @@ input_range (FromAlg type id) h = tt
 
 out_value : (k : Term) (i : Input Term) → value_of (made_of k i) ≡ kdf (value_of k) (kdf_input (map_input value_of i))
 out_value k (FromCount n) = refl
-out_value k (FromSync sync) = refl
-out_value k (FromCell pci earfcn) = refl
-out_value k (FromAlg type id) = refl
+out_value k other = refl
 
 module _ (os : List (RowOrigin Term)) (well : Well os) where
   has_root : (i : Input Term) (t : Term)

@@ -1,21 +1,24 @@
 -- Each KeNB* of a step is for a cell in range: of an act, a record, a context, or a command that was read.
 use Rattle.std.specs.{Prelude.◌&&◌, List.AllByRecursion as AllOf}
-use Rattle.std.proofs.Common.{◌≡◌, refl, ℕ, zero, suc, ◌≤◌, ◌+◌, Bool, true, false, cond, ◌==◌, List, ◌++◌, length, Option, Some, None, Result, Ok, Err, subst}
+use Rattle.std.proofs.Common.{◌≡◌, refl, ℕ, zero, suc, ◌≤◌, ◌+◌, Bool, true, false, cond, ◌==◌, List, [], ◌++◌, length, Option, Some, None, Result, Ok, Err, subst}
 use Rattle.alg_choice.specs.{declared.algs.Algs.Algs, declared.caps.Caps.Caps, Choice.are_supported}
 use Rattle.annex_a_keys.specs.Cell.{Place, IsCell, greatest_pci, greatest_earfcn}
-use Rattle.rec_base.specs.{BigEndian.number_at, declared.faults.RecFault.RecFault}
+use Rattle.rec_base.specs.{BigEndian.number_at, declared.faults.RecFault.RecFault, declared.faults.RecFault.TheVariants.BadKind}
 use Rattle.rec_fields.specs.Field.{◌>>=◌, of_size, station_at, ncc_at, from_one_at, algs_at, cell_at, number_in}
+use Rattle.rec_fields.specs.Layout.{by_kind}
+use Rattle.rec_fields.specs.Form.{Of, read_as, record_by, readers}
 use Rattle.rec_fields.proofs.Fields.{bind_ok, ok_is, in_range_is}
 use Rattle.rrc_rec.specs.declared.records.RrcRecord.{RrcRecord}
 use Rattle.rrc_rec.specs.declared.records.RrcRecord.TheVariants.{SecurityModeCommand, SecurityModeComplete, Reconfiguration, ReconfigurationComplete, RrcData, KeyChange}
-use Rattle.rrc_rec.specs.Reading.{read_rrc, of_kind, command_of, bare, reconfiguration_of, data_of, key_change_of}
+use Rattle.rrc_rec.specs.Forms.{rrc_forms, command, reconfiguration, any_text, key_change}
+use Rattle.rrc_rec.specs.Reading.{read_rrc}
 use Rattle.key_model.specs.Derivation.{Input, FromCell, Derivation}
 use Rattle.key_model.specs.{Reading.Reading, HandoverLines.key_after}
 use Rattle.nh_chain.specs.{Chain.nhs_made, Reach.handover_made, Reach.phone_of}
 use Rattle.pdcp_guard.specs.{AsKeys.as_derivations, declared.pdus.PdcpFault.PdcpFault, Srb.srb_count, Drb.drb_count}
 use Rattle.lte_machine.specs.Bearers.{Srb, Signalling1, Signalling2, Drb, Which, OnSrb, OnDrb, which, srb_counts, drb_counts}
 use Rattle.lte_machine.specs.Opening.{Outcome, Opened, Differs}
-use Rattle.lte_machine.specs.PhoneState.{Link, Radio, Idle, Connecting, Connected, Phone, PhoneInput, PhoneAuth, PhoneActs, PhoneNasPdu, PhoneAirPdu}
+use Rattle.lte_machine.specs.PhoneState.{Link, Radio, Idle, Connecting, Connected, Phone, PhoneInput, PhoneAirPdu}
 use Rattle.lte_machine.specs.PhoneRows.{Authenticated, AirRow, HandedOver, KeyChanged, PhoneRow, OfAuth, OfNas, OfAir, OfAct}
 use Rattle.lte_machine.specs.PhoneChoice.{PlainPhone, PlainInput, unciphered_text, AirFront, AirSettled, AtStart, AtSignalling, AtPacket, start_row, command_taken, change_taken, signalling_read, signalling_row, packet_row, air_row, air_front, waiting_front, linked_front, start_at, start_read, signalling_at, packet_at, phone_row, phone_front}
 use Rattle.lte_machine.specs.PhoneKeys.{PhoneDone, authenticated, phone_does}
@@ -50,8 +53,8 @@ cell_in octets place cell e =
     let q = in_range_is 0 greatest_earfcn octets (place + 2) 4 b.0 b.1 in
     subst IsCell (ok_is (record { pci = a.0; earfcn = b.0 }) cell b.2) (p.2, q.2)
 
-command_cell : (octets : List ℕ) (r : RrcRecord) → command_of octets ≡ Ok r → CellOf r
-unfolding command_of
+command_cell : (octets : List ℕ) (r : RrcRecord) → record_by command octets ≡ Ok r → CellOf r
+unfolding read_as
 command_cell octets r e =
     let s = bind_ok (of_size 7 octets)
     (λ size. algs_at octets 1 >>= λ algs.
@@ -65,12 +68,12 @@ command_cell octets r e =
     let c = bind_ok (from_one_at octets 3) (λ air. Ok (SecurityModeCommand a.0 b.0 air)) r b.2 in
     subst CellOf (ok_is (SecurityModeCommand a.0 b.0 c.0) r c.2) tt
 
-bare_cell : (octets : List ℕ) (fixed r : RrcRecord) → CellOf fixed → bare octets fixed ≡ Ok r → CellOf r
-unfolding bare
+bare_cell : (octets : List ℕ) (fixed r : RrcRecord) → CellOf fixed → read_as (Of []) (λ none. fixed) octets ≡ Ok r → CellOf r
+unfolding read_as
 bare_cell octets fixed r h e = let s = bind_ok (of_size 1 octets) (λ size. Ok fixed) r e in subst CellOf (ok_is fixed r s.2) h
 
-reconfiguration_cell : (octets : List ℕ) (r : RrcRecord) → reconfiguration_of octets ≡ Ok r → CellOf r
-unfolding reconfiguration_of
+reconfiguration_cell : (octets : List ℕ) (r : RrcRecord) → record_by reconfiguration octets ≡ Ok r → CellOf r
+unfolding read_as
 reconfiguration_cell octets r e =
     let s = bind_ok (of_size 14 octets)
     (λ size. cell_at octets 1 >>= λ cell. ncc_at octets 7 >>= λ ncc. algs_at octets 8 >>= λ algs.
@@ -93,12 +96,12 @@ reconfiguration_cell octets r e =
     let c = bind_ok (from_one_at octets 10) (λ air. Ok (Reconfiguration p.0 n.0 a.0 b.0 air)) r b.2 in
     subst CellOf (ok_is (Reconfiguration p.0 n.0 a.0 b.0 c.0) r c.2) (cell_in octets 1 p.0 p.1)
 
-data_cell : (octets : List ℕ) (r : RrcRecord) → data_of octets ≡ Ok r → CellOf r
-unfolding data_of
+data_cell : (octets : List ℕ) (r : RrcRecord) → record_by any_text octets ≡ Ok r → CellOf r
+unfolding read_as
 data_cell octets r e = let a = bind_ok _ (λ text. Ok (RrcData text)) r e in subst CellOf (ok_is (RrcData a.0) r a.2) tt
 
-change_cell : (octets : List ℕ) (r : RrcRecord) → key_change_of octets ≡ Ok r → CellOf r
-unfolding key_change_of
+change_cell : (octets : List ℕ) (r : RrcRecord) → record_by key_change octets ≡ Ok r → CellOf r
+unfolding read_as
 change_cell octets r e =
     let s = bind_ok (of_size 13 octets)
     (λ size. cell_at octets 1 >>= λ cell. algs_at octets 7 >>= λ algs.
@@ -113,22 +116,22 @@ change_cell octets r e =
     let c = bind_ok (from_one_at octets 9) (λ air. Ok (KeyChange p.0 a.0 b.0 air)) r b.2 in
     subst CellOf (ok_is (KeyChange p.0 a.0 b.0 c.0) r c.2) (cell_in octets 1 p.0 p.1)
 
-by_kind : (b : Bool) (x y : Result RrcRecord RecFault) (r : RrcRecord) → (x ≡ Ok r → CellOf r) → (y ≡ Ok r → CellOf r) → cond b x y ≡ Ok r → CellOf r
-by_kind true x y r p q e = p e
-by_kind false x y r p q e = q e
+read_either : (b : Bool) (x y : Result RrcRecord RecFault) (r : RrcRecord) → (x ≡ Ok r → CellOf r) → (y ≡ Ok r → CellOf r) → cond b x y ≡ Ok r → CellOf r
+read_either true x y r p q e = p e
+read_either false x y r p q e = q e
 
-kind_cell : (octets : List ℕ) (kind : ℕ) (r : RrcRecord) → of_kind kind octets ≡ Ok r → CellOf r
+kind_cell : (octets : List ℕ) (kind : ℕ) (r : RrcRecord) → by_kind BadKind (readers rrc_forms) kind octets ≡ Ok r → CellOf r
 kind_cell octets kind r =
-    by_kind (kind == 0x01) _ _ r (command_cell octets r)
-    (by_kind (kind == 0x02) _ _ r (bare_cell octets SecurityModeComplete r tt)
-    (by_kind (kind == 0x03) _ _ r (reconfiguration_cell octets r)
-    (by_kind (kind == 0x04) _ _ r (bare_cell octets ReconfigurationComplete r tt)
-    (by_kind (kind == 0x05) _ _ r (data_cell octets r)
-    (by_kind (kind == 0x06) _ _ r (change_cell octets r) (λ e. absurd cc))))))
+    read_either (kind == 0x01) _ _ r (command_cell octets r)
+    (read_either (kind == 0x02) _ _ r (bare_cell octets SecurityModeComplete r tt)
+    (read_either (kind == 0x03) _ _ r (reconfiguration_cell octets r)
+    (read_either (kind == 0x04) _ _ r (bare_cell octets ReconfigurationComplete r tt)
+    (read_either (kind == 0x05) _ _ r (data_cell octets r)
+    (read_either (kind == 0x06) _ _ r (change_cell octets r) (λ e. absurd cc))))))
 
 pub read_cell : (octets : List ℕ) (r : RrcRecord) → read_rrc octets ≡ Ok r → CellOf r
 unfolding read_rrc
-read_cell octets r = by_kind (length octets == 0) _ _ r (λ e. absurd cc) (kind_cell octets (number_at octets 0 1) r)
+read_cell octets r = read_either (length octets == 0) _ _ r (λ e. absurd cc) (kind_cell octets (number_at octets 0 1) r)
 
 -- THE PHONE'S ROWS
 
@@ -156,15 +159,11 @@ change_taken_cell caps Signalling2 cell algs station air h = tt
 read_row_cell : (caps : Caps) (srb : Srb) (count own : ℕ) (text : List ℕ) (x : Result RrcRecord RecFault)
     → read_rrc text ≡ x
     → AirCell (signalling_read caps srb count own x)
-read_row_cell caps srb count own text (Err fault) e = tt
-read_row_cell caps srb count own text (Ok (RrcData data_in)) e = tt
 read_row_cell caps srb count own text (Ok (Reconfiguration cell ncc algs station air)) e =
     taken_cell caps srb own cell ncc algs station air (read_cell text (Reconfiguration cell ncc algs station air) e)
 read_row_cell caps srb count own text (Ok (KeyChange cell algs station air)) e =
     change_taken_cell caps srb cell algs station air (read_cell text (KeyChange cell algs station air) e)
-read_row_cell caps srb count own text (Ok (SecurityModeCommand algs station air)) e = tt
-read_row_cell caps srb count own text (Ok SecurityModeComplete) e = tt
-read_row_cell caps srb count own text (Ok ReconfigurationComplete) e = tt
+read_row_cell caps srb count own text other e = tt
 
 signalling_cell : (caps : Caps) (srb : Srb) (count own : ℕ) (outcome : Outcome) → AirCell (signalling_row caps srb count own outcome)
 signalling_cell caps srb count own (Differs wanted got) = tt
@@ -184,14 +183,9 @@ FrontCell (AirSettled row) = AirCell row
 FrontCell other = Unit {0}
 
 start_read_cell : (caps : Caps) (station air count : ℕ) (x : Result RrcRecord RecFault) → FrontCell (start_read caps station air count x)
-start_read_cell caps station air count (Err fault) = tt
 start_read_cell caps station air count (Ok (SecurityModeCommand algs named_station named_air)) =
     by_test FrontCell (are_supported caps algs) _ _ (λ e. tt) (λ e. tt)
-start_read_cell caps station air count (Ok SecurityModeComplete) = tt
-start_read_cell caps station air count (Ok (Reconfiguration cell ncc algs s a)) = tt
-start_read_cell caps station air count (Ok ReconfigurationComplete) = tt
-start_read_cell caps station air count (Ok (RrcData text)) = tt
-start_read_cell caps station air count (Ok (KeyChange cell algs s a)) = tt
+start_read_cell caps station air count other = tt
 
 start_at_cell : (caps : Caps) (station air : ℕ) (pdu : List ℕ) (x : Result ℕ PdcpFault) → FrontCell (start_at caps station air pdu x)
 start_at_cell caps station air pdu (Err fault) = tt
@@ -227,11 +221,9 @@ air_row_cell caps (AtSignalling srb count own) outcome h = signalling_cell caps 
 air_row_cell caps (AtPacket drb count) outcome h = packet_cell drb count outcome
 
 phone_row_cell : (s : PlainPhone) (i : PlainInput) (outcome : Outcome) → RowCell (phone_row s (phone_front s i) outcome)
-phone_row_cell s (PhoneAuth ksi root) outcome = tt
-phone_row_cell s (PhoneActs act) outcome = tt
-phone_row_cell s (PhoneNasPdu pdu) outcome = tt
 phone_row_cell s (PhoneAirPdu station air bearer pdu) outcome =
     air_row_cell s.caps (air_front s.caps station air pdu (which bearer) s.radio) outcome (air_front_cell s.caps station air pdu (which bearer) s.radio)
+phone_row_cell s other outcome = tt
 
 -- WHAT THEY DERIVE
 

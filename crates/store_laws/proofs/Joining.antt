@@ -31,41 +31,19 @@ one_row rows a b h i e =
 
 input_is : (i j : Input (List ℕ)) → same_input bytes_eq i j ≡ true → kdf_input i ≡ kdf_input j
 input_is (FromCount m) (FromCount n) e = ap kdf_input (ap FromCount ((Decides-eqb m n).0 e))
-input_is (FromCount m) (FromSync b) e = absurd (false≢true e)
-input_is (FromCount m) (FromCell p q) e = absurd (false≢true e)
-input_is (FromCount m) (FromAlg p q) e = absurd (false≢true e)
-input_is (FromSync a) (FromCount n) e = absurd (false≢true e)
 input_is (FromSync a) (FromSync b) e = ap kdf_input (ap FromSync ((bytes_eq-Decides a b).0 e))
-input_is (FromSync a) (FromCell p q) e = absurd (false≢true e)
-input_is (FromSync a) (FromAlg p q) e = absurd (false≢true e)
-input_is (FromCell p q) (FromCount n) e = absurd (false≢true e)
-input_is (FromCell p q) (FromSync b) e = absurd (false≢true e)
 input_is (FromCell p q) (FromCell r s) e =
     let both = (Decides-and _ _ (Decides-eqb p r) (Decides-eqb q s)).0 e in λ j. kdf_input (FromCell (both.0 j) (both.1 j))
-input_is (FromCell p q) (FromAlg r s) e = absurd (false≢true e)
-input_is (FromAlg p q) (FromCount n) e = absurd (false≢true e)
-input_is (FromAlg p q) (FromSync b) e = absurd (false≢true e)
-input_is (FromAlg p q) (FromCell r s) e = absurd (false≢true e)
 input_is (FromAlg p q) (FromAlg r s) e =
     let both = (Decides-and _ _ (Decides-eqb p r) (Decides-eqb q s)).0 e in λ j. kdf_input (FromAlg (both.0 j) (both.1 j))
+input_is i j e = absurd (false≢true e)
 
 input_same : (i j : Input (List ℕ)) → kdf_input i ≡ kdf_input j → same_input bytes_eq i j ≡ true
 input_same (FromCount m) (FromCount n) e = (Decides-eqb m n).1 cc
-input_same (FromCount m) (FromSync b) e = cc
-input_same (FromCount m) (FromCell p q) e = cc
-input_same (FromCount m) (FromAlg p q) e = cc
-input_same (FromSync a) (FromCount n) e = cc
 input_same (FromSync a) (FromSync b) e = (bytes_eq-Decides a b).1 cc
-input_same (FromSync a) (FromCell p q) e = cc
-input_same (FromSync a) (FromAlg p q) e = cc
-input_same (FromCell p q) (FromCount n) e = cc
-input_same (FromCell p q) (FromSync b) e = cc
 input_same (FromCell p q) (FromCell r s) e = (Decides-and _ _ (Decides-eqb p r) (Decides-eqb q s)).1 (cc, cc)
-input_same (FromCell p q) (FromAlg r s) e = cc
-input_same (FromAlg p q) (FromCount n) e = cc
-input_same (FromAlg p q) (FromSync b) e = cc
-input_same (FromAlg p q) (FromCell r s) e = cc
 input_same (FromAlg p q) (FromAlg r s) e = (Decides-and _ _ (Decides-eqb p r) (Decides-eqb q s)).1 (cc, cc)
+input_same i j e = cc
 
 -- ORIGINS
 

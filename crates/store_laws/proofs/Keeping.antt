@@ -4,7 +4,7 @@ use Rattle.std.specs.Str.{bytes_eq}
 use Rattle.std.proofs.lemmas.List.{map-append}
 use Rattle.lte_events.specs.{Ranges.IsEvent, declared.events.Event.Event}
 use Rattle.key_model.specs.{Derivation.Derivation, Derivation.map_derivation, Reading.Reading, Reading.term_reading_by, Term.Term, Term.IsWellFormed, Value.value_of, Value.same_value}
-use Rattle.lte_machine.specs.Wire.{KeyUse, Outgoing, SealedNas, PlainNas, SealedRrc, UserPacket, Between}
+use Rattle.lte_machine.specs.Wire.{KeyUse, Outgoing, Between}
 use Rattle.lte_machine.specs.{Opening.Opening, Opening.Outcome, Carried.map_clash, PhoneState.PhoneInput, PhoneChoice.phone_row, CoreChoice.core_row, Machines.machine_by, Distinct.keys_of, Distinct.Member}
 use Rattle.lte_machine.specs.Ladder.{RowOrigin, OfRoot, Of, map_row, Clash, Ladder, add_next, add_rows, no_rows, ladder_of}
 use Rattle.lte_machine.specs.PhoneStep.{plain_phone, front_of, phone_root, phone_opens, phone_pdu_in, phone_step}
@@ -151,20 +151,12 @@ module _ (root : ℕ → List ℕ → Term) (octets : Outgoing Term ℕ → List
   CameGood came = OfSome (λ x. SentKnown P x × RecordRanged x) came
 
   read_known : (came : Option (Outgoing Term ℕ)) → CameGood came → PairKnown P (key_read (content_in m came))
-  read_known None c = tt
-  read_known (Some (SealedNas dir header u e text)) c = tt
-  read_known (Some (PlainNas text)) c = tt
-  read_known (Some (SealedRrc dir station air srb u e text)) c = tt
-  read_known (Some (UserPacket dir station air drb e text)) c = tt
-  read_known (Some (Between to fields key)) c = c.0
+  read_known (Some (Between to fields key)) (known, _) = known
+  read_known other c = tt
 
   read_ranged : (came : Option (Outgoing Term ℕ)) → CameGood came → ReadRanged (content_in m came)
-  read_ranged None c = tt
-  read_ranged (Some (SealedNas dir header u e text)) c = tt
-  read_ranged (Some (PlainNas text)) c = tt
-  read_ranged (Some (SealedRrc dir station air srb u e text)) c = tt
-  read_ranged (Some (UserPacket dir station air drb e text)) c = tt
-  read_ranged (Some (Between to fields key)) c = c.1.0
+  read_ranged (Some (Between to fields key)) (_, (ranged, _)) = ranged
+  read_ranged other c = tt
 
   turns : Turns m w IsEvent (λ to pdu came. CameGood came) (λ s. StationKnown P s × StationRanged s) (λ done a. Can done.0)
   turns = record {

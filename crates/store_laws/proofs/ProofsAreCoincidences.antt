@@ -2,7 +2,7 @@
 use Rattle.std.proofs.Common.{◌≡◌, refl, ℕ, List, Some, None}
 use Rattle.hmac_kdf.specs.declared.input.KdfInput.{KdfInput}
 use Rattle.annex_a_keys.specs.declared.derived.Derived.{Derived}
-use Rattle.key_model.specs.Derivation.{Input, FromCount, FromSync, FromCell, FromAlg, Derivation, kdf_input, derived_of}
+use Rattle.key_model.specs.Derivation.{Input, FromCount, Derivation, kdf_input, derived_of}
 use Rattle.key_terms.specs.declared.proof.Proof as proofs
 use Rattle.key_terms.specs.declared.proof.Proof.{Proof}
 use Rattle.lte_machine.specs.Ladder.{RowOrigin, OfRoot, Of}
@@ -11,15 +11,11 @@ use Rattle.store_laws.specs.Proofs.{proof_of, coincidence_of, clash_proof, input
 
 input_back : (i : Input (List ℕ)) → input_of (kdf_input i) ≡ i
 input_back (FromCount count) = refl
-input_back (FromSync sync) = refl
-input_back (FromCell pci earfcn) = refl
-input_back (FromAlg kind identity) = refl
+input_back other = refl
 
 input_again : (i : KdfInput) → kdf_input (input_of i) ≡ i
 input_again (KdfInput.Kenb count) = refl
-input_again (KdfInput.Nh sync) = refl
-input_again (KdfInput.Star pci earfcn) = refl
-input_again (KdfInput.Alg kind identity) = refl
+input_again other = refl
 
 pub derivation_back : (d : Derivation (List ℕ)) → derivation_of (derived_of d) ≡ d
 derivation_back d = λ j. record { key = d.key; input = input_back d.input j; out = d.out }

@@ -6,7 +6,7 @@ use Rattle.rec_base.specs.declared.uses.Dir.TheVariants.{Up, Down}
 use Rattle.lte_events.specs.{declared.events.Event.Event, Site.Site}
 use Rattle.key_model.specs.{Term.Term, Reading.term_reading_by, Reading.Reading, Least.least}
 use Rattle.lte_machine.specs.Bearers.{Srb, Signalling1, Which, OnSrb, which, srb_counts}
-use Rattle.lte_machine.specs.Wire.{KeyUse, Ciphering, Outgoing, SealedNas, PlainNas, SealedRrc, UserPacket, Between, srb_ciphering, address_of, srb_use}
+use Rattle.lte_machine.specs.Wire.{KeyUse, Ciphering, Outgoing, SealedRrc, srb_ciphering, address_of, srb_use}
 use Rattle.lte_machine.specs.Opening.{Opening, Outcome, Opened, Differs, OpensSrb}
 use Rattle.lte_machine.specs.{Reply.BySetup, Reply.Took, PhoneStep.plain_phone, CoreStep.core_front_of, World.Machine, World.content_in, StationStep.station_front_of, Distinct.Member}
 use Rattle.lte_machine.specs.PhoneState.{Phone, PhoneInput, PhoneAuth, PhoneActs, PhoneNasPdu, PhoneAirPdu, Waiting, Link, Radio, Connecting, NasContext, Partial}
@@ -84,8 +84,6 @@ module _ (same : Term → Term → Bool) (g : Ghost) (s : Phone Term ℕ) (stati
       → (text : List ℕ) (o : Option (Outgoing Term ℕ)) → CameDown g station air on pdu o
       → WasSealed (srb_use Down l.keys.rrc_int srb count) (Some (srb_ciphering Down l.keys srb count)) text o
       → CipheredAs Down (Some (srb_ciphering Down l.keys srb count)) o
-  ciphered_here l h is_s is_a srb count is_on low text None k sealed = tt
-  ciphered_here l h is_s is_a srb count is_on low text (Some (SealedNas dir header i f sent)) k sealed = tt
   ciphered_here l h is_s is_a srb count is_on low text (Some (SealedRrc Up st a sr i f sent)) k sealed = absurd k
   ciphered_here l h is_s is_a srb count is_on low text (Some (SealedRrc Down st a sr i (Some f) sent)) k sealed = refl
   ciphered_here l h is_s is_a srb count is_on low text (Some (SealedRrc Down st a sr i None sent)) k sealed =
@@ -103,9 +101,7 @@ module _ (same : Term → Term → Bool) (g : Ghost) (s : Phone Term ℕ) (stati
 
       too_low : {a b : ℕ} → 1 ≤ a → a ≤ b → b ≡ 0 → ⊥
       too_low x y z = omega arith
-  ciphered_here l h is_s is_a srb count is_on low text (Some (PlainNas octets)) k sealed = tt
-  ciphered_here l h is_s is_a srb count is_on low text (Some (UserPacket dir st a drb e sent)) k sealed = tt
-  ciphered_here l h is_s is_a srb count is_on low text (Some (Between to fields key)) k sealed = tt
+  ciphered_here l h is_s is_a srb count is_on low text other k sealed = tt
 
   abbrev q : Reading Term ℕ
   q = term_reading_by same

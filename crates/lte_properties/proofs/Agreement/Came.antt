@@ -21,12 +21,7 @@ CameTo g (Address.StationX2 station) pdu came = ReadOk (BetweenOk g (Address.Sta
 
 pub none_came : (g : Ghost) (to : Address) (pdu : List ℕ) → CameTo g to pdu None
 none_came g Address.PhoneNas pdu = tt
-none_came g (Address.Phone station air bearer) pdu = tt
-none_came g Address.CoreNas pdu = tt
-none_came g Address.CoreS1 pdu = tt
-none_came g (Address.StationAir station air bearer) pdu = tt
-none_came g (Address.StationS1 station) pdu = tt
-none_came g (Address.StationX2 station) pdu = tt
+none_came g other pdu = tt
 
 between_came : (g : Ghost) (to : Address) (pdu : List ℕ) (fields : Fields) (key : Option (NumberedKey Term ℕ))
     → BetweenOk g to fields key

@@ -236,7 +236,8 @@ module _ (same : Term → Term → Bool) (cells : List Site) (g : Ghost) (tried_
     closed = λ f h. stays s h;
     completed = λ count p keys f h. stays s h;
     changed = λ count conn next station p keys f h.
-        let is : next ≡ g.next = f.0.1.next_is ∙ h.1 in (
+        let (completes, changes) = f.0 in
+        let is : next ≡ g.next = changes.next_is ∙ h.1 in (
           roots next p.root count s.first_ncc is,
           counts next p.root count s.first_ncc is,
           tops next p.root count s.first_ncc is,
@@ -247,7 +248,7 @@ module _ (same : Term → Term → Bool) (cells : List Site) (g : Ghost) (tried_
             below = begins_low next p.root count s.first_ncc is;
             chain = begins_key next p.root count s.first_ncc is;
             root = p.root;
-            kenb = ap (Kenb p.root) (f.1 count f.0.0);
+            kenb = ap (Kenb p.root) (f.1 count completes);
             number = refl;
           },
           (λ i off. equal_below (apart next i (number_from (term_reading_by same) s.first_ncc) g.top off)),

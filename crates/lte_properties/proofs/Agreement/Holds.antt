@@ -21,15 +21,15 @@ use Rattle.lte_machine.proofs.Worlds.{TheWorld}
 
 low_id : (id : ℕ) (ss : List StationSetup) → AllOf IsStation ss → IsTrue (has_station ss id) → id ≤ 7
 low_id id [] h has = absurd cc
-low_id id (s ∷ ss) h has = by (s.id == id) refl has (low_id id ss h.1)
+low_id id (s ∷ ss) ((low, _), rest) has = by (s.id == id) refl has (low_id id ss rest)
   where
     by : (b : Bool) → (s.id == id) ≡ b → IsTrue (b || has_station ss id) → (IsTrue (has_station ss id) → id ≤ 7) → id ≤ 7
-    by true same has rest = subst (λ n. n ≤ 7) (eqb-true s.id id same) h.0.0
-    by false same has rest = rest has
+    by true same has later = subst (λ n. n ≤ 7) (eqb-true s.id id same) low
+    by false same has later = later has
 
 sites_ok : (stations : List StationSetup) → AllOf IsStation stations → (sites : List Site) → AllOf (IsSiteOf stations) sites → AllOf SiteOk sites
 sites_ok stations low [] h = tt
-sites_ok stations low (site ∷ sites) h = ((low_id site.station stations low h.0.1, h.0.0), sites_ok stations low sites h.1)
+sites_ok stations low (site ∷ sites) ((cell, has), rest) = ((low_id site.station stations low has, cell), sites_ok stations low sites rest)
 
 pub cells_of : (setup : Setup) → IsSetup setup → AllOf SiteOk setup.cells
 cells_of setup h =
@@ -44,18 +44,18 @@ stations_begin : (cells : List Site) (g : Ghost) (made : g.made ≡ []) (tried :
     → AllOf IsStation ss
     → AllOf (StationOk cells g) (stations_of cells ss)
 stations_begin cells g made tried [] h = tt
-stations_begin cells g made tried (s ∷ ss) h = (
+stations_begin cells g made tried (s ∷ ss) ((low, (next, _)), rest) = (
   record {
     context = tt;
     preps = tt;
     fresh = λ n low. (ap (λ xs. made_at xs s.id n) made, ap (λ xs. tried_at xs s.id n) tried);
     cells = refl;
-    id = h.0.0;
-    next = h.0.1.0;
+    id = low;
+    next = next;
     ring = refl;
     seen = subst (λ xs. AllOf (SeenBy s.id (replicate 8 0)) xs) (sym made) tt;
   },
-  stations_begin cells g made tried ss h.1,
+  stations_begin cells g made tried ss rest,
 )
 
 pub first_ok : (setup : Setup) → IsSetup setup → WorldOk setup.cells (no_conns setup) (first_world setup)

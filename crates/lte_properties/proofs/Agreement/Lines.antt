@@ -178,11 +178,7 @@ way_told cells c u h id key Way.Completed k = (
   all_both (StationOk cells (ghost c u)) (λ s. s.id ≡ id → IsNew s.context key) _
       (λ s ok f is. had_active cells (ghost c u) s id key is s.context ok.context (f is)) u.stations h.stations k.3,
 )
-way_told cells c u h id key Way.Initial k = tt
-way_told cells c u h id key Way.Horizontal k = tt
-way_told cells c u h id key Way.Vertical k = tt
-way_told cells c u h id key Way.Chained k = tt
-way_told cells c u h id key Way.Given k = tt
+way_told cells c u h id key other k = tt
 
 note_told : (cells : List Site) (c : Conns) (u : TheWorld) → WorldOk cells c u → (who : Who) (o : Option (Note Term)) → NoteShown u who o → TellsNote u who o
 note_told cells c u h (Who.Station id) (Some note) k = way_told cells c u h id note.key note.way k

@@ -143,7 +143,8 @@ nas_honest same c u e pdu other = tt
 opener_honest : (c : Ciphers Term) (opener : Opening Term → List ℕ → Option (Outgoing Term ℕ) → Outcome) → OpensByTerms c opener
     → (opening : Opening Term) (pdu : List ℕ) (came : Option (Outgoing Term ℕ)) → IsHonest opening came (opener opening pdu came)
 opener_honest c opener is OpensNothing pdu came = tt
-opener_honest c opener is (OpensNas u e) pdu came = subst (IsHonest (OpensNas u e) came) (sym (is.1.1 u e pdu came)) (nas_honest is.1.0 c u e pdu came)
+opener_honest c opener (_, (same, by_uses)) (OpensNas u e) pdu came =
+    subst (IsHonest (OpensNas u e) came) (sym (by_uses u e pdu came)) (nas_honest same c u e pdu came)
 opener_honest c opener is (OpensSrb u e) pdu came = subst (IsHonest (OpensSrb u e) came) (sym (is.0 u e pdu came)) (srb_honest c u e pdu came)
 opener_honest c opener is (OpensDrb e) pdu came = tt
 

@@ -7,7 +7,7 @@ use Rattle.key_model.specs.Term.{Term, Kenb, Star, same_term}
 use Rattle.key_model.proofs.TermFacts.{same_term-Decides}
 use Rattle.key_model.specs.{Chain.nh, Chain.ncc_of, Number.chain_number, Reading.term_reading_by, HandoverLines.steps_to}
 use Rattle.nh_chain.specs.Reach.{reached_after}
-use Rattle.lte_machine.specs.Bearers.{Srb, Signalling1, Signalling2, Drb, User1, User2, User3, User4, Which, OnSrb, OnDrb, Bearers, srb_counts, srb_taken, drb_taken, srb_sent, drb_sent, skipped_on}
+use Rattle.lte_machine.specs.Bearers.{Srb, Signalling1, Signalling2, Drb, User1, Which, OnSrb, OnDrb, Bearers, srb_counts, srb_taken, drb_taken, srb_sent, drb_sent, skipped_on}
 use Rattle.lte_machine.specs.Reply.{Origin, From, BySetup, ByAttempt, ByChange, Made, Tried, Before, Secured, Commanded, Changed, Took}
 use Rattle.lte_machine.specs.{World.with_one, Wire.srb_use, Wire.srb_ciphering}
 use Rattle.lte_machine.specs.PhoneState.{Waiting, Link, Radio, Connecting, Connected, Phone}
@@ -155,9 +155,7 @@ heard_taken Signalling2 count b h = h
 
 pub heard_packet : (drb : Drb) (count : ℕ) (b : Bearers) → 1 ≤ b.srb1.receive → 1 ≤ (drb_taken drb count b).srb1.receive
 heard_packet User1 count b h = h
-heard_packet User2 count b h = h
-heard_packet User3 count b h = h
-heard_packet User4 count b h = h
+heard_packet other count b h = h
 
 pub heard_sent : (srb : Srb) (b : Bearers) → 1 ≤ b.srb1.receive → 1 ≤ (srb_sent srb b).srb1.receive
 heard_sent Signalling1 b h = h
@@ -165,17 +163,12 @@ heard_sent Signalling2 b h = h
 
 pub heard_packet_sent : (drb : Drb) (b : Bearers) → 1 ≤ b.srb1.receive → 1 ≤ (drb_sent drb b).srb1.receive
 heard_packet_sent User1 b h = h
-heard_packet_sent User2 b h = h
-heard_packet_sent User3 b h = h
-heard_packet_sent User4 b h = h
+heard_packet_sent other b h = h
 
 pub heard_left : (on : Which) (n : ℕ) (b : Bearers) → 1 ≤ b.srb1.receive → 1 ≤ (skipped_on on n b).srb1.receive
 heard_left (OnSrb Signalling1) n b h = h
-heard_left (OnSrb Signalling2) n b h = h
 heard_left (OnDrb User1) n b h = h
-heard_left (OnDrb User2) n b h = h
-heard_left (OnDrb User3) n b h = h
-heard_left (OnDrb User4) n b h = h
+heard_left other n b h = h
 
 -- an order is obeyed under the key that the station made for the phone's air address
 own_before : (g : Ghost) (x : Took Term ℕ) (l : Link Term ℕ) → LinkIs g l → OwnMade g l → HadMade (with_took g (Some x)) l.station l.kenb

@@ -418,7 +418,7 @@ module _ (same : Term → Term → Bool) (cells : List Site) (g : Ghost) (made_o
       taken = λ conn origin pair k. taken_goes conn origin pair k.0.context k.0.serving (answer_fits conn origin pair k.0 k.1);
       by_s1 = λ w pair k. by_s1_goes w pair k.0.admits (says OnS1 _ (Some pair) k.0.on_is k.0.fields_is k.1);
       by_x2 = λ w star k. by_x2_goes w star k.0.admits (says OnX2 _ (Some star) k.0.on_is k.0.fields_is k.1);
-      answered = λ order key k. (answered_goes on fields key order k.0 k.1.0, tt, tt, tt, refl, tt, tt);
+      answered = λ order key (answers, came). (answered_goes on fields key order answers came.0, tt, tt, tt, refl, tt, tt);
       cancelled = λ from key k. (with_both cells g s ok s.context ok.context _ (all_filter _ _ s.preps ok.preps), tt, tt, tt, refl, tt, tt);
       left = λ key k. (with_ctx cells g s ok None tt, tt, tt, tt, refl, tt, tt);
       renewed = λ conn number air count c e kenb k. renewed conn number air count c e kenb k.0 k.1;

@@ -56,25 +56,25 @@ module _ (same : Term → Term → Bool) (cells : List Site) (g : Ghost) (s : St
     -- who completes the start of the security has the context's key
     secures : (count : ℕ) → AirHas r s air on pdu outcome (SecurityStarted count)
         → StationOk cells g (record s { context = option_map (with_security count) s.context })
-    secures count f =
-        let c = f.0.context in
-        let h = ctx_at cells g s ok c f.0.serving in
+    secures count (at, (opens, _)) =
+        let c = at.context in
+        let h = ctx_at cells g s ok c at.serving in
         let key : c.keys.rrc_int ≡ Alg c.key.kenb 4 2 = ap (λ x. x.rrc_int) h.keys in
-        let sealed = subst (λ o. IsHonest (starting_expects {C = ℕ} count o) came (Opened f.1.0.text)) f.0.serving (opened_so (OnStarting count) f.1.0) in
-        let taken = up_taken g s.id air c.key.kenb (srb_use Up c.keys.rrc_int Signalling1 count) key _ f.1.0.text came came_ok sealed in
-        let had = subst (λ a. HadTaken g.took s.id a c.key.kenb) (sym f.0.there) taken.1 in
-        mapped_at cells g s ok (with_security count) c f.0.serving
+        let sealed = subst (λ o. IsHonest (starting_expects {C = ℕ} count o) came (Opened opens.text)) at.serving (opened_so (OnStarting count) opens) in
+        let taken = up_taken g s.id air c.key.kenb (srb_use Up c.keys.rrc_int Signalling1 count) key _ opens.text came came_ok sealed in
+        let had = subst (λ a. HadTaken g.took s.id a c.key.kenb) (sym at.there) taken.1 in
+        mapped_at cells g s ok (with_security count) c at.serving
         (search (had))
 
     -- a completed preparation is a context of what was made, and the phone had taken its key
     arrives : (at count : ℕ) (by : By) (outstanding : Option ℕ) (origin : Option Origin) → Completes r s air on pdu outcome at count by
         → (p : Prep Term ℕ) → at_air at s.preps ≡ Some p → CtxOk g s.id (Some (arrived count outstanding origin p))
-    arrives at count by outstanding origin f p e =
+    arrives at count by outstanding origin (waits, (opens, _)) p e =
         let good : PrepOk g s.id p = all_found (PrepOk g s.id) (is_at at) s.preps p ok.preps e in
-        let there : p.air ≡ air = eqb-true p.air at (found_holds (is_at at) s.preps p e) ∙ f.0.at_is in
+        let there : p.air ≡ air = eqb-true p.air at (found_holds (is_at at) s.preps p e) ∙ waits.at_is in
         let key : p.keys.rrc_int ≡ Alg p.key.kenb 4 2 = ap (λ x. x.rrc_int) good.keys in
-        let sealed = subst (λ o. IsHonest (prepared_expects {C = ℕ} count o) came (Opened f.1.0.text)) e (opened_so (OnPrepared at by count) f.1.0) in
-        let taken = up_taken g s.id air p.key.kenb (srb_use Up p.keys.rrc_int Signalling1 count) key _ f.1.0.text came came_ok sealed in
+        let sealed = subst (λ o. IsHonest (prepared_expects {C = ℕ} count o) came (Opened opens.text)) e (opened_so (OnPrepared at by count) opens) in
+        let taken = up_taken g s.id air p.key.kenb (srb_use Up p.keys.rrc_int Signalling1 count) key _ opens.text came came_ok sealed in
         let here : HereIs g s.id p.air p.key.kenb = subst (λ a. HereIs g s.id a p.key.kenb) (sym there) taken.0 in
         let had : HadTaken g.took s.id p.air p.key.kenb = subst (λ a. HadTaken g.took s.id a p.key.kenb) (sym there) taken.1 in
         let m : Made Term ℕ = good.made in

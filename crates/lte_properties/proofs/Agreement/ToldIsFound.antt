@@ -1,6 +1,6 @@
 -- What a station tells anew is found, and what it has not told is not; what keys lead to which.
 use Rattle.std.proofs.Common.{◌≡◌, ◌≢◌, ℕ, zero, suc, ◌+◌, ◌-◌, ◌<◌, ◌≤◌, refl, sym, ◌∙◌, ap, subst, arith, Bool, true, false, cond, List, [], ◌∷◌, ◌++◌, Option, Some, None, Ok, inl, inr}
-use Rattle.std.specs.Prelude.{◌&&◌, ◌==◌, find, filter, ⊤, ◌⊎◌, Result, option_map}
+use Rattle.std.specs.Prelude.{◌&&◌, ◌==◌, find, ⊤, ◌⊎◌, Result, option_map}
 use Rattle.std.specs.Option.{option_or}
 use Rattle.std.proofs.{lemmas.List.Folds.find-append, lemmas.Bool.Decides.nat_tests}
 use Rattle.rec_base.specs.declared.faults.RecFault.{RecFault}
@@ -138,11 +138,12 @@ same_cell site cell e h = grind (arith, nat_tests)
 
 site_found : (cells : List Site) → AllOf SiteOk cells → (cell : Place) (site : Site) → find (is_site cell) cells ≡ Some site → (site.station ≤ 7) × IsCell cell
 site_found [] h cell site e = absurd cc
-site_found (z ∷ zs) h cell site e = by_step (find_step (is_site cell z) z site (find (is_site cell) zs) e) (site_found zs h.1 cell site)
+site_found (z ∷ zs) ((low, in_range), rest) cell site e =
+    by_step (find_step (is_site cell z) z site (find (is_site cell) zs) e) (site_found zs rest cell site)
   where
     by_step : ((is_site cell z ≡ true) × (z ≡ site)) ⊎ ((is_site cell z ≡ false) × (find (is_site cell) zs ≡ Some site))
         → (find (is_site cell) zs ≡ Some site → (site.station ≤ 7) × IsCell cell) → (site.station ≤ 7) × IsCell cell
-    by_step (inl k) f = (subst (λ x. x.station ≤ 7) k.1 h.0.0, same_cell z cell k.0 h.0.1)
+    by_step (inl k) f = (subst (λ x. x.station ≤ 7) k.1 low, same_cell z cell k.0 in_range)
     by_step (inr k) f = f k.1
 
 pub cell_found : (cells : List Site) → AllOf SiteOk cells → (cell : Place) (target : ℕ) → station_of cell cells ≡ Some target → (target ≤ 7) × IsCell cell

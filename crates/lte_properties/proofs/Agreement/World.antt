@@ -320,8 +320,9 @@ module _ (same : Term → Term → Bool) (root : ℕ → List ℕ → Term) (oct
   pub station_acts_goes : (c : Conns) (w : TheWorld) (id : ℕ) (act : StationAct) → IsStationAct act → WorldOk cells c w → (s : Station Term ℕ)
       → Found w (IsAt cells c w) id s → Goes cells c w (turn_of m w id (StationActs act) None (Some s)).0
   station_acts_goes c w id act is h s f =
+      let (ok, above, _, _) = f.holds in
       station_goes c w id (StationActs act) None s h f.own
-      (act_goes same cells cells_ok (ghost c w) h.made h.tried s f.holds.0 f.holds.1.0 act is)
+      (act_goes same cells cells_ok (ghost c w) h.made h.tried s ok above.0 act is)
 
   pub station_air_goes : (c : Conns) (w : TheWorld) (id air : ℕ) (bearer : Bearer) (pdu : List ℕ)
       (came : Option (Outgoing Term ℕ))
@@ -334,25 +335,19 @@ module _ (same : Term → Term → Bool) (root : ℕ → List ℕ → Term) (oct
       (air_goes same cells (ghost c w) s f.holds.0 air came (subst (λ n. CameUp (ghost c w) n air came) (sym f.own) k)
       (outcome_of m (attempts_at m (AirPdu air bearer pdu) came (Some s))) (which bearer) pdu honest)
 
-  -- what comes to it in a record
-  station_reads : (c : Conns) (w : TheWorld) (on : Interface) (id : ℕ) (came : Option (Outgoing Term ℕ))
+  -- and to a record that comes to it
+  pub station_record_goes : (c : Conns) (w : TheWorld) (on : Interface) (id : ℕ) (came : Option (Outgoing Term ℕ))
       → ReadOk (BetweenOk (ghost c w) (address_on on id)) came
-      → OfSome (λ x. (address_of x ≡ address_on on id) × FitsAll w x) came → WorldOk cells c w → (outcome : Outcome) (s : Station Term ℕ)
-      → Found w (IsAt cells c w) id s → StationGoes cells (ghost c w) s (station_step (term_reading_by same) s (StationRecord on (content_in m came)) outcome)
-  station_reads c w on id (Some (Between to fields key)) k fits h outcome s f =
-      record_goes same cells (ghost c w) h.made h.tried s f.holds.0 on fields key (
+      → OfSome (λ x. (address_of x ≡ address_on on id) × FitsAll w x) came → WorldOk cells c w → (s : Station Term ℕ) → Found w (IsAt cells c w) id s
+      → Goes cells c w (turn_of m w id (StationRecord on (content_in m came)) came (Some s)).0
+  station_record_goes c w on id (Some (Between to fields key)) k fits h s f =
+      station_goes c w id (StationRecord on (content_in m (Some (Between to fields key)))) (Some (Between to fields key)) s h f.own
+      (record_goes same cells (ghost c w) h.made h.tried s f.holds.0 on fields key (
         subst (λ n. BetweenOk (ghost c w) (address_on on n) fields key) (sym f.own) k,
         λ e. (
           f.holds.2,
           subst (λ a. InFlight s (Between a fields key)) (fits.0 ∙ (λ j. address_on (e j) (sym f.own j))) (fits.1 s f.holds.3),
         ),
-      )
-  station_reads c w on id other k fits h outcome s f = (f.holds.0, tt, tt, tt, refl, tt, tt)
-
-  pub station_record_goes : (c : Conns) (w : TheWorld) (on : Interface) (id : ℕ) (came : Option (Outgoing Term ℕ))
-      → ReadOk (BetweenOk (ghost c w) (address_on on id)) came
-      → OfSome (λ x. (address_of x ≡ address_on on id) × FitsAll w x) came → WorldOk cells c w → (s : Station Term ℕ) → Found w (IsAt cells c w) id s
-      → Goes cells c w (turn_of m w id (StationRecord on (content_in m came)) came (Some s)).0
-  station_record_goes c w on id came k fits h s f =
-      station_goes c w id (StationRecord on (content_in m came)) came s h f.own
-      (station_reads c w on id came k fits h (outcome_of m (attempts_at m (StationRecord on (content_in m came)) came (Some s))) s f)
+      ))
+  station_record_goes c w on id other k fits h s f =
+      station_goes c w id (StationRecord on (content_in m other)) other s h f.own (f.holds.0, tt, tt, tt, refl, tt, tt)

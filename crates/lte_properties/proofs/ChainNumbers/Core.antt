@@ -178,18 +178,19 @@ module _ (top : ℕ → ℕ) (same : Term → Term → Bool) (to : Address) (fie
   record_kept : RecordCases (term_reading_by same) (λ t row. RecordHas t fields row) (Keeps top Asks same s) s
   record_kept = record {
     nothing = λ t answer h. silent_kept top Asks t h t refl refl;
-    switched = λ conn station number alarm link f h.
+    switched = λ conn station number alarm link f h. let (reached, drawn) = h.0 in
         link_moves top Asks (with_link s (Some link)) h _ (further top same link conn station f.linked) _ refl
-        (omega arith) h.0.1 (further_up top same link conn station f.linked h.0.0) (further_below top same link conn station f.linked)
+        (omega arith) drawn (further_up top same link conn station f.linked reached) (further_below top same link conn station f.linked)
         (λ u c a g.
         let q = subst (λ x. InFlight u (Between to x key)) f.fields_is a g in
-        (q.0, answer_ok top u.context conn number _ c q.1 (further_above top same link conn station f.linked h.0.0)));
-    asked = λ conn source attempt cell target caps link f h.
+        (q.0, answer_ok top u.context conn number _ c q.1 (further_above top same link conn station f.linked reached)));
+    asked = λ conn source attempt cell target caps link f h. let (reached, drawn) = h.0 in
         link_moves top Asks (with_link s (Some link)) h _ (further top same link conn link.station f.linked) _ refl
-        (omega arith) h.0.1 (further_up top same link conn link.station f.linked h.0.0) (further_below top same link conn link.station f.linked) (λ u c a. tt);
+        (omega arith) drawn (further_up top same link conn link.station f.linked reached) (further_below top same link conn link.station f.linked) (λ u c a. tt);
     ordered = λ conn source attempt cell ncc algs air f h. link_stays top Asks s h s _ refl refl ((λ top. tt), (λ u. tt));
-    notified = λ station link f h. link_moves top Asks (with_link s (Some link)) h _ (record link { station = station }) None refl
-        (omega arith) h.0.1 (le_of_eq (sym h.0.0)) tt (λ u c a. tt);
+    notified = λ station link f h. let (reached, drawn) = h.0 in
+        link_moves top Asks (with_link s (Some link)) h _ (record link { station = station }) None refl
+        (omega arith) drawn (le_of_eq (sym reached)) tt (λ u c a. tt);
     cancelled = λ conn source attempt cell target f h. link_stays top Asks s h s _ refl refl ((λ top. tt), (λ u. tt));
   }
 

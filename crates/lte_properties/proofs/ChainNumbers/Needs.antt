@@ -6,7 +6,7 @@ use Rattle.key_model.specs.{Term.Term, HandoverTable.NumberedKey, Reading.Readin
 use Rattle.s1x2_rec.specs.Fields.{Fields, ContextRelease, PathSwitchAnswer}
 use Rattle.lte_machine.specs.{Bearers.which, Opening.Outcome, PhoneState.Phone, PhoneRows.PhoneRow, PhoneKeys.phone_does, StationStep.plain_station, StationStep.station_step, Machines.content_of}
 use Rattle.lte_machine.specs.Reply.{Origin, Reply, unseen}
-use Rattle.lte_machine.specs.Wire.{Outgoing, SealedNas, PlainNas, SealedRrc, UserPacket, Between, address_of}
+use Rattle.lte_machine.specs.Wire.{Outgoing, Between, address_of}
 use Rattle.lte_machine.specs.StationState.{Station, Context, StationActs, AirPdu, StationRecord, Interface, map_read}
 use Rattle.lte_machine.specs.StationRows.{RecordRow, PairTaken, PreparedByS1, PreparedByX2, OfRecord}
 use Rattle.lte_machine.specs.StationChoice.{record_row, air_front, air_row, act_row}
@@ -101,12 +101,8 @@ module _ (top : ℕ → ℕ) (same : Term → Term → Bool) (s : Station Term �
 
 -- and so no pair
 none_between : (o : Option (Outgoing Term ℕ)) → NotBetween o → Plainly o
-none_between None h = ((λ top. tt), (λ u. tt))
-none_between (Some (SealedNas dir header u e text)) h = ((λ top. tt), (λ u. tt))
-none_between (Some (PlainNas octets)) h = ((λ top. tt), (λ u. tt))
-none_between (Some (SealedRrc dir station air srb u e text)) h = ((λ top. tt), (λ u. tt))
-none_between (Some (UserPacket dir station air drb e text)) h = ((λ top. tt), (λ u. tt))
 none_between (Some (Between to fields key)) h = absurd h
+none_between other h = ((λ top. tt), (λ u. tt))
 
 pub phone_does_plain : (same : Term → Term → Bool) (row : PhoneRow) (root : Option Term) (s : Phone Term ℕ)
     → Plainly (phone_does (term_reading_by same) row root s).1.sent

@@ -1,7 +1,7 @@
 -- COUNTs of bearers only rise, each sending takes the next one.
 use Rattle.std.proofs.Common.{ℕ, ◌<◌, ◌≤◌, ◌==◌, Bool, true, false, if◌then◌else◌, arith}
 use Rattle.rec_base.specs.Bearer.{bearer5_of}
-use Rattle.lte_machine.specs.Bearers.{Srb, Signalling1, Signalling2, Drb, User1, User2, User3, User4, Which, OnSrb, OnDrb, Bearers, of_srb, of_drb, srb_counts, drb_counts, srb_sent, drb_sent, srb_taken, drb_taken, skipped_on}
+use Rattle.lte_machine.specs.Bearers.{Srb, Signalling1, Signalling2, Drb, User1, Which, OnSrb, OnDrb, Bearers, of_srb, of_drb, srb_counts, drb_counts, srb_sent, drb_sent, srb_taken, drb_taken, skipped_on}
 use Rattle.lte_properties.proofs.Freshness.Uses.{send_on, next_on}
 
 -- no COUNT to send with falls
@@ -38,9 +38,7 @@ srb_taken_rises Signalling2 count a = rise_same a
 -- and one of a DRB
 pub drb_taken_rises : (drb : Drb) (count : ℕ) (a : Bearers) → Rise a (drb_taken drb count a)
 drb_taken_rises User1 count a = rise_same a
-drb_taken_rises User2 count a = rise_same a
-drb_taken_rises User3 count a = rise_same a
-drb_taken_rises User4 count a = rise_same a
+drb_taken_rises other count a = rise_same a
 
 -- one was sent
 pub srb_sent_rises : (srb : Srb) (a : Bearers) → Rise a (srb_sent srb a)
@@ -50,18 +48,13 @@ srb_sent_rises Signalling2 a = (omega arith, omega arith, omega arith, omega ari
 -- and one on a DRB
 pub drb_sent_rises : (drb : Drb) (a : Bearers) → Rise a (drb_sent drb a)
 drb_sent_rises User1 a = (omega arith, omega arith, omega arith, omega arith, omega arith, omega arith)
-drb_sent_rises User2 a = (omega arith, omega arith, omega arith, omega arith, omega arith, omega arith)
-drb_sent_rises User3 a = (omega arith, omega arith, omega arith, omega arith, omega arith, omega arith)
-drb_sent_rises User4 a = (omega arith, omega arith, omega arith, omega arith, omega arith, omega arith)
+drb_sent_rises other a = (omega arith, omega arith, omega arith, omega arith, omega arith, omega arith)
 
 -- some were left out
 pub left_out_rises : (on : Which) (n : ℕ) (a : Bearers) → Rise a (skipped_on on n a)
 left_out_rises (OnSrb Signalling1) n a = (omega arith, omega arith, omega arith, omega arith, omega arith, omega arith)
-left_out_rises (OnSrb Signalling2) n a = (omega arith, omega arith, omega arith, omega arith, omega arith, omega arith)
 left_out_rises (OnDrb User1) n a = (omega arith, omega arith, omega arith, omega arith, omega arith, omega arith)
-left_out_rises (OnDrb User2) n a = (omega arith, omega arith, omega arith, omega arith, omega arith, omega arith)
-left_out_rises (OnDrb User3) n a = (omega arith, omega arith, omega arith, omega arith, omega arith, omega arith)
-left_out_rises (OnDrb User4) n a = (omega arith, omega arith, omega arith, omega arith, omega arith, omega arith)
+left_out_rises other n a = (omega arith, omega arith, omega arith, omega arith, omega arith, omega arith)
 
 -- the COUNT of a sending on an SRB is the next one, and afterwards below it
 pub srb_is_next : (srb : Srb) (a : Bearers) → (srb_counts srb a).send < send_on false (bearer5_of (of_srb srb)) a → ⊥
@@ -76,13 +69,9 @@ srb_is_used Signalling2 a = omega arith
 -- and on a DRB
 pub drb_is_next : (drb : Drb) (a : Bearers) → (drb_counts drb a).send < send_on true (bearer5_of (of_drb drb)) a → ⊥
 drb_is_next User1 a h = omega arith
-drb_is_next User2 a h = omega arith
-drb_is_next User3 a h = omega arith
-drb_is_next User4 a h = omega arith
+drb_is_next other a h = omega arith
 
 -- and it is below the next one then
 pub drb_is_used : (drb : Drb) (a : Bearers) → (drb_counts drb a).send < send_on true (bearer5_of (of_drb drb)) (drb_sent drb a)
 drb_is_used User1 a = omega arith
-drb_is_used User2 a = omega arith
-drb_is_used User3 a = omega arith
-drb_is_used User4 a = omega arith
+drb_is_used other a = omega arith

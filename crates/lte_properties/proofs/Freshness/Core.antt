@@ -250,7 +250,7 @@ module _ (roots : ℕ) (given : Homes) where
       kenb = Kenb c.nas.root count
 
       not_given : (k : Home) → given kenb ≡ Some k → ⊥
-      not_given k f = let x = (h.past kenb k f).2.1 refl in let y = by_some e in absurd (omega arith)
+      not_given k f = let (_, _, (_, earlier)) = h.past kenb k f in let x = earlier refl in let y = by_some e in absurd (omega arith)
 
       all : (t : Term) (k : Home) → homed given kenb (home_at target conn) t ≡ Some k → IsPast roots (core_partial_root s.partial) (core_mark None (Some c)) t
       all t k f = by_side (homed_is given kenb (home_at target conn) t k f) where
@@ -258,8 +258,9 @@ module _ (roots : ℕ) (given : Homes) where
         by_side (inl g) =
             later_mark roots (core_partial_root s.partial) (authentication_of c.nas.root) n c.nas.receive t (let x = h.trigger in omega arith) (h.past t k g)
         by_side (inr g) =
+            let (low, older) = h.kasmes.1 in
             subst (IsPast roots (core_partial_root s.partial) (core_mark None (Some c))) (sym g.0)
-            (h.kasmes.1.0, h.kasmes.1.1, (omega arith, λ i. let x = h.trigger in let y = by_some e in omega arith))
+            (low, older, (omega arith, λ i. let x = h.trigger in let y = by_some e in omega arith))
 
   act_keeps : (same : Term → Term → Bool) (act : CoreAct) (s : Core Term ℕ) → ActCases (term_reading_by same) (λ t row. ActHas t act row) Keeps s
   act_keeps same act s = record {

@@ -49,8 +49,8 @@ not_after_before t u v h k = (
 -- a key that comes before the next KeNB comes before the KeNB of that authentication and COUNT
 pub past_is_before : (roots : ℕ) (partial : Option ℕ) (root : Term) (count : ℕ) (t : Term) →
     IsPast roots partial (Some (record { root = authentication_of root; count = count })) t → IsBefore t (Kenb root count)
-past_is_before roots partial root count t h =
-    (h.2.0, λ e. let k = h.2.1 e in (omega arith, λ f. absurd (omega arith)))
+past_is_before roots partial root count t (_, _, (no_later, earlier)) =
+    (no_later, λ e. let k = earlier e in (omega arith, λ f. absurd (omega arith)))
 
 -- whether a key is past does not depend on handovers
 pub past_alike : (roots : ℕ) (partial : Option ℕ) (mark : Option Mark) (t u : Term) →
@@ -136,4 +136,4 @@ on_key other rest f more h = h
 -- a key that is past stays so as the COUNT rises
 pub later_mark : (roots : ℕ) (partial : Option ℕ) (root m n : ℕ) (t : Term) → m ≤ n → IsPast roots partial (Some (record { root = root; count = m })) t
     → IsPast roots partial (Some (record { root = root; count = n })) t
-later_mark roots partial root m n t le h = (h.0, h.1, (h.2.0, λ e. let k = h.2.1 e in omega arith))
+later_mark roots partial root m n t le (low, older, (no_later, earlier)) = (low, older, (no_later, λ e. let k = earlier e in omega arith))

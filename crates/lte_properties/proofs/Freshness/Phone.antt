@@ -244,8 +244,9 @@ module _ (roots : ℕ) (taken : Homes) where
           } in
           let before : (t : Term) (h : Home) → taken t ≡ Some h → IsBefore t star =
           λ t g f. let x = (h.radio.latest t g f).0 in (omega arith, λ i. absurd (omega arith)) in
+          let (low, older) = h.kasmes.1 in
           joins (record s { context = Some c }) (Connected l) star t _ _ h refl
-          (h.kasmes.1.0, h.kasmes.1.1, (omega arith, λ i. let x = h.sent in omega arith))
+          (low, older, (omega arith, λ i. let x = h.sent in omega arith))
           before (refl, refl, refl) refl (refl, inl refl) (
             new_zero (record s { context = Some c }) (Connected l) star t h before 3 (identity_of algs.eea) 0 (omega arith) (omega arith),
             (new_zero (record s { context = Some c }) (Connected l) star t h before 4 eia2_identity 0 (omega arith) (omega arith), tt),

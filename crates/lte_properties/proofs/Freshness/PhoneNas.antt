@@ -113,9 +113,9 @@ module _ (roots : ℕ) (taken : Homes) where
     new_nas : (radio : Radio Term ℕ) (type id bearer : ℕ) → IsNas type → PhoneStands roots taken (record s { context = Some c }) →
         NewUp roots taken taken (record s { context = Some c }) (record s { context = Some (one_nas_sent c); radio = radio })
         (record { key = Alg c.root type id; count = c.send; bearer = bearer; dir = Up })
-    new_nas radio type id bearer lt h = (
+    new_nas radio type id bearer lt h = let (low, older) = h.kasmes.1 in (
       refl,
-      (λ n. (h.kasmes.1.0, other_root c.root s.partial h.kasmes.1.1, λ e. omega arith), λ a. absurd (omega arith)),
+      (λ n. (low, other_root c.root s.partial older, λ e. omega arith), λ a. absurd (omega arith)),
       λ old. let x = (old.0 lt).2 refl in absurd (omega arith),
     )
 
@@ -174,6 +174,7 @@ module _ (roots : ℕ) (taken : Homes) where
         (Some (SealedNas Up 1 (nas_use Up c.keys.int c.send) None text)) None
     requested text h =
         let radio : Radio Term ℕ = Connecting (record { root = c.root; kenb = Kenb c.root c.send }) in
+        let (low, older) = h.kasmes.1 in
         let b = both_nas radio h in record {
           new = taken;
           grows = λ t k e. e;
@@ -182,7 +183,7 @@ module _ (roots : ℕ) (taken : Homes) where
             keys = h.keys;
             past = λ t k e. later_mark roots (partial_root s.partial) (authentication_of c.root) c.send (c.send + 1) t (omega arith) (h.past t k e);
             radio = (
-              (h.kasmes.1.0, h.kasmes.1.1, (omega arith, λ e. omega arith)),
+              (low, older, (omega arith, λ e. omega arith)),
               λ t k e. past_is_before roots (partial_root s.partial) c.root c.send t (h.past t k e),
             );
             older = (refl, inl refl);
@@ -216,7 +217,7 @@ module _ (roots : ℕ) (taken : Homes) where
         ((t : Term) (k : Home) → taken t ≡ Some k → IsPast roots (Some (authentication_of p.root)) mark t) →
         RadioStands roots (Some (authentication_of p.root)) mark taken radio → RadioOlder radio now → RadioOlder radio (Some p.root)
     taken_older mark Idle now past h o = tt
-    taken_older mark (Connecting w) now past h o = (o.0, inr (let x = h.0.1 in let y = o.0 in omega arith))
+    taken_older mark (Connecting w) now past ((_, older, _), _) (same, _) = (same, inr (omega arith))
     taken_older mark (Connected l) now past h o =
         (o.0, inr (let x = (past l.kenb (home_at l.station l.air) h.here).1 in let y = o.0 in omega arith))
 

@@ -10,7 +10,7 @@ use Rattle.key_model.specs.{Term.Term, Term.Root, Reading.Reading, Reading.term_
 use Rattle.s1x2_rec.specs.Content.{Content}
 use Rattle.ho_prep.specs.Prep.{Prep, at_air}
 use Rattle.lte_machine.specs.{Bearers.which, PhoneChoice.act_row, StationRows.RecordRefused, StationStep.station_step, StationStep.station_opens, CoreStep.core_step, CoreStep.core_opens, Machines.sender_of, Step.attempts_at}
-use Rattle.lte_machine.specs.Wire.{KeyUse, Outgoing, SealedNas, PlainNas, SealedRrc, UserPacket, Between, address_of, integrity_of}
+use Rattle.lte_machine.specs.Wire.{KeyUse, Outgoing, SealedNas, SealedRrc, Between, address_of, integrity_of}
 use Rattle.lte_machine.specs.Opening.{Opening, Outcome, Opened, Differs}
 use Rattle.lte_machine.specs.PhoneState.{Radio, Idle, Connecting, Connected, Phone, PhoneInput, PhoneAuth, PhoneActs, PhoneNasPdu, PhoneAirPdu}
 use Rattle.lte_machine.specs.PhoneStep.{phone_step, phone_opens, phone_pdu_in, plain_phone}
@@ -159,9 +159,7 @@ sealed_there taken given station air bearer u (SealedRrc Up station' air' srb v 
 sealed_there taken given station air bearer u (SealedRrc Down station' air' srb v e text) f g h = absurd (cc)
 sealed_there taken given station air bearer u (SealedNas Up header v e text) f g h = absurd (cc)
 sealed_there taken given station air bearer u (SealedNas Down header v e text) f g h = absurd (cc)
-sealed_there taken given station air bearer u (PlainNas octets) f g h = absurd (none_some g)
-sealed_there taken given station air bearer u (UserPacket dir station' air' drb e text) f g h = absurd (none_some g)
-sealed_there taken given station air bearer u (Between to fields key) f g h = absurd (none_some g)
+sealed_there taken given station air bearer u other f g h = absurd (none_some g)
 
 -- what came to an address stands, if it was sent
 abbrev Came : Homes → Homes → Address → Option (Outgoing Term ℕ) → Type 0
@@ -264,10 +262,11 @@ module _ (same : Term → Term → Bool) (itself : IsReflexive same) (octets : O
           SealedAsAccepted m (attempts_at m (AirPdu air bearer pdu) came (Some s)) →
           Fresh (turn_of m w id (AirPdu air bearer pdu) came (Some s)).0
       air_turn id air bearer pdu came c s f honest =
+          let (stands, drawn) = f.holds in
           let outcome = opener (station_opens r s (AirPdu air bearer pdu)) pdu came in
-          station_fresh m w (λ o. refl) h id s (station_step r s (AirPdu air bearer pdu) outcome) f.own f.holds.1
-          (station.air_keeps h.taken h.given same s f.holds.0 air (which bearer) pdu outcome _ (air_has r s air (which bearer) pdu outcome)
-          (air_row_needs h.taken s air r (which bearer) pdu outcome f.holds.0.1
+          station_fresh m w (λ o. refl) h id s (station_step r s (AirPdu air bearer pdu) outcome) f.own drawn
+          (station.air_keeps h.taken h.given same s stands air (which bearer) pdu outcome _ (air_has r s air (which bearer) pdu outcome)
+          (air_row_needs h.taken s air r (which bearer) pdu outcome stands.1
           (λ u e. subst (λ i. OnKey (λ t type. h.taken t ≡ Some (home_at i air)) u.key) (sym f.own)
           (came_there h.taken h.given id air bearer u came c (honest u (accepts_up s _ outcome u e) e)))))
 

@@ -332,7 +332,7 @@ module _ (taken given : Homes) where
 
   -- the preparation at an air address stands, and waits there
   abbrev WaitsAt : Station Term ℕ → ℕ → Prep Term ℕ → Type 0
-  WaitsAt s air p = PrepStands s.next p × (p.air ≡ air) × (NoneWaits air s.preps → ⊥)
+  WaitsAt s air p = record { stands : PrepStands s.next p; air_is : p.air ≡ air; waits : NoneWaits air s.preps → ⊥ }
 
   -- and the one that is found does
   waits_at : (s : Station Term ℕ) (air : ℕ) → StationStands taken given s → OfSome (WaitsAt s air) (at_air air s.preps)
@@ -340,14 +340,14 @@ module _ (taken given : Homes) where
     by_found : (o : Option (Prep Term ℕ)) → at_air air s.preps ≡ o → OfSome (λ p. PrepStands s.next p × (is_at air p ≡ true)) o → OfSome (WaitsAt s air) o
     by_found None e k = tt
     by_found (Some p) e k =
-        let at : p.air ≡ air = let x = k.1 in grind (arith, nat_tests) in (
-          k.0,
-          at,
-          λ none.
+        let at : p.air ≡ air = let x = k.1 in grind (arith, nat_tests) in record {
+          stands = k.0;
+          air_is = at;
+          waits = λ none.
               let g = subst (OfSome (λ (q : Prep Term ℕ). (q.air ≡ air → ⊥) × (is_at air q ≡ true))) e
               (all_find (λ (q : Prep Term ℕ). q.air ≡ air → ⊥) (is_at air) s.preps none) in
-              g.0 at,
-        )
+              g.0 at;
+        }
 
   -- its context is new: nobody waits there any more
   arrives : (s : Station Term ℕ) (air next count : ℕ) (outstanding : Option ℕ) (origin : Option Origin) (p : Prep Term ℕ) (sent : Option (Outgoing Term ℕ)) →
@@ -356,12 +356,13 @@ module _ (taken given : Homes) where
       AllApart (uses_in sent) → IfSome sent (RecordStands taken given) →
       StationKeeps taken given s (record s { next = next; context = Some (arrived count outstanding origin p); preps = [] }) sent
   arrives s air next count outstanding origin p sent le w here uses apart sends =
+      let (star, keys, drawn) = w.stands in
       renewed s (record s { next = next; preps = [] }) (arrived count outstanding origin p) air sent
       (record { same = refl; next = le; last = omega arith; free = λ a lt f. tt })
-      (ap (λ b. home_of b (taken p.key.kenb) (given p.key.kenb)) w.0.0 ∙ here)
-      (λ spent. w.2 (subst (λ b. IsSpent b air s.next s.last s.preps) w.0.0 spent).1)
-      (subst (λ b. IsSpent b air next s.last []) (sym w.0.0) (let x = w.0.2 in let y = w.1 in omega arith, tt))
-      w.0.1 tt uses apart sends
+      (ap (λ b. home_of b (taken p.key.kenb) (given p.key.kenb)) star ∙ here)
+      (λ spent. w.waits (subst (λ b. IsSpent b air s.next s.last s.preps) star spent).1)
+      (subst (λ b. IsSpent b air next s.last []) (sym star) (let x = w.air_is in omega arith, tt))
+      keys tt uses apart sends
 
   -- an attempt that is given up leaves the KeNB
   gives_up : (c : Context Term ℕ) → Stays c (given_up c)
@@ -390,7 +391,7 @@ module _ (taken given : Homes) where
           by_s1 = λ at count k p e. arrives s at s.next count None None p _ (omega arith) (waits at p e) (taken_is at p e k.1) tt tt tt;
           within = λ at count origin k p e. arrives s at s.next count None origin p None (omega arith) (waits at p e) (taken_is at p e k.1) tt tt tt;
           by_x2 = λ at count number k p e.
-              let d : number ≡ s.next = k.0.0 in
+              let (is_next, _, _) = k.0 in
               arrives s at (number + 1) count (Some number) _ p _ (omega arith) (waits at p e)
               (taken_is at p e k.1) tt tt tt;
         }

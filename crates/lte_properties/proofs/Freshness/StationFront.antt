@@ -45,11 +45,10 @@ module _ (taken : Homes) (s : Station Term ℕ) (air : ℕ) where
       (accepts : OfTaken (air_expects (air_front (plain_station r s) air on pdu) s) outcome) where
     -- a completion is of a key that was taken here
     completes_needs : (at count : ℕ) (by : By) → Completes r s air on pdu outcome at count by → TakenHere taken s.id at (at_air at s.preps)
-    completes_needs at count by f =
-        let o = f.1.0 in
+    completes_needs at count by (waits, (o, _)) =
         let here : OfTaken (prepared_expects count (at_air at s.preps)) (Opened o.text) =
         subst (OfTaken (prepared_expects count (at_air at s.preps))) o.opened (subst (λ front. OfTaken (air_expects front s) outcome) o.front_is accepts) in
-        subst (λ a. TakenHere taken s.id a (at_air at s.preps)) (sym f.0.at_is) (opened_taken count o.text (at_air at s.preps) (prep_stands at h) here)
+        subst (λ a. TakenHere taken s.id a (at_air at s.preps)) (sym waits.at_is) (opened_taken count o.text (at_air at s.preps) (prep_stands at h) here)
 
     row_needs : (row : AirRow) → AirHas r s air on pdu outcome row → AirNeeds taken s row
     row_needs (CompletedByS1 at count) f = completes_needs at count By.S1 f

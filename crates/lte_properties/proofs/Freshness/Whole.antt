@@ -46,18 +46,6 @@ first_fresh setup = record {
   apart = tt;
 }
 
--- ALL RUNS
-
--- in every run in which stations and core accept what was sealed so
-pub no_use_twice_ever : (same : Term → Term → Bool)
-    → IsReflexive same
-    → (octets : Outgoing Term ℕ → List ℕ) (sender : Option (Outgoing Term ℕ) → Option (KeyUse Term))
-    (opener : Opening Term → List ℕ → Option (Outgoing Term ℕ) → Outcome) (setup : Setup) (es : List Event) →
-    AllSentUnder (machine_by same Root octets sender opener) (first_world setup) es →
-    NoUseTwice (run (machine_by same Root octets sender opener) (first_world setup) es).uses
-no_use_twice_ever same itself octets sender opener setup es honest =
-    no_use_twice _ (run_fresh same itself octets sender opener (first_world setup) es honest (first_fresh setup)).apart
-
 -- COMPARISON OF TERMS
 
 -- directions that the test says are one
@@ -133,7 +121,8 @@ module _ (c : Ciphers Term) where
 
     -- no use is made twice in any run from any setup
     pub no_use_twice_by_terms : (setup : Setup) (es : List Event) → NoUseTwice (run m (first_world setup) es).uses
-    no_use_twice_by_terms setup es = no_use_twice_ever same itself octets sender opener setup es (all_sent_under (first_world setup) es)
+    no_use_twice_by_terms setup es =
+        no_use_twice _ (run_fresh same itself octets sender opener (first_world setup) es (all_sent_under (first_world setup) es) (first_fresh setup)).apart
 
     -- and in octets, where distinct keys of the run have distinct values
     pub no_value_twice_by_terms : (setup : Setup) (es : List Event) → ValuesApart (run m (first_world setup) es).uses →

@@ -14,7 +14,7 @@ use Rattle.lte_properties.specs.ChainBelow.{AllOf}
 use Rattle.lte_properties.proofs.Freshness.Uses.{Home, home_at, Homes, HomesStay, OnKey, IsNas, IsAs, is_star, home, NasUp, AsUp, UpUse, NasDown, CoreUse, ContextAhead, AsDown, StationUse}
 use Rattle.lte_properties.proofs.Freshness.Stands.{ContextStands, StationStands, BetweenStands, RecordStands, Fresh}
 use Rattle.lte_machine.proofs.Tests.{by_some}
-use Rattle.lte_properties.proofs.ChainNumbers.Lists.{OfSome, all_append, all_one, all_map, all_both, all_put, roots_kept}
+use Rattle.lte_properties.proofs.ChainNumbers.Lists.{all_append, all_one, all_map, all_both, all_put, roots_kept}
 use Rattle.lte_properties.proofs.{Freshness.Order.home_grows, Freshness.Order.on_key, Freshness.Lists.apart_append, Freshness.Lists.apart_by, Freshness.PhoneNas.PhoneKeeps, Freshness.PhoneNas.NewUp, Freshness.Core.CoreKeeps, Freshness.Core.NewDown}
 use Rattle.lte_properties.proofs.Freshness.StationKeeps.{StationKeeps, NewAt, IsOwn}
 

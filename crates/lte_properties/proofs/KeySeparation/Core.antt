@@ -144,7 +144,8 @@ module _ (roots : ℕ) (xs : List (Outgoing Term ℕ)) (G : Gifts) (sites : List
     };
     outs = (h.partial.0, kept_well same p.root count s.first_ncc h.partial.0);
     sends = λ le. (((h.partial.0, le (Kenb p.root count) station (refl, refl)), tt), tt);
-    fresh = λ t a b g l. not_below (root_number p.root) (h.given (Kenb p.root count) a (subst (λ u. GivenTo xs u a) (sym l.0) g)).0.1;
+    fresh = λ t a b g l.
+        let ((_, before, _), _) = h.given (Kenb p.root count) a (subst (λ u. GivenTo xs u a) (sym l.0) g) in not_below (root_number p.root) before;
   } where
     sent : Outgoing Term ℕ
     sent = Between (StationS1 station) (ContextModification conn next) (Some (record { key = Kenb p.root count; number = 0 }))
@@ -185,7 +186,7 @@ module _ (roots : ℕ) (xs : List (Outgoing Term ℕ)) (G : Gifts) (sites : List
       past : (u : Term) → Past roots s.partial (Some c) s.trigger u
           → (root_number u < roots) × BelowPartial s.partial u
           × ((root_number u ≤ root_number c.nas.root) × (root_number u ≡ root_number c.nas.root → count_of u < count))
-      past u k = (k.0, k.1, (k.2.0, λ e. rises s.trigger h.trigger (count_of u) (k.2.1 e)))
+      past u (low, partial, (no_later, earlier)) = (low, partial, (no_later, λ e. rises s.trigger h.trigger (count_of u) (earlier e)))
 
   -- a message of this COUNT was taken, and the trigger stays
   count_kept : (count : ℕ) (c : CoreContext Term) → c.nas.receive ≤ count → (t : Core Term ℕ) (reply : Reply Term ℕ) → Before (record s { context = Some c }) →
@@ -195,8 +196,8 @@ module _ (roots : ℕ) (xs : List (Outgoing Term ℕ)) (G : Gifts) (sites : List
       quiet (record s { context = Some c }) t reply h e (subst (PartialOk roots) (sym f) h.partial)
       (subst (λ p. ContextOk roots p t.context) (sym f) (subst (ContextOk roots s.partial) (sym i) h.context))
       (subst (λ r. TriggerOk r t.context) (sym g) (subst (TriggerOk s.trigger) (sym i) (triggered s.trigger h.trigger)))
-      (λ u q. subst (λ p. Past roots p t.context t.trigger u) (sym f) (subst (λ r. Past roots s.partial t.context r u) (sym g)
-      (subst (λ o. Past roots s.partial o s.trigger u) (sym i) (q.0, q.1, (q.2.0, λ e. rises s.trigger (count_of u) (q.2.1 e))))))
+      (λ u (low, partial, (no_later, earlier)). subst (λ p. Past roots p t.context t.trigger u) (sym f) (subst (λ r. Past roots s.partial t.context r u) (sym g)
+      (subst (λ o. Past roots s.partial o s.trigger u) (sym i) (low, partial, (no_later, λ e. rises s.trigger (count_of u) (earlier e))))))
       (λ u id. subst (λ x. GivesIn x u id → ⊥) (sym j) (λ l. l))
       (subst (OutsAre IsWellFormed) (sym k) tt)
       (subst (OfSome (FlyOk G sites tried)) (sym j) tt)
@@ -319,7 +320,8 @@ module _ (roots : ℕ) (xs : List (Outgoing Term ℕ)) (G : Gifts) (sites : List
     };
     outs = (h.context.0, kept_well same c.nas.root count s.first_ncc h.context.0);
     sends = λ le. (((h.context.0, le (Kenb c.nas.root count) target (refl, refl)), tt), tt);
-    fresh = λ t a b g k. not_below count ((before (Kenb c.nas.root count) a (subst (λ u. GivenTo xs u a) (sym k.0) g)).2.1 refl);
+    fresh = λ t a b g k.
+        let (_, _, (_, earlier)) = before (Kenb c.nas.root count) a (subst (λ u. GivenTo xs u a) (sym k.0) g) in not_below count (earlier refl);
   } where
     sent : Outgoing Term ℕ
     sent = Between (StationS1 target) (InitialContext conn cell caps) (Some (record { key = Kenb c.nas.root count; number = 0 }))
@@ -346,9 +348,9 @@ module _ (roots : ℕ) (xs : List (Outgoing Term ℕ)) (G : Gifts) (sites : List
         Past roots s.partial (Some c) None u × ((root_number u ≤ root_number c.nas.root) × (root_number u ≡ root_number c.nas.root →
         (count_of u ≤ count) × (count_of u ≡ count → chain_number u ≤ 0)))
     by u id (inl q) =
-        let k = before u id q in (
-          (k.0, k.1, (k.2.0, λ g. rise (count_of u) (k.2.1 g))),
-          (k.2.0, λ g. (less (count_of u) (k.2.1 g), λ i. absurd (apart (count_of u) (k.2.1 g) i))),
+        let (low, partial, (no_later, earlier)) = before u id q in (
+          (low, partial, (no_later, λ g. rise (count_of u) (earlier g))),
+          (no_later, λ g. (less (count_of u) (earlier g), λ i. absurd (apart (count_of u) (earlier g) i))),
         )
     by u id (inr q) =
         subst (λ v. Past roots s.partial (Some c) None v × ((root_number v ≤ root_number c.nas.root) × (root_number v ≡ root_number c.nas.root →

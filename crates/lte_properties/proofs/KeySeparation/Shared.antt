@@ -72,7 +72,7 @@ module _ (sites : List Site) (w : World Term ℕ (Outgoing Term ℕ)) (h : Holde
     here key = subst (λ a. station_of cell sites ≡ Some a) s (subst (OwnCell sites m.station) key own.1)
 
     shared_between : (came : Came Term ℕ) → ObeysMade x came m → ahead m came < 8 → IsHere × SharedBetween w above x m came
-    shared_between Secured k lt = (here (sym k.0.0 ∙ is), tt)
+    shared_between Secured ((key, _, _), _) lt = (here (sym key ∙ is), tt)
     shared_between (Commanded before) k lt =
         let key = sym (k.near lt).0 ∙ is in (
           here key,

@@ -234,9 +234,9 @@ module _ (sites : List Site) (same : Term → Term → Bool) (octets : Outgoing 
       core_record_goes (Some (UserPacket dir station air drb e text)) c =
           core_goes (CoreRecord (Err RecFault.Short)) (Some (UserPacket dir station air drb e text)) tt
           (read_kept (Err RecFault.Short) tt)
-      core_record_goes (Some (Between to fields None)) c =
-          core_goes (CoreRecord (content_of (Between to fields None))) (Some (Between to fields None)) tt (read_kept (content_of (Between to fields None)) c.1.1)
-      core_record_goes (Some (Between to fields (Some key))) c = absurd (no_key_comes to key.key c.0 c.1.0)
+      core_record_goes (Some (Between to fields None)) (_, (_, reads)) =
+          core_goes (CoreRecord (content_of (Between to fields None))) (Some (Between to fields None)) tt (read_kept (content_of (Between to fields None)) reads)
+      core_record_goes (Some (Between to fields (Some key))) (here, (goes, _)) = absurd (no_key_comes to key.key here goes)
 
       -- AN EVENT
 

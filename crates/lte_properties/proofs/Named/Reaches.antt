@@ -30,13 +30,13 @@ pub site_has : (stations : List StationSetup) (sites : List Site)
     → station_of cell sites ≡ Some id
     → IsTrue (has_station stations id)
 site_has stations [] h cell id e = absurd cc
-site_has stations (site ∷ sites) h cell id e = by (is_site cell site) e (site_has stations sites h.1 cell id)
+site_has stations (site ∷ sites) ((_, has), others) cell id e = by (is_site cell site) e (site_has stations sites others cell id)
   where
     by : (b : Bool)
         → option_map (λ s. s.station) (cond b (Some site) (find (is_site cell) sites)) ≡ Some id
         → (station_of cell sites ≡ Some id → IsTrue (has_station stations id))
         → IsTrue (has_station stations id)
-    by true f rest = let one : site.station ≡ id = cc in subst (λ n. IsTrue (has_station stations n)) one h.0.1
+    by true f rest = let one : site.station ≡ id = cc in subst (λ n. IsTrue (has_station stations n)) one has
     by false f rest = rest f
 
 first_stations : (setup : Setup) (ss : List StationSetup)
@@ -117,7 +117,7 @@ module _ (setup : Setup) (set : IsSetup setup) where
     happens_reaches (Event.Auth ksi key caps) can =
         let k = m.root (next_root w) key in auth_reaches ksi k caps (known_root m w k)
     happens_reaches (Event.Phone act) can = λ who. absurd cc
-    happens_reaches (Event.Station id act) can = station_reaches id (StationActs act) None can.1.0
+    happens_reaches (Event.Station id act) (_, (has, _)) = station_reaches id (StationActs act) None has
     happens_reaches (Event.Core act) can = λ who. absurd cc
     happens_reaches (Event.Deliver i) can = delivered_reaches (record_at i w.sent) (all_chosen (λ x. IsAmong (Has setup) (address_of x)) i w.sent reach)
-    happens_reaches (Event.Inject to pdu) can = injected_reaches to (may_come to can.0.0 can.1) pdu (position_from (is_sent m (class_of to) pdu) 0 w.sent)
+    happens_reaches (Event.Inject to pdu) ((takes, _), there) = injected_reaches to (may_come to takes there) pdu (position_from (is_sent m (class_of to) pdu) 0 w.sent)

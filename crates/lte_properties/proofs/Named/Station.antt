@@ -120,11 +120,11 @@ module _ (P : ℕ → Type 0) (cells : List Site) (sites : (cell : Place) (id : 
             opened = λ srb count text k. (mapped (with_rrc_taken srb count) (λ c k. k), tt, tt, refl);
             packet = λ drb count text k. (mapped (with_packet_taken drb count) (λ c k. k), tt, tt, refl);
             by_s1 = λ at count k p e. ((h.0, h.1, (tt, tt), tt), (tt, h.0), tt, refl);
-            within = λ at count origin k p e. (
+            within = λ at count origin (source, origin_is, (prepared, _)) p e. (
               (
                 h.0,
                 h.1,
-                (tt, subst (OriginNamed P) (sym k.1) (by_named air on pdu at (By.Intra k.0) count k.2.0)),
+                (tt, subst (OriginNamed P) (sym origin_is) (by_named air on pdu at (By.Intra source) count prepared)),
                 tt,
               ),
               tt,

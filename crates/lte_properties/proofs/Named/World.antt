@@ -1,7 +1,7 @@
 -- In every world of a run each record that was sent goes to the phone, to the core, or to a station of the setup.
 use Rattle.std.proofs.Common.{◌≡◌, subst, ℕ, Bool, List, [], ◌∷◌, Option, Some, None}
 use Rattle.annex_a_keys.specs.Cell.{Place}
-use Rattle.rec_base.specs.declared.uses.Dir.TheVariants.{Up, Down}
+use Rattle.rec_base.specs.declared.uses.Dir.TheVariants.{Up}
 use Rattle.lte_events.specs.{declared.events.Event.Event, Site.Site, Site.station_of}
 use Rattle.key_model.specs.Term.{Term}
 use Rattle.lte_machine.specs.CoreState.{CoreInput, CoreAuth, CoreActs, CoreNasPdu, CoreRecord}
@@ -11,7 +11,7 @@ use Rattle.lte_machine.specs.Opening.{Opening, Outcome, Opened}
 use Rattle.lte_machine.specs.PhoneStep.{plain_phone, front_of, phone_root, phone_opens, phone_pdu_in, phone_step}
 use Rattle.lte_machine.specs.StationState.{Station, StationInput, StationActs, AirPdu, StationRecord}
 use Rattle.lte_machine.specs.StationStep.{station_opens, station_pdu_in, station_step}
-use Rattle.lte_machine.specs.Wire.{KeyUse, Outgoing, SealedNas, PlainNas, SealedRrc, UserPacket, Between, address_of}
+use Rattle.lte_machine.specs.Wire.{KeyUse, Outgoing, SealedNas, SealedRrc, UserPacket, Between, address_of}
 use Rattle.lte_machine.specs.World.{Machine, World, phone_turn, core_turn, turn_of, next_root, content_in, happens}
 use Rattle.lte_machine.proofs.{Routing.Turns, Routing.happens_by, PhoneGives.NotBetween, PhoneGives.phone_gives}
 use Rattle.lte_properties.specs.{Agreement.is_made_at, Agreement.made_at, ChainBelow.AllOf, Reach.IsAmong, ChainHolds.machine_by}
@@ -127,13 +127,10 @@ module _ (P : ℕ → Type 0) (cells : List Site) (sites : (cell : Place) (id : 
 
     address_named : (x : Outgoing Term ℕ) → RecordNamed P x → SentOk (ghost k w) x → AirOk (ghost k w) x → IsAmong P (address_of x)
     address_named (SealedNas Up header u e text) r a b = tt
-    address_named (SealedNas Down header u e text) r a b = tt
-    address_named (PlainNas octets) r a b = tt
     address_named (SealedRrc Up station air srb u e text) r a b = made_named station air a.sealed.made a.sealed.found
-    address_named (SealedRrc Down station air srb u e text) r a b = tt
     address_named (UserPacket Up station air drb e text) r a b = made_named station air b.are.made b.are.found
-    address_named (UserPacket Down station air drb e text) r a b = tt
     address_named (Between to fields key) r a b = r.0
+    address_named other r a b = tt
 
     pub addresses_named : (xs : List (Outgoing Term ℕ))
         → AllOf (λ x. RecordNamed P x) xs

@@ -231,9 +231,9 @@ module _ (same : Term → Term → Bool) (g : Choices) (next : ℕ) where
     idle = λ needs h. (h, tt);
     packet = λ drb text l needs h. (h, tt);
     rrc = λ srb text l needs h. (h, tt);
-    nas = λ text c needs h.
-        let left = count_left (at_phone.with_context s (Some c)) needs.1.0 in
-        let short = (subst IsPhoneAct needs.1.1 needs.2).1 in
+    nas = λ text c (_, (counts, act_is), is) h.
+        let left = count_left (at_phone.with_context s (Some c)) counts in
+        let (_, short) = subst IsPhoneAct act_is is in
         let own = ciphered_by_own c h.1 Up c.send in
         (h, sealed_by c h.1 Up 2 c.send _ (NasData text) (record { type = refl; ciphering = own; count = left; short = short }) own);
     nas_skipped = λ n c needs h. (h, tt);

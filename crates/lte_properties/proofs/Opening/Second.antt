@@ -97,21 +97,11 @@ module _ (same : Term → Term → Bool) (sender : Option (Outgoing Term ℕ) �
 
   none_came : (to : Address) (pdu : List ℕ) → CameTo to pdu None
   none_came Address.PhoneNas pdu = tt
-  none_came (Address.Phone station air bearer) pdu = tt
-  none_came Address.CoreNas pdu = tt
-  none_came Address.CoreS1 pdu = tt
-  none_came (Address.StationAir station air bearer) pdu = tt
-  none_came (Address.StationS1 station) pdu = tt
-  none_came (Address.StationX2 station) pdu = tt
+  none_came other pdu = tt
 
   between_came : (to : Address) (pdu : List ℕ) (fields : Fields) (key : Option (NumberedKey Term ℕ)) → CameTo to pdu (Some (Between to fields key))
   between_came Address.PhoneNas pdu fields key = tt
-  between_came (Address.Phone station air bearer) pdu fields key = tt
-  between_came Address.CoreNas pdu fields key = tt
-  between_came Address.CoreS1 pdu fields key = tt
-  between_came (Address.StationAir station air bearer) pdu fields key = tt
-  between_came (Address.StationS1 station) pdu fields key = tt
-  between_came (Address.StationX2 station) pdu fields key = tt
+  between_came other pdu fields key = tt
 
   sent_came : (x : Outgoing Term ℕ) → SentOk (ghost k w) x → nas.SentOk g (next_root w) x → CameTo (m.address x) (m.octets x) (Some x)
   sent_came (SealedNas Down header i e text) a n = (refl, n)

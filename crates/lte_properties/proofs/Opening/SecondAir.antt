@@ -18,7 +18,7 @@ use Rattle.lte_machine.specs.PhoneState.{Waiting, Link, Connecting, Connected, P
 use Rattle.lte_machine.specs.StationChoice as st
 use Rattle.lte_machine.specs.StationKeys as stk
 use Rattle.lte_machine.specs.StationState.{Station, Context, map_context}
-use Rattle.lte_machine.specs.Wire.{KeyUse, Ciphering, Outgoing, SealedNas, PlainNas, SealedRrc, UserPacket, Between, srb_use, srb_ciphering}
+use Rattle.lte_machine.specs.Wire.{KeyUse, Ciphering, Outgoing, SealedNas, SealedRrc, srb_use, srb_ciphering}
 use Rattle.lte_machine.proofs.PhoneAirFacts.{FrontHas, phone_air, front_has}
 use Rattle.lte_properties.specs.{Agreement.made_at, SecondCase.sender_at}
 use Rattle.lte_properties.proofs.Agreement.Calm.{NewKenb, count_low, plain_here, ciphered_here}
@@ -39,7 +39,6 @@ module _ (same : Term → Term → Bool) (g : Ghost) (s : Phone Term ℕ) (stati
   -- a record under the KeNB that it waits with is not ciphered
   waits : (w : Waiting Term) → NewKenb g.took (Connecting w) → (count : ℕ) (algs : Algs) (x : Option (Outgoing Term ℕ)) → CameDown g station air on pdu x
       → Never (start_expects (term_reading_by same) count algs (Connecting w)) x
-  waits w never count algs None h = λ e. absurd cc
   waits w never count algs (Some (SealedNas dir header i f text)) h = absurd h
   waits w never count algs (Some (SealedRrc Up st a srb i f text)) h = absurd h
   waits w never count algs (Some (SealedRrc Down st a srb i f text)) h =
@@ -47,9 +46,7 @@ module _ (same : Term → Term → Bool) (g : Ghost) (s : Phone Term ℕ) (stati
       never_srb u i None f Down st a srb text
       (λ e. sym (no_cipher f (plain_here same g s station air pdu on (Some (SealedRrc Down st a srb i f text)) h w never
       u algs refl text (Some (SealedRrc Down st a srb i f text)) h (e, λ x. refl))))
-  waits w never count algs (Some (PlainNas octets)) h = λ e. absurd cc
-  waits w never count algs (Some (UserPacket dir st a drb e text)) h = λ e. absurd cc
-  waits w never count algs (Some (Between to fields key)) h = λ e. absurd cc
+  waits w never count algs other h = λ e. absurd cc
 
   -- a record under the keys of its connection is ciphered under them
   ciphers : (l : Link Term ℕ)
@@ -60,7 +57,6 @@ module _ (same : Term → Term → Bool) (g : Ghost) (s : Phone Term ℕ) (stati
       → on ≡ OnSrb srb
       → (srb_counts srb l.bearers).receive ≤ count
       → (x : Option (Outgoing Term ℕ)) → CameDown g station air on pdu x → Never (signalling_expects {C = ℕ} srb count (Connected l)) x
-  ciphers l h is_s is_a srb count is_on low None k = λ e. absurd cc
   ciphers l h is_s is_a srb count is_on low (Some (SealedNas dir header i f text)) k = absurd k
   ciphers l h is_s is_a srb count is_on low (Some (SealedRrc Up st a sr i f text)) k = absurd k
   ciphers l h is_s is_a srb count is_on low (Some (SealedRrc Down st a sr i None text)) k =
@@ -87,9 +83,7 @@ module _ (same : Term → Term → Bool) (g : Ghost) (s : Phone Term ℕ) (stati
     where
       one_srb : (a b : Srb) → OnSrb a ≡ OnSrb b → a ≡ b
       one_srb a b e = cc
-  ciphers l h is_s is_a srb count is_on low (Some (PlainNas octets)) k = λ e. absurd cc
-  ciphers l h is_s is_a srb count is_on low (Some (UserPacket dir st a drb e text)) k = λ e. absurd cc
-  ciphers l h is_s is_a srb count is_on low (Some (Between to fields key)) k = λ e. absurd cc
+  ciphers l h is_s is_a srb count is_on low other k = λ e. absurd cc
 
   front_never : RadioOk g s.radio → NewKenb g.took s.radio → (front : AirFront) → FrontHas q s station air on pdu front → NeverAt front
   front_never ok never (AirSettled row) f = λ e. absurd cc
@@ -152,7 +146,6 @@ module _ (same : Term → Term → Bool) (cells : List Site) (g : Ghost) (s : St
       → (srb : Srb) (count : ℕ)
       → (srb_counts srb c.bearers).receive ≤ count
       → (x : Option (Outgoing Term ℕ)) → CameUp g s.id air x → Never (stk.signalling_expects {C = ℕ} srb count (Some c)) x
-  active_never c k listened active there srb count low None h = λ e. absurd cc
   active_never c k listened active there srb count low (Some (SealedNas dir header i f text)) h = absurd h
   active_never c k listened active there srb count low (Some (SealedRrc Down st a sr i f text)) h = absurd h
   active_never c k listened active there srb count low (Some (SealedRrc Up st a sr i (Some f) text)) h =
@@ -172,9 +165,7 @@ module _ (same : Term → Term → Bool) (cells : List Site) (g : Ghost) (s : St
     where
       too_low : {a b : ℕ} → 1 ≤ a → a ≤ b → b ≡ 0 → ⊥
       too_low x y z = omega arith
-  active_never c k listened active there srb count low (Some (PlainNas octets)) h = λ e. absurd cc
-  active_never c k listened active there srb count low (Some (UserPacket dir st a drb e text)) h = λ e. absurd cc
-  active_never c k listened active there srb count low (Some (Between to fields key)) h = λ e. absurd cc
+  active_never c k listened active there srb count low other h = λ e. absurd cc
 
   -- a preparation: no setup made it, so that the phone came with a ciphered record
   prepared_never : (p : Prep Term ℕ)
@@ -183,7 +174,6 @@ module _ (same : Term → Term → Bool) (cells : List Site) (g : Ghost) (s : St
       → (count : ℕ) (x : Option (Outgoing Term ℕ))
       → CameUp g s.id air x
       → Never (stk.prepared_expects {C = ℕ} count (Some p)) x
-  prepared_never p k there count None h = λ e. absurd cc
   prepared_never p k there count (Some (SealedNas dir header i f text)) h = absurd h
   prepared_never p k there count (Some (SealedRrc Down st a sr i f text)) h = absurd h
   prepared_never p k there count (Some (SealedRrc Up st a sr i (Some f) text)) h =
@@ -199,9 +189,7 @@ module _ (same : Term → Term → Bool) (cells : List Site) (g : Ghost) (s : St
       let one : m ≡ sealed.made = same_found _ m sealed.made at sealed.found in
       never_srb (srb_use Up p.keys.rrc_int Signalling1 count) i (Some (srb_ciphering Up p.keys Signalling1 count)) None Up st a sr text
       (λ e. absurd (k.no_setup (ap (λ x. x.from) one ∙ sealed.ciphered.0)))
-  prepared_never p k there count (Some (PlainNas octets)) h = λ e. absurd cc
-  prepared_never p k there count (Some (UserPacket dir st a drb e text)) h = λ e. absurd cc
-  prepared_never p k there count (Some (Between to fields key)) h = λ e. absurd cc
+  prepared_never p k there count other h = λ e. absurd cc
 
   found_prep : (count : ℕ) (o : Option (Prep Term ℕ))
       → at_air air s.preps ≡ o

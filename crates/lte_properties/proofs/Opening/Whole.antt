@@ -2,11 +2,11 @@
 use Rattle.std.proofs.Common.{◌≡◌, refl, ℕ, ◌+◌, ◌<◌, ◌≤◌, Bool, List, [], ◌∷◌, Option, Some, None, arith}
 use Rattle.std.specs.Prelude.{IsTrue}
 use Rattle.alg_choice.specs.{Choice.choice_of, declared.caps.Caps.Caps}
-use Rattle.rec_base.specs.declared.uses.Dir.TheVariants.{Up, Down}
+use Rattle.rec_base.specs.declared.uses.Dir.TheVariants.{Down}
 use Rattle.lte_events.specs.{declared.addresses.Address.Address, declared.answers.Answer.TheVariants.Done, declared.events.Event.Event, declared.setups.Setup.Setup, Site.Site}
 use Rattle.key_model.specs.{Term.Term, Term.Root, HandoverTable.NumberedKey, Reading.Reading, Reading.term_reading_by}
 use Rattle.s1x2_rec.specs.Fields.{Fields}
-use Rattle.lte_machine.specs.Wire.{KeyUse, Outgoing, SealedNas, PlainNas, SealedRrc, UserPacket, Between, address_of}
+use Rattle.lte_machine.specs.Wire.{KeyUse, Outgoing, SealedNas, SealedRrc, UserPacket, Between, address_of}
 use Rattle.lte_machine.specs.{Ciphers.Ciphers, Ciphers.octets_of, Opening.Opening, Opening.Outcome, PhoneStep.phone_opens, Run.first_world, Step.Attempted, Step.phone_attempts, Machines.machine_over, Machines.sender_of, Distinct.keys_of}
 use Rattle.lte_machine.specs.PhoneState.{PhoneInput, PhoneAuth, PhoneActs, PhoneNasPdu, PhoneAirPdu}
 use Rattle.lte_machine.specs.PhoneRows as phone
@@ -26,6 +26,10 @@ use Rattle.lte_properties.proofs.Opening.Nas.{Choices, SentOk, More, phone_more,
 use Rattle.lte_properties.proofs.Opening.World.{PacketsOk, Keeps, chosen_at, chosen_below, chosen_there, by_world_keeps, phone_turn_keeps, core_turn_keeps, station_turn_keeps}
 use Rattle.lte_events.specs.Ranges.{has_station, IsEvent, IsSetup}
 
+-- what stands in a world: agreement's invariant, and what is known of packets
+abbrev pub Stands : List Site → TheWorld → Type 0
+Stands cells w = record { conns : Conns; choices : Choices; agrees : WorldOk cells conns w; packets : PacketsOk choices conns w }
+
 module _ (same : Term → Term → Bool) (sender : Option (Outgoing Term ℕ) → Option (KeyUse Term))
     (opener : Opening Term → List ℕ → Option (Outgoing Term ℕ) → Outcome) (c : Ciphers Term) (good : AreCiphers c)
     (between : Fields → Option (NumberedKey Term ℕ) → List ℕ) (cells : List Site) where
@@ -43,13 +47,10 @@ module _ (same : Term → Term → Bool) (sender : Option (Outgoing Term ℕ) �
 
   sent_came : (g : Choices) (w : TheWorld) (x : Outgoing Term ℕ) → SentOk g (next_root w) x → CameTo g w (address_of x) (octets_of c between x) (Some x)
   sent_came g w (SealedNas Down header u e text) h = λ is. (refl, h)
-  sent_came g w (SealedNas Up header u e text) h = λ is. absurd cc
-  sent_came g w (PlainNas octets) h = λ is. absurd cc
   sent_came g w (SealedRrc Down station air srb u e text) h = λ is. absurd cc
-  sent_came g w (SealedRrc Up station air srb u e text) h = λ is. absurd cc
   sent_came g w (UserPacket Down station air drb e text) h = λ is. absurd cc
-  sent_came g w (UserPacket Up station air drb e text) h = λ is. absurd cc
   sent_came g w (Between to fields key) h = λ is. tt
+  sent_came g w other h = λ is. absurd cc
 
   -- AN AUTHENTICATION
 
@@ -144,31 +145,26 @@ module _ (same : Term → Term → Bool) (sender : Option (Outgoing Term ℕ) �
 
   -- EVERY RUN
 
-  -- what stands in a world: agreement's invariant, and what is known of packets
-  abbrev pub Stands : TheWorld → Type 0
-  Stands w = (k : Conns) × WorldOk cells k w × Keeps k w
-
-  pub run_stands : AllOf SiteOk cells → (top : ℕ → ℕ) (w : TheWorld) (es : List Event) → Holds top w → Stands w → AllOf IsEvent es
-      → Along (λ v e. Settled v) m w es → Along (Honest m) m w es → Along (Calm m) m w es → Along (SameRoot m) m w es → Stands (run m w es)
+  pub run_stands : AllOf SiteOk cells → (top : ℕ → ℕ) (w : TheWorld) (es : List Event) → Holds top w → Stands cells w → AllOf IsEvent es
+      → Along (λ v e. Settled v) m w es → Along (Honest m) m w es → Along (Calm m) m w es → Along (SameRoot m) m w es → Stands cells (run m w es)
   run_stands sites top w [] holds h is settled honest calm one = h
   run_stands sites top w (e ∷ es) holds h is settled honest calm one =
       let u = (happens m w e).0 in
-      let step = happens_goes same Root (octets_of c between) sender opener (octets_tell c good between) cells sites h.0
-      w e is.0 h.1 settled.0 holds.above holds.flight honest.0 calm.0 in
-      let keeps = happens_keeps h.2.0 h.0 step.0 w e is.0 h.1 h.2.1 one.0 step.1 in
-      run_stands sites (noted u.core.link top) u es (happens_holds same Root (octets_of c between) sender opener top w e holds) (step.0, step.2, keeps)
+      let (conns, later, agrees, _) = happens_goes same Root (octets_of c between) sender opener (octets_tell c good between) cells sites h.conns
+      w e is.0 h.agrees settled.0 holds.above holds.flight honest.0 calm.0 in
+      let (choices, packets) = happens_keeps h.choices h.conns conns w e is.0 h.agrees h.packets one.0 later in
+      run_stands sites (noted u.core.link top) u es (happens_holds same Root (octets_of c between) sender opener top w e holds)
+      (record { conns = conns; choices = choices; agrees = agrees; packets = packets })
       is.1 settled.1 honest.1 calm.1 one.1
 
 -- before the first event nothing was sent
-pub first_stands : (setup : Setup) → IsSetup setup → (k : Conns) × WorldOk setup.cells k (first_world setup) × Keeps k (first_world setup)
-first_stands setup is = (
-  no_conns setup,
-  first_ok setup is,
-  (
-    (λ n. choice_of [] (record { eea = 0; eia = 0 })),
-    record { core = (tt, refl, tt); phone = (tt, tt); nas = tt; air = tt },
-  ),
-)
+pub first_stands : (setup : Setup) → IsSetup setup → Stands setup.cells (first_world setup)
+first_stands setup is = record {
+  conns = no_conns setup;
+  choices = λ n. choice_of [] (record { eea = 0; eia = 0 });
+  agrees = first_ok setup is;
+  packets = record { core = (tt, refl, tt); phone = (tt, tt); nas = tt; air = tt };
+}
 
 -- of a machine whose opener compares the uses of SRB records as terms, and whose NAS messages come of the KASME under which they
 -- are accepted
@@ -185,7 +181,7 @@ module _ (same : Term → Term → Bool) (itself : IsReflexive same) (c : Cipher
   last = run over (first_world setup) events
 
   -- both invariants hold in every world of a run
-  stands : Stands same sender_of opener c good between setup.cells last
+  stands : Stands setup.cells last
   stands =
       run_stands same sender_of opener c good between setup.cells (cells_of setup is) (λ conn. 0) (first_world setup)
       events (first_holds setup) (first_stands setup is) are
@@ -199,21 +195,21 @@ module _ (same : Term → Term → Bool) (itself : IsReflexive same) (c : Cipher
       → OpensToSent (record (machine_over same c between) { opener = back }) last
   packets_open back opens =
       opens_where_fits same Root sender_of back c good opens between last
-      (packets_fit setup.cells stands.0 stands.2.0 last stands.1 stands.2.1)
+      (packets_fit setup.cells stands.conns stands.choices last stands.agrees stands.packets)
 
   -- the second case of opening comes at a starting station alone, by whatever opener
   pub second_case : (back : Opening Term → List ℕ → Option (Outgoing Term ℕ) → Outcome)
       → SecondAtStarting (record (machine_over same c between) { opener = back }) last
   second_case back =
-      second_at same sender_of back c good between setup.cells stands.2.0 stands.0 last stands.1 stands.2.1 (always_heard over setup events)
+      second_at same sender_of back c good between setup.cells stands.choices stands.conns last stands.agrees stands.packets (always_heard over setup events)
       (new_kenb last.phone.radio last.took (phone_always_in_order same itself (octets_of c between) sender_of opener setup events).1)
 
   -- and each record goes to a station of the setup, if it goes to a station
   pub all_reach : AllReach setup last
   all_reach =
-      addresses_named (λ id. IsTrue (has_station setup.stations id)) setup.cells (sites setup is) stands.0 last
+      addresses_named (λ id. IsTrue (has_station setup.stations id)) setup.cells (sites setup is) stands.conns last
       (run_named (λ id. IsTrue (has_station setup.stations id)) setup.cells (sites setup is) same Root
       (octets_of c between) sender_of opener (first_world setup) events (first_named setup is))
       last.sent (run_named (λ id. IsTrue (has_station setup.stations id)) setup.cells (sites setup is) same Root
       (octets_of c between) sender_of opener (first_world setup) events (first_named setup is)).sent
-      stands.1.sent stands.2.1.air
+      stands.agrees.sent stands.packets.air
