@@ -1,21 +1,22 @@
 -- The NAS texts, each with its one spelling.
-use Rattle.std.specs.Prelude.{ℕ, ◌≤◌, List, length}
-use Rattle.rec_fields.specs.{Layout.Values, Record.Form, Record.spelled}
+use Rattle.std.specs.Prelude.{ℕ, ◌≤◌, List, [], ◌∷◌, length}
+use Rattle.rec_fields.specs.Name.{Algorithms, Replayed, Ksi, Cause}
+use Rattle.rec_fields.specs.Form.{Form, Said, Listed, ToEnd, spelled}
 use Rattle.nas_rec.specs.declared.records.NasRecord.{NasRecord}
 use Rattle.nas_rec.specs.declared.records.NasRecord.TheVariants.{SecurityModeCommand, SecurityModeComplete, SecurityModeReject, ServiceRequest, NasData}
 use Rattle.nas_rec.specs.Forms.{command, complete, reject, service_request, any_text}
 
--- what is made of the form of a record and the values of its fields
-abbrev pub by_form : {B : Type 0} → ((form : Form NasRecord) → Values form.layout → B) → NasRecord → B
-by_form make (SecurityModeCommand ksi algs caps) = make command (ksi, (algs, caps))
-by_form make SecurityModeComplete = make complete tt
-by_form make (SecurityModeReject cause) = make reject cause
-by_form make ServiceRequest = make service_request tt
-by_form make (NasData text) = make any_text text
+-- what is made of the form of a record and of what it says
+abbrev pub by_form : {B : Type 0} → (Form NasRecord → Said → B) → NasRecord → B
+by_form f (SecurityModeCommand ksi algs caps) = f command (Listed ((Ksi, ksi) ∷ (Algorithms, algs) ∷ (Replayed, caps) ∷ []))
+by_form f SecurityModeComplete = f complete (Listed [])
+by_form f (SecurityModeReject cause) = f reject (Listed ((Cause, cause) ∷ []))
+by_form f ServiceRequest = f service_request (Listed [])
+by_form f (NasData text) = f any_text (ToEnd text)
 
 -- the kind
 abbrev pub kind_of : NasRecord → ℕ
-kind_of r = by_form (λ form values. form.kind) r
+kind_of r = by_form (λ form says. form.kind) r
 
 -- the kind, and then the fields in order
 unfoldable pub spelling_of : NasRecord → List ℕ

@@ -1,13 +1,15 @@
 // Reading a NAS text.
-ghost use Rattle.std.specs.Prelude.{◌≡◌, ◌<◌, length};
-ghost use Rattle.nas_rec.specs.Reading.{read_nas, command_of, reject_of, bare, data_of};
+ghost use Rattle.std.specs.Prelude.{◌≡◌, ◌<◌, [], length};
+ghost use Rattle.rec_fields.specs.Form.{Of, read_as, record_by};
+ghost use Rattle.nas_rec.specs.Forms.{command, reject, any_text};
+ghost use Rattle.nas_rec.specs.Reading.{read_nas};
 
 use crate::NasRecord;
 use rec_base::{RecFault, u8_at};
 use rec_fields::{algs_at, caps_at, octet_in, sized, text_of};
 
 // The record that the octets spell, or the first fault.
-#[tactic(auto, unfolding(crate::specs::Reading::read_nas))]
+#[tactic(auto, unfolding(crate::specs::Reading::read_nas, rec_fields::specs::Form::read_as))]
 pub(crate) fn record_of(octets: &[u8]) -> Result<NasRecord, RecFault>
     ensures { result ≡ read_nas octets.now }
 {
@@ -24,9 +26,9 @@ pub(crate) fn record_of(octets: &[u8]) -> Result<NasRecord, RecFault>
     }
 }
 
-#[tactic(auto, unfolding(crate::specs::Reading::command_of))]
+#[tactic(auto, unfolding(rec_fields::specs::Form::read_as))]
 fn command(octets: &[u8]) -> Result<NasRecord, RecFault>
-    ensures { result ≡ command_of octets.now }
+    ensures { result ≡ record_by command octets.now }
 {
     sized(octets, 5)?;
     let ksi = octet_in(octets, 1, 0, 6)?;
@@ -35,27 +37,27 @@ fn command(octets: &[u8]) -> Result<NasRecord, RecFault>
     Ok(NasRecord::SecurityModeCommand { ksi, algs, caps })
 }
 
-#[tactic(auto, unfolding(crate::specs::Reading::reject_of))]
+#[tactic(auto, unfolding(rec_fields::specs::Form::read_as))]
 fn reject(octets: &[u8]) -> Result<NasRecord, RecFault>
-    ensures { result ≡ reject_of octets.now }
+    ensures { result ≡ record_by reject octets.now }
 {
     sized(octets, 2)?;
     let cause = octet_in(octets, 1, 23, 24)?;
     Ok(NasRecord::SecurityModeReject { cause })
 }
 
-#[tactic(auto, unfolding(crate::specs::Reading::bare))]
+#[tactic(auto, unfolding(rec_fields::specs::Form::read_as))]
 fn without_fields(octets: &[u8], fixed: NasRecord) -> Result<NasRecord, RecFault>
-    ensures { result ≡ bare octets.now fixed }
+    ensures { result ≡ read_as (Of []) (λ none. fixed) octets.now }
 {
     sized(octets, 1)?;
     Ok(fixed)
 }
 
-#[tactic(auto, unfolding(crate::specs::Reading::data_of))]
+#[tactic(auto, unfolding(rec_fields::specs::Form::read_as))]
 fn data(octets: &[u8]) -> Result<NasRecord, RecFault>
     requires { 0 < length octets.now }
-    ensures { result ≡ data_of octets.now }
+    ensures { result ≡ record_by any_text octets.now }
 {
     let text = text_of(octets)?;
     Ok(NasRecord::NasData(text))

@@ -8,7 +8,7 @@ use Rattle.annex_a_keys.specs.Cell.{Place, IsCell}
 use Rattle.rec_fields.specs.Field.{◌>>=◌, of_size, caps_at, rest_at}
 use Rattle.rec_fields.specs.Spelled.{algs_octet, cell_octets}
 use Rattle.rec_fields.specs.Layout.{Layout, Empty, Last, Rest, Then, Values, read_by, spelled_by, width_of}
-use Rattle.rec_fields.specs.Record.{octet, number, cell, algorithms, capabilities, key, sized, Form, read_layout, record_by, spelled}
+use Rattle.rec_fields.specs.Record.{octet, number, cell, algorithms, capabilities, key, sized, read_layout}
 use Rattle.rec_fields.proofs.Fields.{bind_ok, ok_is, size_is, size_read, ends, octets_rest, octets_front, octet_is, octet_in_takes, number_in_takes, in_range_read, algs_takes, algs_read, caps_takes, caps_read, cell_takes, cell_read, rest_takes, rest_read}
 use Rattle.rec_fields.proofs.Layouts.{IsField, AreFields, IsEnding, IsSized, IsRow, Spelled, found, again, spelled_width, behind, number_is, octet_there, field_is, FitBy}
 
@@ -130,12 +130,12 @@ taken (Rest most) law make octets y fit e =
 taken (Then f l) law make octets y fit e = sized_taken (Then f l) law make octets y fit e
 
 -- a row that reads by a layout
-pub record_row : {A : Type 0} (spell : A → List ℕ) (Fits : A → Type 0) (form : Form A) → AreFields Reach form.layout
-    → ((vs : Values form.layout) → spelled form vs ≡ spell (form.make vs)) → ((vs : Values form.layout) → FitBy form.layout vs → Fits (form.make vs))
-    → IsRow spell Fits (form.kind, record_by form)
-record_row spell Fits form law same fits octets x fit front e =
-    let t = taken form.layout law form.make octets x fit e in
-    subst (Spelled spell Fits octets) t.1 (front ∙ ap (λ r. form.kind ∷ r) t.2 ∙ same t.0, fits t.0 t.3)
+pub record_row : {A : Type 0} (spell : A → List ℕ) (Fits : A → Type 0) (kind : ℕ) (l : Layout RecFault) (make : Values l → A) → AreFields Reach l
+    → ((vs : Values l) → kind ∷ spelled_by l vs ≡ spell (make vs)) → ((vs : Values l) → FitBy l vs → Fits (make vs))
+    → IsRow spell Fits (kind, λ octets. read_layout l make octets)
+record_row spell Fits kind l make law same fits octets x fit front e =
+    let t = taken l law make octets x fit e in
+    subst (Spelled spell Fits octets) t.1 (front ∙ ap (λ r. kind ∷ r) t.2 ∙ same t.0, fits t.0 t.3)
 
 sized_again : {A : Type 0} (l : Layout RecFault) → AreFields Reach l → IsSized l → (make : Values l → A) (kind : ℕ) (vs : Values l) → FitBy l vs
     → (of_size (1 + width_of l) (kind ∷ spelled_by l vs) >>= λ size. read_by sized l (kind ∷ spelled_by l vs) 1 (λ vs. Ok (make vs))) ≡ Ok (make vs)
@@ -144,14 +144,10 @@ sized_again l law is make kind vs fit =
     let size = size_read (1 + width_of l) octets (omega (arith, spelled_width Reach l law is vs fit)) in
     ap (λ r. r >>= λ size. read_by sized l octets 1 (λ vs. Ok (make vs))) size ∙ again sized_is l law octets 1 (λ vs. Ok (make vs)) vs fit refl
 
-read_again : {A : Type 0} (l : Layout RecFault) → AreFields Reach l → IsRecord l → (make : Values l → A) (kind : ℕ) (vs : Values l) → FitBy l vs
+-- what is spelled of values in range is read as the record made of them
+pub read_again : {A : Type 0} (l : Layout RecFault) → AreFields Reach l → IsRecord l → (make : Values l → A) (kind : ℕ) (vs : Values l) → FitBy l vs
     → read_layout l make (kind ∷ spelled_by l vs) ≡ Ok (make vs)
 read_again Empty law is make kind vs fit = sized_again Empty law is make kind vs fit
 read_again (Last f) law is make kind vs fit = sized_again (Last f) law is make kind vs fit
 read_again (Rest most) law is make kind vs fit = ap (λ r. r >>= λ x. Ok (make x)) (rest_read most (kind ∷ vs) 1 vs fit refl)
 read_again (Then f l) law is make kind vs fit = sized_again (Then f l) law is make kind vs fit
-
--- what is spelled of values in range is read as the record made of them
-pub record_again : {A : Type 0} (form : Form A) → AreFields Reach form.layout → IsRecord form.layout → (vs : Values form.layout) → FitBy form.layout vs
-    → record_by form (spelled form vs) ≡ Ok (form.make vs)
-record_again form law is vs fit = read_again form.layout law is form.make form.kind vs fit

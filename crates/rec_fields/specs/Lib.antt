@@ -2,3 +2,5 @@ pub mod Field
 pub mod Spelled
 pub mod Layout
 pub mod Record
+pub mod Name
+pub mod Form

@@ -1,4 +1,4 @@
--- A record of NAS, RRC, S1 or X2: its size is judged first, and then its fields from left to right.
+-- The fields of a record of NAS, RRC, S1 or X2. Its size is judged first, and then its fields from left to right.
 use Rattle.std.specs.Prelude.{◌≡◌, ℕ, ◌+◌, ◌≤◌, ◌<◌, List, [], ◌∷◌, length, get_or, Result, Ok}
 use Rattle.rec_base.specs.{BigEndian.field_at, BigEndian.octets_of, Ranges.IsNumber, declared.faults.RecFault.RecFault}
 use Rattle.rec_base.specs.declared.faults.RecFault.TheVariants.{Short, BadKind}
@@ -6,7 +6,7 @@ use Rattle.alg_choice.specs.{Caps.IsCaps, declared.algs.Algs.Algs, declared.caps
 use Rattle.annex_a_keys.specs.Cell.{Place, IsCell}
 use Rattle.rec_fields.specs.Field.{◌>>=◌, of_size, number_in, from_one_at, algs_at, caps_at, cell_at, rest_at}
 use Rattle.rec_fields.specs.Spelled.{algs_octet, cell_octets}
-use Rattle.rec_fields.specs.Layout.{Field, Ending, Layout, Rest, Values, Curried, made_of, read_by, spelled_by, width_of, Readers, read_rows}
+use Rattle.rec_fields.specs.Layout.{Field, Ending, Layout, Rest, Values, read_by, width_of, Readers, read_rows}
 
 -- an octet from `low` to `high`
 abbrev pub octet : ℕ → ℕ → Field RecFault ℕ
@@ -17,21 +17,9 @@ octet low high = record {
   Fits = λ n. (low ≤ n) × (n ≤ high);
 }
 
--- a station: 0 to 7
-abbrev pub station : Field RecFault ℕ
-station = octet 0 7
-
--- NCC, of three bits (TS 36.331 6.3.3)
-abbrev pub ncc : Field RecFault ℕ
-ncc = octet 0 7
-
 -- a number of 32 bits, at least 1
 abbrev pub number : Field RecFault ℕ
 number = record { read = from_one_at; spell = octets_of 4; width = 4; Fits = IsNumber }
-
--- the air address of a phone
-abbrev pub air : Field RecFault ℕ
-air = number
 
 -- a cell
 abbrev pub cell : Field RecFault Place
@@ -49,6 +37,10 @@ capabilities = record {
   width = 2;
   Fits = IsCaps;
 }
+
+-- capabilities, any two octets
+abbrev pub any_capabilities : Field RecFault Caps
+any_capabilities = record capabilities { Fits = λ caps. Unit {0} }
 
 -- a key of 32 octets
 abbrev pub key : Field RecFault (List ℕ)
@@ -68,27 +60,9 @@ abbrev pub size_by : Layout RecFault → List ℕ → Result (Unit {0}) RecFault
 size_by (Rest most) octets = Ok tt
 size_by l octets = of_size (1 + width_of l) octets
 
--- A kind of record: its first octet, the fields after it, and what is made of their values.
-pub record Form (A : Type 0) : Type 1 where
-  pub kind : ℕ
-  pub layout : Layout RecFault
-  pub make : Values layout → A
-
--- the form of a kind whose fields are taken in their order
-abbrev pub form : {A : Type 0} → ℕ → (l : Layout RecFault) → Curried l A → Form A
-form kind l make = record { kind = kind; layout = l; make = λ vs. made_of l make vs }
-
 -- the record of a layout, or the first fault
 abbrev pub read_layout : {A : Type 0} → (l : Layout RecFault) → (Values l → A) → List ℕ → Result A RecFault
 read_layout l make octets = size_by l octets >>= λ size. read_by sized l octets 1 (λ vs. Ok (make vs))
-
--- the record of a form, or the first fault
-abbrev pub record_by : {A : Type 0} → Form A → List ℕ → Result A RecFault
-record_by form octets = read_layout form.layout form.make octets
-
--- the kind, and then the fields
-abbrev pub spelled : {A : Type 0} → (form : Form A) → Values form.layout → List ℕ
-spelled form vs = form.kind ∷ spelled_by form.layout vs
 
 -- the record that begins with its kind: no octet is Short, and then an unknown kind is BadKind
 abbrev pub read_kinds : {A : Type 0} → Readers RecFault A → List ℕ → Result A RecFault

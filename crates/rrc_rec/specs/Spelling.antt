@@ -1,24 +1,28 @@
 -- The RRC texts, each with its one spelling.
-use Rattle.std.specs.Prelude.{ℕ, ◌≤◌, List, length}
+use Rattle.std.specs.Prelude.{ℕ, ◌≤◌, List, [], ◌∷◌, length}
+use Rattle.rec_fields.specs.Name.{Air, Station, Ncc, Cell, Algorithms}
+use Rattle.rec_fields.specs.Form.{Form, Said, Listed, ToEnd, spelled}
 use Rattle.rec_base.specs.Ranges.{IsNumber}
-use Rattle.rec_fields.specs.{Layout.Values, Record.Form, Record.spelled}
 use Rattle.annex_a_keys.specs.Cell.{IsCell}
 use Rattle.rrc_rec.specs.declared.records.RrcRecord.{RrcRecord}
 use Rattle.rrc_rec.specs.declared.records.RrcRecord.TheVariants.{SecurityModeCommand, SecurityModeComplete, Reconfiguration, ReconfigurationComplete, RrcData, KeyChange}
 use Rattle.rrc_rec.specs.Forms.{command, complete, reconfiguration, reconfigured, any_text, key_change}
 
--- what is made of the form of a record and the values of its fields
-abbrev pub by_form : {B : Type 0} → ((form : Form RrcRecord) → Values form.layout → B) → RrcRecord → B
-by_form make (SecurityModeCommand algs station air) = make command (algs, (station, air))
-by_form make SecurityModeComplete = make complete tt
-by_form make (Reconfiguration cell ncc algs station air) = make reconfiguration (cell, (ncc, (algs, (station, air))))
-by_form make ReconfigurationComplete = make reconfigured tt
-by_form make (RrcData text) = make any_text text
-by_form make (KeyChange cell algs station air) = make key_change (cell, (algs, (station, air)))
+-- what is made of the form of a record and of what it says
+abbrev pub by_form : {B : Type 0} → (Form RrcRecord → Said → B) → RrcRecord → B
+by_form f (SecurityModeCommand algs station air) =
+    f command (Listed ((Algorithms, algs) ∷ (Station, station) ∷ (Air, air) ∷ []))
+by_form f SecurityModeComplete = f complete (Listed [])
+by_form f (Reconfiguration cell ncc algs station air) =
+    f reconfiguration (Listed ((Cell, cell) ∷ (Ncc, ncc) ∷ (Algorithms, algs) ∷ (Station, station) ∷ (Air, air) ∷ []))
+by_form f ReconfigurationComplete = f reconfigured (Listed [])
+by_form f (RrcData text) = f any_text (ToEnd text)
+by_form f (KeyChange cell algs station air) =
+    f key_change (Listed ((Cell, cell) ∷ (Algorithms, algs) ∷ (Station, station) ∷ (Air, air) ∷ []))
 
 -- the kind
 abbrev pub kind_of : RrcRecord → ℕ
-kind_of r = by_form (λ form values. form.kind) r
+kind_of r = by_form (λ form says. form.kind) r
 
 -- the kind, and then the fields in order
 unfoldable pub spelling_of : RrcRecord → List ℕ

@@ -1,13 +1,15 @@
 // Reading an RRC text.
-ghost use Rattle.std.specs.Prelude.{◌≡◌, ◌<◌, length};
-ghost use Rattle.rrc_rec.specs.Reading.{read_rrc, command_of, reconfiguration_of, bare, data_of, key_change_of};
+ghost use Rattle.std.specs.Prelude.{◌≡◌, ◌<◌, [], length};
+ghost use Rattle.rec_fields.specs.Form.{Of, read_as, record_by};
+ghost use Rattle.rrc_rec.specs.Forms.{command, reconfiguration, any_text, key_change};
+ghost use Rattle.rrc_rec.specs.Reading.{read_rrc};
 
 use crate::RrcRecord;
 use rec_base::{RecFault, u8_at};
 use rec_fields::{algs_at, cell_at, from_one_at, ncc_at, sized, station_at, text_of};
 
 // The record that the octets spell, or the first fault.
-#[tactic(auto, unfolding(crate::specs::Reading::read_rrc))]
+#[tactic(auto, unfolding(crate::specs::Reading::read_rrc, rec_fields::specs::Form::read_as))]
 pub(crate) fn record_of(octets: &[u8]) -> Result<RrcRecord, RecFault>
     ensures { result ≡ read_rrc octets.now }
 {
@@ -25,9 +27,9 @@ pub(crate) fn record_of(octets: &[u8]) -> Result<RrcRecord, RecFault>
     }
 }
 
-#[tactic(auto, unfolding(crate::specs::Reading::command_of))]
+#[tactic(auto, unfolding(rec_fields::specs::Form::read_as))]
 fn command(octets: &[u8]) -> Result<RrcRecord, RecFault>
-    ensures { result ≡ command_of octets.now }
+    ensures { result ≡ record_by command octets.now }
 {
     sized(octets, 7)?;
     let algs = algs_at(octets, 1)?;
@@ -36,9 +38,9 @@ fn command(octets: &[u8]) -> Result<RrcRecord, RecFault>
     Ok(RrcRecord::SecurityModeCommand { algs, station, air })
 }
 
-#[tactic(auto, unfolding(crate::specs::Reading::reconfiguration_of))]
+#[tactic(auto, unfolding(rec_fields::specs::Form::read_as))]
 fn reconfiguration(octets: &[u8]) -> Result<RrcRecord, RecFault>
-    ensures { result ≡ reconfiguration_of octets.now }
+    ensures { result ≡ record_by reconfiguration octets.now }
 {
     sized(octets, 14)?;
     let cell = cell_at(octets, 1)?;
@@ -55,26 +57,26 @@ fn reconfiguration(octets: &[u8]) -> Result<RrcRecord, RecFault>
     })
 }
 
-#[tactic(auto, unfolding(crate::specs::Reading::bare))]
+#[tactic(auto, unfolding(rec_fields::specs::Form::read_as))]
 fn without_fields(octets: &[u8], fixed: RrcRecord) -> Result<RrcRecord, RecFault>
-    ensures { result ≡ bare octets.now fixed }
+    ensures { result ≡ read_as (Of []) (λ none. fixed) octets.now }
 {
     sized(octets, 1)?;
     Ok(fixed)
 }
 
-#[tactic(auto, unfolding(crate::specs::Reading::data_of))]
+#[tactic(auto, unfolding(rec_fields::specs::Form::read_as))]
 fn data(octets: &[u8]) -> Result<RrcRecord, RecFault>
     requires { 0 < length octets.now }
-    ensures { result ≡ data_of octets.now }
+    ensures { result ≡ record_by any_text octets.now }
 {
     let text = text_of(octets)?;
     Ok(RrcRecord::RrcData(text))
 }
 
-#[tactic(auto, unfolding(crate::specs::Reading::key_change_of))]
+#[tactic(auto, unfolding(rec_fields::specs::Form::read_as))]
 fn key_change(octets: &[u8]) -> Result<RrcRecord, RecFault>
-    ensures { result ≡ key_change_of octets.now }
+    ensures { result ≡ record_by key_change octets.now }
 {
     sized(octets, 13)?;
     let cell = cell_at(octets, 1)?;

@@ -12,7 +12,7 @@ use crate::reading_x2::{x2_ack, x2_cancel, x2_release, x2_request};
 use rec_base::{RecFault, u8_at};
 
 // The record that the octets spell, or the first fault.
-#[tactic(auto, unfolding(crate::specs::Reading::read_record))]
+#[tactic(auto, unfolding(crate::specs::Reading::read_record, rec_fields::specs::Form::read_as))]
 pub(crate) fn record_of(octets: &[u8]) -> Result<CoreRecord, RecFault>
     ensures { result ≡ read_record octets.now }
 {

@@ -1,15 +1,16 @@
 // Reading the records between station and core, by kind.
 ghost use Rattle.std.specs.Prelude.{◌≡◌};
-ghost use Rattle.s1x2_rec.specs.Reading.{initial_context_of, context_release_of, path_switch_request_of, path_switch_answer_of, handover_required_of, handover_request_of, handover_request_ack_of, handover_command_of, handover_notify_of, handover_cancel_of, context_modification_of};
+ghost use Rattle.rec_fields.specs.Form.{record_by};
+ghost use Rattle.s1x2_rec.specs.Forms.{initial_context, context_release, path_switch_request, path_switch_answer, handover_required, handover_request, handover_request_ack, handover_command, handover_notify, handover_cancel, context_modification};
 
 use crate::CoreRecord;
 use annex_a_keys::{Kenb, Nh};
 use rec_base::{RecFault, key_at};
 use rec_fields::{algs_at, caps_at, cell_at, from_one_at, ncc_at, sized, station_at};
 
-#[tactic(auto, unfolding(crate::specs::Reading::initial_context_of))]
+#[tactic(auto, unfolding(rec_fields::specs::Form::read_as))]
 pub(crate) fn initial_context(octets: &[u8]) -> Result<CoreRecord, RecFault>
-    ensures { result ≡ initial_context_of octets.now }
+    ensures { result ≡ record_by initial_context octets.now }
 {
     sized(octets, 45)?;
     let conn = from_one_at(octets, 1)?;
@@ -24,18 +25,18 @@ pub(crate) fn initial_context(octets: &[u8]) -> Result<CoreRecord, RecFault>
     })
 }
 
-#[tactic(auto, unfolding(crate::specs::Reading::context_release_of))]
+#[tactic(auto, unfolding(rec_fields::specs::Form::read_as))]
 pub(crate) fn context_release(octets: &[u8]) -> Result<CoreRecord, RecFault>
-    ensures { result ≡ context_release_of octets.now }
+    ensures { result ≡ record_by context_release octets.now }
 {
     sized(octets, 5)?;
     let conn = from_one_at(octets, 1)?;
     Ok(CoreRecord::ContextRelease { conn })
 }
 
-#[tactic(auto, unfolding(crate::specs::Reading::path_switch_request_of))]
+#[tactic(auto, unfolding(rec_fields::specs::Form::read_as))]
 pub(crate) fn path_switch_request(octets: &[u8]) -> Result<CoreRecord, RecFault>
-    ensures { result ≡ path_switch_request_of octets.now }
+    ensures { result ≡ record_by path_switch_request octets.now }
 {
     sized(octets, 18)?;
     let conn = from_one_at(octets, 1)?;
@@ -52,9 +53,9 @@ pub(crate) fn path_switch_request(octets: &[u8]) -> Result<CoreRecord, RecFault>
     })
 }
 
-#[tactic(auto, unfolding(crate::specs::Reading::path_switch_answer_of))]
+#[tactic(auto, unfolding(rec_fields::specs::Form::read_as))]
 pub(crate) fn path_switch_answer(octets: &[u8]) -> Result<CoreRecord, RecFault>
-    ensures { result ≡ path_switch_answer_of octets.now }
+    ensures { result ≡ record_by path_switch_answer octets.now }
 {
     sized(octets, 42)?;
     let conn = from_one_at(octets, 1)?;
@@ -69,9 +70,9 @@ pub(crate) fn path_switch_answer(octets: &[u8]) -> Result<CoreRecord, RecFault>
     })
 }
 
-#[tactic(auto, unfolding(crate::specs::Reading::handover_required_of))]
+#[tactic(auto, unfolding(rec_fields::specs::Form::read_as))]
 pub(crate) fn handover_required(octets: &[u8]) -> Result<CoreRecord, RecFault>
-    ensures { result ≡ handover_required_of octets.now }
+    ensures { result ≡ record_by handover_required octets.now }
 {
     sized(octets, 16)?;
     let conn = from_one_at(octets, 1)?;
@@ -86,9 +87,9 @@ pub(crate) fn handover_required(octets: &[u8]) -> Result<CoreRecord, RecFault>
     })
 }
 
-#[tactic(auto, unfolding(crate::specs::Reading::handover_request_of))]
+#[tactic(auto, unfolding(rec_fields::specs::Form::read_as))]
 pub(crate) fn handover_request(octets: &[u8]) -> Result<CoreRecord, RecFault>
-    ensures { result ≡ handover_request_of octets.now }
+    ensures { result ≡ record_by handover_request octets.now }
 {
     sized(octets, 51)?;
     let conn = from_one_at(octets, 1)?;
@@ -109,9 +110,9 @@ pub(crate) fn handover_request(octets: &[u8]) -> Result<CoreRecord, RecFault>
     })
 }
 
-#[tactic(auto, unfolding(crate::specs::Reading::handover_request_ack_of))]
+#[tactic(auto, unfolding(rec_fields::specs::Form::read_as))]
 pub(crate) fn handover_request_ack(octets: &[u8]) -> Result<CoreRecord, RecFault>
-    ensures { result ≡ handover_request_ack_of octets.now }
+    ensures { result ≡ record_by handover_request_ack octets.now }
 {
     sized(octets, 22)?;
     let conn = from_one_at(octets, 1)?;
@@ -132,9 +133,9 @@ pub(crate) fn handover_request_ack(octets: &[u8]) -> Result<CoreRecord, RecFault
     })
 }
 
-#[tactic(auto, unfolding(crate::specs::Reading::handover_command_of))]
+#[tactic(auto, unfolding(rec_fields::specs::Form::read_as))]
 pub(crate) fn handover_command(octets: &[u8]) -> Result<CoreRecord, RecFault>
-    ensures { result ≡ handover_command_of octets.now }
+    ensures { result ≡ record_by handover_command octets.now }
 {
     sized(octets, 21)?;
     let conn = from_one_at(octets, 1)?;
@@ -153,9 +154,9 @@ pub(crate) fn handover_command(octets: &[u8]) -> Result<CoreRecord, RecFault>
     })
 }
 
-#[tactic(auto, unfolding(crate::specs::Reading::handover_notify_of))]
+#[tactic(auto, unfolding(rec_fields::specs::Form::read_as))]
 pub(crate) fn handover_notify(octets: &[u8]) -> Result<CoreRecord, RecFault>
-    ensures { result ≡ handover_notify_of octets.now }
+    ensures { result ≡ record_by handover_notify octets.now }
 {
     sized(octets, 12)?;
     let conn = from_one_at(octets, 1)?;
@@ -168,9 +169,9 @@ pub(crate) fn handover_notify(octets: &[u8]) -> Result<CoreRecord, RecFault>
     })
 }
 
-#[tactic(auto, unfolding(crate::specs::Reading::handover_cancel_of))]
+#[tactic(auto, unfolding(rec_fields::specs::Form::read_as))]
 pub(crate) fn handover_cancel(octets: &[u8]) -> Result<CoreRecord, RecFault>
-    ensures { result ≡ handover_cancel_of octets.now }
+    ensures { result ≡ record_by handover_cancel octets.now }
 {
     sized(octets, 16)?;
     let conn = from_one_at(octets, 1)?;
@@ -185,9 +186,9 @@ pub(crate) fn handover_cancel(octets: &[u8]) -> Result<CoreRecord, RecFault>
     })
 }
 
-#[tactic(auto, unfolding(crate::specs::Reading::context_modification_of))]
+#[tactic(auto, unfolding(rec_fields::specs::Form::read_as))]
 pub(crate) fn context_modification(octets: &[u8]) -> Result<CoreRecord, RecFault>
-    ensures { result ≡ context_modification_of octets.now }
+    ensures { result ≡ record_by context_modification octets.now }
 {
     sized(octets, 41)?;
     let conn = from_one_at(octets, 1)?;

@@ -1,15 +1,16 @@
 // Reading the records between two stations, by kind.
 ghost use Rattle.std.specs.Prelude.{◌≡◌};
-ghost use Rattle.s1x2_rec.specs.Reading.{x2_request_of, x2_ack_of, x2_cancel_of, x2_release_of};
+ghost use Rattle.rec_fields.specs.Form.{record_by};
+ghost use Rattle.s1x2_rec.specs.Forms.{x2_request, x2_ack, x2_cancel, x2_release};
 
 use crate::CoreRecord;
 use annex_a_keys::Star;
 use rec_base::{RecFault, key_at};
 use rec_fields::{algs_at, caps_at, cell_at, from_one_at, ncc_at, sized, station_at};
 
-#[tactic(auto, unfolding(crate::specs::Reading::x2_request_of))]
+#[tactic(auto, unfolding(rec_fields::specs::Form::read_as))]
 pub(crate) fn x2_request(octets: &[u8]) -> Result<CoreRecord, RecFault>
-    ensures { result ≡ x2_request_of octets.now }
+    ensures { result ≡ record_by x2_request octets.now }
 {
     sized(octets, 51)?;
     let conn = from_one_at(octets, 1)?;
@@ -30,9 +31,9 @@ pub(crate) fn x2_request(octets: &[u8]) -> Result<CoreRecord, RecFault>
     })
 }
 
-#[tactic(auto, unfolding(crate::specs::Reading::x2_ack_of))]
+#[tactic(auto, unfolding(rec_fields::specs::Form::read_as))]
 pub(crate) fn x2_ack(octets: &[u8]) -> Result<CoreRecord, RecFault>
-    ensures { result ≡ x2_ack_of octets.now }
+    ensures { result ≡ record_by x2_ack octets.now }
 {
     sized(octets, 20)?;
     let conn = from_one_at(octets, 1)?;
@@ -49,9 +50,9 @@ pub(crate) fn x2_ack(octets: &[u8]) -> Result<CoreRecord, RecFault>
     })
 }
 
-#[tactic(auto, unfolding(crate::specs::Reading::x2_cancel_of))]
+#[tactic(auto, unfolding(rec_fields::specs::Form::read_as))]
 pub(crate) fn x2_cancel(octets: &[u8]) -> Result<CoreRecord, RecFault>
-    ensures { result ≡ x2_cancel_of octets.now }
+    ensures { result ≡ record_by x2_cancel octets.now }
 {
     sized(octets, 10)?;
     let conn = from_one_at(octets, 1)?;
@@ -64,9 +65,9 @@ pub(crate) fn x2_cancel(octets: &[u8]) -> Result<CoreRecord, RecFault>
     })
 }
 
-#[tactic(auto, unfolding(crate::specs::Reading::x2_release_of))]
+#[tactic(auto, unfolding(rec_fields::specs::Form::read_as))]
 pub(crate) fn x2_release(octets: &[u8]) -> Result<CoreRecord, RecFault>
-    ensures { result ≡ x2_release_of octets.now }
+    ensures { result ≡ record_by x2_release octets.now }
 {
     sized(octets, 9)?;
     let conn = from_one_at(octets, 1)?;
