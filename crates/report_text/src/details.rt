@@ -1,42 +1,49 @@
 // The values that an answer keeps.
 ghost use Rattle.growth.specs.Growth.{WasRefused};
-ghost use Rattle.std.specs.Prelude.{◌≡◌, ◌++◌, ◌∷◌, [], IfOk, OnErr};
+ghost use Rattle.std.specs.Prelude.{◌≡◌, ◌++◌, OnErr, OnOk};
 ghost use Rattle.std.specs.Fmt.{decimal};
-ghost use Rattle.std.specs.String.{string_bytes};
-ghost use Rattle.hex.specs.Hex.{encode_lower};
 ghost use Rattle.report_text.specs.Details.{algs_digits, record_fault_number, fault_place, caps_text, mac_text, details_text};
 
+use crate::appended::{add, add_number, add_octets};
 use alg_choice::{Algs, Caps, Eea};
 use lte_events::Answer;
 use rec_base::RecFault;
 use std::alloc::{AllocError, Global};
 
-pub(crate) fn details_text(alloc: Global, answer: &Answer) -> Result<String, AllocError>
-    ensures text { IfOk result (λ text. string_bytes text ≡ details_text answer.now) }
+pub(crate) fn add_details(
+    alloc: Global,
+    text: &mut Vec<u8>,
+    answer: &Answer,
+) -> Result<(), AllocError>
+    ensures added { OnOk result (text.new.items ≡ text.old.items ++ details_text answer.now) }
     ensures refused { OnErr result WasRefused }
 {
     match *answer {
-        Answer::WrongKsi(held, got) => numbers(alloc, " held=", held.into(), " got=", got.into()),
-        Answer::CapsMismatch(own, got) => caps_text(alloc, own, got),
+        Answer::WrongKsi(held, got) => add_two(text, " held=", held.into(), " got=", got.into()),
+        Answer::CapsMismatch(own, got) => add_caps(alloc, text, own, got),
         Answer::AlgUnsupported(algs) => {
-            let algs = algs_digits(algs);
-            growth::format(alloc, format_args!(" algs={algs}"))
+            add(text, " algs=")?;
+            add(text, algs_digits(algs))
         }
-        Answer::MacFails(count, wanted, got) => mac_text(alloc, count, wanted, got),
+        Answer::MacFails(count, wanted, got) => add_macs(alloc, text, count, wanted, got),
         Answer::BadRecord(fault) => {
             let (number, place) = (record_fault_number(fault), fault_place(fault));
-            numbers(alloc, " fault=", number.into(), " place=", place.into())
+            add_two(text, " fault=", number.into(), " place=", place.into())
         }
-        Answer::BadHeader(value) => octet(alloc, " octet=", value),
-        Answer::WrongKind(kind) => octet(alloc, " kind=", kind),
-        Answer::Stale(outstanding, got) => {
-            numbers(alloc, " outstanding=", outstanding, " got=", got)
-        }
-        Answer::OldConnection(held, got) => numbers(alloc, " held=", held, " got=", got),
-        Answer::AttemptOpen(value) => number(alloc, " number=", value),
-        Answer::Repeated(seen, got) => numbers(alloc, " seen=", seen, " got=", got),
-        Answer::Sent(record) => number(alloc, " record=", record),
-        Answer::RepeatedRoot(row) => number(alloc, " row=", row),
+        Answer::BadHeader(value) => add_octets(alloc, text, " octet=", &[value]),
+        Answer::WrongKind(kind) => add_octets(alloc, text, " kind=", &[kind]),
+        Answer::Stale(outstanding, got) => add_two(
+            text,
+            " outstanding=",
+            outstanding,
+            " got=",
+            got,
+        ),
+        Answer::OldConnection(held, got) => add_two(text, " held=", held, " got=", got),
+        Answer::AttemptOpen(value) => add_number(text, " number=", value),
+        Answer::Repeated(seen, got) => add_two(text, " seen=", seen, " got=", got),
+        Answer::Sent(record) => add_number(text, " record=", record),
+        Answer::RepeatedRoot(row) => add_number(text, " row=", row),
         Answer::Done
         | Answer::NoContext
         | Answer::CountSpent
@@ -58,66 +65,49 @@ pub(crate) fn details_text(alloc: Global, answer: &Answer) -> Result<String, All
         | Answer::NumberSpent
         | Answer::NoTrigger
         | Answer::NoSmc
-        | Answer::NoRecord => Ok(String::new(alloc)),
+        | Answer::NoRecord => Ok(()),
     }
 }
 
-// A number behind its name.
-fn number(alloc: Global, name: &str, value: u32) -> Result<String, AllocError>
-    ensures text { IfOk result (λ text. string_bytes text ≡ name.now ++ decimal value) }
-    ensures refused { OnErr result WasRefused }
-{
-    growth::format(alloc, format_args!("{name}{value}"))
-}
-
 // Two numbers, each behind its name.
-fn numbers(
-    alloc: Global,
+fn add_two(
+    text: &mut Vec<u8>,
     first_name: &str,
     first: u32,
     second_name: &str,
     second: u32,
-) -> Result<String, AllocError>
-    ensures text { IfOk result (λ text.
-        string_bytes text ≡ first_name.now ++ (decimal first ++ (second_name.now ++ decimal second))) }
+) -> Result<(), AllocError>
+    ensures added { OnOk result (text.new.items
+        ≡ text.old.items ++ (first_name.now ++ (decimal first ++ (second_name.now ++ decimal second)))) }
     ensures refused { OnErr result WasRefused }
 {
-    growth::format(
-        alloc,
-        format_args!("{first_name}{first}{second_name}{second}"),
-    )
-}
-
-// An octet behind its name.
-fn octet(alloc: Global, name: &str, value: u8) -> Result<String, AllocError>
-    ensures text { IfOk result (λ text. string_bytes text ≡ name.now ++ encode_lower (value ∷ [])) }
-    ensures refused { OnErr result WasRefused }
-{
-    let hex = growth::encode(alloc, &[value])?;
-    growth::format(alloc, format_args!("{name}{hex}"))
+    add_number(text, first_name, first)?;
+    add_number(text, second_name, second)
 }
 
 #[tactic(auto, unfolding(crate::specs::Details::caps_text))]
-fn caps_text(alloc: Global, own: Caps, got: Caps) -> Result<String, AllocError>
-    ensures text { IfOk result (λ text. string_bytes text ≡ caps_text own got) }
+fn add_caps(alloc: Global, text: &mut Vec<u8>, own: Caps, got: Caps) -> Result<(), AllocError>
+    ensures added { OnOk result (text.new.items ≡ text.old.items ++ caps_text own got) }
     ensures refused { OnErr result WasRefused }
 {
-    let own = growth::encode(alloc, &[own.eea, own.eia])?;
-    let got = growth::encode(alloc, &[got.eea, got.eia])?;
-    growth::format(alloc, format_args!(" own={own} got={got}"))
+    add_octets(alloc, text, " own=", &[own.eea, own.eia])?;
+    add_octets(alloc, text, " got=", &[got.eea, got.eia])
 }
 
 #[tactic(auto, unfolding(crate::specs::Details::mac_text))]
-fn mac_text(alloc: Global, count: u32, wanted: [u8; 4], got: [u8; 4]) -> Result<String, AllocError>
-    ensures text { IfOk result (λ text. string_bytes text ≡ mac_text count wanted got) }
+fn add_macs(
+    alloc: Global,
+    text: &mut Vec<u8>,
+    count: u32,
+    wanted: [u8; 4],
+    got: [u8; 4],
+) -> Result<(), AllocError>
+    ensures added { OnOk result (text.new.items ≡ text.old.items ++ mac_text count wanted got) }
     ensures refused { OnErr result WasRefused }
 {
-    let wanted = growth::encode(alloc, &wanted)?;
-    let got = growth::encode(alloc, &got)?;
-    growth::format(
-        alloc,
-        format_args!(" count={count} wanted={wanted} got={got}"),
-    )
+    add_number(text, " count=", count)?;
+    add_octets(alloc, text, " wanted=", &wanted)?;
+    add_octets(alloc, text, " got=", &got)
 }
 
 // The octet of the algorithms in a record.

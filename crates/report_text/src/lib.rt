@@ -2,6 +2,7 @@
 //! same for ever, so that two reports can be compared line by line.
 #![tactic(auto)]
 
+mod appended;
 mod coincidences;
 mod details;
 mod ends;

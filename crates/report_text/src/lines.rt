@@ -1,10 +1,12 @@
 ghost use Rattle.growth.specs.Growth.{WasRefused};
-ghost use Rattle.std.specs.Prelude.{◌≡◌, IfOk, OnErr};
-ghost use Rattle.std.specs.String.{string_bytes};
+ghost use Rattle.std.specs.Prelude.{◌≡◌, ◌++◌, IfOk, OnErr, OnOk, codes};
+ghost use Rattle.std.specs.Fmt.{decimal};
+ghost use Rattle.lte_events.specs.Answer.{name_of};
 ghost use Rattle.report_text.specs.Line.{who_text, class_name, sent_text, opened_text, way_name, key_note_text, note_text, alarm_text, line_text};
 
 use crate::TextMemory;
-use crate::details::details_text;
+use crate::appended::{add, add_decimal, add_number, add_octets};
+use crate::details::add_details;
 use lte_events::{Class, KeyNote, Line, Who};
 use rec_base::{UserText, Way};
 use std::alloc::{AllocError, Global};
@@ -14,53 +16,63 @@ pub fn line(alloc: Global, line: &Line) -> Result<Vec<u8>, TextMemory>
     ensures text { IfOk result (λ text. text.items ≡ line_text line.now) }
     ensures refused { OnErr result WasRefused }
 {
-    let text = whole(alloc, line)?;
-    Ok(text.into_bytes())
+    // Most lines have less.
+    let mut text = growth::with_capacity(alloc, 128)?;
+    add_line(alloc, &mut text, line)?;
+    Ok(text)
 }
 
 #[tactic(auto, unfolding(crate::specs::Line::line_text))]
-fn whole(alloc: Global, line: &Line) -> Result<String, AllocError>
-    ensures text { IfOk result (λ text. string_bytes text ≡ line_text line.now) }
+fn add_line(alloc: Global, text: &mut Vec<u8>, line: &Line) -> Result<(), AllocError>
+    ensures added { OnOk result (text.new.items ≡ text.old.items ++ line_text line.now) }
     ensures refused { OnErr result WasRefused }
 {
-    let step = line.step;
-    let who = who_text(alloc, line.who)?;
-    let answer = line.answer.name();
-    let details = details_text(alloc, &line.answer)?;
-    let sent = sent_text(alloc, line.sent)?;
-    let opened = opened_text(alloc, &line.opened)?;
-    let note = note_text(alloc, &line.note)?;
-    let alarm = alarm_text(line.alarm);
-    growth::format(
-        alloc,
-        format_args!("{step} {who} {answer}{details}{sent}{opened}{note}{alarm}\n"),
-    )
+    add_head(text, line)?;
+    add_details(alloc, text, &line.answer)?;
+    add_sent(text, line.sent)?;
+    add_opened(alloc, text, &line.opened)?;
+    add_note(alloc, text, &line.note)?;
+    add_end(text, line.alarm)
+}
+
+// Step, who and answer.
+fn add_head(text: &mut Vec<u8>, line: &Line) -> Result<(), AllocError>
+    ensures added { OnOk result (text.new.items ≡ text.old.items
+        ++ (decimal line.now.step ++ (codes " " ++ (who_text line.now.who ++ (codes " " ++ name_of line.now.answer))))) }
+    ensures refused { OnErr result WasRefused }
+{
+    add_decimal(text, line.step)?;
+    add(text, " ")?;
+    add_who(text, line.who)?;
+    add(text, " ")?;
+    add(text, line.answer.name())
 }
 
 // Who acted.
-fn who_text(alloc: Global, who: Who) -> Result<String, AllocError>
-    ensures text { IfOk result (λ text. string_bytes text ≡ who_text who) }
+fn add_who(text: &mut Vec<u8>, who: Who) -> Result<(), AllocError>
+    ensures added { OnOk result (text.new.items ≡ text.old.items ++ who_text who) }
     ensures refused { OnErr result WasRefused }
 {
     match who {
-        Who::Both => growth::format(alloc, format_args!("both")),
-        Who::World => growth::format(alloc, format_args!("world")),
-        Who::Phone => growth::format(alloc, format_args!("phone")),
-        Who::Core => growth::format(alloc, format_args!("core")),
-        Who::Station(id) => growth::format(alloc, format_args!("station {id}")),
+        Who::Both => add(text, "both"),
+        Who::World => add(text, "world"),
+        Who::Phone => add(text, "phone"),
+        Who::Core => add(text, "core"),
+        Who::Station(id) => add_number(text, "station ", id.into()),
     }
 }
 
 // The record sent.
-fn sent_text(alloc: Global, sent: Option<(u32, Class)>) -> Result<String, AllocError>
-    ensures text { IfOk result (λ text. string_bytes text ≡ sent_text sent) }
+fn add_sent(text: &mut Vec<u8>, sent: Option<(u32, Class)>) -> Result<(), AllocError>
+    ensures added { OnOk result (text.new.items ≡ text.old.items ++ sent_text sent) }
     ensures refused { OnErr result WasRefused }
 {
     match sent {
-        None => Ok(String::new(alloc)),
+        None => Ok(()),
         Some((record, class)) => {
-            let class = class_name(class);
-            growth::format(alloc, format_args!(" sent={record}:{class}"))
+            add_number(text, " sent=", record)?;
+            add(text, ":")?;
+            add(text, class_name(class))
         }
     }
 }
@@ -77,39 +89,40 @@ fn class_name(class: Class) -> &'static str
 }
 
 // The text that was opened, which may be empty.
-fn opened_text(alloc: Global, opened: &Option<UserText>) -> Result<String, AllocError>
-    ensures text { IfOk result (λ text. string_bytes text ≡ opened_text opened.now) }
+fn add_opened(
+    alloc: Global,
+    text: &mut Vec<u8>,
+    opened: &Option<UserText>,
+) -> Result<(), AllocError>
+    ensures added { OnOk result (text.new.items ≡ text.old.items ++ opened_text opened.now) }
     ensures refused { OnErr result WasRefused }
 {
     match opened {
-        None => Ok(String::new(alloc)),
-        Some(octets) => {
-            let hex = growth::encode(alloc, octets.as_slice())?;
-            growth::format(alloc, format_args!(" text={hex}"))
-        }
+        None => Ok(()),
+        Some(octets) => add_octets(alloc, text, " text=", octets.as_slice()),
     }
 }
 
 // What is told of a key.
-fn note_text(alloc: Global, note: &Option<KeyNote>) -> Result<String, AllocError>
-    ensures text { IfOk result (λ text. string_bytes text ≡ note_text note.now) }
+fn add_note(alloc: Global, text: &mut Vec<u8>, note: &Option<KeyNote>) -> Result<(), AllocError>
+    ensures added { OnOk result (text.new.items ≡ text.old.items ++ note_text note.now) }
     ensures refused { OnErr result WasRefused }
 {
     match note {
-        None => Ok(String::new(alloc)),
-        Some(note) => key_note_text(alloc, note),
+        None => Ok(()),
+        Some(note) => add_key_note(alloc, text, note),
     }
 }
 
 #[tactic(auto, unfolding(crate::specs::Line::key_note_text))]
-fn key_note_text(alloc: Global, note: &KeyNote) -> Result<String, AllocError>
-    ensures text { IfOk result (λ text. string_bytes text ≡ key_note_text note.now) }
+fn add_key_note(alloc: Global, text: &mut Vec<u8>, note: &KeyNote) -> Result<(), AllocError>
+    ensures added { OnOk result (text.new.items ≡ text.old.items ++ key_note_text note.now) }
     ensures refused { OnErr result WasRefused }
 {
-    let ncc = note.ncc;
-    let way = way_name(note.way);
-    let key = growth::encode(alloc, &note.key)?;
-    growth::format(alloc, format_args!(" ncc={ncc} way={way} key={key}"))
+    add_number(text, " ncc=", note.ncc.into())?;
+    add(text, " way=")?;
+    add(text, way_name(note.way))?;
+    add_octets(alloc, text, " key=", &note.key)
 }
 
 fn way_name(way: Way) -> &'static str
@@ -125,8 +138,14 @@ fn way_name(way: Way) -> &'static str
     }
 }
 
-fn alarm_text(alarm: bool) -> &'static str
-    ensures { result.now ≡ alarm_text alarm }
+// The alarm, and the LF.
+fn add_end(text: &mut Vec<u8>, alarm: bool) -> Result<(), AllocError>
+    ensures added { OnOk result (text.new.items ≡ text.old.items ++ (alarm_text alarm ++ codes "\n")) }
+    ensures refused { OnErr result WasRefused }
 {
-    if alarm { " alarm" } else { "" }
+    if alarm {
+        add(text, " alarm\n")
+    } else {
+        add(text, "\n")
+    }
 }
