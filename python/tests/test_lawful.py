@@ -91,42 +91,6 @@ class Blames(unittest.TestCase):
         for reason in reasons:
             self.assertIn("with the arrival at the target, a handover over X2 prepared at ", reason)
 
-    def test_a_refresh_for_a_cell_of_another_station_gives_nothing(self) -> None:
-        class Strays(Says):
-            is_other, without_air = True, 0
-
-            def ask(self, question: str) -> questions.Found | None:
-                found = super().ask(question)
-                if found is None or not found.moves:
-                    return found if "air" in question.splitlines() else questions.Found(self.without_air, True)
-                cells = [line.split()[1:] for line in question.splitlines() if line.startswith("cell ")]
-                (station, *own), other = cells[0], next(cell for cell in cells if cell[0] != cells[0][0])
-                refresh = f"unseen refresh {' '.join(other[1:] if self.is_other else own)}"
-                begun = f"seen renew 0 0 2 {station} {' '.join(own)} taken"
-                return questions.Found(found.explained, True, (begun, refresh, *found.moves[2:]))
-
-        trace = traced("B1-star-earfcn")
-        wrong = blamed(trace.seen)
-        for is_other, without_air, left in ((True, 0, wrong), (False, 0, []), (True, 99, [])):
-            says = Strays()
-            object.__setattr__(says, "is_other", is_other)
-            object.__setattr__(says, "without_air", without_air)
-            seen = lawful.confirmed(trace, says)
-            self.assertEqual(left, blamed(seen))
-            self.assertIn("not confirmed: 1" if left else "withdrawn: 1", seen.head[-1])
-
-    def test_the_place_of_a_refresh_for_a_cell_of_another_station(self) -> None:
-        phone = questions.Phone(traced("B1-star-earfcn"), [])
-        moves = ["seen renew 0 0 2 0 10 100 taken", "unseen prepare 1 301 6300 last", "unseen arrive", "seen switch"]
-        with mock.patch.object(phone, "cells", lambda: ["cell 0 10 100", "cell 1 301 6300"]):
-            for more, place in (
-                (["unseen refresh 301 6300", "seen switch"], None),
-                (["unseen refresh 10 100", "seen switch"], 2),
-                (["unseen require 0 10 100 besides", "unseen arrive", "unseen refresh 301 6300"], None),
-                (["unseen require 0 10 100 last", "seen switch", "unseen arrive", "unseen refresh 301 6300"], 3),
-            ):
-                self.assertEqual(place, phone.strays([*moves, *more]))
-
     def test_the_moves_of_a_history_are_told_in_words(self) -> None:
         phone = questions.Phone(traced("B1-star-earfcn"), [])
         phone.numbers.of("eNB 7")

@@ -4,7 +4,7 @@ use Rattle.std.specs.Fmt.{decimal}
 use Rattle.key_model.specs.Reading.{octet_reading}
 use Rattle.trace_keys.specs.{declared.moves.Move.Move, Moved.moved, Net.Net, Same.same_net}
 use Rattle.trace_rules.specs.{Rules.AreIn, History.History, Told.Told, Told.moves_told, Told.tells}
-use Rattle.trace_plain.specs.{Explained.ExplainedTo, Kept.TooManyNets, Sights.fits, Sights.is_covered}
+use Rattle.trace_plain.specs.{Explained.ExplainedTo, Kept.TooManyNets, Sights.fits, Sights.is_covered, Sights.leads}
 use Rattle.trace_order.specs.Order.{Coincidence}
 use Rattle.trace_text.specs.{Question.Question, Question.moves_of, Text.reading_of}
 use Rattle.lte_trace.specs.Moves.{moves_text}
@@ -36,7 +36,7 @@ IsNeverMore q n =
 
 -- before one of its sightings more nets are possible than are kept
 abbrev pub IsTooLarge : Question → Type 0
-IsTooLarge q = TooManyNets (moved octet_reading q.kasmes) fits (is_covered q.covered) (moves_of q) q.bound same_net before_all q.capture
+IsTooLarge q = TooManyNets (moved octet_reading q.kasmes) fits (is_covered q.covered) (moves_of q) q.bound same_net leads before_all q.capture
 
 -- moves of a lawful history that shows so many sightings of a question, each marked by whether a tap has its message
 pub record IsWitness (q : Question) (n : ℕ) (told : List (Told Move)) : Type 0 where

@@ -55,7 +55,7 @@ move_text (Prepare station cell goes) = handover_text (codes "prepare") (site_te
 move_text (Require station cell goes) = handover_text (codes "require") (site_text station cell) (goes_word goes)
 move_text Arrive = codes "arrive"
 move_text Cancel = codes "cancel"
-move_text (Refresh cell) = named_text (codes "refresh") (cell_text cell)
+move_text (Refresh station cell) = named_text (codes "refresh") (cell_text cell)
 move_text Leave = codes "leave"
 
 -- whether a tap has its message

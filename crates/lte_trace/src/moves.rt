@@ -162,7 +162,7 @@ fn move_text(alloc: Global, by_move: &Move) -> Result<String, AllocError>
         } => prepared_text(alloc, "require", *station, cell, *goes),
         Move::Arrive => growth::from_str(alloc, "arrive"),
         Move::Cancel => growth::from_str(alloc, "cancel"),
-        Move::Refresh(cell) => named_text(alloc, "refresh", &cell_text(alloc, cell)?),
+        Move::Refresh { cell, .. } => named_text(alloc, "refresh", &cell_text(alloc, cell)?),
         Move::Leave => growth::from_str(alloc, "leave"),
     }
 }

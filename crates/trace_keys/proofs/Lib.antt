@@ -1,2 +1,3 @@
 pub mod OneNet
 pub mod Placing
+pub mod Outlooks

@@ -31,18 +31,18 @@ one_cell a b e =
 
 one_numbered : (a b : NumberedKey (List ℕ) ℕ) → same_numbered a b ≡ true → a ≡ b
 one_numbered a b e =
-    let p = parts (bytes_eq a.key b.key) (nat_eq a.number b.number) e in
-    let x = oct a.key b.key p.0 in
-    let y = num a.number b.number p.1 in
+    let p = parts (nat_eq a.number b.number) (bytes_eq a.key b.key) e in
+    let x = oct a.key b.key p.1 in
+    let y = num a.number b.number p.0 in
     λ k. record { key = x k; number = y k }
 
 one_chain : (a b : ChainState (List ℕ) ℕ) → same_chain a b ≡ true → a ≡ b
 one_chain a b e =
-    let p = parts (bytes_eq a.root b.root && bytes_eq a.sync b.sync) (nat_eq a.number b.number) e in
-    let q = parts (bytes_eq a.root b.root) (bytes_eq a.sync b.sync) p.0 in
-    let x = oct a.root b.root q.0 in
+    let p = parts (nat_eq a.number b.number && bytes_eq a.sync b.sync) (bytes_eq a.root b.root) e in
+    let q = parts (nat_eq a.number b.number) (bytes_eq a.sync b.sync) p.0 in
+    let x = oct a.root b.root p.1 in
     let y = oct a.sync b.sync q.1 in
-    let z = num a.number b.number p.1 in
+    let z = num a.number b.number q.0 in
     λ k. record { root = x k; sync = y k; number = z k }
 
 one_pair : (a b : Option (NumberedKey (List ℕ) ℕ)) → same_pair a b ≡ true → a ≡ b
@@ -52,10 +52,10 @@ one_pair a b e = clash e
 
 one_held : (a b : StationKey (List ℕ) ℕ) → same_held a b ≡ true → a ≡ b
 one_held a b e =
-    let p = parts (bytes_eq a.kenb b.kenb && nat_eq a.number b.number) (same_pair a.pair b.pair) e in
-    let q = parts (bytes_eq a.kenb b.kenb) (nat_eq a.number b.number) p.0 in
-    let x = oct a.kenb b.kenb q.0 in
-    let y = num a.number b.number q.1 in
+    let p = parts (nat_eq a.number b.number && bytes_eq a.kenb b.kenb) (same_pair a.pair b.pair) e in
+    let q = parts (nat_eq a.number b.number) (bytes_eq a.kenb b.kenb) p.0 in
+    let x = oct a.kenb b.kenb q.1 in
+    let y = num a.number b.number q.0 in
     let z = one_pair a.pair b.pair p.1 in
     λ k. record { kenb = x k; number = y k; pair = z k }
 
@@ -81,11 +81,11 @@ one_offer (Some a) (Some b) e =
     let kasme = nat_eq a.kasme b.kasme in
     let count = nat_eq a.count b.count in
     let kenb = bytes_eq a.kenb b.kenb in
-    let p = parts (kasme && count && kenb) (same_chain a.core b.core) e in
-    let q = parts (kasme && count) kenb p.0 in
-    let t = parts kasme count q.0 in
-    let x = num a.kasme b.kasme t.0 in
-    let y = num a.count b.count t.1 in
+    let p = parts (count && kasme && kenb) (same_chain a.core b.core) e in
+    let q = parts (count && kasme) kenb p.0 in
+    let t = parts count kasme q.0 in
+    let x = num a.kasme b.kasme t.1 in
+    let y = num a.count b.count t.0 in
     let z = oct a.kenb b.kenb q.1 in
     let w = one_chain a.core b.core p.1 in
     λ k. Some (record { kasme = x k; count = y k; kenb = z k; core = w k })
@@ -94,30 +94,30 @@ one_offer a b e = clash e
 one_serving : (a b : Option (Serving (List ℕ) ℕ)) → same_serving a b ≡ true → a ≡ b
 one_serving None None e = refl
 one_serving (Some a) (Some b) e =
-    let core = same_chain a.core b.core in
     let station = nat_eq a.station b.station in
     let cell = same_cell a.cell b.cell in
-    let key = same_held a.key b.key in
     let target = same_target a.target b.target in
-    let o = parts (core && station && cell && key && target) (same_offer a.offer b.offer) e in
-    let p = parts (core && station && cell && key) target o.0 in
-    let q = parts (core && station && cell) key p.0 in
-    let s = parts (core && station) cell q.0 in
-    let t = parts core station s.0 in
-    let u = one_chain a.core b.core t.0 in
-    let v = num a.station b.station t.1 in
-    let w = one_cell a.cell b.cell s.1 in
+    let key = same_held a.key b.key in
+    let offer = same_offer a.offer b.offer in
+    let o = parts (station && cell && target && key && offer) (same_chain a.core b.core) e in
+    let p = parts (station && cell && target && key) offer o.0 in
+    let q = parts (station && cell && target) key p.0 in
+    let s = parts (station && cell) target q.0 in
+    let t = parts station cell s.0 in
+    let u = one_chain a.core b.core o.1 in
+    let v = num a.station b.station t.0 in
+    let w = one_cell a.cell b.cell t.1 in
     let x = one_held a.key b.key q.1 in
-    let y = one_target a.target b.target p.1 in
-    let z = one_offer a.offer b.offer o.1 in
+    let y = one_target a.target b.target s.1 in
+    let z = one_offer a.offer b.offer p.1 in
     λ k. Some (record { core = u k; station = v k; cell = w k; key = x k; target = y k; offer = z k })
 one_serving a b e = clash e
 
 pub one_net : (a b : Net (List ℕ) ℕ) → same_net a b ≡ true → a ≡ b
 one_net a b e =
-    let p = parts (nat_eq a.kasme b.kasme && nat_eq a.count b.count) (same_serving a.serving b.serving) e in
-    let q = parts (nat_eq a.kasme b.kasme) (nat_eq a.count b.count) p.0 in
-    let x = num a.kasme b.kasme q.0 in
-    let y = num a.count b.count q.1 in
+    let p = parts (nat_eq a.count b.count && nat_eq a.kasme b.kasme) (same_serving a.serving b.serving) e in
+    let q = parts (nat_eq a.count b.count) (nat_eq a.kasme b.kasme) p.0 in
+    let x = num a.kasme b.kasme q.1 in
+    let y = num a.count b.count q.0 in
     let z = one_serving a.serving b.serving p.1 in
     λ k. record { kasme = x k; count = y k; serving = z k }

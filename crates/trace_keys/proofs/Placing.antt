@@ -9,7 +9,8 @@ use Rattle.trace_keys.specs.declared.{moves.Where.Where, moves.Move.Move}
 use Rattle.trace_keys.specs.declared.moves.Where.TheVariants.{Setup, Change, Took, Request, Over}
 use Rattle.trace_keys.specs.declared.moves.Move.TheVariants.{Renew, Offer, Take, Switch, Ask, Prepare, Require, Arrive, Cancel, Refresh, Leave}
 use Rattle.trace_keys.specs.Net.{Target, Offer as OfferOf, Serving, Net, Sight}
-use Rattle.trace_keys.specs.Moved.{count_limit, is_fresh, renewed, offered, offers, begins, took, taken_on, may_come, prepared, required, arrived, cancelled, moved_in, if_connected, moved}
+use Rattle.nas_count.specs.Estimate.{nas_count_limit}
+use Rattle.trace_keys.specs.Moved.{is_fresh, renewed, offered, offers, begins, took, taken_on, may_come, prepared, required, arrived, cancelled, refreshed, moved_in, if_connected, moved}
 use Rattle.trace_keys.specs.Places.{place_in, place_by, place_of}
 
 abbrev pub where_of : {K : Type 0} → Option (Sight K) → Option Where
@@ -40,7 +41,7 @@ module _ {K C : Type 0} (r : Reading K C) where
 
   placed_took : (s : Serving K C) (o : Option (OfferOf K C)) → Placed (took r s o) (Some (Took s.station))
   placed_took s None = tt
-  placed_took s (Some o) = placed_if (nat_lt o.count count_limit) (taken_on r s o) (Some (Took s.station)) refl
+  placed_took s (Some o) = placed_if (nat_lt o.count nas_count_limit) (taken_on r s o) (Some (Took s.station)) refl
 
   placed_arrived : (net : Net K C) (s : Serving K C) (t : Option (Target K C)) → Placed (arrived net s t) None
   placed_arrived net s None = tt
@@ -61,7 +62,7 @@ module _ {K C : Type 0} (r : Reading K C) where
   placed_in kasmes net s (Require station cell goes) = placed_if (may_come goes s.target) (required r net s station cell goes) (Some (Request station)) refl
   placed_in kasmes net s Arrive = placed_arrived net s s.target
   placed_in kasmes net s Cancel = placed_cancelled net s s.target
-  placed_in kasmes net s (Refresh cell) = refl
+  placed_in kasmes net s (Refresh station cell) = placed_if (nat_eq station s.station) (refreshed net s (opened r s.key cell) cell) None refl
   placed_in kasmes net s Leave = refl
 
   renewal_place : (s : Option (Serving K C)) (kasme count station : ℕ) (cell : Place) (early taken : Bool) (o : Option (Done (Net K C) (Sight K)))

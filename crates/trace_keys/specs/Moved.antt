@@ -1,8 +1,9 @@
 -- What each move does, where it is lawful (TS 33.401 7.2.6, 7.2.8 and 7.2.9), in any reading of keys.
-use Rattle.std.specs.Prelude.{ℕ, ◌+◌, ◌^◌, Bool, true, false, ◌&&◌, nat_eq, nat_lt, not, if◌then◌else◌, Option, None, Some, List, slice_get}
+use Rattle.std.specs.Prelude.{ℕ, ◌+◌, Bool, true, false, ◌&&◌, nat_eq, nat_lt, not, if◌then◌else◌, Option, None, Some, List, slice_get}
 use Rattle.std.specs.Option.{is_some}
 use Rattle.annex_a_keys.specs.Cell.{Place}
 use Rattle.key_model.specs.{Reading.Reading, HandoverTable.NumberedKey, HandoverLines.star_line, HandoverLines.change_line}
+use Rattle.nas_count.specs.Estimate.{nas_count_limit}
 use Rattle.nh_chain.specs.Chain.{ChainState, begun, present_pair, stepped}
 use Rattle.nh_chain.specs.Station.{Opened, initial_key, given_key, stored, opened, restored_if}
 use Rattle.trace_rules.specs.Rules.{Done}
@@ -11,10 +12,6 @@ use Rattle.trace_keys.specs.declared.moves.Where.TheVariants.{Setup, Change, Too
 use Rattle.trace_keys.specs.declared.moves.Unanswered.TheVariants.{Refused, Lost, Given}
 use Rattle.trace_keys.specs.declared.moves.Move.TheVariants.{Renew, Offer, Take, Switch, Ask, Prepare, Require, Arrive, Cancel, Refresh, Leave}
 use Rattle.trace_keys.specs.Net.{Target, Offer as OfferOf, Serving, Net, Sight}
-
--- the numbers of NAS COUNTs (TS 24.301 4.4.3.1)
-abbrev pub count_limit : ℕ
-count_limit = 2 ^ 24
 
 -- the same KASME and COUNT, with this connection
 abbrev pub with_serving : {K C : Type 0} → Net K C → Serving K C → Net K C
@@ -30,7 +27,7 @@ sighted_kenb at kenb = record { at = at; pair = Some (record { key = kenb; numbe
 
 -- a COUNT of which no KeNB of its KASME was taken into use (7.2.6.2)
 abbrev pub is_fresh : {K C : Type 0} → Net K C → ℕ → ℕ → Bool
-is_fresh net kasme count = nat_lt count count_limit && not (nat_eq kasme net.kasme && nat_lt count net.count)
+is_fresh net kasme count = nat_lt count nas_count_limit && not (nat_eq kasme net.kasme && nat_lt count net.count)
 
 -- the chain of a KeNB. A core that steps it at once sends NCC 2 in its first answer, any other NCC 1 (7.2.8.1.1)
 abbrev pub chain_of : {K C : Type 0} → Reading K C → K → K → Bool → ChainState K C
@@ -95,7 +92,7 @@ taken_on r s o = record {
 
 abbrev pub took : {K C : Type 0} → Reading K C → Serving K C → Option (OfferOf K C) → Option (Done (Net K C) (Sight K))
 took r s None = None
-took r s (Some o) = if nat_lt o.count count_limit then Some (taken_on r s o) else None
+took r s (Some o) = if nat_lt o.count nas_count_limit then Some (taken_on r s o) else None
 
 -- a path switch: the core steps its chain, and the station stores the pair where the answer comes (7.2.8.4.2)
 abbrev pub stepped_core : {K C : Type 0} → Reading K C → Serving K C → Serving K C
@@ -190,6 +187,11 @@ refreshed net s o cell = record {
   sent = None;
 }
 
+-- to a cell of the serving station
+abbrev pub refreshed_at : {K C : Type 0} → Reading K C → Net K C → Serving K C → ℕ → Place → Option (Done (Net K C) (Sight K))
+refreshed_at r net s station cell =
+    if nat_eq station s.station then Some (refreshed net s (opened r s.key cell) cell) else None
+
 -- a move of a phone that is connected
 abbrev pub moved_in : {K C : Type 0} → Reading K C → List K → Net K C → Serving K C → Move → Option (Done (Net K C) (Sight K))
 moved_in r kasmes net s (Renew kasme count station cell early taken) = None
@@ -201,7 +203,7 @@ moved_in r kasmes net s (Prepare station cell goes) = prepared_at r net s statio
 moved_in r kasmes net s (Require station cell goes) = required_at r net s station cell goes
 moved_in r kasmes net s Arrive = arrived net s s.target
 moved_in r kasmes net s Cancel = cancelled net s s.target
-moved_in r kasmes net s (Refresh cell) = Some (refreshed net s (opened r s.key cell) cell)
+moved_in r kasmes net s (Refresh station cell) = refreshed_at r net s station cell
 moved_in r kasmes net s Leave = Some (record { net = record net { serving = None }; sent = None })
 
 abbrev pub if_connected : {K C : Type 0} → Reading K C → List K → Net K C → Option (Serving K C) → Move → Option (Done (Net K C) (Sight K))

@@ -16,7 +16,7 @@ place_in s (Require station cell goes) = Some (Request station)
 place_in s Take = Some (Took s.station)
 place_in s Arrive = None
 place_in s Cancel = None
-place_in s (Refresh cell) = None
+place_in s (Refresh station cell) = None
 place_in s Leave = None
 
 abbrev pub place_by : {K C : Type 0} → Option (Serving K C) → Move → Option Where

@@ -238,6 +238,17 @@ fn refreshed(net: &Net, s: &Serving, cell: &Cell) -> Done
     }
 }
 
+// The same, for a cell of the serving station.
+fn refreshed_at(net: &Net, s: &Serving, station: u8, cell: &Cell) -> Option<Done>
+    ensures { result ≡ by.refreshed_at octet_reading net.now s.now station cell.now }
+{
+    if station == s.station {
+        Some(refreshed(net, s, cell))
+    } else {
+        None
+    }
+}
+
 // The connection ends.
 fn left(net: &Net) -> Done
     ensures { result ≡ record { net = record net.now { serving = None }; sent = None } }
@@ -432,7 +443,7 @@ fn moved_in(kasmes: &[Kasme], net: &Net, s: &Serving, by_move: &Move) -> Option<
         } => required_at(net, s, *station, cell, *goes),
         Move::Arrive => arrived(net, s),
         Move::Cancel => cancelled(net, s),
-        Move::Refresh(cell) => Some(refreshed(net, s, cell)),
+        Move::Refresh { station, cell } => refreshed_at(net, s, *station, cell),
         Move::Leave => Some(left(net)),
     }
 }
@@ -483,6 +494,6 @@ fn place_in(s: &Serving, by_move: &Move) -> Option<Where>
         Move::Ask(_) => Some(Where::Asked(s.station)),
         Move::Prepare { station, .. } => Some(Where::Over(s.station, *station)),
         Move::Require { station, .. } => Some(Where::Request(*station)),
-        Move::Arrive | Move::Cancel | Move::Refresh(_) | Move::Leave => None,
+        Move::Arrive | Move::Cancel | Move::Refresh { .. } | Move::Leave => None,
     }
 }

@@ -85,8 +85,13 @@ pub enum Move {
     Arrive,
     /// The handover is cancelled or refused.
     Cancel,
-    /// A handover, a re-establishment or a resumption within the station, over the air alone.
-    Refresh(Cell),
+    /// A handover, a re-establishment or a resumption within the station, for a cell of it, over the air alone.
+    Refresh {
+        /// The station.
+        station: u8,
+        /// The cell.
+        cell: Cell,
+    },
     /// The connection ends.
     Leave,
 }

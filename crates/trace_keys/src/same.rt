@@ -2,6 +2,8 @@ ghost use Rattle.std.specs.Prelude.{◌≡◌};
 ghost use Rattle.std.specs.Str.{bytes_eq};
 ghost use Rattle.trace_keys.specs.Same as by;
 
+// Each test ends where two parts differ, and those that mostly differ come first: a search compares very many nets.
+
 use crate::{Chain, Held, Net, Numbered, Offer, Serving, Target};
 use annex_a_keys::{Cell, Kenb};
 
@@ -14,27 +16,20 @@ fn same_octets(a: &Kenb, b: &Kenb) -> bool
 fn same_cell(a: &Cell, b: &Cell) -> bool
     ensures { result ≡ by.same_cell a.now b.now }
 {
-    let pci = a.pci() == b.pci();
-    let earfcn = a.earfcn() == b.earfcn();
-    pci && earfcn
+    a.pci() == b.pci() && a.earfcn() == b.earfcn()
 }
 
 /// Whether two keys with their NCCs are one.
 pub fn same_numbered(a: &Numbered, b: &Numbered) -> bool
     ensures { result ≡ by.same_numbered a.now b.now }
 {
-    let key = same_octets(&a.key, &b.key);
-    let ncc = a.ncc == b.ncc;
-    key && ncc
+    a.ncc == b.ncc && same_octets(&a.key, &b.key)
 }
 
 fn same_chain(a: &Chain, b: &Chain) -> bool
     ensures { result ≡ by.same_chain a.now b.now }
 {
-    let root = a.root == b.root;
-    let sync = same_octets(&a.sync, &b.sync);
-    let ncc = a.ncc == b.ncc;
-    root && sync && ncc
+    a.ncc == b.ncc && same_octets(&a.sync, &b.sync) && a.root == b.root
 }
 
 fn same_pair(a: &Option<Numbered>, b: &Option<Numbered>) -> bool
@@ -50,10 +45,7 @@ fn same_pair(a: &Option<Numbered>, b: &Option<Numbered>) -> bool
 fn same_held(a: &Held, b: &Held) -> bool
     ensures { result ≡ by.same_held a.now b.now }
 {
-    let kenb = same_octets(&a.kenb, &b.kenb);
-    let ncc = a.ncc == b.ncc;
-    let pair = same_pair(&a.pair, &b.pair);
-    kenb && ncc && pair
+    a.ncc == b.ncc && same_octets(&a.kenb, &b.kenb) && same_pair(&a.pair, &b.pair)
 }
 
 fn same_target(a: &Option<Target>, b: &Option<Target>) -> bool
@@ -62,11 +54,10 @@ fn same_target(a: &Option<Target>, b: &Option<Target>) -> bool
     match (a, b) {
         (None, None) => true,
         (Some(a), Some(b)) => {
-            let station = a.station == b.station;
-            let cell = same_cell(&a.cell, &b.cell);
-            let star = same_numbered(&a.star, &b.star);
-            let spent = same_pair(&a.spent, &b.spent);
-            station && cell && star && spent
+            a.station == b.station
+                && same_cell(&a.cell, &b.cell)
+                && same_numbered(&a.star, &b.star)
+                && same_pair(&a.spent, &b.spent)
         }
         _ => false,
     }
@@ -78,11 +69,10 @@ fn same_offer(a: &Option<Offer>, b: &Option<Offer>) -> bool
     match (a, b) {
         (None, None) => true,
         (Some(a), Some(b)) => {
-            let kasme = a.kasme == b.kasme;
-            let count = a.count == b.count;
-            let kenb = same_octets(&a.kenb, &b.kenb);
-            let core = same_chain(&a.core, &b.core);
-            kasme && count && kenb && core
+            a.count == b.count
+                && a.kasme == b.kasme
+                && same_octets(&a.kenb, &b.kenb)
+                && same_chain(&a.core, &b.core)
         }
         _ => false,
     }
@@ -94,13 +84,12 @@ fn same_serving(a: &Option<Serving>, b: &Option<Serving>) -> bool
     match (a, b) {
         (None, None) => true,
         (Some(a), Some(b)) => {
-            let core = same_chain(&a.core, &b.core);
-            let station = a.station == b.station;
-            let cell = same_cell(&a.cell, &b.cell);
-            let key = same_held(&a.key, &b.key);
-            let target = same_target(&a.target, &b.target);
-            let offer = same_offer(&a.offer, &b.offer);
-            core && station && cell && key && target && offer
+            a.station == b.station
+                && same_cell(&a.cell, &b.cell)
+                && same_target(&a.target, &b.target)
+                && same_held(&a.key, &b.key)
+                && same_offer(&a.offer, &b.offer)
+                && same_chain(&a.core, &b.core)
         }
         _ => false,
     }
@@ -110,8 +99,5 @@ fn same_serving(a: &Option<Serving>, b: &Option<Serving>) -> bool
 pub fn same_net(a: &Net, b: &Net) -> bool
     ensures { result ≡ by.same_net a.now b.now }
 {
-    let kasme = a.kasme == b.kasme;
-    let count = a.count == b.count;
-    let serving = same_serving(&a.serving, &b.serving);
-    kasme && count && serving
+    a.count == b.count && a.kasme == b.kasme && same_serving(&a.serving, &b.serving)
 }

@@ -4,7 +4,8 @@ use Rattle.std.specs.Prelude.{◌&&◌, not, nat_le, nat_lt, if◌then◌else◌
 use Rattle.rec_base.specs.declared.uses.Dir.{Dir}
 use Rattle.rec_base.specs.declared.uses.Dir.TheVariants.{Up, Down}
 use Rattle.trace_rules.specs.{Rules.Done, Rules.is_unseen, History.History, History.ends, History.unseen, History.shown}
-use Rattle.trace_nas.specs.Nas.{Context, Role, IsCommand, IsComplete, IsOther, Sealed, NasSight, Sent, Heard, NasNet, NasMove, Command, Complete, Reject, Send, count_limit, sends, protects, completed, rejected, sent_under, moved}
+use Rattle.nas_count.specs.Estimate.{nas_count_limit}
+use Rattle.trace_nas.specs.Nas.{Context, Role, IsCommand, IsComplete, IsOther, Sealed, NasSight, Sent, Heard, NasNet, NasMove, Command, Complete, Reject, Send, sends, protects, completed, rejected, sent_under, moved}
 use Rattle.trace_nas.specs.InTurn.{UnderAt, IsUnder, ContextsFollow, ChangesSeen}
 use Rattle.trace_nas.proofs.Raising.{clash, nothing, one_done}
 
@@ -31,7 +32,7 @@ protects_is : (net : NasNet) (dir : Dir) (role : Role) (context : Context) (coun
     → Goes net (sends net dir role context count using offered).sent (sends net dir role context count using offered).net
     → StepIs net (protects net dir role context count using offered)
 protects_is net dir role context count using offered goes =
-    step_if net (nat_le (net.next dir context.kasme) count && nat_lt count count_limit) (sends net dir role context count using offered) goes
+    step_if net (nat_le (net.next dir context.kasme) count && nat_lt count nas_count_limit) (sends net dir role context count using offered) goes
 
 completed_is : (net : NasNet) (offered : Option Context) (count : ℕ) → net.offered ≡ offered → StepIs net (completed net offered count)
 completed_is net None count e = tt

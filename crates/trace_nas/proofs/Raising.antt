@@ -5,7 +5,8 @@ use Rattle.std.proofs.lemmas.{Bool.leb-true, Bool.Decides.Decides-eqb}
 use Rattle.rec_base.specs.declared.uses.Dir.{Dir}
 use Rattle.rec_base.specs.declared.uses.Dir.TheVariants.{Up, Down}
 use Rattle.trace_rules.specs.{Rules.Done, History.History, History.ends, History.unseen, History.shown}
-use Rattle.trace_nas.specs.Nas.{Context, Role, IsCommand, IsComplete, IsOther, NasSight, Sent, Heard, Counts, NasNet, NasMove, Command, Complete, Reject, Send, same_dir, count_limit, used, sends, protects, completed, rejected, sent_under, moved}
+use Rattle.nas_count.specs.Estimate.{nas_count_limit}
+use Rattle.trace_nas.specs.Nas.{Context, Role, IsCommand, IsComplete, IsOther, NasSight, Sent, Heard, Counts, NasNet, NasMove, Command, Complete, Reject, Send, same_dir, used, sends, protects, completed, rejected, sent_under, moved}
 use Rattle.trace_nas.specs.InTurn.{IsRaised, CountsRise}
 
 pub clash : {P : Type 0} → false ≡ true → P
@@ -67,8 +68,8 @@ step_if net false done h = tt
 protects_is : (net : NasNet) (dir : Dir) (role : Role) (context : Context) (count : ℕ) (using offered : Option Context)
     → StepIs net (protects net dir role context count using offered)
 protects_is net dir role context count using offered =
-    step_if net (nat_le (net.next dir context.kasme) count && nat_lt count count_limit) (sends net dir role context count using offered)
-    (λ e. (leb-true (net.next dir context.kasme) count (parts (nat_le (net.next dir context.kasme) count) (nat_lt count count_limit) e).0, refl))
+    step_if net (nat_le (net.next dir context.kasme) count && nat_lt count nas_count_limit) (sends net dir role context count using offered)
+    (λ e. (leb-true (net.next dir context.kasme) count (parts (nat_le (net.next dir context.kasme) count) (nat_lt count nas_count_limit) e).0, refl))
 
 completed_is : (net : NasNet) (offered : Option Context) (count : ℕ) → StepIs net (completed net offered count)
 completed_is net None count = tt

@@ -1,6 +1,7 @@
 -- NAS security of one phone, as far as MACs tell: contexts and COUNTs (TS 24.301 4.4.3, 5.4.3).
 use Rattle.std.specs.Prelude.{ℕ, ◌+◌, Bool, true, false, ◌&&◌, nat_eq, nat_le, nat_lt, if◌then◌else◌, Option, None, Some, List}
 use Rattle.alg_suite.specs.declared.integrity.Integrity.{Integrity}
+use Rattle.nas_count.specs.Estimate.{nas_count_limit}
 use Rattle.rec_base.specs.declared.uses.Dir.{Dir}
 use Rattle.rec_base.specs.declared.uses.Dir.TheVariants.{Up, Down}
 use Rattle.trace_rules.specs.Rules.{Done}
@@ -59,10 +60,6 @@ same_dir Up Up = true
 same_dir Down Down = true
 same_dir a b = false
 
--- a COUNT has 24 bits (4.4.3.1)
-abbrev pub count_limit : ℕ
-count_limit = 16777216
-
 -- where a COUNT was used, the next one is above it
 abbrev pub used : Counts → Dir → ℕ → ℕ → Counts
 used next dir kasme count d k = if same_dir d dir && nat_eq k kasme then count + 1 else next d k
@@ -77,7 +74,7 @@ sends net dir role context count using offered = record {
 -- the COUNT was not used. Some may be lost before a tap, so that it need not be the next
 abbrev pub protects : NasNet → Dir → Role → Context → ℕ → Option Context → Option Context → Option (Done NasNet NasSight)
 protects net dir role context count using offered =
-    if nat_le (net.next dir context.kasme) count && nat_lt count count_limit
+    if nat_le (net.next dir context.kasme) count && nat_lt count nas_count_limit
     then Some (sends net dir role context count using offered)
     else None
 

@@ -10,7 +10,8 @@ use Rattle.trace_keys.specs.declared.moves.Where.TheVariants.{Setup, Change, Too
 use Rattle.trace_keys.specs.declared.moves.Unanswered.TheVariants.{Refused, Lost, Given}
 use Rattle.trace_keys.specs.declared.moves.Move.TheVariants.{Renew, Offer, Take, Switch, Ask, Prepare, Require, Arrive, Cancel, Refresh, Leave}
 use Rattle.trace_keys.specs.Net.{Target, Offer as OfferOf, Serving, Net, Sight}
-use Rattle.trace_keys.specs.Moved.{count_limit, is_fresh, chain_of, target_of, renewed, begins, offered, offers, took, taken_on, unanswered, may_come, prepared, required, arrived, cancelled, moved_in, if_connected, moved}
+use Rattle.nas_count.specs.Estimate.{nas_count_limit}
+use Rattle.trace_keys.specs.Moved.{is_fresh, chain_of, target_of, renewed, begins, offered, offers, took, taken_on, unanswered, may_come, prepared, required, arrived, cancelled, refreshed, moved_in, if_connected, moved}
 use Rattle.trace_order.specs.Order.{IsTapped, BeginsSeen}
 use Rattle.trace_order.specs.Base.{kenb_of}
 
@@ -128,7 +129,7 @@ module _ (covers : Sight (List ℕ) → Bool) where
       → Makes kenb (took term_reading s offer)
   makes_took kenb s None k = tt
   makes_took kenb s (Some o) k =
-      makes_if kenb (nat_lt o.count count_limit) (taken_on term_reading s o)
+      makes_if kenb (nat_lt o.count nas_count_limit) (taken_on term_reading s o)
       (((record { core = tt; held = tt; pair = tt; target = target_of_any kenb s.target k.target; took = k.took }), k.took), tt)
 
   -- a step of the core
@@ -216,8 +217,9 @@ module _ (covers : Sight (List ℕ) → Bool) where
       )
   makes_in kenb kasmes net s Arrive tap k = makes_arrived kenb net s s.target k.target k
   makes_in kenb kasmes net s Cancel tap k = makes_cancelled kenb net s s.target k.target k
-  makes_in kenb kasmes net s (Refresh cell) tap k =
-      record { core = k.core; held = star_is kenb s cell k; pair = tt; target = tt; took = k.took }
+  makes_in kenb kasmes net s (Refresh station cell) tap k =
+      makes_if kenb (nat_eq station s.station) (refreshed net s (opened term_reading s.key cell) cell)
+      (record { core = k.core; held = star_is kenb s cell k; pair = tt; target = tt; took = k.took })
   makes_in kenb kasmes net s Leave tap k = tt
 
   makes_if_connected : (kenb : Option Term) (kasmes : List Term) (net : Net Term ℕ) (serving : Option (Serving Term ℕ)) (move : Move)

@@ -11,7 +11,8 @@ use Rattle.trace_keys.specs.declared.moves.Where.TheVariants.{Setup, Change, Too
 use Rattle.trace_keys.specs.declared.moves.Unanswered.TheVariants.{Refused, Lost, Given}
 use Rattle.trace_keys.specs.declared.moves.Move.TheVariants.{Renew, Offer, Take, Switch, Ask, Prepare, Require, Arrive, Cancel, Refresh, Leave}
 use Rattle.trace_keys.specs.Net.{Target, Offer as OfferOf, Serving, Net, Sight}
-use Rattle.trace_keys.specs.Moved.{count_limit, is_fresh, chain_of, target_of, renewed, begins, offered, offers, took, taken_on, unanswered, may_come, prepared, required, arrived, cancelled, moved_in, if_connected, moved}
+use Rattle.nas_count.specs.Estimate.{nas_count_limit}
+use Rattle.trace_keys.specs.Moved.{is_fresh, chain_of, target_of, renewed, begins, offered, offers, took, taken_on, unanswered, may_come, prepared, required, arrived, cancelled, refreshed, moved_in, if_connected, moved}
 use Rattle.trace_order.specs.Order.{Comes, IsTapped, BeginsSeen}
 
 -- the last NH is of this chain, and not further on
@@ -140,7 +141,7 @@ module _ (covers : Sight (List ℕ) → Bool) where
       → Went last (took term_reading s offer)
   went_took last s None k keeps = tt
   went_took last s (Some o) k keeps =
-      went_if last (nat_lt o.count count_limit) (taken_on term_reading s o)
+      went_if last (nat_lt o.count nas_count_limit) (taken_on term_reading s o)
       (((record { core = k; offer = tt; took = keeps.took; target = keeps.target }), keeps.took), tt)
 
   went_unanswered : (last : Option Term) (s : Serving Term ℕ) (what : Unanswered) → KeepsIn last s → KeepsIn last (unanswered term_reading s what)
@@ -191,7 +192,9 @@ module _ (covers : Sight (List ℕ) → Bool) where
       )
   went_in last kasmes net s Arrive tap k = went_arrived last net s s.target k.target k
   went_in last kasmes net s Cancel tap k = went_cancelled last net s s.target k
-  went_in last kasmes net s (Refresh cell) tap k = record { core = k.core; offer = k.offer; took = k.took; target = tt }
+  went_in last kasmes net s (Refresh station cell) tap k =
+      went_if last (nat_eq station s.station) (refreshed net s (opened term_reading s.key cell) cell)
+      (record { core = k.core; offer = k.offer; took = k.took; target = tt })
   went_in last kasmes net s Leave tap k = tt
 
   went_if_connected : (last : Option Term) (kasmes : List Term) (net : Net Term ℕ) (serving : Option (Serving Term ℕ)) (move : Move)

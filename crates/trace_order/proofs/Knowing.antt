@@ -77,9 +77,9 @@ exact_pair : (sent seen : Option (NumberedKey (List ℕ) ℕ)) → fits_pair sen
 exact_pair sent None e = inl refl
 exact_pair None (Some seen) e = clash e
 exact_pair (Some sent) (Some seen) e =
-    let p = parts (bytes_eq sent.key seen.key) (nat_eq sent.number seen.number) e in
-    let key = (bytes_eq-Decides sent.key seen.key).0 p.0 in
-    let number = num sent.number seen.number p.1 in
+    let p = parts (nat_eq sent.number seen.number) (bytes_eq sent.key seen.key) e in
+    let key = (bytes_eq-Decides sent.key seen.key).0 p.1 in
+    let number = num sent.number seen.number p.0 in
     inr (sym (λ k. Some (record { key = key k; number = number k })))
 
 pub fits_exact : IsExact fits
@@ -103,7 +103,7 @@ seen_by covered Switch h = tt
 seen_by covered (Ask what) h = tt
 seen_by covered Arrive h = tt
 seen_by covered Cancel h = tt
-seen_by covered (Refresh cell) h = tt
+seen_by covered (Refresh station cell) h = tt
 seen_by covered Leave h = tt
 
 pub all_tapped : (covered : List Where) (family : List Move) → all_seen covered family ≡ true → AllBeginsSeen (is_covered covered) family

@@ -237,7 +237,7 @@ taps_by covered Switch h = tt
 taps_by covered (Ask what) h = tt
 taps_by covered Arrive h = tt
 taps_by covered Cancel h = tt
-taps_by covered (Refresh cell) h = tt
+taps_by covered (Refresh station cell) h = tt
 taps_by covered Leave h = tt
 
 all_taps : (covered : List Where) (family : List Move) → all_steps covered family ≡ true → AllStepsSeen (is_covered covered) family

@@ -12,7 +12,8 @@ use Rattle.trace_keys.specs.declared.{moves.Where.Where, moves.Move.Move, moves.
 use Rattle.trace_keys.specs.declared.moves.Unanswered.TheVariants.{Refused, Lost, Given}
 use Rattle.trace_keys.specs.declared.moves.Move.TheVariants.{Renew, Offer, Take, Switch, Ask, Prepare, Require, Arrive, Cancel, Refresh, Leave}
 use Rattle.trace_keys.specs.Net.{Target, Offer as OfferOf, Serving, Net, Sight}
-use Rattle.trace_keys.specs.Moved.{count_limit, is_fresh, chain_of, target_of, renewed, begins, offered, offers, took, taken_on, unanswered, may_come, prepared, required, arrived, cancelled, moved_in, if_connected, moved}
+use Rattle.nas_count.specs.Estimate.{nas_count_limit}
+use Rattle.trace_keys.specs.Moved.{is_fresh, chain_of, target_of, renewed, begins, offered, offers, took, taken_on, unanswered, may_come, prepared, required, arrived, cancelled, refreshed, moved_in, if_connected, moved}
 use Rattle.trace_order.specs.Kinds.{shape_of, is_for, has_cell, is_nh, may_carry}
 
 -- a key has the number that is written beside it
@@ -137,7 +138,7 @@ module _ (family : List Move) where
   sends_took : (s : Serving Term ℕ) (offer : Option (OfferOf Term ℕ)) → OfferIs offer → HoldsIn s → Sends (took term_reading s offer)
   sends_took s None o k = tt
   sends_took s (Some offer) o k =
-      sends_if (nat_lt offer.count count_limit) (taken_on term_reading s offer)
+      sends_if (nat_lt offer.count nas_count_limit) (taken_on term_reading s offer)
       ((record { core = o.1; held = sym o.0; pair = tt; target = k.target; offer = tt }), tt)
 
   holds_unanswered : (s : Serving Term ℕ) (what : Unanswered) → HoldsIn s → HoldsIn (unanswered term_reading s what)
@@ -208,7 +209,8 @@ module _ (family : List Move) where
       sends_if (may_come goes s.target) (required term_reading net s station cell goes) (sends_required net s station cell goes k)
   sends_in kasmes net s Arrive i k = sends_arrived net s s.target k.target k
   sends_in kasmes net s Cancel i k = sends_cancelled net s s.target k.target k
-  sends_in kasmes net s (Refresh cell) i k =
+  sends_in kasmes net s (Refresh station cell) i k =
+      sends_if (nat_eq station s.station) (refreshed net s (opened term_reading s.key cell) cell)
       ((record { core = k.core; held = base_is s.key.pair s.key.kenb s.key.number k.pair k.held; pair = tt; target = tt; offer = k.offer }), tt)
   sends_in kasmes net s Leave i k = (tt, tt)
 

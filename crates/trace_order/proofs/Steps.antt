@@ -11,7 +11,8 @@ use Rattle.trace_keys.specs.declared.moves.Where.TheVariants.{Setup, Change, Too
 use Rattle.trace_keys.specs.declared.moves.Unanswered.TheVariants.{Refused, Lost, Given}
 use Rattle.trace_keys.specs.declared.moves.Move.TheVariants.{Renew, Offer, Take, Switch, Ask, Prepare, Require, Arrive, Cancel, Refresh, Leave}
 use Rattle.trace_keys.specs.Net.{Target, Offer as OfferOf, Serving, Net, Sight}
-use Rattle.trace_keys.specs.Moved.{count_limit, is_fresh, chain_of, target_of, renewed, begins, offered, offers, took, taken_on, unanswered, may_come, prepared, required, arrived, cancelled, moved_in, if_connected, moved}
+use Rattle.nas_count.specs.Estimate.{nas_count_limit}
+use Rattle.trace_keys.specs.Moved.{is_fresh, chain_of, target_of, renewed, begins, offered, offers, took, taken_on, unanswered, may_come, prepared, required, arrived, cancelled, refreshed, moved_in, if_connected, moved}
 use Rattle.trace_order.specs.Order.{IsTapped}
 use Rattle.trace_order.specs.Reach.{StepsAt, StepsSeen}
 use Rattle.trace_order.proofs.Sending.{ChainIs, step_is, chain_is}
@@ -98,7 +99,7 @@ module _ (covers : Sight (List ℕ) → Bool) where
   stepped_took : (most : ℕ) (s : Serving Term ℕ) (offer : Option (OfferOf Term ℕ)) → NewIf offer → ReachIn most s → Stepped most (took term_reading s offer)
   stepped_took most s None o k = tt
   stepped_took most s (Some offer) o k =
-      stepped_if most (nat_lt offer.count count_limit) (taken_on term_reading s offer)
+      stepped_if most (nat_lt offer.count nas_count_limit) (taken_on term_reading s offer)
       ((record { core = o.0; within = o.1; offer = tt; here = k.here; target = k.target }), tt)
 
   unanswered_to : (most : ℕ) (s : Serving Term ℕ) (what : Unanswered) → ReachIn most s → ReachIn (suc most) (unanswered term_reading s what)
@@ -182,7 +183,9 @@ module _ (covers : Sight (List ℕ) → Bool) where
       )
   stepped_in most kasmes net s Arrive tap k = stepped_arrived most net s s.target k.target k
   stepped_in most kasmes net s Cancel tap k = stepped_cancelled most net s s.target k
-  stepped_in most kasmes net s (Refresh cell) tap k = record { core = k.core; within = k.within; offer = k.offer; here = k.here; target = tt }
+  stepped_in most kasmes net s (Refresh station cell) tap k =
+      stepped_if most (nat_eq station s.station) (refreshed net s (opened term_reading s.key cell) cell)
+      (record { core = k.core; within = k.within; offer = k.offer; here = k.here; target = tt })
   stepped_in most kasmes net s Leave tap k = tt
 
   stepped_if_connected : (most : ℕ) (kasmes : List Term) (net : Net Term ℕ) (serving : Option (Serving Term ℕ)) (move : Move)

@@ -4,3 +4,5 @@ pub mod Steps
 pub mod Counting
 pub mod Backward
 pub mod Leading
+pub mod Marking
+pub mod Pruning

@@ -40,7 +40,7 @@ module _ {N : Type 0} (alike : N → N → Bool) where
   found_by exact net x out true t more h = inl (exact x net t)
   found_by exact net x out false t more h = inr (more h)
 
-  has_it : ((x y : N) → alike x y ≡ true → x ≡ y) → (net : N) (out : List N) → list_any (λ other. alike other net) out ≡ true → IsIn net out
+  pub has_it : ((x y : N) → alike x y ≡ true → x ≡ y) → (net : N) (out : List N) → list_any (λ other. alike other net) out ≡ true → IsIn net out
   has_it exact net [] e = clash e
   has_it exact net (x ∷ out) e = found_by exact net x out (alike x net) refl (has_it exact net out) e
 

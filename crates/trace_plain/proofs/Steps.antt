@@ -3,7 +3,7 @@ use Rattle.std.proofs.Common.{◌≡◌, ℕ, suc, ◌+◌, ◌<◌, ◌≤◌, 
 use Rattle.std.specs.Prelude.{flat_map, ◌&&◌}
 use Rattle.trace_rules.specs.{Rules.Done, Rules.IsIn, Rules.AreIn, History.History, Closed.IsFull, Closed.IsClosed}
 use Rattle.trace_rules.specs.Search.{hidden_from, shown_from, widened, possible}
-use Rattle.trace_rules.proofs.{Members.Agree, Members.flat_map_sub}
+use Rattle.trace_rules.proofs.{Members.Agree}
 use Rattle.trace_rules.proofs.Search.{history_found, witness}
 use Rattle.trace_rules.proofs.Widening.{Known, known_more, next_agree, next_closed, never}
 use Rattle.trace_plain.specs.{Once.once_from, Explained.ExplainedTo}
@@ -31,16 +31,11 @@ module _ {N M S : Type 0} (moved : N → M → Option (Done N S)) (fits : S → 
       (ap (take (length all)) is ∙ first_stays alike all more)
 
   -- one sighting more
-  pub shown_on : (sight : S) (wide next ends old : List N)
-      → Agree wide old
-      → next ≡ flat_map (shown_from moved fits covers family sight) wide
-      → ends ≡ once_from alike [] next
-      → Agree ends (flat_map (shown_from moved fits covers family sight) old)
-  shown_on sight wide next ends old within is each =
-      let sho = shown_from moved fits covers family sight in
+  pub shown_on : (shown next ends all : List N) → Agree shown all → next ≡ shown → ends ≡ once_from alike [] next → Agree ends all
+  shown_on shown next ends all same is each =
       let agree = once_agree alike exact [] next in (
-        (λ z i. flat_map_sub sho wide old within.0 z (subst (IsIn z) is (agree.0 z (subst (IsIn z) each i)))),
-        (λ z i. subst (IsIn z) (sym each) (agree.1 z (subst (IsIn z) (sym is) (flat_map_sub sho old wide within.1 z i)))),
+        (λ z i. same.0 z (subst (IsIn z) is (agree.0 z (subst (IsIn z) each i)))),
+        (λ z i. subst (IsIn z) (sym each) (agree.1 z (subst (IsIn z) (sym is) (same.1 z i)))),
       )
 
 module _ {N M S : Type 0} (moved : N → M → Option (Done N S)) (fits : S → S → Bool) (covers : S → Bool) (family : List M) (bound : ℕ) (start : N) (capture : List S) where

@@ -4,7 +4,7 @@ use Rattle.std.specs.List.{list_any}
 use Rattle.key_model.specs.HandoverTable.{NumberedKey}
 use Rattle.trace_keys.specs.declared.moves.Where.{Where}
 use Rattle.trace_keys.specs.declared.moves.Where.TheVariants.{Setup, Change, Took, Answer, Asked, Request, Over}
-use Rattle.trace_keys.specs.{Net.Sight, Same.same_numbered}
+use Rattle.trace_keys.specs.{Net.Net, Net.Sight, Outlook.outlook_by, Outlook.may_show, Same.same_numbered}
 
 abbrev pub same_where : Where → Where → Bool
 same_where (Setup a) (Setup b) = nat_eq a b
@@ -47,3 +47,7 @@ is_there sight (Some at) = same_where at sight.at
 abbrev pub may_be_next : List (Sight (List ℕ)) → Option Where → Bool
 may_be_next [] at = false
 may_be_next (sight ∷ rest) at = is_there sight at
+
+-- a net may show this, as far as stations and NCCs tell
+abbrev pub leads : Sight (List ℕ) → Net (List ℕ) ℕ → Bool
+leads sight net = may_show (outlook_by net.serving) sight

@@ -1,6 +1,8 @@
 //! How far a capture of keys has a lawful history: the plain search.
 #![tactic(auto)]
 
+mod ahead;
+mod nets;
 mod onward;
 mod search;
 mod taps;

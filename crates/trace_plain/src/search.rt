@@ -12,11 +12,13 @@ ghost use Rattle.trace_rules.specs.History.{History};
 ghost use Rattle.trace_rules.specs.Search.{shown_from, widened as widened_by};
 ghost use Rattle.trace_rules.proofs.Members.{Agree};
 ghost use Rattle.trace_plain.specs.Explained.{ExplainedTo};
-ghost use Rattle.trace_plain.specs.Kept.{most_nets, wider_once, shown_once, TooManyNets};
-ghost use Rattle.trace_plain.specs.Sights.{fits, has_tap, is_covered};
+ghost use Rattle.trace_plain.specs.Kept.{led_once, most_nets, shown_once, TooManyNets};
+ghost use Rattle.trace_plain.specs.Sights.{fits, has_tap, is_covered, leads};
 
+use crate::ahead::led_to;
+use crate::nets::Nets;
 use crate::unsearched::Unsearched;
-use crate::widening::{add_all, shown, widened};
+use crate::widening::shown;
 use annex_a_keys::Kasme;
 use std::alloc::Global;
 use trace_keys::{Move, Net, Sight, Where};
@@ -38,18 +40,18 @@ fn advance(
     family: &[Move],
     bound: u32,
     sight: &Sight,
-    nets: &mut Vec<Net>,
+    nets: &mut Nets,
 ) -> Result<bool, Unsearched>
-    ensures agree { OnOk result (Agree nets.new.items (flat_map (shown_from (moved_by octet_reading kasmes.now) fits (is_covered covered.now) family.now sight.now) (widened_by (moved_by octet_reading kasmes.now) (is_covered covered.now) family.now bound nets.old.items))) }
-    ensures items { OnOk result (nets.new.items ≡ shown_once (moved_by octet_reading kasmes.now) fits (is_covered covered.now) family.now bound same_net_by sight.now nets.old.items) }
-    ensures many { result ≡ Err Unsearched.TooMany → most_nets < length (wider_once (moved_by octet_reading kasmes.now) (is_covered covered.now) family.now same_net_by bound 0 nets.old.items) }
-    ensures full { IfOk result (λ full. full ≡ true → IsFull (moved_by octet_reading kasmes.now) (is_covered covered.now) family.now (widened_by (moved_by octet_reading kasmes.now) (is_covered covered.now) family.now bound nets.old.items)) }
+    ensures agree { OnOk result (Agree nets.new (flat_map (shown_from (moved_by octet_reading kasmes.now) fits (is_covered covered.now) family.now sight.now) (widened_by (moved_by octet_reading kasmes.now) (is_covered covered.now) family.now bound nets.old))) }
+    ensures items { OnOk result (nets.new ≡ shown_once (moved_by octet_reading kasmes.now) fits (is_covered covered.now) family.now bound same_net_by leads sight.now nets.old) }
+    ensures many { result ≡ Err Unsearched.TooMany → most_nets < length (led_once (moved_by octet_reading kasmes.now) (is_covered covered.now) family.now same_net_by (leads sight.now) bound nets.old) }
+    ensures full { IfOk result (λ full. full ≡ true → IsFull (moved_by octet_reading kasmes.now) (is_covered covered.now) family.now (widened_by (moved_by octet_reading kasmes.now) (is_covered covered.now) family.now bound nets.old)) }
     ensures memory { result ≡ Err Unsearched.Memory → WasRefused }
 {
-    let full = widened(alloc, kasmes, covered, family, bound, nets)?;
+    let full = led_to(alloc, kasmes, covered, family, bound, sight, nets)?;
     let next = shown(alloc, kasmes, covered, family, sight, nets.as_slice())?;
     nets.clear();
-    add_all(nets, next.as_slice())?;
+    nets.add_all(next.as_slice())?;
     Ok(full)
 }
 
@@ -78,10 +80,10 @@ pub fn explained(
     capture: &[Sight],
 ) -> Result<Found, Unsearched>
     ensures found { IfOk result (λ e. ExplainedTo (moved_by octet_reading kasmes.now) fits (is_covered covered.now) family.now bound start.now capture.now e.count e.closed) }
-    ensures many { result ≡ Err Unsearched.TooMany → TooManyNets (moved_by octet_reading kasmes.now) fits (is_covered covered.now) family.now bound same_net_by start.now capture.now }
+    ensures many { result ≡ Err Unsearched.TooMany → TooManyNets (moved_by octet_reading kasmes.now) fits (is_covered covered.now) family.now bound same_net_by leads start.now capture.now }
     ensures memory { result ≡ Err Unsearched.Memory → WasRefused }
 {
-    let mut nets = growth::from_slice(alloc, &[*start])?;
+    let mut nets = Nets::one(alloc, start)?;
     let mut count = 0;
     let mut closed = true;
     for sight in capture {

@@ -1,22 +1,22 @@
 // Nets behind one move, and behind unseen moves.
-ghost use Rattle.std.specs.Prelude.{◌≡◌, ◌∷◌, ◌++◌, ◌≤◌, ◌<◌, true, [], drop, flat_map, length, IfOk, OnErr, OnOk, Err};
-ghost use Rattle.std.specs.List.{list_any};
+ghost use Rattle.std.specs.Prelude.{◌≡◌, ◌∷◌, ◌++◌, ◌≤◌, ◌<◌, ℕ, Bool, List, [], drop, flat_map, length, IfOk, OnErr, OnOk, Err};
 ghost use Rattle.growth.specs.Growth.{WasRefused};
 ghost use Rattle.key_model.specs.Reading.{octet_reading};
 ghost use Rattle.trace_keys.specs.Moved.{moved as moved_by};
+ghost use Rattle.trace_keys.specs.Net.{Net as ANet};
 ghost use Rattle.trace_keys.specs.Same.{same_net as same_net_by};
-ghost use Rattle.trace_rules.specs.Closed.{IsFull};
-ghost use Rattle.trace_rules.specs.Search.{if_unseen, if_shown, hidden_from, shown_from, widened as widened_by};
-ghost use Rattle.trace_rules.proofs.Members.{Agree};
-ghost use Rattle.trace_plain.specs.Once.{added, once_from};
-ghost use Rattle.trace_plain.specs.Kept.{most_nets, wider_once};
+ghost use Rattle.trace_rules.specs.Search.{if_unseen, if_shown, hidden_from, shown_from};
+ghost use Rattle.trace_rules.proofs.Widening.{Known};
+ghost use Rattle.trace_plain.specs.Once.{once_from};
+ghost use Rattle.trace_plain.specs.Kept.{led_after, most_nets};
 ghost use Rattle.trace_plain.specs.Sights.{fits, is_covered};
 
+use crate::nets::Nets;
 use crate::taps::{is_dark, is_there, is_unseen, shows};
 use crate::unsearched::Unsearched;
 use annex_a_keys::Kasme;
 use std::alloc::{AllocError, Global};
-use trace_keys::{Done, Move, Net, Sight, Where, moved, place_of, same_net};
+use trace_keys::{Done, Move, Net, Sight, Where, moved, place_of};
 
 /// The nets that are kept between two sightings at the most.
 pub const MOST_NETS: usize = 8192;
@@ -31,7 +31,11 @@ fn push(out: &mut Vec<Net>, net: &Net) -> Result<(), AllocError>
 }
 
 // The net that an unseen move leaves.
-fn push_unseen(out: &mut Vec<Net>, covered: &[Where], done: &Option<Done>) -> Result<(), AllocError>
+pub(crate) fn push_unseen(
+    out: &mut Vec<Net>,
+    covered: &[Where],
+    done: &Option<Done>,
+) -> Result<(), AllocError>
     ensures items { OnOk result (out.new.items ≡ out.old.items ++ if_unseen (is_covered covered.now) done.now) }
     ensures refused { OnErr result WasRefused }
 {
@@ -101,7 +105,7 @@ fn try_shown(
 }
 
 // The nets behind one unseen move.
-fn hidden(
+pub(crate) fn hidden(
     alloc: Global,
     kasmes: &[Kasme],
     covered: &[Where],
@@ -155,41 +159,6 @@ pub(crate) fn shown(
     Ok(out)
 }
 
-// Whether a net is one of these.
-fn has(nets: &[Net], net: &Net) -> bool
-    ensures { result ≡ list_any (λ other. same_net_by other net.now) nets.now }
-{
-    for other in nets {
-        if same_net(other, net) {
-            return true;
-        }
-    }
-    false
-}
-
-// Puts a net at the end, if it is not there.
-fn push_once(out: &mut Vec<Net>, net: &Net) -> Result<(), AllocError>
-    ensures items { OnOk result (out.new.items ≡ added same_net_by out.old.items net.now) }
-    ensures refused { OnErr result WasRefused }
-{
-    let known = has(out.as_slice(), net);
-    if !known {
-        push(out, net)?;
-    }
-    Ok(())
-}
-
-// Puts nets at the end, each if it is not there.
-pub(crate) fn add_all(all: &mut Vec<Net>, nets: &[Net]) -> Result<(), AllocError>
-    ensures items { OnOk result (all.new.items ≡ once_from same_net_by all.old.items nets.now) }
-    ensures refused { OnErr result WasRefused }
-{
-    for net in nets {
-        push_once(all, net)?;
-    }
-    Ok(())
-}
-
 // Adds the nets behind one unseen move of these.
 fn add_hidden(
     alloc: Global,
@@ -197,20 +166,29 @@ fn add_hidden(
     covered: &[Where],
     family: &[Move],
     nets: &[Net],
-    all: &mut Vec<Net>,
+    all: &mut Nets,
 ) -> Result<(), Unsearched>
-    ensures items { OnOk result (all.new.items ≡ once_from same_net_by all.old.items (flat_map (hidden_from (moved_by octet_reading kasmes.now) (is_covered covered.now) family.now) nets.now)) }
-    ensures many { result ≡ Err Unsearched.TooMany → most_nets < length (once_from same_net_by all.old.items (flat_map (hidden_from (moved_by octet_reading kasmes.now) (is_covered covered.now) family.now) nets.now)) }
+    ensures items { OnOk result (all.new ≡ once_from same_net_by all.old (flat_map (hidden_from (moved_by octet_reading kasmes.now) (is_covered covered.now) family.now) nets.now)) }
+    ensures many { result ≡ Err Unsearched.TooMany → most_nets < length (once_from same_net_by all.old (flat_map (hidden_from (moved_by octet_reading kasmes.now) (is_covered covered.now) family.now) nets.now)) }
     ensures memory { result ≡ Err Unsearched.Memory → WasRefused }
 {
     for net in nets {
         let more = hidden(alloc, kasmes, covered, family, net)?;
-        add_all(all, more.as_slice())?;
+        all.add_all(more.as_slice())?;
         if all.len() > MOST_NETS {
             return Err(Unsearched::TooMany);
         }
     }
     Ok(())
+}
+
+// The nets behind the first `begun`.
+pub(crate) fn behind_first(alloc: Global, begun: usize, all: &Nets) -> Result<Vec<Net>, AllocError>
+    requires { begun ≤ length all.now }
+    ensures items { IfOk result (λ fresh. fresh.items ≡ drop begun all.now) }
+    ensures refused { OnErr result WasRefused }
+{
+    growth::from_slice(alloc, &all.as_slice()[begun..])
 }
 
 // Goes on from the nets behind the first `begun` by one unseen move.
@@ -220,37 +198,37 @@ fn widen(
     covered: &[Where],
     family: &[Move],
     begun: usize,
-    all: &mut Vec<Net>,
+    all: &mut Nets,
 ) -> Result<(), Unsearched>
-    requires { begun ≤ length all.old.items }
-    ensures items { OnOk result (all.new.items ≡ once_from same_net_by all.old.items (flat_map (hidden_from (moved_by octet_reading kasmes.now) (is_covered covered.now) family.now) (drop begun all.old.items))) }
-    ensures many { result ≡ Err Unsearched.TooMany → most_nets < length (once_from same_net_by all.old.items (flat_map (hidden_from (moved_by octet_reading kasmes.now) (is_covered covered.now) family.now) (drop begun all.old.items))) }
+    requires { begun ≤ length all.old }
+    ensures items { OnOk result (all.new ≡ once_from same_net_by all.old (flat_map (hidden_from (moved_by octet_reading kasmes.now) (is_covered covered.now) family.now) (drop begun all.old))) }
+    ensures many { result ≡ Err Unsearched.TooMany → most_nets < length (once_from same_net_by all.old (flat_map (hidden_from (moved_by octet_reading kasmes.now) (is_covered covered.now) family.now) (drop begun all.old))) }
     ensures memory { result ≡ Err Unsearched.Memory → WasRefused }
 {
-    let fresh = growth::from_slice(alloc, &all.as_slice()[begun..])?;
+    let fresh = behind_first(alloc, begun, all)?;
     add_hidden(alloc, kasmes, covered, family, fresh.as_slice(), all)
 }
 
-// Adds the nets behind at most so many unseen moves, and answers whether one more would give no other.
+// Adds the nets behind so many unseen moves, and answers of how many the successors are there already.
 pub(crate) fn widened(
     alloc: Global,
     kasmes: &[Kasme],
     covered: &[Where],
     family: &[Move],
-    bound: u32,
-    all: &mut Vec<Net>,
-) -> Result<bool, Unsearched>
-    ensures agree { OnOk result (Agree all.new.items (widened_by (moved_by octet_reading kasmes.now) (is_covered covered.now) family.now bound all.old.items)) }
-    ensures items { OnOk result (all.new.items ≡ wider_once (moved_by octet_reading kasmes.now) (is_covered covered.now) family.now same_net_by bound 0 all.old.items) }
-    ensures many { result ≡ Err Unsearched.TooMany → most_nets < length (wider_once (moved_by octet_reading kasmes.now) (is_covered covered.now) family.now same_net_by bound 0 all.old.items) }
-    ensures full { IfOk result (λ full. full ≡ true → IsFull (moved_by octet_reading kasmes.now) (is_covered covered.now) family.now (widened_by (moved_by octet_reading kasmes.now) (is_covered covered.now) family.now bound all.old.items)) }
+    turns: u32,
+    all: &mut Nets,
+) -> Result<usize, Unsearched>
+    ensures within { IfOk result (λ begun. begun ≤ length all.new) }
+    ensures known { IfOk result (λ begun. Known (moved_by octet_reading kasmes.now) fits (is_covered covered.now) family.now turns all.old all.new begun) }
+    ensures items { IfOk result (λ begun. (may : ANet (List ℕ) ℕ → Bool) → led_after (moved_by octet_reading kasmes.now) (is_covered covered.now) family.now same_net_by may 0 begun all.new ≡ led_after (moved_by octet_reading kasmes.now) (is_covered covered.now) family.now same_net_by may turns 0 all.old) }
+    ensures many { result ≡ Err Unsearched.TooMany → (may : ANet (List ℕ) ℕ → Bool) → most_nets < length (led_after (moved_by octet_reading kasmes.now) (is_covered covered.now) family.now same_net_by may turns 0 all.old) }
     ensures memory { result ≡ Err Unsearched.Memory → WasRefused }
 {
     let mut begun = 0;
-    for _turn in 0..bound {
+    for _turn in 0..turns {
         let count = all.len();
         widen(alloc, kasmes, covered, family, begun, all)?;
         begun = count;
     }
-    Ok(begun == all.len())
+    Ok(begun)
 }

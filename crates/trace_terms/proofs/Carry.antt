@@ -11,7 +11,8 @@ use Rattle.trace_keys.specs.declared.moves.Unanswered.TheVariants.{Refused, Lost
 use Rattle.trace_keys.specs.declared.moves.Where.TheVariants.{Setup, Change, Took, Answer, Asked, Request, Over}
 use Rattle.trace_keys.specs.declared.moves.Move.TheVariants.{Renew, Offer, Take, Switch, Ask, Prepare, Require, Arrive, Cancel, Refresh, Leave}
 use Rattle.trace_keys.specs.Net.{Target, Offer as OfferOf, Serving, Net}
-use Rattle.trace_keys.specs.Moved.{count_limit, is_fresh, chain_of, begins, renewed, offers, offered, taken_on, took, switched_to, switched, unanswered, asked, target_of, may_come, prepared, prepared_at, required, required_at, arrived, cancelled, refreshed, moved_in, if_connected, moved}
+use Rattle.nas_count.specs.Estimate.{nas_count_limit}
+use Rattle.trace_keys.specs.Moved.{is_fresh, chain_of, begins, renewed, offers, offered, taken_on, took, switched_to, switched, unanswered, asked, target_of, may_come, prepared, prepared_at, required, required_at, arrived, cancelled, refreshed, refreshed_at, moved_in, if_connected, moved}
 use Rattle.trace_terms.specs.Carried.{map_target, map_offer, map_serving, map_connection, map_net, map_done}
 
 if_map : {X Y : Type 0} (h : Option X → Option Y) (b : Bool) (x : X) (y : Y) → h None ≡ None → h (Some x) ≡ Some y → h (if b then Some x else None) ≡ (if b then Some y else None)
@@ -120,7 +121,7 @@ module _ {K C L D : Type 0} (r : Reading K C) (q : Reading L D) (f : K → L) (g
   took_map s None = refl
   took_map s (Some o) =
       let other : OfferOf L D = record { kasme = o.kasme; count = o.count; kenb = f o.kenb; core = map_chain f g o.core } in
-      if_map (map_done f g) (nat_lt o.count count_limit) (taken_on r s o) (taken_on q (map_serving f g s) other) refl (taken_map s o other refl)
+      if_map (map_done f g) (nat_lt o.count nas_count_limit) (taken_on r s o) (taken_on q (map_serving f g s) other) refl (taken_map s o other refl)
 
   -- a path switch, and a request without an answer
   switched_to_map : (s : Serving K C) → map_serving f g (switched_to r s) ≡ switched_to q (map_serving f g s)
@@ -251,7 +252,8 @@ module _ {K C L D : Type 0} (r : Reading K C) (q : Reading L D) (f : K → L) (g
   in_map kasmes net s (Require station cell goes) = required_at_map net s station cell goes
   in_map kasmes net s Arrive = arrived_map net s s.target
   in_map kasmes net s Cancel = cancelled_map net s s.target
-  in_map kasmes net s (Refresh cell) = refreshed_map net s cell
+  in_map kasmes net s (Refresh station cell) =
+      if_map (map_done f g) (nat_eq station s.station) (refreshed net s (opened r s.key cell) cell) _ refl (refreshed_map net s cell)
   in_map kasmes net s Leave = refl
 
   connected_map : (kasmes : List K) (net : Net K C) (s : Option (Serving K C)) (move : Move)

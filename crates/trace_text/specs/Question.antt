@@ -43,7 +43,7 @@ with_entry q (Seen sight) = record q { capture = q.capture ++ sight ∷ [] }
 abbrev pub moves_to : Bool → Site → List Move
 moves_to air site =
     Prepare site.station site.cell true ∷ Prepare site.station site.cell false ∷ Require site.station site.cell true ∷ Require site.station site.cell false
-    ∷ (if air then Refresh site.cell ∷ [] else [])
+    ∷ (if air then Refresh site.station site.cell ∷ [] else [])
 
 -- a KeNB for a cell, which is taken into use or not
 abbrev pub renewals : Due → Bool → Site → List Move

@@ -18,7 +18,7 @@ fn push_moves_to(out: &mut Vec<Move>, air: bool, site: &Site) -> Result<(), Allo
     push(out, over_s1(site, true))?;
     push(out, over_s1(site, false))?;
     if air {
-        push(out, Move::Refresh(site.cell))?;
+        push(out, within(site))?;
     }
     Ok(())
 }
@@ -40,6 +40,15 @@ fn over_s1(site: &Site, goes: bool) -> Move
         station: site.station,
         cell: site.cell,
         goes,
+    }
+}
+
+fn within(site: &Site) -> Move
+    ensures { result ≡ Move.Refresh site.now.station site.now.cell }
+{
+    Move::Refresh {
+        station: site.station,
+        cell: site.cell,
     }
 }
 

@@ -1,5 +1,5 @@
 """Lawful histories of a connection: what core, station and phone have, crossed, and how each step of the standard
-changes them.
+changes them. They are the judge's own, tested and not proved: it blames by them, and `lawful` asks the proved ones.
 
 A history is one way in which TS 33.401 7.2.8 and 7.2.9 let things come to what a trace has shown so far. Mostly there
 is one. After a key that differs there are those that go on from what was sent and those that go on from what was

@@ -65,8 +65,8 @@ class Verdicts:
             yield f"blames of keys withdrawn: {len(self.explained)}; lte_trace finds a lawful history"
         if self.open:
             yield (
-                f"blames of keys not confirmed: {self.open}; their search was given up, no history has the message "
-                "whatever its key, or only one with a refresh for a cell of another station gives it"
+                f"blames of keys not confirmed: {self.open}; their search was given up, or no history has the message "
+                "whatever its key"
             )
 
 
@@ -110,16 +110,12 @@ def asked(phone: Phone, taken: Program, verdicts: Verdicts) -> None:
 
 
 def told(phone: Phone, taken: Program) -> Iterator[tuple[Line, Why]]:
-    """The blames of a phone whose messages a history gives, and what it rests on. One with a refresh for a cell of
-    another station gives nothing: there it must be one without moves over the air."""
+    """The blames of a phone whose messages a history gives, and what it rests on."""
     if not any(one.value is not None and not one.passed for one in phone.sightings):
         return
     answer = phone.ask(taken, told=True)
-    moves = answer.moves if answer is not None else ()
-    strays = phone.strays(moves)
-    grounds = [*phone.grounds(moves)][:strays]
-    sure = len(phone.sightings) if strays is None else max(strays, phone.some(taken))
-    for place, one in enumerate(phone.sightings[:sure]):
+    grounds = [*phone.grounds(answer.moves if answer is not None else ())]
+    for place, one in enumerate(phone.sightings):
         if one.value is not None:
             yield one.value, grounds[place] if place < len(grounds) else Cause.HISTORY_FOUND.because()
 

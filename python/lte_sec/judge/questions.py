@@ -338,24 +338,6 @@ class Phone:
             )
         return " ".join([PLAIN.get(name, name), *choices])
 
-    def strays(self, moves: Iterable[str]) -> int | None:
-        """The place of the first message behind a refresh for a cell of another station than the phone's: the moves of
-        the program do not ask whose cell it is, and no lawful network has that."""
-        cells, place, station, target = {*self.cells()}, 0, "", ""
-        for line in moves:
-            seen, _, move = line.partition(" ")
-            name, *choices = move.split()
-            if name == "refresh" and f"cell {station} {choices[0]} {choices[1]}" not in cells:
-                return place
-            if name == "renew":
-                station = choices[3]
-            elif name == "arrive":
-                station = target
-            if name in ("prepare", "require"):
-                target = choices[0] if choices[-1] == "last" else target
-            place += seen == "seen"
-        return None
-
     def grounds(self, moves: Iterable[str]) -> Iterator[Why]:
         """What each message rests on, in order: the unseen moves of its connection up to it."""
         unseen: list[str] = []

@@ -14,9 +14,11 @@ returns-clause-agree c =
     let covers = is_covered c.args.covered.now in
     let family = c.args.family.now in
     let sight = c.args.sight.now in
-    let wide = c.widened.new.all.items in
+    let all = c.led_to.new.all in
     let next = c.in_ok-next.next.items in
-    let ends = c.add_all.new.all.items in
-    let is : next ≡ flat_map (shown_from moves fits covers family sight) wide = search rules in
+    let ends = c.add_all.new.self in
+    let show = shown_from moves fits covers family sight in
+    let is : next ≡ flat_map show all = search rules in
     let each : ends ≡ once_from same_net [] next = search rules in
-    shown_on moves fits covers family same_net one_net sight wide next ends (widened moves covers family c.args.bound c.args.nets.now.items) c.in_ok-full.ensures.agree is each
+    shown_on moves fits covers family same_net one_net (flat_map show all) next ends (flat_map show (widened moves covers family c.args.bound c.args.nets.now))
+    c.in_ok-full.ensures.agree is each

@@ -10,4 +10,4 @@ use Rattle.trace_plain.proofs.widening.add_hidden.Given as goal
 abbrev pub invariant-loop-net : goal.invariant-loop-net
 invariant-loop-net l =
     let from = hidden_from (moved_by octet_reading l.kasmes) (is_covered l.covered) l.family in
-    once_from same_net_by l.all.items (flat_map from (drop l.net-index l.nets)) ≡ once_from same_net_by l.fn.all.items (flat_map from l.nets)
+    once_from same_net_by l.all (flat_map from (drop l.net-index l.nets)) ≡ once_from same_net_by l.fn.all (flat_map from l.nets)
