@@ -1,6 +1,6 @@
 """The command `lte-sec` that the wheel installs: the launcher's words that need none of the programs.
 
-`check-trace`, `explain`, `wireshark` and `repeats` are those of `words`, and `verdict [--json] [FILE]` that of
+`check-trace`, `explain`, `wireshark` and `repeats` are those of `traces.trace_words`, and `verdict [--json] [FILE]` that of
 `verdict`.
 """
 from __future__ import annotations

@@ -1,4 +1,4 @@
-"""Why a call of the library is refused: a class for each cause, and the checks of what a call is given."""
+"""Why a call of the library is refused, not what an actor refuses: a class for each cause, and the checks of what a call is given."""
 from __future__ import annotations
 
 from ctypes import c_uint8

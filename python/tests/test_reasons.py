@@ -1,4 +1,4 @@
-"""Each mistake of the catalogue, made here by hand, is named."""
+"""Each mistake of the catalogue (`common.mistakes`), made here by hand, is named."""
 from __future__ import annotations
 
 import hmac

@@ -1,4 +1,4 @@
-"""Why a reply of a driven actor is not the wanted one: the mistakes of `reasons`, from the keys of the same scenario's
+"""Why a reply of a driven actor is not the wanted one: those of `common.mistakes`, from the keys of the same scenario's
 own run."""
 from __future__ import annotations
 

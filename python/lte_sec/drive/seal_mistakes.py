@@ -1,5 +1,5 @@
-"""Why a protected message of a driven actor is not the wanted one, or is refused where it is right: the mistakes of
-`reasons`, of MACs and ciphers."""
+"""Why a protected message of a driven actor is not the wanted one, or is refused where it is right: those of
+`common.mistakes` that concern MACs and ciphers."""
 from __future__ import annotations
 
 import dataclasses

@@ -102,7 +102,7 @@ class Explanation:
         ]
 
     def mistakes(self, keys: set[bytes]) -> dict[bytes, Mistake]:
-        """Of keys that nothing gives those that a mistake of an implementation gives (`reasons`)."""
+        """Of keys that nothing gives those that a mistake of an implementation gives (`common.mistakes`)."""
         found: dict[bytes, Mistake] = {}
         for wanted, why, made in self.mistaken({len(key) for key in keys}) if keys else ():
             if made in keys and made not in found:

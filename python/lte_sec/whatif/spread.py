@@ -2,8 +2,6 @@
 again."""
 from __future__ import annotations
 
-import ctypes
-import multiprocessing
 import os
 import signal
 import time
@@ -12,9 +10,8 @@ from collections.abc import Callable, Iterable, Iterator
 from dataclasses import dataclass
 from itertools import combinations, groupby, islice
 from math import comb
-from multiprocessing.pool import Pool
 from pathlib import Path
-from typing import Any, TypeVar
+from typing import TYPE_CHECKING, Any, TypeVar
 
 from ..common.progress import Rate
 from ..runs.variants import Fault
@@ -23,6 +20,9 @@ from .saving import save
 from .study import Study, Tried, Variant
 from .variant_lists import Listed, Lists
 from .what_if_document import Answer, line
+
+if TYPE_CHECKING:
+    from multiprocessing.pool import Pool
 
 MANY_AT_ONCE = 32
 ENDINGS = {signal.SIGINT, signal.SIGTERM}
@@ -126,12 +126,12 @@ def others(outcomes: Iterable[str]) -> list[str]:
 work: Work | None = None
 
 
-def quiet(parent: int) -> None:
+def quiet(parent: int, prctl: Callable[[int, int], int]) -> None:
     """A process leaves ctrl-C to the one that began it, and ends where that one ends it or ends itself, whatever it did
     at a signal itself."""
     signal.signal(signal.SIGINT, signal.SIG_IGN)
     signal.signal(signal.SIGTERM, signal.SIG_DFL)
-    ctypes.CDLL(None).prctl(PR_SET_PDEATHSIG, signal.SIGTERM)
+    prctl(PR_SET_PDEATHSIG, signal.SIGTERM)
     signal.pthread_sigmask(signal.SIG_UNBLOCK, ENDINGS)
     if os.getppid() != parent:  # it has ended before
         os._exit(0)
@@ -150,9 +150,12 @@ def judged(variant: Listed) -> tuple[Listed, int]:
 def begun(jobs: int) -> Pool:
     """So many processes. A signal that comes while one begins waits until that does at it what it is to do, and not what
     this process does."""
+    import ctypes  # these load much, and one process needs none of it
+    import multiprocessing
+
     before = signal.pthread_sigmask(signal.SIG_BLOCK, ENDINGS)
     try:
-        return multiprocessing.get_context("fork").Pool(jobs, quiet, (os.getpid(),))
+        return multiprocessing.get_context("fork").Pool(jobs, quiet, (os.getpid(), ctypes.CDLL(None).prctl))
     finally:
         signal.pthread_sigmask(signal.SIG_SETMASK, before)
 

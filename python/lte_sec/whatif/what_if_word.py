@@ -13,15 +13,13 @@ from typing import Any, NamedTuple
 from ..common.inputs import of_file, of_input
 from ..common.options import Words, WrongWords
 from ..common.terms import TraceError
-from ..pages import page as pages
 from ..runs.courses import ProgramFails
 from ..runs.remarks import frames_of
 from ..runs.scenarios import NoScenario, read
 from ..runs.variants import KINDS
-from . import goals, matrix_page, parts, resumption as resumed
+from . import goals, parts, resumption as resumed
 from .chart import name_of
 from .goals import Goal, Search
-from .matrix import draw
 from .named_messages import steps_of
 from .outcomes import RANK, USUAL_BAD
 from .spread import Gathering, Share
@@ -175,12 +173,17 @@ def tried(programs: Programs, words: WhatIfWords, share: Share, goal: Goal | Non
 def write_page(file: Path, document: dict[str, Any]) -> None:
     if "base" not in document:
         raise WrongWords("--html wants parts that have the course of each variant, as --json writes them now")
+    from ..pages import page as pages
+    from . import matrix_page
+
     pages.write(file, pages.html(matrix_page.page(document), matrix_page.told(document), matrix_page.of_note(document)))
 
 
 def tell(answer: Answer, words: WhatIfWords) -> int:
     """Writes the answer as it is wanted; the status."""
     if words.has("--picture"):
+        from .matrix import draw
+
         try:
             Path(words.last("--picture")).write_text(draw(answer), encoding="utf-8")
         except OSError as fault:
@@ -221,6 +224,8 @@ def answered(programs: Programs, given: list[str]) -> int:
     if picture and not os.access(picture if picture.exists() else picture.parent, os.W_OK):
         raise WrongWords(f"{picture} cannot be written")
     if words.has("--html"):
+        from ..pages import page as pages
+
         pages.writable(Path(words.last("--html")))
     if words.has("--resume") and any(words.has(other) for other in NOT_WITH_RESUME):
         raise WrongWords(f"--resume takes none of {', '.join(NOT_WITH_RESUME)}")
