@@ -2,10 +2,10 @@
 use Rattle.std.proofs.Common.{◌≡◌, sym, subst, ℕ, ◌+◌, ◌<◌, ◌≤◌, ◌^◌, Bool, false, nat_le, List, Option, Some, None, option_map, Ok, Err, arith}
 use Rattle.std.proofs.lemmas.Bool.Decides.{nat_tests}
 use Rattle.alg_choice.specs.{declared.caps.Caps.Caps, Caps.IsCaps}
-use Rattle.annex_a_keys.specs.Cell.{Place, IsCell}
+use Rattle.annex_a_keys.specs.Cell.{Place}
 use Rattle.lte_events.specs.{Ranges.IsCoreAct, declared.acts.CoreAct.CoreAct}
 use Rattle.key_model.specs.{Reading.Reading, Reading.term_reading_by, Term.Term}
-use Rattle.s1x2_rec.specs.{Fields.Fields, Spelling.FieldsInRange}
+use Rattle.s1x2_rec.specs.{Fields.Fields, Fields.InitialContext, Fields.HandoverRequest, Spelling.FieldsInRange}
 use Rattle.rec_base.specs.Ranges.{IsNumber}
 use Rattle.lte_machine.specs.{Opening.Outcome, Reply.unseen, CoreKeys.CoreDone, CoreStep.plain_core, CoreStep.core_step}
 use Rattle.lte_machine.specs.CoreState.{Core, CoreContext, CoreLink, CoreInput, CoreAuth, CoreActs, CoreNasPdu, CoreRecord, map_core_context}
@@ -38,15 +38,15 @@ module _ {K C : Type 0} (s : Core K C) (h : CoreRanged s) where
   context_caps context e caps f = subst IsCaps (sym f) (subst CoreContextRanged e h.2)
 
   set_up_ranged : (act : CoreAct) (conn : ℕ) (cell : Place) (target : ℕ) (caps : Caps) (count : ℕ) → IsCoreAct act → SetsUp s act conn cell target caps count
-      → IsNumber conn × IsCell cell × IsCaps caps
+      → FieldsInRange (InitialContext conn cell caps)
   set_up_ranged act conn cell target caps count i f =
-      (unspent conn f.conn_is f.left, subst IsCoreAct f.act_is i, context_caps f.context f.in_use caps f.caps_is)
+      (unspent conn f.conn_is f.left, (subst IsCoreAct f.act_is i, context_caps f.context f.in_use caps f.caps_is))
 
   switch_ranged : (fields : Fields) (conn station number : ℕ) (alarm : Bool)
       → FieldsInRange fields
       → Switches s fields conn station number alarm
       → IsNumber conn × IsNumber number
-  switch_ranged fields conn station number alarm i f = let k = subst FieldsInRange f.fields_is i in (k.0, k.2)
+  switch_ranged fields conn station number alarm i f = let (conn_is, (_, (number_is, _))) = subst FieldsInRange f.fields_is i in (conn_is, number_is)
 
   caps_ranged : (o : Option (CoreContext K)) → CoreContextRanged o → IsCaps (caps_in_use (option_map (map_core_context unseen) o))
   caps_ranged None k = (omega arith, omega arith)
@@ -55,9 +55,10 @@ module _ {K C : Type 0} (s : Core K C) (h : CoreRanged s) where
   ask_ranged : (fields : Fields) (conn source attempt : ℕ) (cell : Place) (target : ℕ) (caps : Caps)
       → FieldsInRange fields
       → Asks s fields conn source attempt cell target caps
-      → IsNumber conn × (source ≤ 7) × IsNumber attempt × IsCell cell × IsCaps caps
+      → FieldsInRange (HandoverRequest conn source attempt cell caps)
   ask_ranged fields conn source attempt cell target caps i f =
-      let k = subst FieldsInRange f.fields_is i in (k.0, k.1, k.2, k.3, subst IsCaps (sym f.caps_is) (caps_ranged s.context h.2))
+      let (conn_is, (source_is, (attempt_is, cell_is))) = subst FieldsInRange f.fields_is i in
+      (conn_is, (source_is, (attempt_is, (cell_is, subst IsCaps (sym f.caps_is) (caps_ranged s.context h.2)))))
 
 -- WHAT A ROW DOES
 
@@ -101,7 +102,7 @@ module _ (same : Term → Term → Bool) where
         (h, (switch_ranged (with_link s (Some link)) h fields conn station number alarm i f, (tt, three_bits _)));
     asked = λ conn source attempt cell target caps link f h.
         (h, (ask_ranged (with_link s (Some link)) h fields conn source attempt cell target caps i f, (tt, three_bits _)));
-    ordered = λ conn source attempt cell ncc algs air f h. let k = subst FieldsInRange f.0 i in (h, ((k.0, k.2, k.3, k.4, k.5), tt));
+    ordered = λ conn source attempt cell ncc algs air f h. let (conn_is, (_, others)) = subst FieldsInRange f.0 i in (h, ((conn_is, others), tt));
     notified = λ station link f h. (h, tt);
     cancelled = λ conn source attempt cell target f h. (h, (subst FieldsInRange f.0 i, tt));
   }

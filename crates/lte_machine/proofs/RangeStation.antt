@@ -6,7 +6,7 @@ use Rattle.annex_a_keys.specs.Cell.{Place, IsCell}
 use Rattle.lte_events.specs.{Ranges.IsStationAct, declared.acts.HoKind.HoKind, declared.acts.StationAct.StationAct}
 use Rattle.key_model.specs.{Chain.ncc_of, Reading.Reading, Reading.term_reading_by, Term.Term}
 use Rattle.s1x2_rec.specs.{Content.map_content, Spelling.FieldsInRange}
-use Rattle.s1x2_rec.specs.Fields.{Fields, InitialContext, ContextModification}
+use Rattle.s1x2_rec.specs.Fields.{Fields, InitialContext, HandoverRequest, ContextModification}
 use Rattle.rec_base.specs.Ranges.{IsNumber}
 use Rattle.alg_choice.specs.Caps.{IsCaps}
 use Rattle.ho_prep.specs.declared.origins.By.{By}
@@ -92,9 +92,9 @@ module _ (same : Term → Term → Bool) where
     found at p e = subst (OfSome PrepRanged) e (all_find PrepRanged (is_at at) s.preps preps)
 
     -- a request that is admitted, with the air address drawn for it, and the preparations with one more
-    admitted_ranged : (w : Admitted) → Admits r s w → IsNumber w.conn × (w.from.source ≤ 7) × IsNumber w.from.attempt × IsCell w.cell × IsCaps w.caps →
+    admitted_ranged : (w : Admitted) → Admits r s w → FieldsInRange (HandoverRequest w.conn w.from.source w.from.attempt w.cell w.caps) →
         IsNumber w.conn × (w.from.source ≤ 7) × IsNumber w.from.attempt × IsCell w.cell × IsCaps w.caps × IsNumber w.air
-    admitted_ranged w a i = let (conn, source, attempt, cell, caps) = i in (conn, source, attempt, cell, caps, drawn w.air s.next a.air_is a.left h.1)
+    admitted_ranged w a i = let (conn, (source, (attempt, (cell, caps)))) = i in (conn, source, attempt, cell, caps, drawn w.air s.next a.air_is a.left h.1)
 
     admitted_preps : (w : Admitted) (p : Prep Term ℕ) → PrepRanged p → AllOf PrepRanged (filter (λ q. nat_le w.conn q.conn) s.preps ++ p ∷ [])
     admitted_preps w p f =
@@ -117,7 +117,7 @@ module _ (same : Term → Term → Bool) where
           nothing = λ answer. (h, tt);
           given = λ conn cell caps algs air kenb k.
               let f : FieldsInRange (InitialContext conn cell caps) = subst FieldsInRange k.fields_is i in
-              ((h.0, next_up air, (f.0, f.1, f.2, tt, tt), tt), tt);
+              ((h.0, next_up air, (f.0, f.1.0, f.1.1, tt, tt), tt), tt);
           released = λ key k. ((h.0, h.1, tt, tt), tt);
           taken = λ conn origin pair k.
               let (held, _, _, _, from) = here k.context k.serving in (
@@ -127,12 +127,12 @@ module _ (same : Term → Term → Bool) where
           by_s1 = λ w pair k.
               let (conn, source, attempt, cell, caps, air) = admitted_ranged w k.admits (subst FieldsInRange k.fields_is i) in (
                 (h.0, next_up w.air, h.2, admitted_preps w _ (conn, source, attempt, cell, caps, tt)),
-                ((conn, source, attempt, cell, three_bits pair.number, air), tt),
+                ((conn, (source, (attempt, (cell, (three_bits pair.number, air))))), tt),
               );
           by_x2 = λ w star k.
               let (conn, source, attempt, cell, caps, air) = admitted_ranged w k.admits (subst FieldsInRange k.fields_is i) in (
                 (h.0, next_up w.air, h.2, admitted_preps w _ (conn, source, attempt, cell, caps, tt)),
-                ((conn, attempt, cell, air), tt),
+                ((conn, (attempt, (cell, air))), tt),
               );
           answered = λ order key k. (
             mapped (with_answer order) (λ c k. attempt_ranged c k (changed_so (λ o. AttemptRanged o) _ (λ a m. m) c.attempt (attempt_of c k))),
@@ -160,7 +160,7 @@ module _ (same : Term → Term → Bool) where
           opened = λ srb count text k. (mapped (with_rrc_taken srb count) (λ c k. k), tt);
           packet = λ drb count text k. (mapped (with_packet_taken drb count) (λ c k. k), tt);
           by_s1 = λ at count k p e.
-              let (conn, _, _, cell, caps, _) = found at p e in ((h.0, h.1, (conn, cell, caps, tt, tt), tt), ((conn, h.0, cell), tt));
+              let (conn, _, _, cell, caps, _) = found at p e in ((h.0, h.1, (conn, cell, caps, tt, tt), tt), ((conn, (h.0, cell)), tt));
           within = λ at count origin k p e.
               let (conn, _, _, cell, caps, _) = found at p e in
               let (source, origin_is, (prepared, _)) = k in
@@ -169,7 +169,7 @@ module _ (same : Term → Term → Bool) where
           by_x2 = λ at count number k p e.
               let (conn, source, attempt, cell, caps, _) = found at p e in (
                 (h.0, next_up number, (conn, cell, caps, tt, (source, attempt)), tt),
-                ((conn, h.0, drawn number s.next k.0 k.1 h.1, cell, caps), tt),
+                ((conn, (h.0, (drawn number s.next k.0 k.1 h.1, (cell, caps)))), tt),
               );
         }
 
@@ -195,11 +195,11 @@ module _ (same : Term → Term → Bool) where
           by_x2 = λ number target cell k c e.
               let d = here c e in
               let f = starts_ranged act HoKind.X2 number target cell k i in
-              ((h.0, next_up number, attempt_ranged c d f, preps), ((d.0, h.0, f.0, f.1, d.2), (tt, three_bits _)));
+              ((h.0, next_up number, attempt_ranged c d f, preps), ((d.0, (h.0, (f.0, (f.1, d.2)))), (tt, three_bits _)));
           by_s1 = λ number target cell k c e.
               let d = here c e in
               let f = starts_ranged act HoKind.S1 number target cell k i in
-              ((h.0, next_up number, attempt_ranged c d f, preps), ((d.0, h.0, f.0, f.1), tt));
+              ((h.0, next_up number, attempt_ranged c d f, preps), ((d.0, (h.0, (f.0, f.1))), tt));
           within = λ number air cell k c e.
               let (conn, now, caps, _, origin) = here c e in
               let f = starts_ranged act HoKind.Intra number s.id cell k.starts i in (
@@ -215,12 +215,12 @@ module _ (same : Term → Term → Bool) where
               let d = here c e in
               ((h.0, h.1, attempt_ranged c d (changed_so (λ o. AttemptRanged o) _ (λ a m. m) c.attempt (attempt_of c d)), preps), tt);
           cancelled_x2 = λ conn number target k.
-              let f = gives_up_ranged act OverX2 number k.gives_up in (gives_up, ((subst IsNumber (sym k.conn_is) f.0, h.0, f.1), tt));
+              let f = gives_up_ranged act OverX2 number k.gives_up in (gives_up, ((subst IsNumber (sym k.conn_is) f.0, (h.0, f.1)), tt));
           cancelled_s1 = λ conn number cell k.
               let f = gives_up_ranged act OverS1 number k.gives_up in
-              (gives_up, ((subst IsNumber (sym k.conn_is) f.0, h.0, f.1, subst IsCell (sym k.cell_is) f.2), tt));
+              (gives_up, ((subst IsNumber (sym k.conn_is) f.0, (h.0, (f.1, subst IsCell (sym k.cell_is) f.2))), tt));
           cancelled_within = λ number k. ((h.0, h.1, gives_up.2, all_filter PrepRanged (λ p. not (is_of s.id number p)) s.preps preps), tt);
-          asked = λ number k c e. let d = here c e in ((h.0, next_up number, d, preps), ((d.0, h.0, drawn number s.next k.number_is k.left h.1, d.1, d.2), tt));
+          asked = λ number k c e. let d = here c e in ((h.0, next_up number, d, preps), ((d.0, (h.0, (drawn number s.next k.number_is k.left h.1, (d.1, d.2)))), tt));
           packet = λ drb count text k c e. (with_context (Some c) (here c e), tt);
           text = λ srb count text k c e. (with_context (Some c) (here c e), tt);
           skipped = λ on n k. (mapped (with_skipped on n) (λ c k. k), tt);

@@ -1,10 +1,10 @@
 -- What is read is spelled so, and what is spelled so is read.
-use Rattle.std.proofs.Common.{◌≡◌, ℕ, List, Result, Ok, refl, arith}
+use Rattle.std.proofs.Common.{◌≡◌, ℕ, List, Result, Ok, refl}
 use Rattle.std.specs.Prelude.{IfOk}
 use Rattle.rec_base.specs.declared.faults.RecFault.{RecFault}
 use Rattle.rec_base.proofs.Numbers.{AreOctets}
 use Rattle.rec_fields.specs.Form.{Form, Said}
-use Rattle.rec_fields.proofs.Forms.{Shown, ShownFits, AreShown, IsMade, found_by, read_back}
+use Rattle.rec_fields.proofs.Forms.{Shown, AreShown, IsMade, found_by, read_back}
 use Rattle.nas_rec.specs.declared.records.NasRecord.{NasRecord}
 use Rattle.nas_rec.specs.declared.records.NasRecord.TheVariants.{SecurityModeCommand, SecurityModeComplete, SecurityModeReject, ServiceRequest, NasData}
 use Rattle.nas_rec.specs.Forms.{nas_forms, command, complete, reject, service_request, any_text}
@@ -25,32 +25,18 @@ says r = by_form (λ form says. (form, says)) r
 are_shown : AreShown shown nas_forms
 are_shown = (λ vs. refl, (λ vs. refl, (λ vs. refl, (λ vs. refl, (λ vs. refl, tt)))))
 
-is_made : (r : NasRecord) → IsMade nas_forms shown says spelling_of r
+is_made : (r : NasRecord) → IsMade nas_forms shown says spelling_of InRange r
 unfolding spelling_of
-is_made (SecurityModeCommand ksi algs caps) = record { made = refl; named = refl; same = refl; listed = λ octets. refl }
-is_made other = record { made = refl; named = refl; same = refl; listed = λ octets. refl }
-
-fits : (r : NasRecord) → InRange r → ShownFits (shown r)
-fits (SecurityModeCommand ksi algs caps) h = ((omega arith, h), (tt, tt))
-fits SecurityModeComplete h = tt
-fits (SecurityModeReject cause) h = h
-fits ServiceRequest h = tt
-fits (NasData text) h = h
-
-back : (r : NasRecord) → ShownFits (shown r) → InRange r
-back (SecurityModeCommand ksi algs caps) h = h.0.1
-back SecurityModeComplete h = tt
-back (SecurityModeReject cause) h = h
-back ServiceRequest h = tt
-back (NasData text) h = h
+is_made (SecurityModeCommand ksi algs caps) = record { made = refl; named = refl; same = refl; listed = λ octets. refl; within = λ h. h; back = λ h. h }
+is_made other = record { made = refl; named = refl; same = refl; listed = λ octets. refl; within = λ h. h; back = λ h. h }
 
 -- what is spelled so is read
 pub spelled_is_read : (r : NasRecord) → InRange r → read_nas (spelling_of r) ≡ Ok r
 unfolding read_nas
-spelled_is_read r h = read_back nas_forms shown says spelling_of is_made r (fits r h)
+spelled_is_read r h = read_back nas_forms shown says spelling_of InRange is_made r h
 
 -- what is read is spelled so
 pub found_in : (octets : List ℕ) (answer : Result NasRecord RecFault) → AreOctets octets → answer ≡ read_nas octets
     → IfOk answer (λ r. InRange r × (octets ≡ spelling_of r))
 unfolding read_nas
-found_in octets answer fit e = found_by nas_forms shown says spelling_of is_made InRange back are_shown octets answer fit e
+found_in octets answer fit e = found_by nas_forms shown says spelling_of InRange is_made are_shown octets answer fit e

@@ -1,7 +1,7 @@
 -- The NAS texts, each with its one spelling.
-use Rattle.std.specs.Prelude.{ℕ, ◌≤◌, List, [], ◌∷◌, length}
+use Rattle.std.specs.Prelude.{ℕ, List, [], ◌∷◌}
 use Rattle.rec_fields.specs.Name.{Algorithms, Replayed, Ksi, Cause}
-use Rattle.rec_fields.specs.Form.{Form, Said, Listed, ToEnd, spelled}
+use Rattle.rec_fields.specs.Form.{Form, Said, Listed, ToEnd, spelled, SaidInRange}
 use Rattle.nas_rec.specs.declared.records.NasRecord.{NasRecord}
 use Rattle.nas_rec.specs.declared.records.NasRecord.TheVariants.{SecurityModeCommand, SecurityModeComplete, SecurityModeReject, ServiceRequest, NasData}
 use Rattle.nas_rec.specs.Forms.{command, complete, reject, service_request, any_text}
@@ -22,10 +22,6 @@ kind_of r = by_form (λ form says. form.kind) r
 unfoldable pub spelling_of : NasRecord → List ℕ
 spelling_of r = by_form spelled r
 
--- each field is in its range: KSI 0 to 6 (TS 24.301 9.9.3.21), cause 23 or 24 (9.9.3.9)
+-- each field is in its range
 abbrev pub InRange : NasRecord → Type 0
-InRange (SecurityModeCommand ksi algs caps) = ksi ≤ 6
-InRange SecurityModeComplete = Unit {0}
-InRange (SecurityModeReject cause) = (23 ≤ cause) × (cause ≤ 24)
-InRange ServiceRequest = Unit {0}
-InRange (NasData text) = length text ≤ 200
+InRange r = SaidInRange (by_form (λ form says. form.body) r) (by_form (λ form says. says) r)

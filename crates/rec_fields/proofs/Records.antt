@@ -8,7 +8,7 @@ use Rattle.annex_a_keys.specs.Cell.{Place, IsCell}
 use Rattle.rec_fields.specs.Field.{◌>>=◌, of_size, caps_at, rest_at}
 use Rattle.rec_fields.specs.Spelled.{algs_octet, cell_octets}
 use Rattle.rec_fields.specs.Layout.{Layout, Empty, Last, Rest, Then, Values, read_by, spelled_by, width_of}
-use Rattle.rec_fields.specs.Record.{octet, number, cell, algorithms, capabilities, key, sized, read_layout}
+use Rattle.rec_fields.specs.Record.{octet, octet_to, number, cell, algorithms, capabilities, key, sized, read_layout}
 use Rattle.rec_fields.proofs.Fields.{bind_ok, ok_is, size_is, size_read, ends, octets_rest, octets_front, octet_is, octet_in_takes, number_in_takes, in_range_read, algs_takes, algs_read, caps_takes, caps_read, cell_takes, cell_read, rest_takes, rest_read}
 use Rattle.rec_fields.proofs.Layouts.{IsField, AreFields, IsEnding, IsSized, IsRow, Spelled, found, again, spelled_width, behind, number_is, octet_there, field_is, FitBy}
 
@@ -23,6 +23,13 @@ pub octet_is_field : (low high : ℕ) → IsField Reach (octet low high)
 octet_is_field low high = record {
   takes = λ octets place n fit within e. let t = octet_in_takes low high octets place n (omega arith) e in (t.0, (t.1, t.2));
   again = λ octets rest place n fit e. in_range_read low high octets place 1 n (octet_there octets rest place n e) fit.0 fit.1;
+  size = λ n fit. refl;
+}
+
+pub octet_to_is_field : (high : ℕ) → IsField Reach (octet_to high)
+octet_to_is_field high = let law = octet_is_field 0 high in record {
+  takes = λ octets place n fit within e. let t = law.takes octets place n fit within e in (t.0, t.1.1);
+  again = λ octets rest place n fit e. law.again octets rest place n (omega arith, fit) e;
   size = λ n fit. refl;
 }
 

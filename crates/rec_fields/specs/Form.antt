@@ -1,9 +1,9 @@
 -- The form of a kind of record: how it is read, how it is spelled and what it says come of it.
-use Rattle.std.specs.Prelude.{ℕ, List, [], ◌∷◌, ◌++◌, Result}
+use Rattle.std.specs.Prelude.{ℕ, ◌≤◌, if◌then◌else◌, List, [], ◌∷◌, ◌++◌, length, Result}
 use Rattle.rec_base.specs.declared.faults.RecFault.{RecFault}
 use Rattle.rec_fields.specs.Layout.{Layout, Empty, Last, Rest, Then, Values, Curried, made_of, Readers}
 use Rattle.rec_fields.specs.Record.{read_layout, read_kinds}
-use Rattle.rec_fields.specs.Name.{Name, field, Entry}
+use Rattle.rec_fields.specs.Name.{Name, field, has_any, Entry}
 
 -- what stands behind the kind
 pub data Body : Type 0 where
@@ -62,6 +62,30 @@ said_octets (ToEnd text) = text
 -- the kind, and then what is said
 abbrev pub spelled : {A : Type 0} → Form A → Said → List ℕ
 spelled form says = form.kind ∷ said_octets says
+
+-- the values whose field has a range
+abbrev pub ranged : List Entry → List Entry
+ranged [] = []
+ranged (e ∷ es) = if has_any e.0 then ranged es else e ∷ ranged es
+
+-- each is in the range of its field
+abbrev pub AllInRange : List Entry → Type 0
+AllInRange [] = Unit {0}
+AllInRange (e ∷ []) = (field e.0).Fits e.1
+AllInRange (e ∷ next ∷ es) = (field e.0).Fits e.1 × AllInRange (next ∷ es)
+
+abbrev pub EntriesInRange : List Entry → Type 0
+EntriesInRange es = AllInRange (ranged es)
+
+-- the most octets of a text to the end
+abbrev pub most_of : Body → ℕ
+most_of (Of names) = 0
+most_of (Text most) = most
+
+-- what a record says is in range
+abbrev pub SaidInRange : Body → Said → Type 0
+SaidInRange body (Listed es) = EntriesInRange es
+SaidInRange body (ToEnd text) = length text ≤ most_of body
 
 -- the record of what stands behind the kind, or the first fault
 unfoldable pub read_as : {A : Type 0} → (body : Body) → (Values (layout body) → A) → List ℕ → Result A RecFault

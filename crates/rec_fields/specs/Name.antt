@@ -1,10 +1,10 @@
 -- The fields of records by their names.
-use Rattle.std.specs.Prelude.{ℕ, List, codes}
+use Rattle.std.specs.Prelude.{ℕ, Bool, true, false, List, codes}
 use Rattle.rec_base.specs.declared.faults.RecFault.{RecFault}
 use Rattle.alg_choice.specs.{declared.algs.Algs.Algs, declared.caps.Caps.Caps}
 use Rattle.annex_a_keys.specs.Cell.{Place}
 use Rattle.rec_fields.specs.Layout.{Field}
-use Rattle.rec_fields.specs.Record.{octet, number, cell, algorithms, capabilities, any_capabilities, key}
+use Rattle.rec_fields.specs.Record.{octet, octet_to, number, cell, algorithms, capabilities, any_capabilities, key}
 
 pub data Name : Type 0 where
   -- the number of a phone's connection (MME UE S1AP ID)
@@ -54,9 +54,9 @@ meaning NextConnection = record { words = codes "next connection"; Value = ℕ; 
 meaning Request = record { words = codes "number"; Value = ℕ; field = number }
 meaning Attempt = record { words = codes "attempt"; Value = ℕ; field = number }
 meaning Air = record { words = codes "air"; Value = ℕ; field = number }
-meaning Station = record { words = codes "station"; Value = ℕ; field = octet 0 7 }
-meaning Source = record { words = codes "source"; Value = ℕ; field = octet 0 7 }
-meaning Ncc = record { words = codes "NCC"; Value = ℕ; field = octet 0 7 }
+meaning Station = record { words = codes "station"; Value = ℕ; field = octet_to 7 }
+meaning Source = record { words = codes "source"; Value = ℕ; field = octet_to 7 }
+meaning Ncc = record { words = codes "NCC"; Value = ℕ; field = octet_to 7 }
 meaning Cell = record { words = codes "cell"; Value = Place; field = cell }
 meaning Algorithms = record { words = codes "algorithms"; Value = Algs; field = algorithms }
 meaning Capabilities = record { words = codes "capabilities"; Value = Caps; field = capabilities }
@@ -64,12 +64,18 @@ meaning Replayed = record { words = codes "capabilities"; Value = Caps; field = 
 meaning Kenb = record { words = codes "KeNB"; Value = List ℕ; field = key }
 meaning Nh = record { words = codes "NH"; Value = List ℕ; field = key }
 meaning Star = record { words = codes "KeNB*"; Value = List ℕ; field = key }
-meaning Ksi = record { words = codes "KSI"; Value = ℕ; field = octet 0 6 }
+meaning Ksi = record { words = codes "KSI"; Value = ℕ; field = octet_to 6 }
 meaning Cause = record { words = codes "cause"; Value = ℕ; field = octet 23 24 }
 
 -- the field of a name
 abbrev pub field : (name : Name) → Field RecFault (meaning name).Value
 field name = (meaning name).field
+
+-- every value of these fields is in range
+abbrev pub has_any : Name → Bool
+has_any Algorithms = true
+has_any Replayed = true
+has_any other = false
 
 -- a value under the name of its field
 abbrev pub Entry : Type 0

@@ -17,6 +17,10 @@ octet low high = record {
   Fits = λ n. (low ≤ n) × (n ≤ high);
 }
 
+-- an octet of at most `high`
+abbrev pub octet_to : ℕ → Field RecFault ℕ
+octet_to high = record (octet 0 high) { Fits = λ n. n ≤ high }
+
 -- a number of 32 bits, at least 1
 abbrev pub number : Field RecFault ℕ
 number = record { read = from_one_at; spell = octets_of 4; width = 4; Fits = IsNumber }

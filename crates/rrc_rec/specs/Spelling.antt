@@ -1,9 +1,7 @@
 -- The RRC texts, each with its one spelling.
-use Rattle.std.specs.Prelude.{ℕ, ◌≤◌, List, [], ◌∷◌, length}
+use Rattle.std.specs.Prelude.{ℕ, List, [], ◌∷◌}
 use Rattle.rec_fields.specs.Name.{Air, Station, Ncc, Cell, Algorithms}
-use Rattle.rec_fields.specs.Form.{Form, Said, Listed, ToEnd, spelled}
-use Rattle.rec_base.specs.Ranges.{IsNumber}
-use Rattle.annex_a_keys.specs.Cell.{IsCell}
+use Rattle.rec_fields.specs.Form.{Form, Said, Listed, ToEnd, spelled, SaidInRange}
 use Rattle.rrc_rec.specs.declared.records.RrcRecord.{RrcRecord}
 use Rattle.rrc_rec.specs.declared.records.RrcRecord.TheVariants.{SecurityModeCommand, SecurityModeComplete, Reconfiguration, ReconfigurationComplete, RrcData, KeyChange}
 use Rattle.rrc_rec.specs.Forms.{command, complete, reconfiguration, reconfigured, any_text, key_change}
@@ -28,11 +26,6 @@ kind_of r = by_form (λ form says. form.kind) r
 unfoldable pub spelling_of : RrcRecord → List ℕ
 spelling_of r = by_form spelled r
 
--- each field is in its range: PCI and EARFCN-DL of a cell, NCC 0 to 7, station 0 to 7, air address at least 1
+-- each field is in its range
 abbrev pub InRange : RrcRecord → Type 0
-InRange (SecurityModeCommand algs station air) = (station ≤ 7) × IsNumber air
-InRange SecurityModeComplete = Unit {0}
-InRange (Reconfiguration cell ncc algs station air) = IsCell cell × (ncc ≤ 7) × (station ≤ 7) × IsNumber air
-InRange ReconfigurationComplete = Unit {0}
-InRange (RrcData text) = length text ≤ 200
-InRange (KeyChange cell algs station air) = IsCell cell × (station ≤ 7) × IsNumber air
+InRange r = SaidInRange (by_form (λ form says. form.body) r) (by_form (λ form says. says) r)

@@ -25,7 +25,8 @@ module _ {K C : Type 0} (r : Reading K C) (s : Station K C) where
   -- the cell of a request that is admitted, and that of the context
   admitted_cell : (on : Interface) (fields : Fields) (w : Admitted) → AdmitsOnS1 r s on fields w → FieldsInRange fields → IsCell w.cell
   admitted_cell on fields w f i =
-      let k : FieldsInRange (HandoverRequest w.conn w.from.source w.from.attempt w.cell w.caps) = subst FieldsInRange f.fields_is i in k.3
+      let (_, (_, (_, (cell_is, _)))) : FieldsInRange (HandoverRequest w.conn w.from.source w.from.attempt w.cell w.caps) = subst FieldsInRange f.fields_is i in
+      cell_is
 
   context_cell : ContextRanged s.context → (c : Context K C) → s.context ≡ Some c → IsCell c.cell
   context_cell h c e = let k : ContextRanged (Some c) = subst ContextRanged e h in k.1

@@ -48,7 +48,7 @@ module _ (g : Ghost) where
       let low_id = ok.station in
       let is_station = there.0 in
       let is_air = there.1 in
-      reads_as (SaysOk g id t) (KeyChange o.cell o.algs o.station o.air) (is_cell, omega arith, (omega arith, omega arith)) h
+      reads_as (SaysOk g id t) (KeyChange o.cell o.algs o.station o.air) (is_cell, (omega arith, (omega arith, omega arith))) h
 
 module _ (cells : List Site) (cells_ok : AllOf SiteOk cells) (g : Ghost) (made_ok : AllOf (MadeOk g) g.made) (tried_ok : AllOf (TriedOk cells g) g.tried) where
   -- the text of an order reads as it
@@ -67,4 +67,4 @@ module _ (cells : List Site) (cells_ok : AllOf SiteOk cells) (g : Ghost) (made_o
       let is_station = there.0 in
       let is_air = there.1 in
       reads_as (SaysOk g id t) (Reconfiguration order.cell order.ncc order.algs order.station order.air)
-      (is_cell, omega arith, omega arith, (omega arith, omega arith)) h
+      (is_cell, (omega arith, (omega arith, (omega arith, omega arith)))) h
