@@ -7,7 +7,6 @@ test wants both as they are made here.
 """
 from __future__ import annotations
 
-import dataclasses
 import itertools
 import json
 import pathlib
@@ -20,6 +19,7 @@ sys.path.insert(0, str(TOP / "python"))
 import schema  # noqa: E402
 import shells  # noqa: E402
 from lte_sec.common import tables  # noqa: E402
+from lte_sec.common.options import Row, rows  # noqa: E402
 from lte_sec.whatif import healing  # noqa: E402
 
 MAN, COMPLETIONS = TOP / "share/man/man1/lte_sec.1", TOP / "share/bash-completion/completions/lte_sec"
@@ -43,37 +43,14 @@ VALUES = {
 TAKES = {"FILE": "file", "SCENARIO": "file", "CAPTURE": "file", "FOLDER": "folder", "CMD": "command"}
 
 
-@dataclasses.dataclass
-class Word:
-    """A word of the launcher, and its options and fixed arguments with what each does."""
-
-    name: str
-    behind: str
-    example: str
-    does: str
-    below: list[tuple[str, str]]
-
-    def offered(self) -> str:
-        return " ".join(name.split(" ")[0] for name, _ in self.below)
-
-
-def words() -> list[Word]:
-    found: list[Word] = []
-    for line in (HERE / "words").read_text().splitlines():
-        cells = [cell.strip() for cell in line.split("|")]
-        if line.startswith(" "):
-            name, does = cells
-            found[-1].below.append((name, does))
-        elif not line.startswith("#"):
-            name, behind, example, does = cells
-            found.append(Word(name, behind, example, does, []))
-    return found
+def offered(word: Row) -> str:
+    return " ".join(name.split(" ")[0] for name, _ in word.below)
 
 
 def programs() -> dict[str, list[str]]:
     """The programs, and the words that each answers."""
-    lines = [line.split(" | ") for line in (HERE / "programs").read_text().splitlines() if not line.startswith("#")]
-    return {name: answered.split() for name, answered in lines}
+    names = [line for line in (HERE / "programs").read_text().splitlines() if not line.startswith("#")]
+    return {name: [word.name for word in rows() if word.by.split(" ")[0] == name] for name in names}
 
 
 def takes(behind: str) -> str:
@@ -104,7 +81,7 @@ def named(name: str, behind: str) -> str:
     return f"\\fB{plain(name)}\\fR {fonted}".rstrip()
 
 
-def entry(word: Word) -> list[str]:
+def entry(word: Row) -> list[str]:
     lines = [".TP", named(word.name, word.behind), sentence(word.does)]
     for name, does in word.below:
         option, _, argument = name.partition(" ")
@@ -120,7 +97,7 @@ def statuses() -> list[str]:
 
 
 def man() -> str:
-    all_words = words()
+    all_words = rows()
     lines = [
         '.\\" Made by launcher/pages.py of the table launcher/words.',
         f'.TH LTE_SEC 1 "" "lte_sec {(TOP / "VERSION").read_text().strip()}" "User Commands"',
@@ -178,9 +155,9 @@ def cases(rows: dict[str, str]) -> list[str]:
 
 
 def completions() -> str:
-    all_words = words()
+    all_words = rows()
     behind = {
-        f"1{word.name}": f"offered='{word.offered()}' takes='{takes(word.behind)}'"
+        f"1{word.name}": f"offered='{offered(word)}' takes='{takes(word.behind)}'"
         for word in all_words
         if word.below or takes(word.behind)
     }
@@ -248,7 +225,7 @@ def what_if() -> str:
 
 def made() -> dict[pathlib.Path, str]:
     """The files, and what stands in each."""
-    of_shells = {ZSH: shells.zsh(words(), takes, values), FISH: shells.fish(words(), takes, values)}
+    of_shells = {ZSH: shells.zsh(rows(), takes, values), FISH: shells.fish(rows(), takes, values)}
     return {
         MAN: man(),
         COMPLETIONS: completions(),

@@ -2,20 +2,10 @@
 from __future__ import annotations
 
 from collections.abc import Callable, Iterator, Sequence
-from typing import Protocol
+
+from lte_sec.common.options import Row
 
 MADE = "made by launcher/pages.py of the table launcher/words."
-
-
-class Word(Protocol):
-    """A word of the table, as `pages` has it."""
-
-    name: str
-    behind: str
-    does: str
-    below: list[tuple[str, str]]
-
-
 Takes = Callable[[str], str]  # what is completed where this stands: file, folder, command or nothing
 Values = Callable[[str, str], list[str]]  # what may stand behind an option of a word
 
@@ -32,7 +22,7 @@ def short(text: str) -> str:
 # fish
 
 
-def fish(words: Sequence[Word], takes: Takes, values: Values) -> str:
+def fish(words: Sequence[Row], takes: Takes, values: Values) -> str:
     lines = [f"# Completions of lte_sec for fish, {MADE}", "complete -c lte_sec -f"]
     for word in words:
         option = word.name.startswith("--")
@@ -74,7 +64,7 @@ def fish_option(name: str, word: str, takes: Takes, values: Values) -> str:
 # zsh
 
 
-def zsh(words: Sequence[Word], takes: Takes, values: Values) -> str:
+def zsh(words: Sequence[Row], takes: Takes, values: Values) -> str:
     lines = ["#compdef lte_sec", f"# Completions of lte_sec for zsh, {MADE}", "local -a known", "known=("]
     lines += [f"    {quoted(word.name.replace(':', chr(92) + ':') + ':' + short(word.does))}" for word in words]
     lines += [
@@ -94,7 +84,7 @@ def zsh(words: Sequence[Word], takes: Takes, values: Values) -> str:
     return "\n".join([*lines, "esac"]) + "\n"
 
 
-def zsh_specs(word: Word, takes: Takes, values: Values) -> Iterator[str]:
+def zsh_specs(word: Row, takes: Takes, values: Values) -> Iterator[str]:
     """What `_arguments` is told of a word: its options, and what stands where none does."""
     fixed = [name.split(" ")[0] for name, _ in word.below if not name.startswith("--")]
     for name, does in word.below:

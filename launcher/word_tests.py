@@ -13,13 +13,12 @@ import unittest
 sys.dont_write_bytecode = True
 from launches import EXAMPLES, HERE, TOP, launched  # noqa: E402
 import pages  # noqa: E402
-from lte_sec.traces import trace_words  # noqa: E402
 
 
 class Installed(unittest.TestCase):
     """The man page and the completions, which are made of the table of words."""
 
-    WORDS = pages.words()
+    WORDS = pages.rows()
 
     def completed(self, *given: str) -> list[str]:
         """What bash offers for the last of these words."""
@@ -57,17 +56,15 @@ class Installed(unittest.TestCase):
                 self.assertIn(offered, [line.split("\t")[0] for line in ran.stdout.splitlines()], given)
 
     def test_each_word_that_is_answered_is_in_the_table(self) -> None:
-        answered = re.findall(r"^does_(\w+)\(\)", (HERE / "answers").read_text(), re.MULTILINE)
+        texts = "".join((HERE / file).read_text() for file in ("answers", "program_words", "python_words"))
+        answered = set(re.findall(r"^does_(\w+)\(\)", texts, re.MULTILINE)) - {"row"}
         own = set(re.findall(r"(?<=[ |])--[a-z]+(?= \||\))", (HERE / "answers").read_text().split("\nword=", 1)[1])) - {
             "--explain"
         }
-        self.assertEqual(
-            ({name.replace("_", "-") for name in answered}, own),
-            (
-                {word.name for word in self.WORDS if not word.name.startswith("-")},
-                {word.name for word in self.WORDS if word.name.startswith("-")},
-            ),
-        )
+        named = {word.name for word in self.WORDS if not word.name.startswith("-")}
+        by_row = {word.name for word in self.WORDS if word.by}
+        self.assertEqual(named, by_row | {name.replace("_", "-") for name in answered})
+        self.assertEqual({word.name for word in self.WORDS if word.name.startswith("-")}, own)
 
     def test_each_word_with_json_says_by_it_why_it_fails(self) -> None:
         for word in [word.name for word in self.WORDS if any(name == "--json" for name, _ in word.below)]:
@@ -76,11 +73,6 @@ class Installed(unittest.TestCase):
             self.assertEqual({"error", "status"}, told.keys(), word)
             self.assertEqual(ran.returncode, told["status"], word)
             self.assertIn(told["error"].split("no ")[0], ran.stderr.decode(), word)
-
-    def test_each_option_that_is_taken_is_in_the_table(self) -> None:
-        of = {word.name: {name.split()[0] for name, _ in word.below if name.startswith("--")} for word in self.WORDS}
-        for name, usage in trace_words.USAGE.items():
-            self.assertEqual(set(re.findall(r"--[a-z-]+", usage)), of[name], name)
 
     def test_each_option_of_the_table_is_asked_for(self) -> None:
         for name, files in (

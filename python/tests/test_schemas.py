@@ -4,6 +4,7 @@ from __future__ import annotations
 import contextlib
 import io
 import json
+import shlex
 import subprocess
 import sys
 import unittest
@@ -13,6 +14,7 @@ from pathlib import Path
 from typing import Any
 from unittest import mock
 
+from lte_sec.common.options import options_of, rows
 from lte_sec.drive import differences, drive_word as drive
 from lte_sec.runs import demands, documents as documents_module, kenb_changes, verdict
 from lte_sec.traces import wireshark, trace_words as words
@@ -38,7 +40,9 @@ def is_built() -> bool:
 def launched(*given: object) -> Any:
     """The document that a call of the launcher prints."""
     return json.loads(
-        subprocess.run([TOP / "lte_sec", *map(str, given)], capture_output=True, stdin=subprocess.DEVNULL).stdout
+        subprocess.run(
+            [TOP / "lte_sec", *map(str, given)], capture_output=True, stdin=subprocess.DEVNULL, cwd=TOP
+        ).stdout
     )
 
 
@@ -96,8 +100,12 @@ def by_outputs() -> Iterator[tuple[str, Any]]:
 
 
 def by_the_program() -> Iterator[tuple[str, Any]]:
-    yield "drive", launched("drive", "--json", EXAMPLES / "run/ordinary.toml")
-    for name in ("run/ordinary", "run/eight-ahead", "run/coincidence", "run/two-preparations", "run/key-change"):
+    """Documents of the launcher: of each word of its table that has --json, by its example there, and of further calls."""
+    for row in rows():
+        if "--json" in options_of(row.name):
+            _, *given = shlex.split(row.example)
+            yield row.name, launched(row.name, "--json", *given)
+    for name in ("run/eight-ahead", "run/coincidence", "run/two-preparations", "run/key-change"):
         yield "run", launched("run", "--json", EXAMPLES / f"{name}.toml")
     yield "what-if", launched("what-if", "--json", "--kinds", "late", EXAMPLES / "run/ordinary.toml")
     yield "what-if", launched(
@@ -106,31 +114,11 @@ def by_the_program() -> Iterator[tuple[str, Any]]:
     yield "what-if", launched(
         "what-if", "--json", "--faults", "2", "--part", "1/2", EXAMPLES / "run/smc-complete-lost.toml"
     )
-    for name in ("A", "B2-nh-twice"):
-        yield "replay", launched(
-            "replay", "--json", "--cells", TRACES / f"{name}.cells.txt", TRACES / f"{name}.json.gz", KASME
-        )
-    yield "check-trace", launched(
-        "check-trace", "--json", "--cells", TRACES / "A.cells.txt", TRACES / "A.json.gz", KASME
-    )
+    twice = TRACES / "B2-nh-twice"
+    yield "replay", launched("replay", "--json", "--cells", f"{twice}.cells.txt", f"{twice}.json.gz", KASME)
     yield "explain", launched("explain", "--json", "--keys", EXAMPLES / "run/ordinary.out", "--cell", "10,100", KASME)
-    yield "explain", launched(
-        "explain",
-        "--json",
-        "--keys",
-        TOP / "docs/cookbook/handover.log",
-        "6f1d9a0c55e2473bb8a4c07e12f3d96a80bc4e7719d2053fe6a1b8c4d7720e95",
-    )
-    for word, file in (
-        ("fleet", "fleet/two-phones.toml"),
-        ("two", "two/relocation.toml"),
-        ("audit", "run/ordinary.toml"),
-        ("ladder", "ladder/first.txt"),
-        ("calc", "calc/pdus.txt"),
-    ):
-        yield word, launched(word, "--json", EXAMPLES / file)
+    yield "calc", launched("calc", "--json", EXAMPLES / "calc/pdus.txt")
     yield "audit", launched("audit", "--json", "--frames", EXAMPLES / "run/ordinary.toml")
-    yield "wireshark", launched("wireshark", "--json", TRACES / "A.json.gz", KASME)
     yield "vectors", launched("vectors", "--count", "100")
     yield "drive-suite", launched("drive", "--suite", "--json", "--scenario", "air-01", "--phone", "false")
     for given in (

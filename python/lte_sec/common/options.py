@@ -1,10 +1,10 @@
-"""The words of a call: its options, as the launcher's table of words has them, and the others.
+"""The launcher's table of words, and the words of a call: its options, as the table has them, and the others.
 
 A wheel, which has no launcher, has a copy of the table beside this module.
 """
 from __future__ import annotations
 
-from dataclasses import dataclass
+from dataclasses import dataclass, field
 from pathlib import Path
 from typing import ClassVar, TypeVar
 
@@ -19,16 +19,37 @@ class WrongWords(TraceError):
     """What is wrong with the words of a call."""
 
 
+@dataclass
+class Row:
+    """A word of the launcher: what follows it, an example, what it does, who answers it, a program or a module with its
+    first words, and whether the wheel has it; and its options and fixed arguments with what each does."""
+
+    name: str
+    behind: str
+    example: str
+    does: str
+    by: str = ""
+    wheel: str = ""
+    below: list[tuple[str, str]] = field(default_factory=list)
+
+
+def rows() -> list[Row]:
+    """The table."""
+    found: list[Row] = []
+    for line in (COPY if COPY.exists() else TABLE).read_text(encoding="utf-8").splitlines():
+        cells = [cell.strip() for cell in line.split("|")]
+        if line.startswith(" "):
+            found[-1].below.append((cells[0], cells[1]))
+        elif not line.startswith("#"):
+            found.append(Row(*cells))
+    return found
+
+
 def options_of(word: str) -> dict[str, bool]:
     """The options of a word, and whether each takes a value. What `FILE..` stands for are the other words."""
-    table: dict[str, dict[str, bool]] = {}
-    for line in (COPY if COPY.exists() else TABLE).read_text(encoding="utf-8").splitlines():
-        name, _, value = line.partition("|")[0].strip().partition(" ")
-        if not line.startswith(" "):
-            own = table.setdefault(name, {})
-        elif name.startswith("--"):
-            own[name] = value != "" and not value.endswith("..")
-    return table[word]
+    (row,) = (row for row in rows() if row.name == word)
+    named = (name.partition(" ") for name, _ in row.below if name.startswith("--"))
+    return {name: value != "" and not value.endswith("..") for name, _, value in named}
 
 
 @dataclass

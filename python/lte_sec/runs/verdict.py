@@ -12,7 +12,7 @@ import json
 import sys
 
 from ..common.inputs import MOST_MADE, of_file, of_input
-from ..common.options import Words
+from ..common.options import Words, WrongWords
 from ..common.terms import TraceError
 from .kenb_changes import NOT_MADE, KenbChange, NoReport, Outcome, Report, connected, items, read
 from .remarks import frames_of, with_frames
@@ -142,10 +142,12 @@ def main(words: list[str]) -> int:
     report is of what the standard has otherwise."""
     given = Words.read("verdict", words)
     file = given.last("--scenario")
+    if len(given.files) > 1:
+        raise WrongWords("verdict takes one FILE")
     try:
         text = of_file(file, "the scenario").decode(errors="replace") if file else ""
         scenario = read_scenario(text.encode()) if file else None
-        report = text_of(of_input(MOST_MADE))
+        report = text_of(of_file(given.files[0], most=MOST_MADE) if given.files else of_input(MOST_MADE))
         remarks = remarks_of(scenario, report) if scenario else []
         verdict = dataclasses.replace(judged(report), frames=frames_of(text), remarks=remarks)
     except NoScenario as fault:

@@ -23,23 +23,6 @@ if TYPE_CHECKING:
     from ..judge.reading import Said
     from ..judge.trace import Trace
 
-USAGE = {
-    "check-trace": (
-        "check-trace [--plain] [--json] [--annotate FILE] [--html FILE] [--html-keys no] [--cells FILE] "
-        "[--covers LINK].. [--not-covered LINK].. [--dlt NUMBER=PROTOCOL].. CAPTURE.. KASME..   judges each "
-        "KeNB, KeNB* and NH, and each NAS message, of a capture"
-    ),
-    "explain": (
-        "explain [--cells FILE] [--cell PCI,EARFCN].. [--counts N] [--depth N] [--keys FILE] [--far] [--json] "
-        "KASME..   says which derivation each key of a text is"
-    ),
-    "wireshark": (
-        "wireshark [--json] [--cells FILE] [--dlt NUMBER=PROTOCOL].. CAPTURE.. KASME..   prints the PDCP keys of "
-        "a capture as Wireshark's table"
-    ),
-    "vectors": "vectors [--wycheproof KIND] [--seed N] [--count N]   prints test vectors",
-    "repeats": "repeats [--json] [FILE]   tells the first key, bearer, direction and COUNT that come twice",
-}
 BAD_WORDS, NOT_JUDGED = 2, 3
 MOST_NOTED = 5  # frames that are named
 # objects between two rounds of the collector: nothing here goes in circles, and it would look at all messages again and
@@ -277,7 +260,7 @@ COMMANDS: dict[str, Callable[[list[str]], int]] = {
 
 def main(words: list[str]) -> int:
     if not words or words[0] not in COMMANDS:
-        print("lte_sec: the words are:", *USAGE.values(), sep="\n    ", file=sys.stderr)
+        print("lte_sec: the words are:", *COMMANDS, file=sys.stderr)
         return BAD_WORDS
     gc.set_threshold(RARELY)
     try:

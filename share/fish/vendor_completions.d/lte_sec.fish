@@ -129,11 +129,11 @@ complete -c lte_sec -n '__fish_seen_subcommand_from vectors' -l wycheproof -r -d
 complete -c lte_sec -n '__fish_seen_subcommand_from demands' -l json -d 'prints one document in place of the lines'
 complete -c lte_sec -n '__fish_seen_subcommand_from repeats' -F
 complete -c lte_sec -n '__fish_seen_subcommand_from repeats' -l json -d 'prints one document in place of the line'
-complete -c lte_sec -n '__fish_seen_subcommand_from --proved' -a lte_sec_app -d 'asks for the program of all words but calc'
+complete -c lte_sec -n '__fish_seen_subcommand_from --proved' -a lte_sec_app -d 'asks for the program of run, drive, fleet, two, audit, ladder, gen and serve'
 complete -c lte_sec -n '__fish_seen_subcommand_from --proved' -a lte_calc -d 'asks for the program of calc'
 complete -c lte_sec -n '__fish_seen_subcommand_from --proved' -a lte_variants -d 'asks for the program of what-if'
 complete -c lte_sec -n '__fish_seen_subcommand_from --proved' -a lte_trace -d 'asks for the program of lawful'
-complete -c lte_sec -n '__fish_seen_subcommand_from --program' -a lte_sec_app -d 'asks for the program of all words but calc'
+complete -c lte_sec -n '__fish_seen_subcommand_from --program' -a lte_sec_app -d 'asks for the program of run, drive, fleet, two, audit, ladder, gen and serve'
 complete -c lte_sec -n '__fish_seen_subcommand_from --program' -a lte_calc -d 'asks for the program of calc'
 complete -c lte_sec -n '__fish_seen_subcommand_from --program' -a lte_variants -d 'asks for the program of what-if'
 complete -c lte_sec -n '__fish_seen_subcommand_from --program' -a lte_trace -d 'asks for the program of lawful'
