@@ -2,6 +2,7 @@
 """The tables of records, answers and outcomes on pages, made of what the program `lte_tables` writes and of what the
 definitions say of themselves, and the numbers of edits and of rows of the suite that pages tell: python3 docs/tabled.py
 writes them. docs/check compares."""
+import ast
 import pathlib
 import re
 import sys
@@ -31,6 +32,9 @@ OTHERWISE = {
 
 def row(*cells: str) -> str:
     return f"| {' | '.join(cells)} |".replace("|  |", "| |")
+
+
+LIMITS = f"{row('outcome', 'mark', 'a product')}\n"
 
 
 def records(of: str, behind: str = "") -> Iterator[str]:
@@ -188,6 +192,21 @@ def made() -> dict[pathlib.Path, str]:
     return pages
 
 
+def marks() -> Iterator[str]:
+    """Complaints about marks of limits on the page of what-if with which no outcome is told."""
+    told = {
+        node.value
+        for file in (TOP / "python/lte_sec/whatif").glob("*.py")
+        for node in ast.walk(ast.parse(file.read_text()))
+        if isinstance(node, ast.Constant)
+    }
+    rows = WHATIF.read_text().partition(LIMITS)[2].partition("\n\n")[0].splitlines()[1:]
+    named = [cells.split(" | ")[1] for cells in rows]
+    yield from (f"docs/WHATIF.md: what-if tells no outcome with the mark: {mark}" for mark in named if mark not in told)
+    if not named:
+        yield f"docs/WHATIF.md lacks the table {LIMITS.strip()}"
+
+
 def faults() -> Iterator[str]:
     """Complaints about pages that are made otherwise, or that lack what is made."""
     for page, text in made().items():
@@ -198,6 +217,7 @@ def faults() -> Iterator[str]:
     for page, sentence, numbers in many():
         if with_numbers(page.read_text(), sentence, [10**9] * len(numbers)) == page.read_text():
             yield f"{page.relative_to(TOP)} does not say: {sentence}"
+    yield from marks()
 
 
 if __name__ == "__main__":

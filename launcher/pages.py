@@ -19,7 +19,7 @@ sys.path.insert(0, str(TOP / "python"))
 import schema  # noqa: E402
 import shells  # noqa: E402
 from lte_sec.common import tables  # noqa: E402
-from lte_sec.common.options import Row, rows  # noqa: E402
+from lte_sec.common.options import Row, rows as rows  # noqa: E402
 from lte_sec.whatif import healing  # noqa: E402
 
 MAN, COMPLETIONS = TOP / "share/man/man1/lte_sec.1", TOP / "share/bash-completion/completions/lte_sec"

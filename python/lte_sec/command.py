@@ -1,5 +1,5 @@
-"""The command `lte-sec` that the wheel installs: the launcher's words that need none of the programs and nothing else of
-the repository, those of its table with `wheel`."""
+"""The command `lte-sec` that the wheel installs: the launcher's words that need none of the programs, those with
+`wheel` in its table."""
 from __future__ import annotations
 
 import importlib

@@ -100,11 +100,11 @@ def by_outputs() -> Iterator[tuple[str, Any]]:
 
 
 def by_the_program() -> Iterator[tuple[str, Any]]:
-    """Documents of the launcher: of each word of its table that has --json, by its example there, and of further calls."""
+    """Documents of the launcher: of each word of its table that has --json, by its example, and of further calls."""
     for row in rows():
         if "--json" in options_of(row.name):
-            _, *given = shlex.split(row.example)
-            yield row.name, launched(row.name, "--json", *given)
+            _, *rest = shlex.split(row.example)
+            yield row.name, launched(row.name, "--json", *rest)
     for name in ("run/eight-ahead", "run/coincidence", "run/two-preparations", "run/key-change"):
         yield "run", launched("run", "--json", EXAMPLES / f"{name}.toml")
     yield "what-if", launched("what-if", "--json", "--kinds", "late", EXAMPLES / "run/ordinary.toml")

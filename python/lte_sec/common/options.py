@@ -30,7 +30,7 @@ class Row:
     does: str
     by: str = ""
     wheel: str = ""
-    below: list[tuple[str, str]] = field(default_factory=list)
+    below: list[tuple[str, str]] = field(default_factory=list, init=False)
 
 
 def rows() -> list[Row]:
