@@ -6,13 +6,13 @@ use Rattle.edge_io.proofs.Ending.{feed, is_lines, lines_both, on}
 use Rattle.trace_rules.specs.Told.{Told}
 use Rattle.trace_keys.specs.declared.moves.Move.{Move}
 use Rattle.lte_trace.specs.Moves.{seen_word, move_text, told_text, moves_text}
-use Rattle.lte_trace.specs.{declared.answer.Ends.Ends, declared.answer.Never.Never, Answer.IsAnswer, Answer.explained_text, Answer.bad_text, Answer.closed_word, Answer.order_word, Answer.place_word, Answer.reach_word, Answer.chain_word}
+use Rattle.lte_trace.specs.{declared.answer.Ends.Ends, declared.answer.Never.Never, Answer.IsAnswer, Answer.explained_text, Answer.bad_text, Answer.word_if}
 use Rattle.lte_trace.specs.declared.answer.Ends.TheVariants.{Explained, Refused, TooMany}
 
 explained_ends : (n all : ℕ) (closed : Bool) (never : Never) → EndsLine (explained_text n all closed never)
 unfolding explained_text
 explained_ends n all closed never =
-    on (codes "explained ") _ (on (decimal n) _ (on (codes " of ") _ (on (decimal all) _ (on (closed_word closed) _ (on (order_word never.unordered) _ (on (place_word never.misplaced) _ (on (reach_word never.beyond) _ (on (chain_word never.foreign) _ feed))))))))
+    on (codes "explained ") _ (on (decimal n) _ (on (codes " of ") _ (on (decimal all) _ (on (word_if closed _) _ (on (word_if never.unordered _) _ (on (word_if never.misplaced _) _ (on (word_if never.beyond _) _ (on (word_if never.foreign _) _ feed))))))))
 
 bad_ends : (line : ℕ) → EndsLine (bad_text line)
 unfolding bad_text

@@ -48,36 +48,23 @@ abbrev pub TellsIf : Bool → Question → ℕ → List (Told Move) → Type 0
 TellsIf true q n told = IsWitness q n told
 TellsIf false q n told = told ≡ []
 
+-- a word that is told only if something is so
+abbrev pub word_if : Bool → List ℕ → List ℕ
+word_if true word = word
+word_if false word = []
+
+-- the words of what is so, one behind the other
+abbrev pub words_of : Bool → Never → List ℕ → List ℕ
+words_of closed never rest =
+    word_if closed (codes " closed")
+    ++ (word_if never.unordered (codes " out-of-order")
+    ++ (word_if never.misplaced (codes " out-of-place")
+    ++ (word_if never.beyond (codes " out-of-reach") ++ (word_if never.foreign (codes " out-of-chain") ++ rest))))
+
 -- the line that tells how far a question is explained
-abbrev pub closed_word : Bool → List ℕ
-closed_word true = codes " closed"
-closed_word false = []
-
-abbrev pub order_word : Bool → List ℕ
-order_word true = codes " out-of-order"
-order_word false = []
-
-abbrev pub place_word : Bool → List ℕ
-place_word true = codes " out-of-place"
-place_word false = []
-
-abbrev pub reach_word : Bool → List ℕ
-reach_word true = codes " out-of-reach"
-reach_word false = []
-
-abbrev pub chain_word : Bool → List ℕ
-chain_word true = codes " out-of-chain"
-chain_word false = []
-
 unfoldable pub explained_text : ℕ → ℕ → Bool → Never → List ℕ
 explained_text n all closed never =
-    codes "explained "
-    ++ (decimal n
-    ++ (codes " of "
-    ++ (decimal all
-    ++ (closed_word closed
-    ++ (order_word never.unordered
-    ++ (place_word never.misplaced ++ (reach_word never.beyond ++ (chain_word never.foreign ++ codes "\n"))))))))
+    codes "explained " ++ (decimal n ++ (codes " of " ++ (decimal all ++ words_of closed never (codes "\n"))))
 
 -- the line of a text that is no question
 unfoldable pub bad_text : ℕ → List ℕ

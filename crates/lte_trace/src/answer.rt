@@ -2,7 +2,7 @@
 ghost use Rattle.std.specs.Prelude.{◌≡◌, ◌++◌, ◌≤◌, true, length, Ok, Err, IfOk, OnErr};
 ghost use Rattle.std.specs.String.{string_bytes};
 ghost use Rattle.growth.specs.Growth.{WasRefused};
-ghost use Rattle.lte_trace.specs.Answer.{Finds, HasHistory, IsAnswer, IsFound, IsTooLarge, IsWitness, TellsIf, explained_text, bad_text, closed_word, order_word, place_word, reach_word, chain_word, IsNeverMore};
+ghost use Rattle.lte_trace.specs.Answer.{Finds, HasHistory, IsAnswer, IsFound, IsTooLarge, IsWitness, TellsIf, IsNeverMore, explained_text, bad_text, word_if};
 ghost use Rattle.lte_trace.specs.Moves.{moves_text};
 ghost use Rattle.trace_text.specs.Question.{nothing};
 ghost use Rattle.trace_text.specs.Text.{reading_of};
@@ -85,12 +85,7 @@ fn found(alloc: Global, question: &Question) -> Result<Vec<u8>, Unsearched>
 {
     let found = search(alloc, question)?;
     let told = told(alloc, question, found.count)?;
-    let never = Never {
-        unordered: unordered(alloc, question, found.count)?,
-        misplaced: misplaced(alloc, question, found.count)?,
-        beyond: beyond(alloc, question, found.count)?,
-        foreign: foreign(alloc, question, found.count)?,
-    };
+    let never = known(alloc, question, found.count)?;
     let all = question.capture().len();
     let text = lines(alloc, found, never, all, told.as_slice())?;
     Ok(text)
@@ -141,83 +136,35 @@ pub struct Never {
     pub foreign: bool,
 }
 
-// Whether it is known by the NHs of their connection.
-fn unordered(alloc: Global, question: &Question, count: usize) -> Result<bool, AllocError>
+// Which of them are known of the sighting behind so many.
+fn known(alloc: Global, question: &Question, count: usize) -> Result<Never, AllocError>
     requires { count ≤ length question.now.capture }
-    ensures never { IfOk result (λ never. never ≡ true → IsNeverMore question.now count) }
+    ensures order { IfOk result (λ never. never.unordered ≡ true → IsNeverMore question.now count) }
+    ensures place { IfOk result (λ never. never.misplaced ≡ true → IsNeverMore question.now count) }
+    ensures reach { IfOk result (λ never. never.beyond ≡ true → IsNeverMore question.now count) }
+    ensures chain { IfOk result (λ never. never.foreign ≡ true → IsNeverMore question.now count) }
     ensures refused { OnErr result WasRefused }
 {
     let Some(sight) = question.capture().get(count) else {
-        return Ok(false);
+        return Ok(Never {
+            unordered: false,
+            misplaced: false,
+            beyond: false,
+            foreign: false,
+        });
     };
-    let family = moves_of(alloc, question)?;
-    let shown = &question.capture()[..count];
-    Ok(is_never(
-        question.kasmes(),
-        question.covered(),
-        family.as_slice(),
-        shown,
-        sight,
-    ))
-}
-
-// Whether it is known by the key of that sighting alone.
-fn misplaced(alloc: Global, question: &Question, count: usize) -> Result<bool, AllocError>
-    requires { count ≤ length question.now.capture }
-    ensures never { IfOk result (λ never. never ≡ true → IsNeverMore question.now count) }
-    ensures refused { OnErr result WasRefused }
-{
-    let Some(sight) = question.capture().get(count) else {
-        return Ok(false);
-    };
-    let family = moves_of(alloc, question)?;
-    Ok(is_misplaced(
-        question.kasmes(),
-        family.as_slice(),
-        question.clues(),
-        sight,
-    ))
-}
-
-// Whether it is known by the steps of the core.
-fn beyond(alloc: Global, question: &Question, count: usize) -> Result<bool, AllocError>
-    requires { count ≤ length question.now.capture }
-    ensures never { IfOk result (λ never. never ≡ true → IsNeverMore question.now count) }
-    ensures refused { OnErr result WasRefused }
-{
-    let Some(sight) = question.capture().get(count) else {
-        return Ok(false);
-    };
-    let family = moves_of(alloc, question)?;
+    let moves = moves_of(alloc, question)?;
+    let family = moves.as_slice();
     let before = &question.capture()[..count];
-    Ok(is_beyond(
-        question.kasmes(),
-        question.covered(),
-        family.as_slice(),
-        before,
-        sight,
-    ))
-}
-
-// Whether it is known by the KeNB of its connection.
-fn foreign(alloc: Global, question: &Question, count: usize) -> Result<bool, AllocError>
-    requires { count ≤ length question.now.capture }
-    ensures never { IfOk result (λ never. never ≡ true → IsNeverMore question.now count) }
-    ensures refused { OnErr result WasRefused }
-{
-    let Some(sight) = question.capture().get(count) else {
-        return Ok(false);
-    };
-    let family = moves_of(alloc, question)?;
-    let before = &question.capture()[..count];
-    Ok(is_foreign(
-        question.kasmes(),
-        question.covered(),
-        family.as_slice(),
-        question.clues(),
-        before,
-        sight,
-    ))
+    let kasmes = question.kasmes();
+    let covered = question.covered();
+    let clues = question.clues();
+    Ok(Never {
+        unordered: is_never(kasmes, covered, family, before, sight),
+        misplaced: is_misplaced(kasmes, family, clues, sight),
+        beyond: is_beyond(kasmes, covered, family, before, sight),
+        foreign: is_foreign(kasmes, covered, family, clues, before, sight),
+    })
 }
 
 // How far a question is explained.
@@ -250,11 +197,11 @@ fn explained_line(
     ensures refused { OnErr result WasRefused }
 {
     let count = found.count;
-    let closed = closed_word(found.closed);
-    let order = order_word(never.unordered);
-    let place = place_word(never.misplaced);
-    let reach = reach_word(never.beyond);
-    let chain = chain_word(never.foreign);
+    let closed = word_if(found.closed, " closed");
+    let order = word_if(never.unordered, " out-of-order");
+    let place = word_if(never.misplaced, " out-of-place");
+    let reach = word_if(never.beyond, " out-of-reach");
+    let chain = word_if(never.foreign, " out-of-chain");
     growth::format(
         alloc,
         format_args!("explained {count} of {all}{closed}{order}{place}{reach}{chain}\n"),
@@ -278,34 +225,11 @@ fn lines(
     Ok(text)
 }
 
-fn closed_word(closed: bool) -> &'static str
-    ensures { result.now ≡ closed_word closed }
+// A word, if that is so which it tells.
+fn word_if(is: bool, word: &'static str) -> &'static str
+    ensures { result.now ≡ word_if is word.now }
 {
-    if closed { " closed" } else { "" }
-}
-
-fn order_word(unordered: bool) -> &'static str
-    ensures { result.now ≡ order_word unordered }
-{
-    if unordered { " out-of-order" } else { "" }
-}
-
-fn place_word(misplaced: bool) -> &'static str
-    ensures { result.now ≡ place_word misplaced }
-{
-    if misplaced { " out-of-place" } else { "" }
-}
-
-fn reach_word(beyond: bool) -> &'static str
-    ensures { result.now ≡ reach_word beyond }
-{
-    if beyond { " out-of-reach" } else { "" }
-}
-
-fn chain_word(foreign: bool) -> &'static str
-    ensures { result.now ≡ chain_word foreign }
-{
-    if foreign { " out-of-chain" } else { "" }
+    if is { word } else { "" }
 }
 
 // The line of a text that is no question.

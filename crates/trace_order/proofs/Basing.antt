@@ -6,14 +6,15 @@ use Rattle.key_model.specs.{Term.Term, Term.Kenb, Term.Nh, Term.Star, Reading.te
 use Rattle.nh_chain.specs.Station.{opened, base_of, pair_after, restored_if}
 use Rattle.trace_rules.specs.Rules.{Done}
 use Rattle.trace_keys.specs.declared.{moves.Where.Where, moves.Move.Move, moves.Unanswered.Unanswered}
-use Rattle.trace_keys.specs.declared.moves.Where.TheVariants.{Setup, Change, Took, Answer, Asked, Request, Over}
+use Rattle.trace_keys.specs.declared.moves.Where.TheVariants.{Setup, Took, Answer, Request, Over}
 use Rattle.trace_keys.specs.declared.moves.Unanswered.TheVariants.{Refused, Lost, Given}
 use Rattle.trace_keys.specs.declared.moves.Move.TheVariants.{Renew, Offer, Take, Switch, Ask, Prepare, Require, Arrive, Cancel, Refresh, Leave}
 use Rattle.trace_keys.specs.Net.{Target, Offer as OfferOf, Serving, Net, Sight}
 use Rattle.nas_count.specs.Estimate.{nas_count_limit}
-use Rattle.trace_keys.specs.Moved.{is_fresh, chain_of, target_of, renewed, begins, offered, offers, took, taken_on, unanswered, may_come, prepared, required, arrived, cancelled, refreshed, moved_in, if_connected, moved}
+use Rattle.trace_keys.specs.Moved.{is_fresh, chain_of, target_of, renewed, begins, offered, offers, took, taken_on, unanswered, may_come, prepared, required, arrived, cancelled, refreshed, moved_in, moved}
 use Rattle.trace_order.specs.Order.{IsTapped, BeginsSeen}
 use Rattle.trace_order.specs.Base.{kenb_of}
+use Rattle.trace_order.proofs.Walking.{KeptAt, LeftBy, Leaves, leaves_if, leaves}
 
 -- a key is made of this KeNB, if it is known
 abbrev pub OfKenb : Option Term → Term → Type 0
@@ -74,17 +75,7 @@ module _ (covers : Sight (List ℕ) → Bool) where
   target_of_any kenb None t = tt
   target_of_any kenb (Some target) t = (tt, pair_of_any target.spent, t.2)
 
-  -- behind a message at this place
-  abbrev pub MadeAfter : Option Term → Where → Option (Serving Term ℕ) → Type 0
-  MadeAfter kenb (Setup station) end = AllMade None end × IsTapped covers (Setup station)
-  MadeAfter kenb (Took station) end = AllMade None end × IsTapped covers (Took station)
-  MadeAfter kenb (Answer station) end = AllMade kenb end
-  MadeAfter kenb (Request station) end = AllMade kenb end
-  MadeAfter kenb (Change station) end = AllMade kenb end
-  MadeAfter kenb (Asked station) end = AllMade kenb end
-  MadeAfter kenb (Over source target) end = AllMade kenb end
-
-  -- and what it brings, if that is looked at
+  -- what a message brings, if that is looked at
   abbrev pub BringsOf : Option Term → Where → Option (NumberedKey Term ℕ) → Option (Serving Term ℕ) → Type 0
   BringsOf kenb (Setup station) (Some pair) end = AllMade (Some pair.key) end
   BringsOf kenb (Answer station) (Some pair) end = OfKenb kenb pair.key
@@ -93,18 +84,15 @@ module _ (covers : Sight (List ℕ) → Bool) where
   BringsOf kenb at pair end = Unit {0}
 
   abbrev pub MadeBy : Option Term → Option (Sight Term) → Option (Serving Term ℕ) → Type 0
-  MadeBy kenb None end = AllMade kenb end
-  MadeBy kenb (Some sight) end = MadeAfter kenb sight.at end × BringsOf kenb sight.at sight.pair end
+  MadeBy = LeftBy AllMade (KeptAt covers AllMade) BringsOf
 
   abbrev pub Makes : Option Term → Option (Done (Net Term ℕ) (Sight Term)) → Type 0
-  Makes kenb None = Unit {0}
-  Makes kenb (Some done) = MadeBy kenb done.sent done.net.serving
+  Makes = Leaves AllMade (KeptAt covers AllMade) BringsOf
 
   makes_if : (kenb : Option Term) (b : Bool) (done : Done (Net Term ℕ) (Sight Term))
       → MadeBy kenb done.sent done.net.serving
       → Makes kenb (if b then Some done else None)
-  makes_if kenb true done h = h
-  makes_if kenb false done h = tt
+  makes_if = leaves_if AllMade (KeptAt covers AllMade) BringsOf
 
   makes_renewed : (kenb root : Option Term) (net : Net Term ℕ) (kasme count station : ℕ) (cell : Place) (early taken : Bool)
       → IsTapped covers (Setup station) × IsTapped covers (Took station)
@@ -222,17 +210,9 @@ module _ (covers : Sight (List ℕ) → Bool) where
       (record { core = k.core; held = star_is kenb s cell k; pair = tt; target = tt; took = k.took })
   makes_in kenb kasmes net s Leave tap k = tt
 
-  makes_if_connected : (kenb : Option Term) (kasmes : List Term) (net : Net Term ℕ) (serving : Option (Serving Term ℕ)) (move : Move)
-      → BeginsSeen covers move
-      → AllMade kenb serving
-      → Makes kenb (if_connected term_reading kasmes net serving move)
-  makes_if_connected kenb kasmes net None move tap k = tt
-  makes_if_connected kenb kasmes net (Some s) move tap k = makes_in kenb kasmes net s move tap k
-
-  pub makes : (kenb : Option Term) (kasmes : List Term) (net : Net Term ℕ) (move : Move)
+  pub makes : (kasmes : List Term) (kenb : Option Term) (net : Net Term ℕ) (move : Move)
       → BeginsSeen covers move
       → AllMade kenb net.serving
       → Makes kenb (moved term_reading kasmes net move)
-  makes kenb kasmes net (Renew kasme count station cell early taken) tap k =
-      makes_renewed kenb (slice_get kasmes kasme) net kasme count station cell early taken tap
-  makes kenb kasmes net move tap k = makes_if_connected kenb kasmes net net.serving move tap k
+  makes kasmes kenb =
+      leaves AllMade (KeptAt covers AllMade) BringsOf (BeginsSeen covers) kasmes kenb (makes_renewed kenb) (makes_in kenb kasmes)

@@ -1,148 +1,62 @@
 -- Each key of a connection is made of its KeNB, along a history.
 use Rattle.std.proofs.Common.{◌≡◌, ◌≢◌, ℕ, zero, suc, Bool, true, false, Option, None, Some, List, [], ◌∷◌, ◌++◌, ◌⊎◌, inl, inr, refl, sym, ap, subst, ◌∙◌}
-use Rattle.std.specs.Prelude.{not, nat_eq, ◌&&◌, get_or}
+use Rattle.std.specs.Prelude.{nat_eq, ◌&&◌, get_or}
 use Rattle.std.proofs.lemmas.Bool.Decides.{Decides-eqb}
-use Rattle.key_model.specs.{Term.Term, Term.Root, Term.Kenb, Term.Nh, Term.same_term, Chain.nh, Chain.ncc_of, Value.value_of, Reading.term_reading, Reading.octet_reading, HandoverTable.NumberedKey}
-use Rattle.key_model.proofs.ReadingFacts.{values_carry}
-use Rattle.nh_chain.specs.Station.{map_pair}
-use Rattle.trace_rules.specs.{Rules.Done, Rules.is_unseen, Rules.AreIn, History.History, History.ends, History.unseen, History.shown}
+use Rattle.key_model.specs.{Term.Term, Term.Root, Term.Kenb, Term.Nh, Term.same_term, Chain.nh, Value.value_of, Reading.term_reading, HandoverTable.NumberedKey}
+use Rattle.trace_rules.specs.{Rules.AreIn, History.History}
 use Rattle.trace_keys.specs.declared.{moves.Where.Where, moves.Move.Move}
 use Rattle.trace_keys.specs.declared.moves.Where.TheVariants.{Setup, Change, Took, Answer, Asked, Request, Over}
-use Rattle.trace_keys.specs.{Net.Serving, Net.Net, Net.Sight, Moved.moved}
+use Rattle.trace_keys.specs.{Net.Serving, Net.Net, Net.Sight}
 use Rattle.trace_keys.proofs.OneNet.{clash}
-use Rattle.trace_terms.specs.Carried.{map_sight, map_sent, with_values, valued}
-use Rattle.trace_terms.proofs.Histories.{same_done, to_here}
+use Rattle.trace_terms.specs.Carried.{valued}
 use Rattle.trace_plain.specs.Sights.{fits, is_covered}
-use Rattle.trace_order.specs.Order.{IsSeenAs, IsExact, IsTapped, AllBeginsSeen, Coincidence}
+use Rattle.trace_order.specs.Order.{IsExact, AllBeginsSeen, Coincidence}
 use Rattle.trace_order.specs.Known.{term_of, all_seen, IsNever}
 use Rattle.trace_order.specs.Base.{kenb_of, MadeOf, BaseAt, AllMadeOf, kenb_by, last_kenb, made_at, IsOf, is_of, IsOutOfChain}
 use Rattle.trace_order.specs.declared.known.Known.{Known}
-use Rattle.trace_order.proofs.Basing.{OfKenb, AllMade, MadeAfter, BringsOf, MadeBy, Makes, makes}
-use Rattle.trace_order.proofs.Knowing.{fits_exact, all_tapped, roots_from, roots_are}
-use Rattle.trace_order.proofs.Watching.{nothing, one_pair, one_sight, pair_is, one_or_not}
-
-record Own (covers : Sight (List ℕ) → Bool) (kenb : Option Term) (sent : Option (Sight (List ℕ))) (end : Option (Serving Term ℕ)) : Type 0 where
-  own : Option (Sight Term)
-  is : map_sent value_of own ≡ sent
-  made : MadeBy covers kenb own end
-
-own_of : (covers : Sight (List ℕ) → Bool) (kenb : Option Term) (o : Option (Done (Net Term ℕ) (Sight Term))) (end : Net Term ℕ) (sent : Option (Sight (List ℕ)))
-    → with_values value_of o ≡ Some (record { net = end; sent = sent })
-    → Makes covers kenb o
-    → Own covers kenb sent end.serving
-own_of covers kenb None end sent e w = nothing (record { net = end; sent = sent }) e
-own_of covers kenb (Some done) end sent e w =
-    let same = same_done (record { net = done.net; sent = map_sent value_of done.sent }) (record { net = end; sent = sent }) e in
-    record {
-      own = done.sent;
-      is = ap (λ d. d.sent) same;
-      made = subst (λ n. MadeBy covers kenb done.sent n.serving) (ap (λ d. d.net) same) w;
-    }
+use Rattle.trace_order.proofs.Basing.{OfKenb, AllMade, BringsOf, makes}
+use Rattle.trace_order.proofs.Knowing.{fits_exact, all_tapped, roots_from, idle, in_terms}
+use Rattle.trace_order.proofs.Walking.{Agrees, KeptAt, kept_dark, nothing, one_or_not, along}
 
 made_of : (kenb : Option Term) (key : Term) (pair : NumberedKey (List ℕ) ℕ) → value_of key ≡ pair.key → OfKenb kenb key → MadeOf (Some pair) kenb
 made_of None key pair value k = tt
 made_of (Some kenb) key pair value k = record { key = key; value = value; base = k }
 
-module _ (kasmes : List Term) (fits : Sight (List ℕ) → Sight (List ℕ) → Bool) (covers : Sight (List ℕ) → Bool) (exact : IsExact fits) (family : List Move) (tapped : AllBeginsSeen covers family) where
-  must_show : (P : Type 0) (sight : Sight (List ℕ)) (at : Where) → sight.at ≡ at → IsTapped covers at → not (covers sight) ≡ true → P
-  must_show P sight at e tap hid = clash (sym (ap not (tap sight e)) ∙ hid)
+module _ (covers : Sight (List ℕ) → Bool) where
+  passed : (kenb : Option Term) (end : Option (Serving Term ℕ)) (at : Where) (rest : Option Term → Type 0)
+      → KeptAt covers (AllMade covers) kenb at end
+      → ((next : Option Term) → AllMade covers next end → rest next)
+      → BaseAt kenb at None rest
+  passed kenb end (Setup station) rest k go = go None k.0
+  passed kenb end (Took station) rest k go = go None k.0
+  passed kenb end (Answer station) rest k go = (tt, go kenb k)
+  passed kenb end (Request station) rest k go = (tt, go kenb k)
+  passed kenb end (Over source target) rest k go = (tt, go kenb k)
+  passed kenb end (Change station) rest k go = go kenb k
+  passed kenb end (Asked station) rest k go = go kenb k
 
-  dark_at : (kenb : Option Term) (end : Option (Serving Term ℕ)) (sight : Sight (List ℕ)) (at : Where)
-      → sight.at ≡ at
-      → not (covers sight) ≡ true
-      → MadeAfter covers kenb at end
-      → AllMade covers kenb end
-  dark_at kenb end sight (Setup station) e hid k = must_show (AllMade covers kenb end) sight (Setup station) e k.1 hid
-  dark_at kenb end sight (Took station) e hid k = must_show (AllMade covers kenb end) sight (Took station) e k.1 hid
-  dark_at kenb end sight (Answer station) e hid k = k
-  dark_at kenb end sight (Request station) e hid k = k
-  dark_at kenb end sight (Change station) e hid k = k
-  dark_at kenb end sight (Asked station) e hid k = k
-  dark_at kenb end sight (Over source target) e hid k = k
+  looked : (kenb : Option Term) (end : Option (Serving Term ℕ)) (at : Where) (pair : NumberedKey Term ℕ) (rest : Option Term → Type 0)
+      → KeptAt covers (AllMade covers) kenb at end
+      → BringsOf covers kenb at (Some pair) end
+      → ((next : Option Term) → AllMade covers next end → rest next)
+      → BaseAt kenb at (Some (record { key = value_of pair.key; number = pair.number })) rest
+  looked kenb end (Setup station) pair rest k b go = record { kenb = pair.key; value = refl; then = go (Some pair.key) b }
+  looked kenb end (Took station) pair rest k b go = go None k.0
+  looked kenb end (Answer station) pair rest k b go = (made_of kenb pair.key _ refl b, go kenb k)
+  looked kenb end (Request station) pair rest k b go = (made_of kenb pair.key _ refl b, go kenb k)
+  looked kenb end (Over source target) pair rest k b go = (made_of kenb pair.key _ refl b, go kenb k)
+  looked kenb end (Change station) pair rest k b go = go kenb k
+  looked kenb end (Asked station) pair rest k b go = go kenb k
 
-  dark : (kenb : Option Term) (end : Option (Serving Term ℕ)) (own : Option (Sight Term))
-      → is_unseen covers (map_sent value_of own) ≡ true
-      → MadeBy covers kenb own end
-      → AllMade covers kenb end
-  dark kenb end None hid w = w
-  dark kenb end (Some sight) hid w = dark_at kenb end (map_sight value_of sight) sight.at refl hid w.0
-
-  abbrev GoesOn : Option (Serving Term ℕ) → (Option Term → Type 0) → Type 0
-  GoesOn end rest = (next : Option Term) → AllMade covers next end → rest next
-
-  abbrev SeenAs : Option (NumberedKey Term ℕ) → Option (NumberedKey (List ℕ) ℕ) → Type 0
-  SeenAs own seen = (seen ≡ None) ⊎ (seen ≡ map_pair value_of (λ n. n) own)
-
-  -- the key of a message that is made of the KeNB
-  of_it : (kenb : Option Term) (own : Option (NumberedKey Term ℕ)) (seen : Option (NumberedKey (List ℕ) ℕ))
-      → SeenAs own seen
-      → ((key : NumberedKey Term ℕ) → own ≡ Some key → OfKenb kenb key.key)
-      → MadeOf seen kenb
-  of_it kenb own None same b = tt
-  of_it kenb own (Some pair) (inl e) b = nothing pair (sym e)
-  of_it kenb None (Some pair) (inr e) b = nothing pair (sym e)
-  of_it kenb (Some key) (Some pair) (inr e) b = made_of kenb key.key pair (ap (λ p. p.key) (sym (one_pair pair _ e))) (b key refl)
-
-  brought : (kenb : Option Term) (key other : NumberedKey Term ℕ) → OfKenb kenb key.key → Some key ≡ Some other → OfKenb kenb other.key
-  brought kenb key other b e = subst (OfKenb kenb) (ap (λ p. p.key) (same e)) b
-    where
-      same : Some key ≡ Some other → key ≡ other
-      same e = cc
-
-  seen_at : (kenb : Option Term) (end : Option (Serving Term ℕ)) (at : Where) (own : Option (NumberedKey Term ℕ)) (seen : Option (NumberedKey (List ℕ) ℕ)) (rest : Option Term → Type 0)
-      → SeenAs own seen
-      → MadeAfter covers kenb at end
-      → BringsOf covers kenb at own end
-      → GoesOn end rest
-      → BaseAt kenb at seen rest
-  seen_at kenb end (Setup station) own None rest same k b go = go None k.0
-  seen_at kenb end (Setup station) own (Some pair) rest (inl e) k b go = nothing pair (sym e)
-  seen_at kenb end (Setup station) None (Some pair) rest (inr e) k b go = nothing pair (sym e)
-  seen_at kenb end (Setup station) (Some key) (Some pair) rest (inr e) k b go =
-      record { kenb = key.key; value = ap (λ p. p.key) (sym (one_pair pair _ e)); then = go (Some key.key) b }
-  seen_at kenb end (Took station) own seen rest same k b go = go None k.0
-  seen_at kenb end (Change station) own seen rest same k b go = go kenb k
-  seen_at kenb end (Asked station) own seen rest same k b go = go kenb k
-  seen_at kenb end (Answer station) None seen rest same k b go = (of_it kenb None seen same (λ key e. nothing key e), go kenb k)
-  seen_at kenb end (Request station) None seen rest same k b go = (of_it kenb None seen same (λ key e. nothing key e), go kenb k)
-  seen_at kenb end (Over source target) None seen rest same k b go = (of_it kenb None seen same (λ key e. nothing key e), go kenb k)
-  seen_at kenb end (Answer station) (Some own) seen rest same k b go = (of_it kenb (Some own) seen same (λ key e. brought kenb own key b e), go kenb k)
-  seen_at kenb end (Request station) (Some own) seen rest same k b go = (of_it kenb (Some own) seen same (λ key e. brought kenb own key b e), go kenb k)
-  seen_at kenb end (Over source target) (Some own) seen rest same k b go = (of_it kenb (Some own) seen same (λ key e. brought kenb own key b e), go kenb k)
-
-  shown_on : (kenb : Option Term) (end : Option (Serving Term ℕ)) (own : Option (Sight Term)) (sent seen : Sight (List ℕ)) (rest : Option Term → Type 0)
-      → map_sent value_of own ≡ Some sent
-      → IsSeenAs sent seen
-      → MadeBy covers kenb own end
-      → GoesOn end rest
-      → BaseAt kenb seen.at seen.pair rest
-  shown_on kenb end None sent seen rest e same w go = nothing sent e
-  shown_on kenb end (Some own) sent seen rest e same w go =
-      let is = one_sight (map_sight value_of own) sent e in
-      let pair = pair_is own.pair sent.pair seen.pair (ap (λ s. s.pair) is) same.pair in
-      let at = ap (λ s. s.at) is ∙ same.at in
-      subst (λ a. BaseAt kenb a seen.pair rest) at (seen_at kenb end own.at own.pair seen.pair rest pair w.0 w.1 go)
-
-  pub all_made : (bound left : ℕ) (net : Net Term ℕ) (moves : List Move) (capture : List (Sight (List ℕ))) (kenb : Option Term)
+  pub all_made : (kasmes : List Term) (fits : Sight (List ℕ) → Sight (List ℕ) → Bool) (exact : IsExact fits) (family : List Move) (tapped : AllBeginsSeen covers family) (bound left : ℕ) (net : Net Term ℕ) (moves : List Move) (capture : List (Sight (List ℕ))) (kenb : Option Term)
       → AreIn moves family
       → AllMade covers kenb net.serving
       → History (valued term_reading value_of kasmes) fits covers bound left net moves capture
       → AllMadeOf kenb capture
-  all_made bound left net moves capture kenb fam k (ends) = tt
-  all_made bound left net moves capture kenb fam k (unseen {left = l} {end = end} {sent = sent} {moves = ms} move done hid more) =
-      let own = own_of covers kenb (moved term_reading kasmes net move) end sent done (makes covers kenb kasmes net move (tapped move fam.0) k) in
-      all_made bound l end ms capture kenb fam.1 (dark kenb end.serving own.own (ap (is_unseen covers) own.is ∙ hid) own.made) more
-  all_made bound left net moves capture kenb fam k (shown {end = end} {sent = sent} {sight = sight} {moves = ms} {capture = rest} move done fit cov more) =
-      let own = own_of covers kenb (moved term_reading kasmes net move) end (Some sent) done (makes covers kenb kasmes net move (tapped move fam.0) k) in
-      shown_on kenb end.serving own.own sent sight (λ next. AllMadeOf next rest) own.is (exact sent sight fit) own.made
-      (λ next kept. all_made bound bound end ms rest next fam.1 kept more)
-
--- the KeNB that was looked at is the value of the one of the connection
-abbrev Agrees : Option Term → Option (NumberedKey (List ℕ) ℕ) → Type 0
-Agrees None None = Unit {0}
-Agrees (Some kenb) (Some pair) = value_of kenb ≡ pair.key
-Agrees None (Some pair) = ⊥
-Agrees (Some kenb) None = ⊥
+  all_made kasmes fits exact family tapped =
+      along (AllMade covers) (KeptAt covers (AllMade covers)) (BringsOf covers) BaseAt AllMadeOf covers (λ kenb. tt) (λ kenb sight capture made. made)
+      (kept_dark covers (AllMade covers)) passed looked kasmes fits exact family
+      (λ kenb net move i k. makes covers kasmes kenb net move (tapped move i) k)
 
 -- a KeNB and a key that is made of it, of these values
 pub record OneChain (first next : NumberedKey (List ℕ) ℕ) : Type 0 where
@@ -245,14 +159,9 @@ pub never_made : (kasmes : List (List ℕ)) (covered : List Where) (family : Lis
     → all_seen covered family ≡ true
     → IsOutOfChain capture sight
     → IsNever kasmes covered family capture sight
-never_made kasmes covered family capture sight seen out bound left kasme count moves fam h =
-    let net : Net Term ℕ = record { kasme = kasme; count = count; serving = None } in
-    let roots = roots_from 0 kasmes in
-    let covers = is_covered covered in
-    let all = capture ++ sight ∷ [] in
-    let here = subst (λ k. History (moved octet_reading k) fits covers bound left (record { kasme = kasme; count = count; serving = None }) moves all) (sym (roots_are 0 kasmes)) h in
-    let made =
-    all_made roots fits covers fits_exact family (all_tapped covered family seen) bound left net moves all None fam tt
-    (to_here term_reading octet_reading value_of ncc_of values_carry roots fits covers bound left _ net moves all refl here) in
+never_made kasmes covered family capture sight seen out =
+    in_terms kasmes covered family capture sight
+    (λ bound left kasme count moves fam h.
     two_differ out.kenb out.key out.first out.next out.begun out.made out.apart
-    (one_chain capture sight None None out.first out.next tt out.is_first out.is_next made)
+    (one_chain capture sight None None out.first out.next tt out.is_first out.is_next
+    (all_made (is_covered covered) (roots_from 0 kasmes) fits fits_exact family (all_tapped covered family seen) bound left (idle kasme count) moves _ None fam tt h)))

@@ -7,13 +7,14 @@ use Rattle.nh_chain.specs.Chain.{ChainState, begun, stepped}
 use Rattle.nh_chain.specs.Station.{opened}
 use Rattle.trace_rules.specs.Rules.{Done}
 use Rattle.trace_keys.specs.declared.{moves.Where.Where, moves.Move.Move, moves.Unanswered.Unanswered}
-use Rattle.trace_keys.specs.declared.moves.Where.TheVariants.{Setup, Change, Took, Answer, Asked, Request, Over}
+use Rattle.trace_keys.specs.declared.moves.Where.TheVariants.{Setup, Took, Answer, Request}
 use Rattle.trace_keys.specs.declared.moves.Unanswered.TheVariants.{Refused, Lost, Given}
 use Rattle.trace_keys.specs.declared.moves.Move.TheVariants.{Renew, Offer, Take, Switch, Ask, Prepare, Require, Arrive, Cancel, Refresh, Leave}
 use Rattle.trace_keys.specs.Net.{Target, Offer as OfferOf, Serving, Net, Sight}
 use Rattle.nas_count.specs.Estimate.{nas_count_limit}
-use Rattle.trace_keys.specs.Moved.{is_fresh, chain_of, target_of, renewed, begins, offered, offers, took, taken_on, unanswered, may_come, prepared, required, arrived, cancelled, refreshed, moved_in, if_connected, moved}
+use Rattle.trace_keys.specs.Moved.{is_fresh, chain_of, target_of, renewed, begins, offered, offers, took, taken_on, unanswered, may_come, prepared, required, arrived, cancelled, refreshed, moved_in, moved}
 use Rattle.trace_order.specs.Order.{Comes, IsTapped, BeginsSeen}
+use Rattle.trace_order.proofs.Walking.{KeptAt, LeftBy, Leaves, leaves_if, leaves}
 
 -- the last NH is of this chain, and not further on
 abbrev pub NotBelow : Option Term → Term → ℕ → ℕ → Type 0
@@ -89,35 +90,22 @@ module _ (covers : Sight (List ℕ) → Bool) where
   Keeps last None = Unit {0}
   Keeps last (Some s) = KeepsIn last s
 
-  -- behind a message at this place
-  abbrev pub KeptAt : Option Term → Where → Option (Serving Term ℕ) → Type 0
-  KeptAt last (Setup station) end = Keeps None end × IsTapped covers (Setup station)
-  KeptAt last (Took station) end = Keeps None end × IsTapped covers (Took station)
-  KeptAt last (Answer station) end = Keeps last end
-  KeptAt last (Request station) end = Keeps last end
-  KeptAt last (Change station) end = Keeps last end
-  KeptAt last (Asked station) end = Keeps last end
-  KeptAt last (Over source target) end = Keeps last end
-
-  -- and behind the NH that it brings, if that is looked at
+  -- behind the NH that a message brings, if that is looked at
   abbrev pub BroughtAt : Option Term → Where → Option (NumberedKey Term ℕ) → Option (Serving Term ℕ) → Type 0
   BroughtAt last (Answer station) (Some pair) end = Comes last pair.key × Keeps (Some pair.key) end
   BroughtAt last (Request station) (Some pair) end = Comes last pair.key × Keeps (Some pair.key) end
   BroughtAt last at pair end = Unit {0}
 
   abbrev pub WentBy : Option Term → Option (Sight Term) → Option (Serving Term ℕ) → Type 0
-  WentBy last None end = Keeps last end
-  WentBy last (Some sight) end = KeptAt last sight.at end × BroughtAt last sight.at sight.pair end
+  WentBy = LeftBy Keeps (KeptAt covers Keeps) BroughtAt
 
   abbrev pub Went : Option Term → Option (Done (Net Term ℕ) (Sight Term)) → Type 0
-  Went last None = Unit {0}
-  Went last (Some done) = WentBy last done.sent done.net.serving
+  Went = Leaves Keeps (KeptAt covers Keeps) BroughtAt
 
   went_if : (last : Option Term) (b : Bool) (done : Done (Net Term ℕ) (Sight Term))
       → WentBy last done.sent done.net.serving
       → Went last (if b then Some done else None)
-  went_if last true done h = h
-  went_if last false done h = tt
+  went_if = leaves_if Keeps (KeptAt covers Keeps) BroughtAt
 
   went_renewed : (last root : Option Term) (net : Net Term ℕ) (kasme count station : ℕ) (cell : Place) (early taken : Bool)
       → IsTapped covers (Setup station) × IsTapped covers (Took station)
@@ -197,17 +185,9 @@ module _ (covers : Sight (List ℕ) → Bool) where
       (record { core = k.core; offer = k.offer; took = k.took; target = tt })
   went_in last kasmes net s Leave tap k = tt
 
-  went_if_connected : (last : Option Term) (kasmes : List Term) (net : Net Term ℕ) (serving : Option (Serving Term ℕ)) (move : Move)
-      → BeginsSeen covers move
-      → Keeps last serving
-      → Went last (if_connected term_reading kasmes net serving move)
-  went_if_connected last kasmes net None move tap k = tt
-  went_if_connected last kasmes net (Some s) move tap k = went_in last kasmes net s move tap k
-
-  pub went : (last : Option Term) (kasmes : List Term) (net : Net Term ℕ) (move : Move)
+  pub went : (kasmes : List Term) (last : Option Term) (net : Net Term ℕ) (move : Move)
       → BeginsSeen covers move
       → Keeps last net.serving
       → Went last (moved term_reading kasmes net move)
-  went last kasmes net (Renew kasme count station cell early taken) tap k =
-      went_renewed last (slice_get kasmes kasme) net kasme count station cell early taken tap
-  went last kasmes net move tap k = went_if_connected last kasmes net net.serving move tap k
+  went kasmes last =
+      leaves Keeps (KeptAt covers Keeps) BroughtAt (BeginsSeen covers) kasmes last (went_renewed last) (went_in last kasmes)

@@ -4,16 +4,16 @@ use Rattle.std.specs.{Prelude.◌&&◌, Prelude.nat_eq, Prelude.nat_lt, Str.byte
 use Rattle.std.proofs.{lemmas.Slice.Eq.bytes_eq-Decides, lemmas.Bool.Decides.Decides-eqb, lemmas.Bool.lt-ltb}
 use Rattle.key_model.specs.{Term.Term, Term.Root, Term.Kenb, Term.Nh, Term.Star, Term.Alg, Chain.nh, Chain.ncc_of, Number.chain_number, Value.value_of, Reading.term_reading, Reading.octet_reading, HandoverTable.NumberedKey}
 use Rattle.key_model.proofs.{TermFacts.chain_number_nh, ReadingFacts.values_carry}
-use Rattle.trace_rules.specs.{History.History}
+use Rattle.trace_rules.specs.{Rules.AreIn, History.History}
 use Rattle.trace_keys.specs.declared.{moves.Where.Where, moves.Move.Move}
 use Rattle.trace_keys.specs.declared.moves.Where.TheVariants.{Setup, Took}
 use Rattle.trace_keys.specs.declared.moves.Move.TheVariants.{Renew, Offer, Take, Switch, Ask, Prepare, Require, Arrive, Cancel, Refresh, Leave}
 use Rattle.trace_keys.specs.{Net.Net, Net.Sight, Moved.moved}
 use Rattle.trace_keys.proofs.OneNet.{clash, parts, num}
-use Rattle.trace_terms.proofs.Histories.{to_here}
+use Rattle.trace_terms.{specs.Carried.valued, proofs.Histories.to_here}
 use Rattle.trace_plain.specs.Sights.{same_where, fits_pair, fits, has_tap, is_covered}
 use Rattle.trace_plain.proofs.Dark.{one_where}
-use Rattle.trace_order.specs.Order.{Follows, IsExact, IsTapped, BeginsSeen, AllBeginsSeen}
+use Rattle.trace_order.specs.Order.{Coincidence, Follows, IsExact, IsTapped, BeginsSeen, AllBeginsSeen}
 use Rattle.trace_order.specs.Known.{term_of, is_further, IsOutOfOrder, begins_seen, all_seen, IsNever}
 use Rattle.trace_order.specs.declared.known.Known.{Known}
 use Rattle.trace_order.proofs.Watching.{in_order, two_keys, never}
@@ -123,18 +123,31 @@ unfolding roots_from
 roots_are n [] = refl
 roots_are n (octets ∷ kasmes) = ap (λ rest. octets ∷ rest) (roots_are (suc n) kasmes)
 
+-- a phone without a connection
+abbrev pub idle : ℕ → ℕ → Net Term ℕ
+idle kasme count = record { kasme = kasme; count = count; serving = None }
+
+-- what no history in terms shows, no history in octets does
+pub in_terms : (kasmes : List (List ℕ)) (covered : List Where) (family : List Move) (capture : List (Sight (List ℕ))) (sight : Sight (List ℕ))
+    → ((bound left kasme count : ℕ) (moves : List Move)
+    → AreIn moves family
+    → History (valued term_reading value_of (roots_from 0 kasmes)) fits (is_covered covered) bound left (idle kasme count) moves (capture ++ sight ∷ [])
+    → Coincidence)
+    → IsNever kasmes covered family capture sight
+in_terms kasmes covered family capture sight shows bound left kasme count moves fam h =
+    let covers = is_covered covered in
+    let all = capture ++ sight ∷ [] in
+    let here = subst (λ k. History (moved octet_reading k) fits covers bound left (record { kasme = kasme; count = count; serving = None }) moves all) (sym (roots_are 0 kasmes)) h in
+    shows bound left kasme count moves fam
+    (to_here term_reading octet_reading value_of ncc_of values_carry (roots_from 0 kasmes) fits covers bound left _ (idle kasme count) moves all refl here)
+
 pub never_by : (kasmes : List (List ℕ)) (covered : List Where) (family : List Move) (capture : List (Sight (List ℕ))) (sight : Sight (List ℕ))
     → all_seen covered family ≡ true
     → IsOutOfOrder kasmes capture sight
     → IsNever kasmes covered family capture sight
-never_by kasmes covered family capture sight seen out bound left kasme count moves fam h =
-    let net : Net Term ℕ = record { kasme = kasme; count = count; serving = None } in
-    let roots = roots_from 0 kasmes in
-    let covers = is_covered covered in
-    let all = capture ++ sight ∷ [] in
-    let here = subst (λ k. History (moved octet_reading k) fits covers bound left (record { kasme = kasme; count = count; serving = None }) moves all) (sym (roots_are 0 kasmes)) h in
-    let order =
-    in_order roots fits covers fits_exact family (all_tapped covered family seen) bound left net moves all None fam tt
-    (to_here term_reading octet_reading value_of ncc_of values_carry roots fits covers bound left _ net moves all refl here) in
+never_by kasmes covered family capture sight seen out =
+    in_terms kasmes covered family capture sight
+    (λ bound left kasme count moves fam h.
     never (term_of kasmes out.before) (term_of kasmes out.after) out.last out.next out.first out.second out.apart
-    (two_keys capture sight None None out.last out.next tt out.is_last out.is_next order)
+    (two_keys capture sight None None out.last out.next tt out.is_last out.is_next
+    (in_order (is_covered covered) (roots_from 0 kasmes) fits fits_exact family (all_tapped covered family seen) bound left (idle kasme count) moves _ None fam tt h)))

@@ -1,3 +1,4 @@
+pub mod Walking
 pub mod Chains
 pub mod Watching
 pub mod Knowing

@@ -1,136 +1,89 @@
 -- How far NHs are along a history.
 use Rattle.std.proofs.Common.{◌≡◌, ◌≢◌, ℕ, suc, ◌+◌, ◌≤◌, ◌<◌, Bool, true, Option, None, Some, List, [], ◌∷◌, ◌++◌, ◌⊎◌, inl, inr, refl, sym, ap, subst, ◌∙◌, arith}
-use Rattle.std.specs.Prelude.{◌&&◌, not}
-use Rattle.key_model.specs.{Term.Term, Term.same_term, Chain.ncc_of, Number.chain_number, Value.value_of, Reading.term_reading, Reading.octet_reading, HandoverTable.NumberedKey}
-use Rattle.key_model.proofs.ReadingFacts.{values_carry}
-use Rattle.nh_chain.specs.Station.{map_pair}
-use Rattle.trace_rules.specs.{Rules.Done, Rules.is_unseen, Rules.AreIn, History.History, History.ends, History.unseen, History.shown}
+use Rattle.std.specs.Prelude.{◌&&◌}
+use Rattle.key_model.specs.{Term.Term, Term.same_term, Number.chain_number, Value.value_of, Reading.term_reading, HandoverTable.NumberedKey}
+use Rattle.trace_rules.specs.{Rules.Done, Rules.AreIn, History.History}
 use Rattle.trace_keys.specs.declared.{moves.Where.Where, moves.Move.Move}
 use Rattle.trace_keys.specs.declared.moves.Where.TheVariants.{Setup, Change, Took, Answer, Asked, Request, Over}
 use Rattle.trace_keys.specs.declared.moves.Move.TheVariants.{Renew, Offer, Take, Switch, Ask, Prepare, Require, Arrive, Cancel, Refresh, Leave}
 use Rattle.trace_keys.specs.{Net.Serving, Net.Net, Net.Sight, Moved.moved}
-use Rattle.trace_keys.proofs.OneNet.{clash, parts}
-use Rattle.trace_terms.specs.Carried.{map_sight, map_sent, with_values, valued}
-use Rattle.trace_terms.proofs.Histories.{same_done, to_here}
+use Rattle.trace_keys.proofs.OneNet.{parts}
+use Rattle.trace_terms.specs.Carried.{valued}
 use Rattle.trace_plain.specs.Sights.{fits, has_tap, is_covered}
-use Rattle.trace_order.specs.Order.{IsSeenAs, IsExact, IsTapped, Coincidence, last_by, last_nh, nh_of}
+use Rattle.trace_order.specs.Order.{IsExact, IsTapped, Coincidence, last_by, last_nh, nh_of}
 use Rattle.trace_order.specs.Known.{IsNever}
 use Rattle.trace_order.specs.Reach.{ReachAt, InReach, StepsAt, StepsSeen, AllStepsSeen, steps_at, steps_seen, all_steps, steps_by, steps_from, IsNumber, IsFrom, IsTooFar}
 use Rattle.trace_order.proofs.Steps.{Reaches, ReachesAt, BringsAt, StepsBy, Stepped, steps}
-use Rattle.trace_order.proofs.Knowing.{fits_exact, is_tapped, roots_from, roots_are}
-use Rattle.trace_order.proofs.Watching.{nothing, one_pair, one_sight, pair_is, one_or_not}
+use Rattle.trace_order.proofs.Knowing.{fits_exact, is_tapped, roots_from, idle, in_terms}
+use Rattle.trace_order.proofs.Walking.{nothing, one_pair, one_or_not, LeftBy, Leaves, along}
 
 -- where the core may be further on, it is so too
 more : (covers : Sight (List ℕ) → Bool) (low high : ℕ) (end : Option (Serving Term ℕ)) → low ≤ high → Reaches covers low end → Reaches covers high end
 more covers low high None up k = tt
 more covers low high (Some s) up k = record { core = k.core; within = omega (arith, up, k.within); offer = k.offer; here = k.here; target = k.target }
 
-record Own (covers : Sight (List ℕ) → Bool) (most : ℕ) (sent : Option (Sight (List ℕ))) (end : Option (Serving Term ℕ)) : Type 0 where
-  own : Option (Sight Term)
-  is : map_sent value_of own ≡ sent
-  went : StepsBy covers most own end
+module _ (covers : Sight (List ℕ) → Bool) where
+  -- the core is at number 1 at least, where a chain begins unseen
+  abbrev Far : ℕ → Option (Serving Term ℕ) → Type 0
+  Far most end = (1 ≤ most) × Reaches covers most end
 
-own_of : (covers : Sight (List ℕ) → Bool) (most : ℕ) (o : Option (Done (Net Term ℕ) (Sight Term))) (end : Net Term ℕ) (sent : Option (Sight (List ℕ)))
-    → with_values value_of o ≡ Some (record { net = end; sent = sent })
-    → Stepped covers most o
-    → Own covers most sent end.serving
-own_of covers most None end sent e w = nothing (record { net = end; sent = sent }) e
-own_of covers most (Some done) end sent e w =
-    let same = same_done (record { net = done.net; sent = map_sent value_of done.sent }) (record { net = end; sent = sent }) e in
-    record {
-      own = done.sent;
-      is = ap (λ d. d.sent) same;
-      went = subst (λ n. StepsBy covers most done.sent n.serving) (ap (λ d. d.net) same) w;
-    }
+  abbrev FarAt : ℕ → Where → Option (Serving Term ℕ) → Type 0
+  FarAt most at end = (1 ≤ most) × ReachesAt covers most at end
 
-module _ (kasmes : List Term) (fits : Sight (List ℕ) → Sight (List ℕ) → Bool) (covers : Sight (List ℕ) → Bool) (exact : IsExact fits) (family : List Move) (tapped : AllStepsSeen covers family) where
-  must_show : (P : Type 0) (sight : Sight (List ℕ)) (at : Where) → sight.at ≡ at → IsTapped covers at → not (covers sight) ≡ true → P
-  must_show P sight at e tap hid = clash (sym (ap not (tap sight e)) ∙ hid)
+  far : (most : ℕ) (o : Option (Done (Net Term ℕ) (Sight Term))) → 1 ≤ most → Stepped covers most o → Leaves Far FarAt (BringsAt covers) most o
+  far most None one w = tt
+  far most (Some done) one w = by_sent done.sent w
+    where
+      by_sent : (sent : Option (Sight Term))
+          → StepsBy covers most sent done.net.serving
+          → LeftBy Far FarAt (BringsAt covers) most sent done.net.serving
+      by_sent None w = (one, w)
+      by_sent (Some sight) w = ((one, w.0), w.1)
 
-  dark_at : (most : ℕ) (end : Option (Serving Term ℕ)) (sight : Sight (List ℕ)) (at : Where)
-      → 1 ≤ most
-      → sight.at ≡ at
-      → not (covers sight) ≡ true
-      → ReachesAt covers most at end
-      → Reaches covers most end
-  dark_at most end sight (Setup station) one e hid k = more covers 1 most end one k
-  dark_at most end sight (Took station) one e hid k = more covers 1 most end one k
-  dark_at most end sight (Answer station) one e hid k = must_show (Reaches covers most end) sight (Answer station) e k.1 hid
-  dark_at most end sight (Request station) one e hid k = must_show (Reaches covers most end) sight (Request station) e k.1 hid
-  dark_at most end sight (Asked station) one e hid k = must_show (Reaches covers most end) sight (Asked station) e k.1 hid
-  dark_at most end sight (Change station) one e hid k = k
-  dark_at most end sight (Over source target) one e hid k = k
+  dark : (most : ℕ) (end : Option (Serving Term ℕ)) (at : Where) → ¬ IsTapped covers at → FarAt most at end → Far most end
+  dark most end (Setup station) hid k = (k.0, more covers 1 most end k.0 k.1)
+  dark most end (Took station) hid k = (k.0, more covers 1 most end k.0 k.1)
+  dark most end (Answer station) hid k = absurd (hid k.1.1)
+  dark most end (Request station) hid k = absurd (hid k.1.1)
+  dark most end (Asked station) hid k = absurd (hid k.1.1)
+  dark most end (Change station) hid k = k
+  dark most end (Over source target) hid k = k
 
-  dark : (most : ℕ) (end : Option (Serving Term ℕ)) (own : Option (Sight Term))
-      → 1 ≤ most
-      → is_unseen covers (map_sent value_of own) ≡ true
-      → StepsBy covers most own end
-      → Reaches covers most end
-  dark most end None one hid w = w
-  dark most end (Some sight) one hid w = dark_at most end (map_sight value_of sight) sight.at one refl hid w.0
+  passed : (most : ℕ) (end : Option (Serving Term ℕ)) (at : Where) (rest : ℕ → Type 0)
+      → FarAt most at end
+      → ((next : ℕ) → Far next end → rest next)
+      → ReachAt most at None rest
+  passed most end (Setup station) rest k go = go 1 (omega arith, k.1)
+  passed most end (Took station) rest k go = go 1 (omega arith, k.1)
+  passed most end (Answer station) rest k go = go (suc most) (omega arith, k.1.0)
+  passed most end (Request station) rest k go = go (suc most) (omega arith, k.1.0)
+  passed most end (Asked station) rest k go = go (suc most) (omega arith, k.1.0)
+  passed most end (Change station) rest k go = go most k
+  passed most end (Over source target) rest k go = go most k
 
-  abbrev GoesOn : Option (Serving Term ℕ) → (ℕ → Type 0) → Type 0
-  GoesOn end rest = (next : ℕ) → 1 ≤ next → Reaches covers next end → rest next
+  looked : (most : ℕ) (end : Option (Serving Term ℕ)) (at : Where) (pair : NumberedKey Term ℕ) (rest : ℕ → Type 0)
+      → FarAt most at end
+      → BringsAt covers most at (Some pair) end
+      → ((next : ℕ) → Far next end → rest next)
+      → ReachAt most at (Some (record { key = value_of pair.key; number = pair.number })) rest
+  looked most end (Setup station) pair rest k b go = go 1 (omega arith, k.1)
+  looked most end (Took station) pair rest k b go = go 1 (omega arith, k.1)
+  looked most end (Answer station) pair rest k b go =
+      record { key = pair.key; value = refl; within = b.0.0; then = go (chain_number pair.key) (b.0.1, b.1) }
+  looked most end (Request station) pair rest k b go =
+      record { key = pair.key; value = refl; within = b.0.0; then = go (chain_number pair.key) (b.0.1, b.1) }
+  looked most end (Asked station) pair rest k b go = go (suc most) (omega arith, k.1.0)
+  looked most end (Change station) pair rest k b go = go most k
+  looked most end (Over source target) pair rest k b go = go most k
 
-  seen_at : (most : ℕ) (end : Option (Serving Term ℕ)) (at : Where) (own : Option (NumberedKey Term ℕ)) (seen : Option (NumberedKey (List ℕ) ℕ)) (rest : ℕ → Type 0)
-      → 1 ≤ most
-      → (seen ≡ None) ⊎ (seen ≡ map_pair value_of (λ n. n) own)
-      → ReachesAt covers most at end
-      → BringsAt covers most at own end
-      → GoesOn end rest
-      → ReachAt most at seen rest
-  seen_at most end (Setup station) own seen rest one same k b go = go 1 (omega arith) k
-  seen_at most end (Took station) own seen rest one same k b go = go 1 (omega arith) k
-  seen_at most end (Change station) own seen rest one same k b go = go most one k
-  seen_at most end (Over source target) own seen rest one same k b go = go most one k
-  seen_at most end (Asked station) own seen rest one same k b go = go (suc most) (omega arith) k.0
-  seen_at most end (Answer station) own None rest one same k b go = go (suc most) (omega arith) k.0
-  seen_at most end (Request station) own None rest one same k b go = go (suc most) (omega arith) k.0
-  seen_at most end (Answer station) own (Some pair) rest one (inl e) k b go = nothing pair (sym e)
-  seen_at most end (Request station) own (Some pair) rest one (inl e) k b go = nothing pair (sym e)
-  seen_at most end (Answer station) None (Some pair) rest one (inr e) k b go = nothing pair (sym e)
-  seen_at most end (Request station) None (Some pair) rest one (inr e) k b go = nothing pair (sym e)
-  seen_at most end (Answer station) (Some key) (Some pair) rest one (inr e) k b go = record {
-    key = key.key;
-    value = ap (λ p. p.key) (sym (one_pair pair _ e));
-    within = b.0.0;
-    then = go (chain_number key.key) b.0.1 b.1;
-  }
-  seen_at most end (Request station) (Some key) (Some pair) rest one (inr e) k b go = record {
-    key = key.key;
-    value = ap (λ p. p.key) (sym (one_pair pair _ e));
-    within = b.0.0;
-    then = go (chain_number key.key) b.0.1 b.1;
-  }
-
-  shown_on : (most : ℕ) (end : Option (Serving Term ℕ)) (own : Option (Sight Term)) (sent seen : Sight (List ℕ)) (rest : ℕ → Type 0)
-      → 1 ≤ most
-      → map_sent value_of own ≡ Some sent
-      → IsSeenAs sent seen
-      → StepsBy covers most own end
-      → GoesOn end rest
-      → ReachAt most seen.at seen.pair rest
-  shown_on most end None sent seen rest one e same w go = nothing sent e
-  shown_on most end (Some own) sent seen rest one e same w go =
-      let is = one_sight (map_sight value_of own) sent e in
-      let pair = pair_is own.pair sent.pair seen.pair (ap (λ s. s.pair) is) same.pair in
-      let at = ap (λ s. s.at) is ∙ same.at in
-      subst (λ a. ReachAt most a seen.pair rest) at (seen_at most end own.at own.pair seen.pair rest one pair w.0 w.1 go)
-
-  pub in_reach : (bound left : ℕ) (net : Net Term ℕ) (moves : List Move) (capture : List (Sight (List ℕ))) (most : ℕ)
-      → 1 ≤ most
+  pub in_reach : (kasmes : List Term) (fits : Sight (List ℕ) → Sight (List ℕ) → Bool) (exact : IsExact fits) (family : List Move) (tapped : AllStepsSeen covers family) (bound left : ℕ) (net : Net Term ℕ) (moves : List Move) (capture : List (Sight (List ℕ))) (most : ℕ)
       → AreIn moves family
-      → Reaches covers most net.serving
+      → (1 ≤ most) × Reaches covers most net.serving
       → History (valued term_reading value_of kasmes) fits covers bound left net moves capture
       → InReach most capture
-  in_reach bound left net moves capture most one fam k (ends) = tt
-  in_reach bound left net moves capture most one fam k (unseen {left = l} {end = end} {sent = sent} {moves = ms} move done hid rest) =
-      let own = own_of covers most (moved term_reading kasmes net move) end sent done (steps covers most kasmes net move (tapped move fam.0) k) in
-      in_reach bound l end ms capture most one fam.1 (dark most end.serving own.own one (ap (is_unseen covers) own.is ∙ hid) own.went) rest
-  in_reach bound left net moves capture most one fam k (shown {end = end} {sent = sent} {sight = sight} {moves = ms} {capture = seen} move done fit cov rest) =
-      let own = own_of covers most (moved term_reading kasmes net move) end (Some sent) done (steps covers most kasmes net move (tapped move fam.0) k) in
-      shown_on most end.serving own.own sent sight (λ next. InReach next seen) one own.is (exact sent sight fit) own.went
-      (λ next low kept. in_reach bound bound end ms seen next low fam.1 kept rest)
+  in_reach kasmes fits exact family tapped =
+      along Far FarAt (BringsAt covers) ReachAt InReach covers (λ most. tt) (λ most sight capture reach. reach) dark passed looked kasmes fits exact family
+      (λ most net move i k. far most (moved term_reading kasmes net move) k.0 (steps covers kasmes most net move (tapped move i) k.1))
 
 -- the most that the core may be at is known by the last NH and the steps since
 abbrev Knows : Option (NumberedKey (List ℕ) ℕ) → ℕ → ℕ → Type 0
@@ -251,14 +204,9 @@ pub never_beyond : (kasmes : List (List ℕ)) (covered : List Where) (family : L
     → all_steps covered family ≡ true
     → IsTooFar capture sight
     → IsNever kasmes covered family capture sight
-never_beyond kasmes covered family capture sight seen far bound left kasme count moves fam h =
-    let net : Net Term ℕ = record { kasme = kasme; count = count; serving = None } in
-    let roots = roots_from 0 kasmes in
-    let covers = is_covered covered in
-    let all = capture ++ sight ∷ [] in
-    let here = subst (λ k. History (moved octet_reading k) fits covers bound left (record { kasme = kasme; count = count; serving = None }) moves all) (sym (roots_are 0 kasmes)) h in
-    let reach =
-    in_reach roots fits covers fits_exact family (all_taps covered family seen) bound left net moves all 1 (omega arith) fam tt
-    (to_here term_reading octet_reading value_of ncc_of values_carry roots fits covers bound left _ net moves all refl here) in
+never_beyond kasmes covered family capture sight seen far =
+    in_terms kasmes covered family capture sight
+    (λ bound left kasme count moves fam h.
     beyond (last_nh None capture) (steps_from 0 capture) far.from far.to far.next far.is_from far.is_to far.far
-    (comes capture sight 1 0 None far.next far.is_next (omega arith) reach)
+    (comes capture sight 1 0 None far.next far.is_next (omega arith)
+    (in_reach (is_covered covered) (roots_from 0 kasmes) fits fits_exact family (all_taps covered family seen) bound left (idle kasme count) moves _ 1 fam (omega arith, tt) h)))

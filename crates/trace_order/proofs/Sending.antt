@@ -13,8 +13,9 @@ use Rattle.trace_keys.specs.declared.moves.Unanswered.TheVariants.{Refused, Lost
 use Rattle.trace_keys.specs.declared.moves.Move.TheVariants.{Renew, Offer, Take, Switch, Ask, Prepare, Require, Arrive, Cancel, Refresh, Leave}
 use Rattle.trace_keys.specs.Net.{Target, Offer as OfferOf, Serving, Net, Sight}
 use Rattle.nas_count.specs.Estimate.{nas_count_limit}
-use Rattle.trace_keys.specs.Moved.{is_fresh, chain_of, target_of, renewed, begins, offered, offers, took, taken_on, unanswered, may_come, prepared, required, arrived, cancelled, refreshed, moved_in, if_connected, moved}
+use Rattle.trace_keys.specs.Moved.{is_fresh, chain_of, target_of, renewed, begins, offered, offers, took, taken_on, unanswered, may_come, prepared, required, arrived, cancelled, refreshed, moved_in, moved}
 use Rattle.trace_order.specs.Kinds.{shape_of, is_for, has_cell, is_nh, may_carry}
+use Rattle.trace_order.proofs.Walking.{LeftBy, Leaves, leaves_if, leaves}
 
 -- a key has the number that is written beside it
 abbrev pub IsNumbered : NumberedKey Term ℕ → Type 0
@@ -108,17 +109,20 @@ module _ (family : List Move) where
   MayAt at None = Unit {0}
   MayAt at (Some pair) = may_carry family at (shape_of pair.key) pair.number ≡ true
 
-  abbrev pub MaySend : Option (Sight Term) → Type 0
-  MaySend None = Unit {0}
-  MaySend (Some sight) = MayAt sight.at sight.pair
+  abbrev pub Keeps : Unit {0} → Option (Serving Term ℕ) → Type 0
+  Keeps u end = Holds end
+
+  abbrev pub After : Unit {0} → Where → Option (Serving Term ℕ) → Type 0
+  After u at end = Holds end
+
+  abbrev pub Brings : Unit {0} → Where → Option (NumberedKey Term ℕ) → Option (Serving Term ℕ) → Type 0
+  Brings u at pair end = MayAt at pair
 
   abbrev pub Sends : Option (Done (Net Term ℕ) (Sight Term)) → Type 0
-  Sends None = Unit {0}
-  Sends (Some done) = Holds done.net.serving × MaySend done.sent
+  Sends = Leaves Keeps After Brings tt
 
-  sends_if : (b : Bool) (done : Done (Net Term ℕ) (Sight Term)) → Holds done.net.serving × MaySend done.sent → Sends (if b then Some done else None)
-  sends_if true done h = h
-  sends_if false done h = tt
+  sends_if : (b : Bool) (done : Done (Net Term ℕ) (Sight Term)) → LeftBy Keeps After Brings tt done.sent done.net.serving → Sends (if b then Some done else None)
+  sends_if = leaves_if Keeps After Brings tt
 
   sends_renewed : (root : Option Term) (net : Net Term ℕ) (kasme count station : ℕ) (cell : Place) (early taken : Bool)
       → Sends (renewed term_reading root net kasme count station cell early taken)
@@ -157,7 +161,7 @@ module _ (family : List Move) where
   sends_prepared : (net : Net Term ℕ) (s : Serving Term ℕ) (station : ℕ) (cell : Place) (goes : Bool)
       → IsIn (Prepare station cell goes) family
       → HoldsIn s
-      → Holds (prepared term_reading net s (opened term_reading s.key cell) station cell goes).net.serving × MaySend (prepared term_reading net s (opened term_reading s.key cell) station cell goes).sent
+      → Sends (Some (prepared term_reading net s (opened term_reading s.key cell) station cell goes))
   sends_prepared net s station cell goes i k =
       let base = base_is s.key.pair s.key.kenb s.key.number k.pair k.held in
       let ncc : nat_eq (ncc_of (base_of s.key.pair s.key.kenb s.key.number).number) (ncc_of (chain_number (base_of s.key.pair s.key.kenb s.key.number).key)) ≡ true =
@@ -178,7 +182,7 @@ module _ (family : List Move) where
 
   sends_arrived : (net : Net Term ℕ) (s : Serving Term ℕ) (target : Option (Target Term ℕ)) → TargetIs target → HoldsIn s → Sends (arrived net s target)
   sends_arrived net s None t k = tt
-  sends_arrived net s (Some target) t k = ((record { core = k.core; held = t.0; pair = tt; target = tt; offer = tt }), tt)
+  sends_arrived net s (Some target) t k = record { core = k.core; held = t.0; pair = tt; target = tt; offer = tt }
 
   restored_is : (s : Serving Term ℕ) (spent : Option (NumberedKey Term ℕ)) → NumberedIf spent → HoldsIn s
       → HoldsIn (record s { key = restored_if s.key spent; target = None })
@@ -187,7 +191,7 @@ module _ (family : List Move) where
 
   sends_cancelled : (net : Net Term ℕ) (s : Serving Term ℕ) (target : Option (Target Term ℕ)) → TargetIs target → HoldsIn s → Sends (cancelled net s target)
   sends_cancelled net s None t k = tt
-  sends_cancelled net s (Some target) t k = (restored_is s target.spent t.1 k, tt)
+  sends_cancelled net s (Some target) t k = restored_is s target.spent t.1 k
 
   sends_in : (kasmes : List Term) (net : Net Term ℕ) (s : Serving Term ℕ) (move : Move)
       → IsIn move family
@@ -211,19 +215,12 @@ module _ (family : List Move) where
   sends_in kasmes net s Cancel i k = sends_cancelled net s s.target k.target k
   sends_in kasmes net s (Refresh station cell) i k =
       sends_if (nat_eq station s.station) (refreshed net s (opened term_reading s.key cell) cell)
-      ((record { core = k.core; held = base_is s.key.pair s.key.kenb s.key.number k.pair k.held; pair = tt; target = tt; offer = k.offer }), tt)
-  sends_in kasmes net s Leave i k = (tt, tt)
-
-  sends_if_connected : (kasmes : List Term) (net : Net Term ℕ) (serving : Option (Serving Term ℕ)) (move : Move)
-      → IsIn move family
-      → Holds serving
-      → Sends (if_connected term_reading kasmes net serving move)
-  sends_if_connected kasmes net None move i k = tt
-  sends_if_connected kasmes net (Some s) move i k = sends_in kasmes net s move i k
+      (record { core = k.core; held = base_is s.key.pair s.key.kenb s.key.number k.pair k.held; pair = tt; target = tt; offer = k.offer })
+  sends_in kasmes net s Leave i k = tt
 
   pub sends : (kasmes : List Term) (net : Net Term ℕ) (move : Move)
       → IsIn move family
       → Holds net.serving
       → Sends (moved term_reading kasmes net move)
-  sends kasmes net (Renew kasme count station cell early taken) i k = sends_renewed (slice_get kasmes kasme) net kasme count station cell early taken
-  sends kasmes net move i k = sends_if_connected kasmes net net.serving move i k
+  sends kasmes =
+      leaves Keeps After Brings (λ move. IsIn move family) kasmes tt (λ root net kasme count station cell early taken i. sends_renewed root net kasme count station cell early taken) (sends_in kasmes)

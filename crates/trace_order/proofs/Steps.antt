@@ -12,10 +12,11 @@ use Rattle.trace_keys.specs.declared.moves.Unanswered.TheVariants.{Refused, Lost
 use Rattle.trace_keys.specs.declared.moves.Move.TheVariants.{Renew, Offer, Take, Switch, Ask, Prepare, Require, Arrive, Cancel, Refresh, Leave}
 use Rattle.trace_keys.specs.Net.{Target, Offer as OfferOf, Serving, Net, Sight}
 use Rattle.nas_count.specs.Estimate.{nas_count_limit}
-use Rattle.trace_keys.specs.Moved.{is_fresh, chain_of, target_of, renewed, begins, offered, offers, took, taken_on, unanswered, may_come, prepared, required, arrived, cancelled, refreshed, moved_in, if_connected, moved}
+use Rattle.trace_keys.specs.Moved.{is_fresh, chain_of, target_of, renewed, begins, offered, offers, took, taken_on, unanswered, may_come, prepared, required, arrived, cancelled, refreshed, moved_in, moved}
 use Rattle.trace_order.specs.Order.{IsTapped}
 use Rattle.trace_order.specs.Reach.{StepsAt, StepsSeen}
 use Rattle.trace_order.proofs.Sending.{ChainIs, step_is, chain_is}
+use Rattle.trace_order.proofs.Walking.{LeftBy, Leaves, leaves_if, leaves}
 
 -- a chain that a KeNB begins
 abbrev pub IsNew : ChainState Term ℕ → Type 0
@@ -66,18 +67,15 @@ module _ (covers : Sight (List ℕ) → Bool) where
   BringsAt most at pair end = Unit {0}
 
   abbrev pub StepsBy : ℕ → Option (Sight Term) → Option (Serving Term ℕ) → Type 0
-  StepsBy most None end = Reaches most end
-  StepsBy most (Some sight) end = ReachesAt most sight.at end × BringsAt most sight.at sight.pair end
+  StepsBy = LeftBy Reaches ReachesAt BringsAt
 
   abbrev pub Stepped : ℕ → Option (Done (Net Term ℕ) (Sight Term)) → Type 0
-  Stepped most None = Unit {0}
-  Stepped most (Some done) = StepsBy most done.sent done.net.serving
+  Stepped = Leaves Reaches ReachesAt BringsAt
 
   stepped_if : (most : ℕ) (b : Bool) (done : Done (Net Term ℕ) (Sight Term))
       → StepsBy most done.sent done.net.serving
       → Stepped most (if b then Some done else None)
-  stepped_if most true done h = h
-  stepped_if most false done h = tt
+  stepped_if = leaves_if Reaches ReachesAt BringsAt
 
   stepped_renewed : (most : ℕ) (root : Option Term) (net : Net Term ℕ) (kasme count station : ℕ) (cell : Place) (early taken : Bool)
       → StepsAt covers station
@@ -188,17 +186,8 @@ module _ (covers : Sight (List ℕ) → Bool) where
       (record { core = k.core; within = k.within; offer = k.offer; here = k.here; target = tt })
   stepped_in most kasmes net s Leave tap k = tt
 
-  stepped_if_connected : (most : ℕ) (kasmes : List Term) (net : Net Term ℕ) (serving : Option (Serving Term ℕ)) (move : Move)
-      → StepsSeen covers move
-      → Reaches most serving
-      → Stepped most (if_connected term_reading kasmes net serving move)
-  stepped_if_connected most kasmes net None move tap k = tt
-  stepped_if_connected most kasmes net (Some s) move tap k = stepped_in most kasmes net s move tap k
-
-  pub steps : (most : ℕ) (kasmes : List Term) (net : Net Term ℕ) (move : Move)
+  pub steps : (kasmes : List Term) (most : ℕ) (net : Net Term ℕ) (move : Move)
       → StepsSeen covers move
       → Reaches most net.serving
       → Stepped most (moved term_reading kasmes net move)
-  steps most kasmes net (Renew kasme count station cell early taken) tap k =
-      stepped_renewed most (slice_get kasmes kasme) net kasme count station cell early taken tap
-  steps most kasmes net move tap k = stepped_if_connected most kasmes net net.serving move tap k
+  steps kasmes most = leaves Reaches ReachesAt BringsAt (StepsSeen covers) kasmes most (stepped_renewed most) (stepped_in most kasmes)

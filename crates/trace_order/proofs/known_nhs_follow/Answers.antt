@@ -10,6 +10,6 @@ pub returns : goal.returns
 returns c = λ kasmes fits covers family bound left kasme count moves capture sight last next before after exact tapped fam is brings first second differ h.
     let net : Net Term ℕ = record { kasme = kasme; count = count; serving = None } in
     let order =
-    in_order kasmes fits covers exact family tapped bound left net moves (capture ++ sight ∷ []) None fam tt
+    in_order covers kasmes fits exact family tapped bound left net moves (capture ++ sight ∷ []) None fam tt
     (to_here term_reading octet_reading value_of ncc_of values_carry kasmes fits covers bound left _ net moves (capture ++ sight ∷ []) refl h) in
     never before after last next first second differ (two_keys capture sight None None last next tt is brings order)
