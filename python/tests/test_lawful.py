@@ -2,6 +2,7 @@
 proved, and tried by the examples."""
 from __future__ import annotations
 
+import copy
 import os
 import tempfile
 import unittest
@@ -13,16 +14,19 @@ from lte_sec.captures.capture_files import read
 from lte_sec.captures.cells import Cells
 from lte_sec.common.causes import Cause, has, told
 from lte_sec.common.report import DIFFERS, KEYS, UNKNOWN, Line
-from lte_sec.common.terms import NONE, Derivations, Key
+from lte_sec.common.terms import NONE, Derivations, Kasme, Key
 from lte_sec.judge.account import Account
 from lte_sec.judge.reading import check
 from lte_sec.judge.trace import Trace
 
+from . import sound_worlds
 from .in_views import BUDGET, broken_cases
 from .networks import SITES
-from .simulated import CALLS
+from .simulated import CALLS, CELLS
+from .sound_worlds import KASMES
 from .test_traces import TRACES
 from .test_traces import traced as judged
+from .views import views
 
 NOT_FOUND = Cause.HISTORY_FOUND.says
 SIGHTINGS = ("setup", "change", "answer", "request", "over", "any", "asked", "took")
@@ -232,6 +236,27 @@ class Blames(unittest.TestCase):
             shown = [line for line in lines if line.split()[0] in SIGHTINGS]
             taps = [line.removeprefix("covers ") for line in lines if line.startswith("covers ")]
             self.assertTrue(all(any(line.startswith(tap) for tap in taps) for line in shown), view)
+
+    def test_where_a_blame_is_withdrawn_agreement_on_its_key_is_in_doubt(self) -> None:
+        trace = traced("B1-star-earfcn")
+        wrong = {value.hex for _, value in trace.seen.values() if value.verdict == DIFFERS and value.what in KEYS}
+        seen = lawful.confirmed(trace, Says())
+        of_key = [value for _, value in seen.values() if value.what == "agreement" and value.hex in wrong]
+        self.assertTrue(of_key)
+        self.assertEqual({UNKNOWN}, {value.verdict for value in of_key})
+        self.assertTrue(all(has(value.said, Cause.AGREEMENT_IN_DOUBT) for value in of_key))
+        kept = lawful.confirmed(trace, Says(*blamed(trace.seen)))
+        self.assertIn(DIFFERS, {value.verdict for _, value in kept.values() if value.what == "agreement"})
+
+    def test_the_first_ncc_may_be_either_where_requests_may_go_unseen(self) -> None:
+        world = sound_worlds.handovers(2)
+        for view, messages in [("all", world.messages), *views(world.messages)]:
+            trace = check(Derivations(CALLS, [Kasme("k0", KASMES[0])]), Cells(CELLS), copy.deepcopy(messages), BUDGET)
+            phones = [one for one in trace.seen.messages if one.phone is not None]
+            if view == "all":
+                self.assertEqual([2], questions.Phone(trace, phones).firsts())
+            elif view == "without S1 up":
+                self.assertEqual([1, 2], questions.Phone(trace, phones).firsts())
 
     def test_where_the_program_is_not_built_the_head_says_so(self) -> None:
         with mock.patch.dict(os.environ, {questions.VARIABLE: ""}):

@@ -10,7 +10,7 @@ from __future__ import annotations
 from collections.abc import Iterator
 from dataclasses import dataclass, field, replace
 
-from ..common.causes import Cause, Why
+from ..common.causes import Cause, Why, every
 from ..common.report import DIFFERS, UNKNOWN, Line, unknown_line
 from .account import Account, Seen
 from .questions import BOUNDS, Phone, Program, is_blamed, program
@@ -126,6 +126,27 @@ def withdrawn(value: Line, why: Why) -> Line:
     return replace(value, verdict=UNKNOWN, said=line.said, faults=(), remarks=why, doubt=())
 
 
+def without_blames(values: tuple[Line, ...], explained: dict[int, Why]) -> tuple[Line, ...]:
+    """The lines of a message, with the blames withdrawn that a lawful history explains, and with each what is said of
+    the agreement on that key."""
+    whys = {value.hex: explained[id(value)] for value in values if id(value) in explained}
+    return tuple(
+        withdrawn(value, explained[id(value)])
+        if id(value) in explained
+        else in_doubt(value, whys[value.hex])
+        if value.what == "agreement" and value.verdict == DIFFERS and value.hex in whys
+        else value
+        for value in values
+    )
+
+
+def in_doubt(value: Line, why: Why) -> Line:
+    """A line on agreement whose key a lawful history explains: in each the phone makes the key of its station."""
+    station = next((one.value("station") for one in every(value.said)), "")
+    said = Cause.AGREEMENT_IN_DOUBT.because(move="handover to", station=station, why=why)
+    return replace(value, verdict=UNKNOWN, said=said, remarks=why)
+
+
 def confirmed(trace: Trace, taken: Program | None = None) -> Account:
     """What was seen of a trace, with its blames asked for."""
     seen, taken = trace.seen, taken or program()
@@ -145,14 +166,5 @@ def confirmed(trace: Trace, taken: Program | None = None) -> Account:
     verdicts = Verdicts()
     for messages in to_ask:
         asked(Phone(trace, messages), taken, verdicts)
-    found = tuple(
-        replace(
-            one,
-            values=tuple(
-                withdrawn(value, verdicts.explained[id(value)]) if id(value) in verdicts.explained else value
-                for value in one.values
-            ),
-        )
-        for one in seen.messages
-    )
+    found = tuple(replace(one, values=without_blames(one.values, verdicts.explained)) for one in seen.messages)
     return replace(seen, messages=found, told=None, head=(*seen.head, *verdicts.head(taken.is_proved)))

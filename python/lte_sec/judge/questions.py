@@ -254,8 +254,11 @@ class Phone:
             )
 
     def firsts(self) -> list[int]:
-        """The first NCC that the cores of the trace send: 2, or 1 where they step their chain only for an answer."""
-        judge = self.trace.judge
+        """The first NCC that the cores of the trace send: 2, or 1 where they step their chain only for an answer. Where
+        a request to the core may go unseen it may be either: with 1, too, 2 comes behind a lost answer."""
+        judge, coverage = self.trace.judge, self.trace.coverage
+        if not all(coverage.s1(station, UP) for station in coverage.stations):
+            return [1, 2]
         seen = {number for numbers in judge.seen_firsts.values() for number in numbers}
         return sorted({*judge.firsts.values()} or seen & {1, 2} or {1, 2})
 
