@@ -13,8 +13,18 @@ from dataclasses import dataclass
 from typing import Any
 
 from .native import DrbState, FoundState, NasState, PhoneState, ReachedState, SrbState, calls
-from .refusals import MAC_FAILS, BadHeader, BeforeFirst, CountSpent, MacFails, OtherCount, OutOfRange, Refused, Short
-from .refusals import checked_key, checked_number, key_octets, raises
+from .call_refusals import (
+    MAC_FAILS,
+    BadHeader,
+    BeforeFirst,
+    CountSpent,
+    MacFails,
+    OtherCount,
+    OutOfRange,
+    Refused,
+    Short,
+)
+from .call_refusals import checked_key, checked_number, key_octets, raises
 
 __all__ = [
     "EEA0",

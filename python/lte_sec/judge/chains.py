@@ -5,7 +5,7 @@ from collections import Counter
 from collections.abc import Iterator
 
 from ..captures.decoding import Message
-from ..common import mistakes as reasons
+from ..common import mistakes
 from ..common.causes import Cause
 from ..common.terms import NONE, UP, Key, counted, numbered
 from ..nas.findings import NOT_GIVEN
@@ -226,7 +226,7 @@ class ChainJudge(KenbJudge):
         why = self.reason(
             found,
             lambda: (
-                reasons.nh(found.value, kasmes[chain.kasme].value, sync.value)
+                mistakes.nh(found.value, kasmes[chain.kasme].value, sync.value)
                 for chain in connection.cores()
                 for sync in self.syncs(connection, chain)
             ),

@@ -3,7 +3,7 @@ from __future__ import annotations
 
 from ..captures.coverage import UP as FROM_STATION
 from ..captures.decoding import Message
-from ..common import mistakes as reasons
+from ..common import mistakes
 from ..common.causes import Cause, Why
 from ..common.pairs import paired
 from ..common.report import DIFFERS
@@ -76,7 +76,7 @@ class KenbJudge(KeyLines):
         tried = (
             self.derivations.kenb(key.kasme, other)
             for key in wanted
-            for _, other in reasons.count_mistakes(counted(key.term))
+            for _, other in mistakes.count_mistakes(counted(key.term))
         )
         return next((key for key in tried if key.value == value), None)
 
@@ -85,10 +85,10 @@ class KenbJudge(KeyLines):
         kasmes, counts = self.derivations.kasmes, [(one.kasme, counted(one.term)) for one in wanted]
         if found.term.kind == "kenb" and found.kasme == wanted[0].kasme:
             return next(
-                ((one,) for one, other in reasons.count_mistakes(counts[0][1]) if other == counted(found.term)), ()
+                ((one,) for one, other in mistakes.count_mistakes(counts[0][1]) if other == counted(found.term)), ()
             )
         return self.reason(
-            found, lambda: (reasons.kenb(found.value, kasmes[kasme].value, count) for kasme, count in counts)
+            found, lambda: (mistakes.kenb(found.value, kasmes[kasme].value, count) for kasme, count in counts)
         )
 
     def again_in_use(self, message: Message, key: Key) -> None:

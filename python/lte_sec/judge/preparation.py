@@ -4,7 +4,7 @@ from __future__ import annotations
 
 from ..captures.cells import Cell
 from ..captures.decoding import Message, Reestablishment, title
-from ..common import mistakes as reasons
+from ..common import mistakes
 from ..common.causes import Cause
 from ..common.report import DIFFERS, RIGHT, Line, unknown_line
 from ..common.terms import COMPUTED, RRC_INTEGRITY, Key
@@ -40,7 +40,7 @@ class PreparedJudge(StarJudge):
         match = next((key for key in wanted if key.value == one.key), None)
         found = match or self.named(one.key, connection, [base.key for base in made.bases], cell)
         why = self.reason(
-            found, lambda: (reasons.star(found.value, base.key.value, *cell) for base in made.bases[:BASES])
+            found, lambda: (mistakes.star(found.value, base.key.value, *cell) for base in made.bases[:BASES])
         )
         self.judged(message, "KeNB*", found, match or wanted[0], why=why, cell=cell, of=name)
 

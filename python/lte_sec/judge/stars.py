@@ -11,7 +11,7 @@ from dataclasses import dataclass, field, replace
 
 from ..captures.cells import Cell, is_cell
 from ..captures.decoding import Message
-from ..common import mistakes as reasons
+from ..common import mistakes
 from ..common.causes import Cause, Why
 from ..common.terms import Key, unknown
 from ..nas.findings import NOT_GIVEN
@@ -371,7 +371,7 @@ class StarJudge(ChainJudge):
         if doubt:
             self.unjudged(message, "KeNB*", doubt, found)
             return Made(given, bases, doubt)
-        why = self.reason(found, lambda: (reasons.star(found.value, base.key.value, *cell) for base in bases[:BASES]))
+        why = self.reason(found, lambda: (mistakes.star(found.value, base.key.value, *cell) for base in bases[:BASES]))
         self.judged(message, "KeNB*", found, wanted.key, (ncc, wanted.ncc), why, cell)
         return Made(given, bases)
 

@@ -4,7 +4,7 @@ from __future__ import annotations
 
 from dataclasses import replace
 
-from ..common import mistakes as reasons
+from ..common import mistakes
 from ..common.causes import Cause, Why
 from ..common.terms import COMPUTED, NAS_ENCRYPTION, NAS_INTEGRITY, Derivations
 from .contexts import CIPHERED, PARTLY, EpsSecurityContext, Life, NasSide
@@ -139,9 +139,9 @@ class ContextBook:
         """The mistake behind a wrong MAC, or nothing."""
         kasmes = self.derivations.kasmes
         others = ((one.name, one.value) for place, one in enumerate(kasmes) if place != context.kasme)
-        return reasons.mac(
+        return mistakes.mac(
             self.derivations.calls,
-            reasons.ProtectedNas(kasmes[context.kasme].value, context.eea, context.eia, direction, count, pdu),
+            mistakes.ProtectedNas(kasmes[context.kasme].value, context.eea, context.eia, direction, count, pdu),
             others,
         )
 
