@@ -1,5 +1,5 @@
 -- What the probe finds at stations and core.
-use Rattle.std.specs.Prelude.{ℕ, ◌==◌, ◌&&◌, Bool, true, false, not, List, [], ◌∷◌, Option, Some, None}
+use Rattle.std.specs.Prelude.{ℕ, ◌==◌, ◌&&◌, Bool, false, not, List, [], ◌∷◌, Option, Some, None}
 use Rattle.std.specs.List.{list_any}
 use Rattle.item_lines.specs.declared.lines.Told.{Told}
 use Rattle.item_lines.specs.Lines.{line_of, is_done, is_no_ue, answers}

@@ -1,11 +1,29 @@
 -- The outcomes of a variant beside its scenario.
-use Rattle.std.specs.Prelude.{ℕ, ◌==◌, Bool, true, false, if◌then◌else◌, List, [], ◌∷◌, ◌++◌, length, map, Option, Some, None, is_some}
+use Rattle.std.specs.Prelude.{ℕ, ◌==◌, Bool, true, false, if◌then◌else◌, List, [], ◌∷◌, ◌++◌, length, map, Option, Some, None, is_some, codes}
 use Rattle.item_lines.specs.declared.lines.Told.{Told}
 use Rattle.item_outcomes.specs.Handovers.{context_left, misrouted, no_handover}
 use Rattle.item_outcomes.specs.Keys.{keys_differ, not_made, weaker_key}
 use Rattle.item_outcomes.specs.Packets.{better, counts_apart, cut_off, fates, nas_apart, packet_lost, stuck}
 use Rattle.item_outcomes.specs.{Heals.heals_of, Same.same, Standing.Standing, declared.heals.Heals.Heals, declared.judging.Outcome.Outcome}
 use Rattle.item_outcomes.specs.declared.judging.Outcome.TheVariants as outcome
+
+-- its word
+abbrev pub word_of : Outcome → List ℕ
+word_of outcome.Same = codes "same"
+word_of outcome.Better = codes "better"
+word_of outcome.GoesOn = codes "goes on"
+word_of outcome.ContextLeft = codes "context left"
+word_of outcome.PacketLost = codes "packet lost"
+word_of outcome.WeakerKey = codes "weaker key"
+word_of outcome.NotMade = codes "not made"
+word_of outcome.NoHandover = codes "no handover"
+word_of outcome.Misrouted = codes "misrouted"
+word_of outcome.NasApart = codes "NAS apart"
+word_of outcome.CountsApart = codes "COUNTs apart"
+word_of outcome.CutOff = codes "cut off"
+word_of outcome.Stuck = codes "stuck"
+word_of outcome.KeysDiffer = codes "keys differ"
+word_of outcome.Coincidence = codes "coincidence"
 
 -- whether an outcome is told of a variant, with the names of its fault's own items, beside the scenario
 unfoldable pub is_told : List ℕ → Standing → Standing → Outcome → Bool

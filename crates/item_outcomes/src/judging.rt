@@ -1,6 +1,6 @@
 ghost use Rattle.growth.specs.Growth.{WasRefused};
 ghost use Rattle.std.specs.Prelude.{◌≡◌, ◌∷◌, [], IfOk, OnErr};
-ghost use Rattle.item_outcomes.specs.Outcomes.{best, is_told, outcomes, sent_of, told_from, verdict_of, worse};
+ghost use Rattle.item_outcomes.specs.Outcomes.{best, is_told, outcomes, sent_of, told_from, verdict_of, word_of, worse};
 
 use crate::handovers::{context_left, misrouted, no_handover};
 use crate::heals::Heals;
@@ -45,6 +45,31 @@ pub enum Outcome {
     KeysDiffer,
     /// The run ends at a coincidence.
     Coincidence,
+}
+
+impl Outcome {
+    /// Its word.
+    pub fn word(&self) -> &'static str
+        ensures { result.now ≡ word_of self.now }
+    {
+        match self {
+            Outcome::Same => "same",
+            Outcome::Better => "better",
+            Outcome::GoesOn => "goes on",
+            Outcome::ContextLeft => "context left",
+            Outcome::PacketLost => "packet lost",
+            Outcome::WeakerKey => "weaker key",
+            Outcome::NotMade => "not made",
+            Outcome::NoHandover => "no handover",
+            Outcome::Misrouted => "misrouted",
+            Outcome::NasApart => "NAS apart",
+            Outcome::CountsApart => "COUNTs apart",
+            Outcome::CutOff => "cut off",
+            Outcome::Stuck => "stuck",
+            Outcome::KeysDiffer => "keys differ",
+            Outcome::Coincidence => "coincidence",
+        }
+    }
 }
 
 // Those that are told beside one another.

@@ -4,10 +4,10 @@ use Rattle.std.specs.{List.flat_map, List.list_any, Str.bytes_eq}
 use Rattle.item_faults.specs.{declared.changes.Kind.Kind, declared.messages.Message.Message}
 use Rattle.item_faults.specs.declared.changes.Kind.TheVariants as kind
 use Rattle.item_faults.specs.declared.messages.Message.TheVariants as message
-use Rattle.item_outcomes.specs.{declared.heals.Heals.Heals, declared.judging.Outcome.Outcome, Outcomes.worst_first}
+use Rattle.item_outcomes.specs.{declared.heals.Heals.Heals, declared.judging.Outcome.Outcome, Outcomes.word_of, Outcomes.worst_first}
 use Rattle.item_outcomes.specs.declared.heals.Heals.TheVariants as heals
 use Rattle.item_outcomes.specs.declared.judging.Outcome.TheVariants as outcome
-use Rattle.variant_text.specs.{Faults.kind_name, Healing.heals_name, Messages.message_name, Outcomes.outcome_name}
+use Rattle.variant_text.specs.{Faults.kind_name, Healing.heals_name, Messages.message_name}
 
 -- a word behind what it is
 abbrev pub word_line : List ℕ → List ℕ → List ℕ
@@ -61,7 +61,7 @@ messages =
 
 -- `outcome packet lost`, `fault late`, `heals reconnection`, `message Service Request`
 unfoldable pub outcome_lines : List ℕ
-outcome_lines = flat_map (λ o. word_line (codes "outcome") (outcome_name o)) outcomes
+outcome_lines = flat_map (λ o. word_line (codes "outcome") (word_of o)) outcomes
 
 unfoldable pub fault_lines : List ℕ
 fault_lines = flat_map (λ k. word_line (codes "fault") (kind_name k)) faults

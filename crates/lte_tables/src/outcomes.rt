@@ -3,14 +3,14 @@ ghost use Rattle.std.specs.Prelude.{◌≡◌};
 ghost use Rattle.item_faults.specs.declared.changes.Kind.{Kind};
 ghost use Rattle.item_faults.specs.declared.messages.Message.{Message};
 ghost use Rattle.item_outcomes.specs.declared.heals.Heals.{Heals};
-ghost use Rattle.item_outcomes.specs.declared.judging.Outcome.{Outcome};
-ghost use Rattle.variant_text.specs.{Faults.kind_name, Healing.heals_name, Messages.message_name, Outcomes.outcome_name};
+ghost use Rattle.item_outcomes.specs.{Outcomes.word_of, declared.judging.Outcome.Outcome};
+ghost use Rattle.variant_text.specs.{Faults.kind_name, Healing.heals_name, Messages.message_name};
 ghost use Rattle.lte_tables.specs.Outcomes.{IsAmong, fault_lines, faults, heals_lines, healers, message_lines, messages, outcome_lines, outcomes};
 
 /// The lines of the outcomes, from the best to the worst; each has one.
 pub fn outcome_lines() -> &'static str
     ensures lines { result.now ≡ outcome_lines }
-    ensures all { (outcome : Outcome) → IsAmong outcome_name outcomes outcome }
+    ensures all { (outcome : Outcome) → IsAmong word_of outcomes outcome }
 {
     "\
 outcome same

@@ -1,5 +1,5 @@
 -- Keys that differ are told where their definition says so, but at a coincidence.
-use Rattle.std.proofs.Common.{◌≡◌, refl, sym, ap, ◌∙◌, arith, ℕ, zero, suc, ◌==◌, ◌&&◌, ◌||◌, Bool, true, false, not, if◌then◌else◌, List, [], ◌∷◌, ◌++◌, length}
+use Rattle.std.proofs.Common.{◌≡◌, refl, sym, ap, ◌∙◌, arith, ℕ, zero, suc, ◌==◌, ◌&&◌, ◌||◌, Bool, true, false, not, if◌then◌else◌, List, [], ◌∷◌, ◌++◌, drop, length}
 use Rattle.std.specs.List.{list_all, list_any}
 use Rattle.std.proofs.lemmas.Bool.{eqb-true}
 use Rattle.std.proofs.lemmas.List.Folds.{list_any-append}
@@ -30,7 +30,7 @@ others_behind own usual here (o ∷ os) found e =
     others_behind own usual here os (with_if (is_told own usual here o) o found) both.1
     ∙ other_behind (is_told own usual here o) o found both.0
 
--- it is the first of those that are told beside one another
+-- it is the first of those that are told beside one another, and no other of them is it
 first_told : (b : Bool) → tells_keys (with_if b outcome.KeysDiffer []) ≡ b
 first_told true = refl
 first_told false = refl
@@ -38,10 +38,7 @@ first_told false = refl
 worse_tells : (own : List ℕ) (usual here : Standing) → tells_keys (worse own usual here) ≡ keys_differ usual.told here.told
 unfolding worse told_from is_told
 worse_tells own usual here =
-    others_behind own usual here
-    (outcome.Stuck ∷ outcome.CutOff ∷ outcome.CountsApart ∷ outcome.NasApart ∷ outcome.Misrouted ∷ outcome.NoHandover ∷ outcome.NotMade
-    ∷ outcome.WeakerKey ∷ outcome.PacketLost ∷ outcome.ContextLeft ∷ outcome.Better ∷ [])
-    (with_if (keys_differ usual.told here.told) outcome.KeysDiffer []) refl
+    others_behind own usual here (drop 1 worst_first) (with_if (keys_differ usual.told here.told) outcome.KeysDiffer []) refl
     ∙ first_told (keys_differ usual.told here.told)
 
 best_tells : (b : Bool) → tells_keys (best b ∷ []) ≡ false

@@ -1,40 +1,19 @@
 ghost use Rattle.growth.specs.Growth.{WasRefused};
 ghost use Rattle.std.specs.Prelude.{◌≡◌, IfOk, OnErr, OnOk, codes};
+ghost use Rattle.item_outcomes.specs.Outcomes.{word_of};
 ghost use Rattle.variant_text.specs.Joined.{joined};
-ghost use Rattle.variant_text.specs.Outcomes.{outcome_name, outcomes_text};
+ghost use Rattle.variant_text.specs.Outcomes.{outcomes_text};
 
 use crate::joined::join;
 use item_outcomes::Outcome;
 use std::alloc::{AllocError, Global};
 
-fn outcome_name(outcome: Outcome) -> &'static str
-    ensures { result.now ≡ outcome_name outcome }
-{
-    match outcome {
-        Outcome::Same => "same",
-        Outcome::Better => "better",
-        Outcome::GoesOn => "goes on",
-        Outcome::ContextLeft => "context left",
-        Outcome::PacketLost => "packet lost",
-        Outcome::WeakerKey => "weaker key",
-        Outcome::NotMade => "not made",
-        Outcome::NoHandover => "no handover",
-        Outcome::Misrouted => "misrouted",
-        Outcome::NasApart => "NAS apart",
-        Outcome::CountsApart => "COUNTs apart",
-        Outcome::CutOff => "cut off",
-        Outcome::Stuck => "stuck",
-        Outcome::KeysDiffer => "keys differ",
-        Outcome::Coincidence => "coincidence",
-    }
-}
-
 // Puts an outcome behind those so far.
 fn add(text: &mut Vec<u8>, outcome: Outcome) -> Result<(), AllocError>
-    ensures added { OnOk result (text.new.items ≡ joined (codes "; ") text.old.items (outcome_name outcome)) }
+    ensures added { OnOk result (text.new.items ≡ joined (codes "; ") text.old.items (word_of outcome)) }
     ensures refused { OnErr result WasRefused }
 {
-    join(text, b"; ", outcome_name(outcome).as_bytes())
+    join(text, b"; ", outcome.word().as_bytes())
 }
 
 /// The outcomes of a variant, with a semicolon between.
