@@ -19,7 +19,7 @@ sys.path.insert(0, str(TOP / "python"))
 import schema  # noqa: E402
 import shells  # noqa: E402
 from lte_sec.common import tables  # noqa: E402
-from lte_sec.common.options import Row, rows as rows  # noqa: E402
+from lte_sec.common.options import WordRow, rows as rows  # noqa: E402
 from lte_sec.whatif import healing  # noqa: E402
 
 MAN, COMPLETIONS = TOP / "share/man/man1/lte_sec.1", TOP / "share/bash-completion/completions/lte_sec"
@@ -43,7 +43,7 @@ VALUES = {
 TAKES = {"FILE": "file", "SCENARIO": "file", "CAPTURE": "file", "FOLDER": "folder", "CMD": "command"}
 
 
-def offered(word: Row) -> str:
+def offered(word: WordRow) -> str:
     return " ".join(name.split(" ")[0] for name, _ in word.below)
 
 
@@ -81,7 +81,7 @@ def named(name: str, behind: str) -> str:
     return f"\\fB{plain(name)}\\fR {fonted}".rstrip()
 
 
-def entry(word: Row) -> list[str]:
+def entry(word: WordRow) -> list[str]:
     lines = [".TP", named(word.name, word.behind), sentence(word.does)]
     for name, does in word.below:
         option, _, argument = name.partition(" ")

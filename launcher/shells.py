@@ -3,7 +3,7 @@ from __future__ import annotations
 
 from collections.abc import Callable, Iterator, Sequence
 
-from lte_sec.common.options import Row
+from lte_sec.common.options import WordRow
 
 MADE = "made by launcher/pages.py of the table launcher/words."
 Takes = Callable[[str], str]  # what is completed where this stands: file, folder, command or nothing
@@ -22,7 +22,7 @@ def short(text: str) -> str:
 # fish
 
 
-def fish(words: Sequence[Row], takes: Takes, values: Values) -> str:
+def fish(words: Sequence[WordRow], takes: Takes, values: Values) -> str:
     lines = [f"# Completions of lte_sec for fish, {MADE}", "complete -c lte_sec -f"]
     for word in words:
         option = word.name.startswith("--")
@@ -64,7 +64,7 @@ def fish_option(name: str, word: str, takes: Takes, values: Values) -> str:
 # zsh
 
 
-def zsh(words: Sequence[Row], takes: Takes, values: Values) -> str:
+def zsh(words: Sequence[WordRow], takes: Takes, values: Values) -> str:
     lines = ["#compdef lte_sec", f"# Completions of lte_sec for zsh, {MADE}", "local -a known", "known=("]
     lines += [f"    {quoted(word.name.replace(':', chr(92) + ':') + ':' + short(word.does))}" for word in words]
     lines += [
@@ -84,7 +84,7 @@ def zsh(words: Sequence[Row], takes: Takes, values: Values) -> str:
     return "\n".join([*lines, "esac"]) + "\n"
 
 
-def zsh_specs(word: Row, takes: Takes, values: Values) -> Iterator[str]:
+def zsh_specs(word: WordRow, takes: Takes, values: Values) -> Iterator[str]:
     """What `_arguments` is told of a word: its options, and what stands where none does."""
     fixed = [name.split(" ")[0] for name, _ in word.below if not name.startswith("--")]
     for name, does in word.below:

@@ -6,7 +6,7 @@ import importlib
 import importlib.metadata
 import sys
 
-from .common.options import Row, rows
+from .common.options import WordRow, rows
 from .common.terms import TraceError
 
 WORDS = {row.name: row for row in rows() if row.wheel}
@@ -18,7 +18,7 @@ def version() -> str:
     return f"lte-sec {importlib.metadata.version('lte_sec')}, {'proved' if proved() else 'unproved'}"
 
 
-def told(row: Row) -> str:
+def told(row: WordRow) -> str:
     """A word, and each of its options."""
     options = (f"\n        {name:<24} {does}" for name, does in row.below)
     return f"{row.name} {row.behind}   {row.does}{''.join(options)}"

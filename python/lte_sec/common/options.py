@@ -20,7 +20,7 @@ class WrongWords(TraceError):
 
 
 @dataclass
-class Row:
+class WordRow:
     """A word of the launcher: what follows it, an example, what it does, who answers it, a program or a module with its
     first words, and whether the wheel has it; and its options and fixed arguments with what each does."""
 
@@ -33,15 +33,15 @@ class Row:
     below: list[tuple[str, str]] = field(default_factory=list, init=False)
 
 
-def rows() -> list[Row]:
+def rows() -> list[WordRow]:
     """The table."""
-    found: list[Row] = []
+    found: list[WordRow] = []
     for line in (COPY if COPY.exists() else TABLE).read_text(encoding="utf-8").splitlines():
         cells = [cell.strip() for cell in line.split("|")]
         if line.startswith(" "):
             found[-1].below.append((cells[0], cells[1]))
         elif not line.startswith("#"):
-            found.append(Row(*cells))
+            found.append(WordRow(*cells))
     return found
 
 
