@@ -7,6 +7,7 @@ import tempfile
 import unittest
 from pathlib import Path
 
+from lte_sec.common.tables import FAULTS
 from lte_sec.runs import scenarios
 from lte_sec.runs.courses import Course, Item, act, delivery
 from lte_sec.runs.run_report import StepLine
@@ -18,19 +19,19 @@ from lte_sec.whatif.study import Study, Variant
 from lte_sec.whatif.variant_lists import Sending
 from lte_sec.runs.variants import Fault
 
-from .studied import TOP, listed, octets, program, programs, study
+from .studied import EXAMPLES, TOP, listed, octets, program, programs, study
 
-# Of each outcome a scenario and a kind of fault with a variant that has it as its worst.
-SHOWN = {
-    ("run/ordinary", "lost"): ("weaker key", "not made", "no handover", "cut off", "stuck"),
-    ("run/ordinary", "late"): ("goes on", "packet lost"),
-    ("run/ordinary", "twice"): ("same",),
-    ("run/key-change", "lost"): ("better",),
-    ("what-if/two-path-switches", "lost"): ("context left", "misrouted", "NAS apart"),
-    ("worked/user-window", "twice"): ("COUNTs apart",),
-    ("run/seven-ahead", "again"): ("keys differ",),
-    ("worked/sent-again", "late"): ("coincidence",),
-}
+# Scenarios and kinds of faults among whose variants each outcome is the worst of one: first those that have it soon, then
+# all of what-if.
+SHOWN: list[tuple[str, ...]] = [
+    ("run/ordinary", "lost", "late", "twice"),
+    ("run/key-change", "lost"),
+    ("what-if/two-path-switches", "lost"),
+    ("worked/user-window", "twice"),
+    ("run/seven-ahead", "again"),
+    ("worked/sent-again", "late"),
+    *((f"what-if/{file.stem}", *FAULTS) for file in sorted((EXAMPLES / "what-if").glob("*.toml"))),
+]
 
 
 def setUpModule() -> None:
@@ -97,14 +98,17 @@ class Courses(unittest.TestCase):
 
 class Outcomes(unittest.TestCase):
     def test_a_variant_of_each_outcome_is_saved_and_run(self) -> None:
-        self.assertEqual({word for words in SHOWN.values() for word in words}, set(WORDS))
-        for (name, kind), words in SHOWN.items():
-            found = listed(octets(name), kind, packets="COUNTs apart" in words)
-            for word in words:
+        missing = set(WORDS)
+        for name, *kinds in SHOWN:
+            listing = listed(octets(name), *kinds, packets=True) if missing else []
+            found = {each.outcomes[0]: each.faults for each in reversed(listing)}
+            for word in sorted(missing & found.keys()):
                 with self.subTest(word=word):
-                    tried = study(name).tried(next(each.faults for each in found if each.outcomes[0] == word))
+                    tried = study(name).tried(found[word])
                     self.assertEqual(tried.variant.worst, word)
                     self.saved(study(name), tried.variant, tried.course)
+                missing.remove(word)
+        self.assertEqual(missing, set())
 
     def saved(self, whole: Study, variant: Variant, course: Course) -> None:
         with tempfile.TemporaryDirectory() as room:

@@ -4,7 +4,7 @@ import unittest
 from lte_sec.common import tables
 from lte_sec.drive import frames, records
 from lte_sec.runs import scenario_fields
-from lte_sec.whatif import healing, matrix
+from lte_sec.whatif import healing, outcomes
 
 TABLES = ("phone", "core", "station", "step", "fleet")  # of a scenario
 
@@ -28,7 +28,7 @@ class Tables(unittest.TestCase):
         self.assertEqual(len(read), len(tables.LINES))
 
     def test_what_python_adds_to_a_word_has_a_row_for_each(self) -> None:
-        self.assertEqual(tuple(matrix.LOOKS), tables.OUTCOMES)
+        self.assertEqual(tuple(outcomes.LOOKS), tables.OUTCOMES)
         self.assertEqual((*healing.EVENTS, healing.NOTHING), tables.HEALS)
 
     def test_fields_of_a_scenario_are_those_that_the_program_reads(self) -> None:

@@ -7,8 +7,7 @@ from collections.abc import Iterator
 from ..common.escaped import shown
 from ..pages.trace_page import GLYPHS, Json
 from .healing import Heals
-from .matrix import LOOKS
-from .outcomes import GOES_ON, RANK, WORDS
+from .outcomes import GOES_ON, LOOKS, RANK, WORDS
 
 MARKS = {
     "bad": "refused, and not so in the scenario",

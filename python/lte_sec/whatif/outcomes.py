@@ -4,7 +4,7 @@ from __future__ import annotations
 
 from collections.abc import Iterator
 from dataclasses import dataclass, field, replace
-from typing import Protocol
+from typing import NamedTuple, Protocol
 
 from ..common import tables
 from ..common.pairs import paired
@@ -24,6 +24,35 @@ GOES_ON, KEYS_DIFFER = "goes on", "keys differ"
 USUAL_BAD = KEYS_DIFFER
 NOT_MADE = "not made"
 NOT_TOLD = "at which handover the report does not tell"
+
+
+class Look(NamedTuple):
+    """Of an outcome its letter, its colour, and what it means, in a few words; docs/WHATIF.md defines it."""
+
+    letter: str
+    colour: str
+    means: str
+
+
+LOOKS = {
+    "same": Look("=", "#eef1f4", "Each line is as in the scenario, but those of the fault itself."),
+    "better": Look("+", "#c9eef0", "User packets pass here, and not in the scenario."),
+    "goes on": Look("~", "#dde3ea", "A line differs, and nothing worse comes of it."),
+    "context left": Look("c", "#d9e8c4", "A station that does not serve the phone still has its context."),
+    "packet lost": Look("p", "#f3f0b5", "A text that arrives in the scenario does not arrive here."),
+    "weaker key": Look(
+        "w", "#ffe08a", "A key is horizontal that is vertical in the scenario, or more stations can derive it."
+    ),
+    "not made": Look("m", "#ffc98a", "The phone does not come by a key that it has in the scenario."),
+    "no handover": Look("h", "#f9b27c", "The next handover or its path switch fails."),
+    "misrouted": Look("r", "#e3d9f7", "The core has the phone at another station than the one that serves it."),
+    "NAS apart": Look("n", "#cbb8ee", "NAS texts no longer arrive as they were sent."),
+    "COUNTs apart": Look("o", "#f6b8d8", "A user packet opens to other octets: the COUNTs differ."),
+    "cut off": Look("x", "#f08f80", "User packets fail until the phone asks for service."),
+    "stuck": Look("s", "#e0604f", "User packets fail even after the phone asked for service."),
+    "keys differ": Look("K", "#b3261e", "Phone and station have different keys."),
+    "coincidence": Look("!", "#7b8794", "The run ends at a coincidence."),
+}
 
 
 @dataclass(frozen=True)
